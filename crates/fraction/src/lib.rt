@@ -1,0 +1,229 @@
+// Exact fractions of 32-bit words (01, "The problem and its figures"): a numerator over a denominator,
+// in lowest terms, and the two marks of an absent bound. Every operation answers the fraction or that
+// it does not fit.
+ghost use mathlib.Core.Path.{_≡_};
+ghost use mathlib.Core.Bool.{_&&_};
+ghost use Prim.Native.Nat.{_*_};
+ghost use lib.IntN.{pos, natAbs, _+ℤ_, _*ℤ_};
+ghost use lib.Signed.{ltZ};
+ghost use Rattle.fraction.specs.Exact.{Operand, isOperand, isProper, isSame, isLess, reduceOf, sumOf, differenceOf, productOf, quotientOf, negationOf, reciprocalOf, fromWords, denWord};
+
+// A figure: a numerator over a denominator, or a mark, which is written over 0.
+pub struct Fraction {
+    pub num: i32,
+    pub den: u32,
+}
+
+// What an operation answers: the exact result, or that it does not fit.
+pub enum Worked {
+    Fits(Fraction),
+    Misfit,
+}
+
+impl Fraction {
+    pub const ZERO: Fraction = Fraction { num: 0, den: 1 };
+
+    pub const ONE: Fraction = Fraction { num: 1, den: 1 };
+
+    // An absent lower bound.
+    pub const NO_LOWER: Fraction = Fraction { num: -1, den: 0 };
+
+    // An absent upper bound.
+    pub const NO_UPPER: Fraction = Fraction { num: 1, den: 0 };
+
+    // z over d, fully reduced.
+    pub fn reduced(z: i64, d: u64) -> Worked
+        ensures { λ r. ⌜ r ≡ reduceOf z d ⌝ }
+    {
+        if d == 0 {
+            return Worked::Misfit;
+        }
+        let size = integer::size(z);
+        let g = integer::gcd(size, d);
+        let n = size / g;
+        let m = d / g;
+        if n > 2147483647 {
+            return Worked::Misfit;
+        }
+        if m > 2147483647 {
+            return Worked::Misfit;
+        }
+        let num = integer::with_sign(z, n as u32);
+        Worked::Fits(Fraction {
+            num: num as i32,
+            den: m as u32,
+        })
+    }
+
+    // Whether an operation can be worked on it: its parts are within range and the denominator is not 0.
+    pub fn is_operand(self) -> bool
+        ensures { λ r. ⌜ r ≡ isOperand self ⌝ }
+    {
+        if num_size(self) > 2147483647 {
+            return false;
+        }
+        if self.den == 0 {
+            return false;
+        }
+        self.den <= 2147483647
+    }
+
+    // Whether it is a fraction in form.
+    pub fn is_proper(self) -> bool
+        ensures { λ r. ⌜ r ≡ isProper self ⌝ }
+    {
+        if self.is_operand() {
+            return integer::gcd(num_size(self), self.den as u64) == 1;
+        }
+        false
+    }
+
+    pub fn sum(self, y: Fraction) -> Worked
+        ensures { λ r. ⌜ r ≡ sumOf self y ⌝ }
+    {
+        if operands(self, y) {
+            return Fraction::reduced(cross_sum(self, y), denominator(self, y));
+        }
+        Worked::Misfit
+    }
+
+    pub fn product(self, y: Fraction) -> Worked
+        ensures { λ r. ⌜ r ≡ productOf self y ⌝ }
+    {
+        if operands(self, y) {
+            return Fraction::reduced(integer::product(self.num, y.num), denominator(self, y));
+        }
+        Worked::Misfit
+    }
+
+    pub fn negation(self) -> Worked
+        ensures { λ r. ⌜ r ≡ negationOf self ⌝ }
+    {
+        if self.is_operand() {
+            return Worked::Fits(Fraction {
+                num: 0 - self.num,
+                den: self.den,
+            });
+        }
+        Worked::Misfit
+    }
+
+    // 1 over it; there is none of 0.
+    pub fn reciprocal(self) -> Worked
+        ensures { λ r. ⌜ r ≡ reciprocalOf self ⌝ }
+    {
+        if self.is_operand() {
+            let size = num_size(self);
+            if size == 0 {
+                return Worked::Misfit;
+            }
+            let num = integer::with_sign(self.num as i64, self.den);
+            return Worked::Fits(Fraction {
+                num: num as i32,
+                den: size as u32,
+            });
+        }
+        Worked::Misfit
+    }
+
+    pub fn difference(self, y: Fraction) -> Worked
+        ensures { λ r. ⌜ r ≡ differenceOf self y ⌝ }
+    {
+        match y.negation() {
+            Worked::Fits(z) => self.sum(z),
+            Worked::Misfit => Worked::Misfit,
+        }
+    }
+
+    pub fn quotient(self, y: Fraction) -> Worked
+        ensures { λ r. ⌜ r ≡ quotientOf self y ⌝ }
+    {
+        match y.reciprocal() {
+            Worked::Fits(z) => self.product(z),
+            Worked::Misfit => Worked::Misfit,
+        }
+    }
+
+    // Whether it is less than y, in the one order of fractions and both marks.
+    pub fn less(self, y: Fraction) -> bool
+        ensures { λ r. ⌜ r ≡ isLess self y ⌝ }
+    {
+        if self.den == 0 {
+            if y.den == 0 {
+                return self.num < y.num;
+            }
+            return cross_less(self, y);
+        }
+        cross_less(self, y)
+    }
+
+    // Whether it is written as y is.
+    pub fn same(self, y: Fraction) -> bool
+        ensures { λ r. ⌜ r ≡ isSame self y ⌝ }
+    {
+        self.num == y.num && self.den == y.den
+    }
+
+    // The figure that two words of a record stand for.
+    pub fn from_words(num: i32, den: i32) -> Fraction
+        ensures { λ r. ⌜ r ≡ fromWords num den ⌝ }
+    {
+        if den < 0 {
+            return Fraction {
+                num,
+                den: 4294967295,
+            };
+        }
+        Fraction {
+            num,
+            den: den as u32,
+        }
+    }
+
+    // The word that its denominator is written as; its numerator is a word already.
+    pub fn den_word(self) -> i32
+        ensures { λ r. ⌜ r ≡ denWord (self .den) ⌝ }
+    {
+        if self.den <= 2147483647 {
+            self.den as i32
+        } else {
+            -1
+        }
+    }
+}
+
+// The size of the numerator.
+fn num_size(x: Fraction) -> u64
+    ensures { λ r. ⌜ r ≡ natAbs (x .num) ⌝ }
+{
+    integer::size(x.num as i64)
+}
+
+// Whether an operation can be worked on both.
+fn operands(x: Fraction, y: Fraction) -> bool
+    ensures { λ r. ⌜ r ≡ (isOperand x && isOperand y) ⌝ }
+{
+    x.is_operand() && y.is_operand()
+}
+
+// The numerator of the sum over the product of the denominators.
+fn cross_sum(x: Fraction, y: Fraction) -> i64
+    requires { ⌜ Operand x × Operand y ⌝ }
+    ensures { λ r. ⌜ r ≡ x .num *ℤ pos (y .den) +ℤ y .num *ℤ pos (x .den) ⌝ }
+{
+    integer::cross(x.num, y.den) + integer::cross(y.num, x.den)
+}
+
+// Whether the first cross product is less than the second.
+fn cross_less(x: Fraction, y: Fraction) -> bool
+    ensures { λ r. ⌜ r ≡ ltZ (x .num *ℤ pos (y .den)) (y .num *ℤ pos (x .den)) ⌝ }
+{
+    integer::cross(x.num, y.den) < integer::cross(y.num, x.den)
+}
+
+// The product of the denominators.
+fn denominator(x: Fraction, y: Fraction) -> u64
+    ensures { λ r. ⌜ r ≡ x .den * y .den ⌝ }
+{
+    (x.den as u64) * (y.den as u64)
+}

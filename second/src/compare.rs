@@ -1,0 +1,104 @@
+//! Running two programs on the same text and telling where they differ.
+
+use std::collections::BTreeMap;
+use std::io::Write;
+use std::path::{Path, PathBuf};
+use std::process::{Child, Command, Stdio};
+
+fn start(program: &Path) -> Child {
+    Command::new(program)
+        .stdin(Stdio::piped())
+        .stdout(Stdio::piped())
+        .stderr(Stdio::null())
+        .spawn()
+        .unwrap_or_else(|error| panic!("{}: {error}", program.display()))
+}
+
+/// Gives the text. A program may stop reading early; that is no error. Texts are shorter than a pipe holds.
+fn give(child: &mut Child, text: &[u8]) {
+    let mut stdin = child.stdin.take().expect("piped");
+    let _ = stdin.write_all(text);
+}
+
+fn output(child: Child) -> Vec<u8> {
+    child.wait_with_output().expect("the program ends").stdout
+}
+
+/// A program of this package, beside the one running.
+pub fn own_program(name: &str) -> PathBuf {
+    std::env::current_exe().expect("has a path").with_file_name(name)
+}
+
+/// What was seen so far.
+pub struct Comparison {
+    own: PathBuf,
+    other: PathBuf,
+    folder: Option<PathBuf>,
+    pub texts: usize,
+    pub differ: usize,
+    pub answers: BTreeMap<String, usize>,
+}
+
+impl Comparison {
+    /// The folder, if given, gets the texts on which the programs differ.
+    pub fn new(own: PathBuf, other: PathBuf, folder: Option<PathBuf>) -> Comparison {
+        Comparison { own, other, folder, texts: 0, differ: 0, answers: BTreeMap::new() }
+    }
+
+    /// Runs both programs on the text; `expected` is what the library says.
+    pub fn compare(&mut self, text: &[u8], expected: &str) {
+        let (mut own, mut other) = (start(&self.own), start(&self.other));
+        give(&mut own, text);
+        give(&mut other, text);
+        let (own, other) = (output(own), output(other));
+        assert_eq!(own, expected.as_bytes(), "this package's program and library agree");
+        *self.answers.entry(kind_of(expected)).or_default() += 1;
+        if own != other {
+            self.differ += 1;
+            if self.differ <= 5 {
+                self.show(text, &own, &other);
+            }
+        }
+        self.texts += 1;
+    }
+
+    fn show(&self, text: &[u8], own: &[u8], other: &[u8]) {
+        let shown = |bytes: &[u8]| String::from_utf8_lossy(&bytes[..bytes.len().min(3000)]).into_owned();
+        println!("text {} ({} bytes):\n{}", self.texts, text.len(), shown(text));
+        println!("here:\n{}there:\n{}", shown(own), shown(other));
+        if let Some(folder) = &self.folder {
+            let path = folder.join(format!("differ-{}.txt", self.texts));
+            std::fs::write(&path, text).expect("the folder can be written");
+            println!("text written to {}", path.display());
+        }
+    }
+
+    /// Prints the answers' counts and the result; gives the exit status.
+    pub fn finish(&self, name: &str) -> i32 {
+        for (kind, count) in &self.answers {
+            println!("{kind}: {count}");
+        }
+        println!("{name}: {} texts, {} differ", self.texts, self.differ);
+        (self.differ > 0) as i32
+    }
+}
+
+/// The first line, without the place of "no flow".
+fn kind_of(answer: &str) -> String {
+    let first = answer.lines().next().unwrap_or("");
+    match first.strip_prefix("no flow ") {
+        Some(rest) => format!("no flow by rule {}", rest.split(' ').next().unwrap_or("")),
+        None => first.to_string(),
+    }
+}
+
+/// The arguments of a comparing program: the other program, how many texts, a folder for differing texts.
+pub fn arguments(name: &str, count: usize) -> (PathBuf, usize, Option<PathBuf>) {
+    let arguments: Vec<String> = std::env::args().collect();
+    if arguments.len() < 2 {
+        eprintln!("{name} PROGRAM [COUNT] [FOLDER]");
+        std::process::exit(2);
+    }
+    let count = arguments.get(2).map_or(count, |text| text.parse().expect("a count"));
+    (PathBuf::from(&arguments[1]), count, arguments.get(3).map(PathBuf::from))
+}

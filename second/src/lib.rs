@@ -1,0 +1,12 @@
+//! Second implementation of the network presolver, written from document 01 alone.
+//! It exists to be compared with the verified one.
+
+pub mod compare;
+pub mod draw;
+pub mod fraction;
+pub mod network;
+pub mod programs;
+pub mod reduce;
+pub mod rules;
+pub mod samples;
+pub mod text;
