@@ -3,10 +3,14 @@
 
 pub mod compare;
 pub mod draw;
+pub mod exact;
 pub mod fraction;
 pub mod network;
+pub mod optimality;
 pub mod programs;
 pub mod reduce;
+pub mod restore;
 pub mod rules;
 pub mod samples;
+pub mod solve;
 pub mod text;

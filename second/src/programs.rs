@@ -1,7 +1,8 @@
 //! The programs as functions from the text given to the bytes printed.
 
-use crate::network::{Network, Record, Refusal};
+use crate::network::{sizes, Network, Record, Refusal, ARC_FIGURES, MOST_ARCS, MOST_NODES};
 use crate::reduce::{reduce, End, Reduction};
+use crate::restore::{restore, Restored};
 use crate::text::{line, read_words, LONGEST_TEXT};
 use std::io::{Read, Write};
 
@@ -51,6 +52,50 @@ fn print_stack(reduction: &Reduction) -> String {
     line(&[reduction.steps.len() as i32]) + &line(&reduction.rules()) + &line(&reduction.places())
 }
 
+/// The words of a restoring text: network, stack and pair.
+pub struct Parts<'a> {
+    pub network: &'a [i32],
+    pub stack: &'a [i32],
+    pub pair: &'a [i32],
+}
+
+/// "Restoring splits its text by the sizes: a network cut short (fewer than two words included) or with sizes
+/// outside the limits is 2, a stack cut short or with s outside 0 to 128 is 7; the rest is the pair."
+pub fn split(words: &[i32]) -> Result<Parts<'_>, Refusal> {
+    let (n, m) = sizes(words).ok_or(Refusal(2))?;
+    let (network, rest) = words.split_at_checked(2 + 2 * (n + ARC_FIGURES * m)).ok_or(Refusal(2))?;
+    let steps = rest.first().and_then(|&s| usize::try_from(s).ok()).ok_or(Refusal(7))?;
+    if steps > MOST_NODES + MOST_ARCS {
+        return Err(Refusal(7));
+    }
+    let (stack, pair) = rest.split_at_checked(1 + 2 * steps).ok_or(Refusal(7))?;
+    Ok(Parts { network, stack, pair })
+}
+
+/// The restoring program's reading: question 14, the splitting, then 2 to 13.
+pub fn read_and_restore(text: &[u8]) -> Result<Restored, Refusal> {
+    let words = read_words(text)?;
+    let Parts { network, stack, pair } = split(&words)?;
+    restore(network, stack, pair)
+}
+
+/// The restoring program.
+pub fn restoring(text: &[u8]) -> String {
+    match read_and_restore(text) {
+        Err(refusal) => refused(refusal),
+        Ok(restored) => print_restored(&restored),
+    }
+}
+
+/// "kind, sizes, numerators, denominators, reduced value, value"
+fn print_restored(restored: &Restored) -> String {
+    let value_line = |(numerator, denominator): (i32, i32)| line(&[numerator, denominator]);
+    "restored\n".to_string()
+        + &print_record(&restored.pair.record())
+        + &value_line(restored.reduced_value.words())
+        + &value_line(restored.value.words())
+}
+
 #[cfg(test)]
 mod tests {
     use super::*;
@@ -91,6 +136,50 @@ mod tests {
         let rules = |cost| read_and_reduce(instance_g_text(cost).as_bytes()).expect("not refused").rules();
         assert_eq!(rules(6)[0], 4);
         assert!(!rules(5).contains(&4));
+    }
+
+    /// A's network and stack with the given pair.
+    fn restored_a(pair: &str) -> String {
+        restoring(format!("{A}1\n3\n3\n{pair}").as_bytes())
+    }
+
+    #[test]
+    fn instance_a_restored() {
+        let printed = "restored\n3 3\n2 0 7 3 1 2\n1 1 1 1 1 1\n5 1\n19 1\n";
+        assert_eq!(restored_a("2 2\n2 0 3 1\n1 1 1 1\n"), printed);
+    }
+
+    #[test]
+    fn instances_b_c_d() {
+        assert_eq!(restored_a("2 2 2 0 2 2 1 1 1 1"), "refused 12\n");
+        assert_eq!(restored_a("2 2 2 0 4 0 1 1 1 1"), "refused 11\n");
+        assert_eq!(restored_a("2 2 2 0 3 2 1 1 1 1"), "refused 10\n");
+    }
+
+    #[test]
+    fn restoring_refusals() {
+        for (text, number) in [
+            ("", 2),
+            ("0", 2),
+            ("33 0", 2),
+            ("1 0 0", 2),
+            ("0 0", 7),
+            ("0 0 129", 7),
+            ("0 0 -1", 7),
+            ("0 0 1 2", 7),
+            ("1 0 0 2", 7),
+            ("1 0 0 2 0", 3),
+            ("1 0 1 1 0", 6),
+            ("1 0 0 1 0", 7),
+            ("1 0 0 1 1 2 1", 8),
+            ("1 0 0 1 1 2 1 0", 8),
+            ("1 0 0 1 1 2 1 0 0 0", 8),
+            ("1 0 0 1 1 2 2 0 0", 7),
+        ] {
+            assert_eq!(restoring(text.as_bytes()), format!("refused {number}\n"), "{text}");
+        }
+        assert_eq!(restoring(b"0 0 0 0 0"), "restored\n0 0\n\n\n0 1\n0 1\n");
+        assert_eq!(restoring(b"1 0 0 1 1 2 1 0 0"), "restored\n1 0\n0\n1\n0 1\n0 1\n");
     }
 
     #[test]

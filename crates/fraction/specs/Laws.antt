@@ -16,7 +16,7 @@ use Rattle.fraction.specs.Exact.{Operand, Proper, isOperand, isProper, o
 
 -- ---- the tests
 
-and-both : (s t : Bool) → (s && t) ≡ true → (s ≡ true) × (t ≡ true)
+pub and-both : (s t : Bool) → (s && t) ≡ true → (s ≡ true) × (t ≡ true)
 and-both true t e = (refl, e)
 and-both false t e = absurd (let z : _≡_ {A = ℕ} 0 1 = cc in omega arith)
 

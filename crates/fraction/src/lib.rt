@@ -7,6 +7,7 @@ ghost use Prim.Native.Nat.{_*_};
 ghost use lib.IntN.{pos, natAbs, _+ℤ_, _*ℤ_};
 ghost use lib.Signed.{ltZ};
 ghost use Rattle.fraction.specs.Exact.{Operand, isOperand, isProper, isSame, isLess, reduceOf, sumOf, differenceOf, productOf, quotientOf, negationOf, reciprocalOf, fromWords, denWord};
+ghost use Rattle.fraction.specs.Formula.{pairOf, _⊕_, _⊖_, _⊗_, _⊘_, ⊝_};
 
 // A figure: a numerator over a denominator, or a mark, which is written over 0.
 pub struct Fraction {
@@ -226,4 +227,70 @@ fn denominator(x: Fraction, y: Fraction) -> u64
     ensures { λ r. ⌜ r ≡ x .den * y .den ⌝ }
 {
     (x.den as u64) * (y.den as u64)
+}
+
+// The two fractions of an operation, where both fitted.
+enum Pair {
+    Both(Fraction, Fraction),
+    Neither,
+}
+
+fn both(x: Worked, y: Worked) -> Pair
+    ensures { λ r. ⌜ r ≡ pairOf x y ⌝ }
+{
+    match x {
+        Worked::Fits(a) => match y {
+            Worked::Fits(b) => Pair::Both(a, b),
+            Worked::Misfit => Pair::Neither,
+        },
+        Worked::Misfit => Pair::Neither,
+    }
+}
+
+// The operations of a formula: a misfit stays one.
+impl Worked {
+    pub fn plus(self, y: Worked) -> Worked
+        ensures { λ r. ⌜ r ≡ self ⊕ y ⌝ }
+    {
+        match both(self, y) {
+            Pair::Both(a, b) => a.sum(b),
+            Pair::Neither => Worked::Misfit,
+        }
+    }
+
+    pub fn minus(self, y: Worked) -> Worked
+        ensures { λ r. ⌜ r ≡ self ⊖ y ⌝ }
+    {
+        match both(self, y) {
+            Pair::Both(a, b) => a.difference(b),
+            Pair::Neither => Worked::Misfit,
+        }
+    }
+
+    pub fn times(self, y: Worked) -> Worked
+        ensures { λ r. ⌜ r ≡ self ⊗ y ⌝ }
+    {
+        match both(self, y) {
+            Pair::Both(a, b) => a.product(b),
+            Pair::Neither => Worked::Misfit,
+        }
+    }
+
+    pub fn over(self, y: Worked) -> Worked
+        ensures { λ r. ⌜ r ≡ self ⊘ y ⌝ }
+    {
+        match both(self, y) {
+            Pair::Both(a, b) => a.quotient(b),
+            Pair::Neither => Worked::Misfit,
+        }
+    }
+
+    pub fn negated(self) -> Worked
+        ensures { λ r. ⌜ r ≡ ⊝ self ⌝ }
+    {
+        match self {
+            Worked::Fits(a) => a.negation(),
+            Worked::Misfit => Worked::Misfit,
+        }
+    }
 }
