@@ -111,6 +111,7 @@ if __name__=='__main__':
             s=head+'tie.spec'+tail
         body=s.split('Tie as tie\n',1)[1]
         i=s.index('use ')
-        s=s[:i]+'\n'.join(uses(body)+extra)+'\n'+s[i:]
+        name='::'.join([crate]+fn.split('/'))
+        s=f'-- `{name}` meets its contract. Assumes nothing.\n'+s[:i]+'\n'.join(uses(body)+extra)+'\n'+s[i:]
         os.makedirs(os.path.dirname(dest),exist_ok=True)
         open(dest,'w').write(s)

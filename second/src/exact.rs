@@ -199,12 +199,15 @@ impl Exact {
     }
 
     fn reduced(negative: bool, top: Digits, bottom: Digits) -> Exact {
+        if top.is_empty() {
+            return Exact::zero();
+        }
         let divisor = greatest_divisor(&top, &bottom);
         if divisor == [1] {
             return Exact { negative, top, bottom };
         }
         let (top, bottom) = (divided(&top, &divisor).0, divided(&bottom, &divisor).0);
-        Exact { negative: negative && !top.is_empty(), top, bottom }
+        Exact { negative, top, bottom }
     }
 
     /// The fraction of 01, if it fits.
@@ -344,6 +347,8 @@ mod tests {
                 assert_eq!((&p / &q).fraction(), x.over(y));
             }
             assert_eq!(p.cmp(&q), x.cmp(&y));
+            assert_eq!(&p - &p, Exact::zero());
+            assert_eq!(&-&p + &p, Exact::zero());
         }
     }
 }

@@ -14,3 +14,4 @@ pub mod rules;
 pub mod samples;
 pub mod solve;
 pub mod text;
+pub mod trips;

@@ -64,7 +64,7 @@ fn cost_less_other((_, arc): &Numbered, node: usize, pair: &Pair) -> Option<Frac
 }
 
 /// (c - o × other price) ÷ e
-fn price_by(arc: &Numbered, node: usize, pair: &Pair) -> Option<Fraction> {
+pub fn price_by(arc: &Numbered, node: usize, pair: &Pair) -> Option<Fraction> {
     cost_less_other(arc, node, pair)?.over(arc.1.multiplier(node))
 }
 

@@ -2,7 +2,7 @@
 
 use crate::draw::Draw;
 use crate::fraction::{Bound, Fraction};
-use crate::network::{Arc, Network, ARC_FIGURES, MOST_ARCS, MOST_NODES};
+use crate::network::{sizes, Arc, Network, ARC_FIGURES, MOST_ARCS, MOST_NODES};
 use crate::text::LONGEST_TEXT;
 
 /// How a sample network is to look.
@@ -308,16 +308,36 @@ impl Draft {
         }
         let node = self.new_node();
         let around: Vec<usize> = (0..4).map(|_| self.core_node(draw)).collect();
+        let heavy = draw.chance(self.taste.wide);
         for side in 0..2 {
-            let (en, ep) = (self.multiplier(draw).negated(), self.multiplier(draw));
-            let times = fitted(draw.within(0, 2), 1);
-            let flows = (ep.times(times), en.negated().times(times));
-            let (flow_n, flow_p) =
-                if let (Some(n), Some(p)) = flows { (n, p) } else { (Fraction::ZERO, Fraction::ZERO) };
-            let zero = if draw.chance(3) { Fraction::ONE } else { Fraction::ZERO };
-            let upper = if draw.chance(3) { Bound::Finite(flow_n.max(zero)) } else { OPEN };
-            self.push_at(draw, node, en, around[2 * side], (flow_n.max(zero), Bound::Finite(zero), upper));
-            self.push_at(draw, node, ep, around[2 * side + 1], (flow_p, Bound::Finite(Fraction::ZERO), OPEN));
+            if heavy {
+                self.heavy_side(draw, node, around[2 * side], around[2 * side + 1]);
+            } else {
+                self.side(draw, node, around[2 * side], around[2 * side + 1]);
+            }
+        }
+    }
+
+    /// One N and one P whose flows balance at the node; now and then not as rule 6 wants them.
+    fn side(&mut self, draw: &mut Draw, node: usize, n_end: usize, p_end: usize) {
+        let (en, ep) = (self.multiplier(draw).negated(), self.multiplier(draw));
+        let times = fitted(draw.within(0, 2), 1);
+        let flows = (ep.times(times), en.negated().times(times));
+        let (flow_n, flow_p) = if let (Some(n), Some(p)) = flows { (n, p) } else { (Fraction::ZERO, Fraction::ZERO) };
+        let zero = if draw.chance(3) { Fraction::ONE } else { Fraction::ZERO };
+        let upper = if draw.chance(3) { Bound::Finite(flow_n.max(zero)) } else { OPEN };
+        self.push_at(draw, node, en, n_end, (flow_n.max(zero), Bound::Finite(zero), upper));
+        self.push_at(draw, node, ep, p_end, (flow_p, Bound::Finite(Fraction::ZERO), OPEN));
+    }
+
+    /// The same with flows near the width, so that sums of them on the way back may not fit.
+    fn heavy_side(&mut self, draw: &mut Draw, node: usize, n_end: usize, p_end: usize) {
+        let e = fitted(draw.within(2, 3), 1);
+        let flow = fitted(draw.within(500_000_000, 1_000_000_000), 1);
+        let bounds = (flow, Bound::Finite(Fraction::ZERO), OPEN);
+        for (end, e) in [(n_end, e.negated()), (p_end, e)] {
+            let o = fitted(draw.sign(), 1);
+            self.push(draw, [end, node], [o, e], bounds);
         }
     }
 
@@ -345,7 +365,8 @@ impl Draft {
 
     /// Costs for which the flows kept are optimal: c = a × price + b × price + d, d of a permitted sign.
     fn price_arcs(&mut self, draw: &mut Draw) {
-        let prices: Vec<Fraction> = (0..self.nodes).map(|_| fitted(draw.within(-5, 5), 1)).collect();
+        let highest = draw.of(&[5, 5, 5, 0]);
+        let prices: Vec<Fraction> = (0..self.nodes).map(|_| fitted(draw.within(-highest, highest), 1)).collect();
         for DraftArc { arc, flow, costly } in &mut self.arcs {
             let size = fitted(draw.within(0, 4) + if *costly { draw.within(0, 20) } else { 0 }, 1);
             let d = if Bound::Finite(*flow) == arc.lower {
@@ -463,7 +484,7 @@ fn any_figure(draw: &mut Draw) -> (i32, i32) {
 }
 
 /// Puts a figure into a record's words; `position` counts the figures from 0.
-fn put(words: &mut [i32], position: usize, figure: (i32, i32)) {
+pub fn put(words: &mut [i32], position: usize, figure: (i32, i32)) {
     let count = (words.len() - 2) / 2;
     if position < count {
         words[2 + position] = figure.0;
@@ -512,6 +533,15 @@ fn damage_figure(draw: &mut Draw, words: &mut [i32], n: usize, m: usize) {
             let position = first + draw.below(ARC_FIGURES);
             let figure = any_figure(draw);
             put(words, position, figure)
+        }
+    }
+}
+
+/// Damages one figure of a network's record, if its sizes and length still tell where.
+pub fn damage_network(draw: &mut Draw, words: &mut [i32]) {
+    if let Some((n, m)) = sizes(words) {
+        if words.len() == 2 + 2 * (n + ARC_FIGURES * m) {
+            damage_figure(draw, words, n, m);
         }
     }
 }

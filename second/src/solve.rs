@@ -307,23 +307,3 @@ mod tests {
         assert!(counts.iter().all(|&count| count > 10), "{counts:?}");
     }
 }
-#[cfg(test)]
-mod debug {
-    use super::*;
-    use crate::draw::Draw;
-    use crate::samples::{network, SMALL, WIDE};
-    #[test]
-    fn debug() {
-        let mut draw = Draw::new(11);
-        for number in 0..600 {
-            let sample = network(&mut draw, if number % 3 == 0 { WIDE } else { SMALL });
-            for r in [false, true] {
-            if let Solution::Optimal(o) = solve(&sample, r) {
-                if let Some(p) = o.pair(&sample) {
-                    if !is_optimal(&sample, &p) { println!("{number} {r} {:?}\n{:?}\n{:?}", sample.record(), p, o.value); 
-                    println!("{:?}", crate::optimality::test(&sample, &p)); panic!(); }
-                }
-            }}
-        }
-    }
-}

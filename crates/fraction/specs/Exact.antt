@@ -18,6 +18,10 @@ over n d = record { num = n; den = d }
 abbrev pub most : ℕ
 most = 2147483647
 
+-- zero is written 0 over 1
+abbrev pub zeroFraction : Fraction
+zeroFraction = over (pos 0) 1
+
 -- the marks: an absent lower bound and an absent upper bound
 abbrev pub noLower : Fraction
 noLower = over (negsuc 0) 0

@@ -6,7 +6,7 @@ ghost use mathlib.Core.Bool.{_&&_};
 ghost use Prim.Native.Nat.{_*_};
 ghost use lib.IntN.{pos, natAbs, _+ℤ_, _*ℤ_};
 ghost use lib.Signed.{ltZ};
-ghost use Rattle.fraction.specs.Exact.{Operand, isOperand, isProper, isSame, isLess, reduceOf, sumOf, differenceOf, productOf, quotientOf, negationOf, reciprocalOf, fromWords, denWord};
+ghost use Rattle.fraction.specs.Exact.{zeroFraction, noLower, noUpper, Operand, isOperand, isProper, isSame, isLess, reduceOf, sumOf, differenceOf, productOf, quotientOf, negationOf, reciprocalOf, fromWords, denWord};
 ghost use Rattle.fraction.specs.Formula.{pairOf, _⊕_, _⊖_, _⊗_, _⊘_, ⊝_};
 
 // A figure: a numerator over a denominator, or a mark, which is written over 0.
@@ -163,6 +163,26 @@ impl Fraction {
         ensures { λ r. ⌜ r ≡ isSame self y ⌝ }
     {
         self.num == y.num && self.den == y.den
+    }
+
+    pub fn is_zero(self) -> bool
+        ensures { λ r. ⌜ r ≡ isSame self zeroFraction ⌝ }
+    {
+        self.same(Fraction::ZERO)
+    }
+
+    // Whether it is the mark of an absent lower bound.
+    pub fn is_no_lower(self) -> bool
+        ensures { λ r. ⌜ r ≡ isSame self noLower ⌝ }
+    {
+        self.same(Fraction::NO_LOWER)
+    }
+
+    // Whether it is the mark of an absent upper bound.
+    pub fn is_no_upper(self) -> bool
+        ensures { λ r. ⌜ r ≡ isSame self noUpper ⌝ }
+    {
+        self.same(Fraction::NO_UPPER)
     }
 
     // The figure that two words of a record stand for.

@@ -1,3 +1,4 @@
+-- `fraction::both` meets its contract. Assumes nothing.
 use Rattle.fraction.specs.Formula.{pairOf}
 use borrow.Author.Needs.{needs}
 use Rattle.fraction.proofs.both.Statement.{statement}

@@ -1,3 +1,4 @@
+-- `fraction::denominator` meets its contract. Assumes nothing.
 use Rattle.fraction.proofs.Machine.{product-below}
 use borrow.Author.Needs.{needs}
 use Rattle.fraction.proofs.denominator.Statement.{statement}

@@ -1,3 +1,4 @@
+-- `fraction::operands` meets its contract. Assumes nothing.
 use borrow.Author.Needs.{needs}
 use Rattle.fraction.proofs.operands.Statement.{statement}
 use Rattle.fraction.proofs.operands.Tie as tie

@@ -1,3 +1,4 @@
+-- `fraction::Fraction::den_word` meets its contract. Assumes nothing.
 use Rattle.fraction.specs.Exact.{denWord}
 use Rattle.integer.specs.Machine.{sfits-by}
 use borrow.Author.Tests.{le-leb, lt-leb}

@@ -1,3 +1,4 @@
+-- `fraction::Fraction::difference` meets its contract. Assumes nothing.
 use Rattle.fraction.specs.Exact.{differenceOf}
 use borrow.Author.Needs.{needs}
 use Rattle.fraction.proofs.Fraction.difference.Statement.{statement}

@@ -1,3 +1,4 @@
+-- `fraction::Fraction::is_proper` meets its contract. Assumes nothing.
 use Rattle.fraction.specs.Exact.{isProper}
 use borrow.Author.Needs.{needs}
 use Rattle.fraction.proofs.Fraction.is_proper.Statement.{statement}

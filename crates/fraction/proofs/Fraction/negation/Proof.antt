@@ -1,3 +1,4 @@
+-- `fraction::Fraction::negation` meets its contract. Assumes nothing.
 use Rattle.fraction.proofs.Machine.{minus-fits, minus-is}
 use Rattle.fraction.specs.Exact.{negationOf, over}
 use Rattle.fraction.specs.Laws.{operand-is}

@@ -1,3 +1,4 @@
+-- `fraction::Fraction::reciprocal` meets its contract. Assumes nothing.
 use Rattle.fraction.proofs.Machine.{narrow-fits, narrow-is}
 use Rattle.fraction.specs.Exact.{Operand, over, reciprocalOf}
 use Rattle.fraction.specs.Laws.{operand-is}

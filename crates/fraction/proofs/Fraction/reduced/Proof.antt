@@ -1,3 +1,4 @@
+-- `fraction::Fraction::reduced` meets its contract. Assumes nothing.
 use Prim.Native.Nat.{_/_, _<_}
 use Rattle.fraction.proofs.Machine.{narrow-fits, narrow-is}
 use Rattle.fraction.specs.Exact.{fitted, over, reduceOf}

@@ -1,3 +1,4 @@
+-- `fraction::Fraction::sum` meets its contract. Assumes nothing.
 use Rattle.fraction.specs.Exact.{reduceOf, sumOf}
 use Rattle.fraction.specs.Laws.{operands-are}
 use Rattle.integer.specs.Machine.{back64}

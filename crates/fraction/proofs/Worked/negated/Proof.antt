@@ -1,3 +1,4 @@
+-- `fraction::Worked::negated` meets its contract. Assumes nothing.
 use Rattle.fraction.specs.Formula.{⊝_}
 use borrow.Author.Needs.{needs}
 use Rattle.fraction.proofs.Worked.negated.Statement.{statement}

@@ -1,3 +1,4 @@
+-- `fraction::Worked::over` meets its contract. Assumes nothing.
 use Rattle.fraction.specs.Formula.{_⊘_}
 use borrow.Author.Needs.{needs}
 use Rattle.fraction.proofs.Worked.over.Statement.{statement}

@@ -1,0 +1,1 @@
+// The table of the marked instances stands in specs/Table.antt.

@@ -1,0 +1,345 @@
+//! Round trips for comparing restoring programs: a sample network, its reduction, an optimal pair of the
+//! reduced network by the exact solver, and texts made of them, whole or damaged.
+
+use crate::draw::Draw;
+use crate::exact::Exact;
+use crate::fraction::{Bound, Fraction};
+use crate::network::{Network, Refusal};
+use crate::optimality::Pair;
+use crate::reduce::{reduce, End, Reduction};
+use crate::restore::{price_by, Restored};
+use crate::rules::Back;
+use crate::samples::{damage_network, improper_figure, network, odd_text, put, text_of, wide};
+use crate::samples::{Taste, FAMILY, FULL, SMALL, WIDE};
+use crate::solve::{is_optimal, solve, Solution};
+
+/// A sample network and its reduction.
+pub struct Trip {
+    pub original: Network,
+    pub reduction: Reduction,
+}
+
+/// The words of a restoring text.
+#[derive(Clone)]
+pub struct Words {
+    pub network: Vec<i32>,
+    pub stack: Vec<i32>,
+    pub pair: Vec<i32>,
+}
+
+impl Words {
+    pub fn all(&self) -> Vec<i32> {
+        [&self.network[..], &self.stack[..], &self.pair[..]].concat()
+    }
+}
+
+/// A text and, where it was not damaged, the trip that it came from.
+pub struct Sample {
+    pub text: Vec<u8>,
+    pub whole: Option<Trip>,
+}
+
+impl Trip {
+    pub fn new(draw: &mut Draw, taste: Taste) -> Trip {
+        let original = network(draw, taste);
+        let reduction = reduce(&original);
+        Trip { original, reduction }
+    }
+
+    /// A trip that ends in a reduced network with an optimum whose figures fit, if one comes soon.
+    fn with_pair(draw: &mut Draw, taste: Taste) -> (Trip, Option<Pair>) {
+        let mut trip = Trip::new(draw, taste);
+        let mut pair = trip.optimal_pair(draw);
+        for _ in 0..8 {
+            if pair.is_some() && (!trip.is_bare() || draw.chance(15)) {
+                break;
+            }
+            trip = Trip::new(draw, taste);
+            pair = trip.optimal_pair(draw);
+        }
+        (trip, pair)
+    }
+
+    pub fn reduced(&self) -> Option<&Network> {
+        match &self.reduction.end {
+            End::Reduced(network) => Some(network),
+            End::NoFlow { .. } => None,
+        }
+    }
+
+    fn is_bare(&self) -> bool {
+        self.reduced().is_some_and(|network| network.arcs.is_empty())
+    }
+
+    /// An optimal pair of the reduced network: a vertex or the middle of two.
+    fn optimal_pair(&self, draw: &mut Draw) -> Option<Pair> {
+        let reduced = self.reduced()?;
+        let Solution::Optimal(first) = solve(reduced, false) else {
+            return None;
+        };
+        let optimum = match (draw.below(3), solve(reduced, true)) {
+            (1, Solution::Optimal(second)) => second,
+            (2, Solution::Optimal(second)) => first.middle(&second),
+            _ => first,
+        };
+        optimum.pair(reduced)
+    }
+
+    /// The words with a pair; without one a pair of zeros.
+    fn words(&self, pair: Option<&Pair>) -> Words {
+        let zeros = |network: &Network| Pair {
+            prices: network.supplies.keys().map(|&node| (node, Fraction::ZERO)).collect(),
+            flows: network.arcs.keys().map(|&arc| (arc, Fraction::ZERO)).collect(),
+        };
+        let pair = pair.cloned().or(self.reduced().map(zeros)).unwrap_or_default();
+        Words { network: self.original.record().words(), stack: self.reduction.stack(), pair: pair.record().words() }
+    }
+
+    /// What theory says of an undamaged trip: None, or what is wrong.
+    pub fn complaint(&self, answer: &Result<Restored, Refusal>) -> Option<String> {
+        let before = solve(&self.original, false);
+        let after = self.reduced().map_or(Solution::Infeasible, |reduced| solve(reduced, true));
+        let same_kind = std::mem::discriminant(&before) == std::mem::discriminant(&after);
+        if !same_kind {
+            return Some(format!("original {before:?}, reduced {after:?}"));
+        }
+        let (Solution::Optimal(before), Solution::Optimal(after)) = (before, after) else {
+            return answer.is_ok().then(|| "restored without an optimum".to_string());
+        };
+        match answer {
+            Err(Refusal(9 | 13)) => None,
+            Err(refusal) => Some(format!("optimal pair, {refusal:?}")),
+            Ok(restored) => {
+                let values = [(before.value, restored.value), (after.value, restored.reduced_value)];
+                let right = values.into_iter().all(|(wanted, found)| wanted == Exact::from(found));
+                let sound = right && is_optimal(&self.original, &restored.pair);
+                (!sound).then(|| format!("restored pair isn't optimal: {restored:?}"))
+            }
+        }
+    }
+}
+
+/// How often each part of the way back was gone.
+#[derive(Default)]
+pub struct Ways {
+    pub steps: [usize; 7],
+    pub second_prices: usize,
+    pub different_prices: usize,
+}
+
+impl Ways {
+    pub fn count(&mut self, reduction: &Reduction, restored: &Restored) {
+        for step in &reduction.steps {
+            self.steps[step.rule as usize] += 1;
+            match &step.back {
+                Back::TwoArcs { node, gone, .. } => {
+                    let first = price_by(gone, *node, &restored.pair);
+                    self.second_prices += (first != restored.pair.prices.get(node).copied()) as usize;
+                }
+                Back::Crossing { node, negative, .. } => {
+                    let [first, second] = negative.each_ref().map(|arc| price_by(arc, *node, &restored.pair));
+                    self.different_prices += (first != second) as usize;
+                }
+                _ => {}
+            }
+        }
+    }
+}
+
+/// The network with some costs changed: its optimum is feasible in the network itself, and mostly not optimal.
+fn other_costs(draw: &mut Draw, network: &Network) -> Network {
+    let mut changed = network.clone();
+    for arc in changed.arcs.values_mut() {
+        if draw.chance(50) {
+            arc.cost = Fraction::whole(draw.within(-3, 9)).expect("fits");
+        }
+    }
+    changed
+}
+
+/// The network with some bounds loosened: its optimum is balanced, and often outside the bounds.
+fn looser_bounds(draw: &mut Draw, network: &Network) -> Network {
+    let mut changed = network.clone();
+    let amount = Fraction::whole(draw.within(1, 5)).expect("fits");
+    for arc in changed.arcs.values_mut() {
+        if draw.chance(60) {
+            arc.lower = arc.lower.finite().and_then(|l| l.minus(amount)).map_or(Bound::AbsentLower, Bound::Finite);
+            arc.upper = arc.upper.finite().and_then(|u| u.plus(amount)).map_or(Bound::AbsentUpper, Bound::Finite);
+        }
+    }
+    changed
+}
+
+/// A pair that is optimal in a changed network.
+fn nearly_right_pair(draw: &mut Draw, trip: &Trip) -> Option<Pair> {
+    let reduced = trip.reduced()?;
+    let changed = if draw.chance(50) { other_costs(draw, reduced) } else { looser_bounds(draw, reduced) };
+    match solve(&changed, draw.chance(50)) {
+        Solution::Optimal(optimum) => optimum.pair(reduced),
+        _ => None,
+    }
+}
+
+/// Changes one price or flow a little, or to something near the width.
+fn change_pair_figure(draw: &mut Draw, words: &mut Words, widely: bool) {
+    let count = words.pair.len().saturating_sub(2) / 2;
+    if count == 0 {
+        return;
+    }
+    let position = draw.below(count);
+    let now = Fraction::read(words.pair[2 + position], words.pair[2 + count + position]);
+    let little = Fraction::fitted(draw.sign() as i128, draw.of(&[1, 2, 2147483647])).expect("fits");
+    let figure = match now {
+        Some(figure) if !widely => figure.plus(little).unwrap_or(little),
+        _ => wide(draw),
+    };
+    put(&mut words.pair, position, figure.words());
+}
+
+fn damage_pair_record(draw: &mut Draw, words: &mut Words) {
+    let pair = &mut words.pair;
+    let count = pair.len().saturating_sub(2) / 2;
+    match draw.below(8) {
+        0 => pair.push(draw.within(0, 1) as i32),
+        1 => {
+            pair.pop();
+        }
+        2 if !pair.is_empty() => pair[0] += draw.sign() as i32,
+        3 if pair.len() > 1 => pair[1] += draw.sign() as i32,
+        4 if pair.len() > 1 => pair.swap(0, 1),
+        5 => pair.clear(),
+        _ if count > 0 => {
+            let position = draw.below(count);
+            let figure = improper_figure(draw);
+            put(pair, position, figure);
+        }
+        _ => pair.extend([0, 1]),
+    }
+}
+
+fn damage_stack(draw: &mut Draw, words: &mut Words) {
+    let stack = &mut words.stack;
+    let steps = (stack.len() - 1) / 2;
+    match draw.below(9) {
+        0 => stack[0] = stack[0].wrapping_add(draw.sign() as i32),
+        1 => stack[0] = draw.of(&[-1, 128, 129, 2147483647, -2147483648, 0, 130]),
+        2 | 3 if steps > 0 => {
+            let position = 1 + draw.below(2 * steps);
+            stack[position] = stack[position].wrapping_add(draw.of(&[1, -1, 2, 256, 65536, -65536]));
+        }
+        4 if steps > 1 => {
+            let first = draw.below(steps - 1);
+            stack.swap(1 + first, 2 + first);
+            stack.swap(1 + steps + first, 2 + steps + first);
+        }
+        5 if steps > 0 => {
+            stack.remove(2 * steps);
+            stack.remove(steps);
+            stack[0] = stack[0].wrapping_sub(1);
+        }
+        6 => {
+            stack.insert(1 + steps, draw.within(1, 6) as i32);
+            stack.push(1);
+            stack[0] = stack[0].wrapping_add(1);
+        }
+        7 if stack.len() > 1 => {
+            stack.pop();
+        }
+        _ => stack.push(0),
+    }
+}
+
+fn damage_original(draw: &mut Draw, words: &mut Words) {
+    if draw.chance(80) {
+        damage_network(draw, &mut words.network);
+    } else {
+        let position = draw.below(2);
+        words.network[position] = draw.of(&[-1, 0, 1, 32, 33, 96, 97, 2147483647, -2147483648]);
+    }
+}
+
+fn damage_any(draw: &mut Draw, words: &mut Words) {
+    match draw.below(5) {
+        0 => damage_original(draw, words),
+        1 => damage_stack(draw, words),
+        2 => damage_pair_record(draw, words),
+        3 => change_pair_figure(draw, words, false),
+        _ => change_pair_figure(draw, words, true),
+    }
+}
+
+/// A whole round trip.
+fn whole(draw: &mut Draw, taste: Taste) -> Sample {
+    let (trip, pair) = Trip::with_pair(draw, taste);
+    let words = trip.words(pair.as_ref()).all();
+    let text = text_of(draw, &words);
+    // Without a pair that fits there is nothing to say about the answer.
+    Sample { text, whole: pair.is_some().then_some(trip) }
+}
+
+/// A round trip with its words damaged.
+fn damaged(draw: &mut Draw, damage: impl FnOnce(&mut Draw, &mut Words)) -> Sample {
+    let taste = draw.of(&[SMALL, SMALL, SMALL, FAMILY]);
+    let (trip, pair) = Trip::with_pair(draw, taste);
+    let mut words = trip.words(pair.as_ref());
+    damage(draw, &mut words);
+    Sample { text: text_of(draw, &words.all()), whole: None }
+}
+
+/// A round trip whose text ends early, at a word or a byte.
+fn cut(draw: &mut Draw) -> Sample {
+    let (trip, pair) = Trip::with_pair(draw, SMALL);
+    let words = trip.words(pair.as_ref());
+    let mut all = words.all();
+    match draw.below(3) {
+        0 => all.truncate(draw.below(all.len() + 1)),
+        1 => all.truncate(words.network.len() + draw.below(words.stack.len() + 1)),
+        _ => {
+            let mut text = text_of(draw, &all);
+            text.truncate(draw.below(text.len() + 1));
+            return Sample { text, whole: None };
+        }
+    }
+    Sample { text: text_of(draw, &all), whole: None }
+}
+
+/// A network without flow, or any network, with any stack and pair.
+fn anything(draw: &mut Draw) -> Sample {
+    let trip = Trip::new(draw, Taste { spoilt: 100, ..SMALL });
+    let mut words = trip.words(None);
+    if draw.chance(50) {
+        damage_any(draw, &mut words);
+    }
+    Sample { text: text_of(draw, &words.all()), whole: None }
+}
+
+/// The n-th text for the restoring program.
+pub fn sample(draw: &mut Draw, number: usize) -> Sample {
+    match number % 20 {
+        0 => {
+            let (trip, pair) = Trip::with_pair(draw, SMALL);
+            let words = trip.words(pair.as_ref()).all();
+            Sample { text: odd_text(draw, number / 20, &words), whole: None }
+        }
+        1 => cut(draw),
+        2 => damaged(draw, damage_original),
+        3 => damaged(draw, damage_stack),
+        4 => damaged(draw, damage_pair_record),
+        5 => damaged(draw, |draw, words| change_pair_figure(draw, words, false)),
+        6 | 7 => {
+            let (trip, _) = Trip::with_pair(draw, SMALL);
+            let pair = nearly_right_pair(draw, &trip);
+            Sample { text: text_of(draw, &trip.words(pair.as_ref()).all()), whole: None }
+        }
+        8 => damaged(draw, |draw, words| change_pair_figure(draw, words, true)),
+        9 => damaged(draw, |draw, words| {
+            damage_any(draw, words);
+            damage_any(draw, words);
+        }),
+        10 => anything(draw),
+        11 if number % 60 == 11 => whole(draw, FULL),
+        12..=13 => whole(draw, WIDE),
+        14..=15 => whole(draw, FAMILY),
+        _ => whole(draw, SMALL),
+    }
+}
