@@ -11,6 +11,7 @@ pub mod programs;
 pub mod reduce;
 pub mod restore;
 pub mod rules;
+pub mod sample_texts;
 pub mod samples;
 pub mod solve;
 pub mod text;

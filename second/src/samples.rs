@@ -1,39 +1,71 @@
-//! Deterministic samples: networks shaped so that each rule fires often, damaged records and odd texts.
+//! Deterministic sample networks, shaped so that each rule fires often and figures come near the width.
 
 use crate::draw::Draw;
+use crate::exact::Exact;
 use crate::fraction::{Bound, Fraction};
-use crate::network::{sizes, Arc, Network, ARC_FIGURES, MOST_ARCS, MOST_NODES};
-use crate::text::LONGEST_TEXT;
+use crate::network::{Arc, Network, MOST_ARCS, MOST_NODES};
 
-/// How a sample network is to look.
+/// The shapes of sample networks.
 #[derive(Clone, Copy)]
-pub struct Taste {
-    /// Core nodes to begin with, and gadgets added to them.
-    pub core: (usize, usize),
-    pub gadgets: (usize, usize),
-    /// Of a hundred figures so many are near the width.
-    pub wide: usize,
-    /// These are all made of one large number, so that products don't fit and quotients of them do.
-    pub family: bool,
-    /// Of a hundred networks so many have costs for which some flow is optimal by design.
-    pub optimal: usize,
-    /// Of a hundred networks so many get a supply or bounds that hardly allow a flow.
-    pub spoilt: usize,
-    /// Goes on until 32 nodes and 96 arcs are there.
-    pub full: bool,
+pub enum Shape {
+    /// Small figures, a few nodes, now and then without a flow.
+    Small,
+    /// The same, always with a supply or bounds that hardly allow a flow.
+    Spoilt,
+    /// Some figures near the width.
+    Wide,
+    /// Figures made of one large number, so that products don't fit and quotients of them do.
+    Family,
+    /// 32 nodes and 96 arcs.
+    Full,
+    /// Many closed arcs, or a long ring.
+    LongRun,
+    /// Crossings with flows near the width.
+    HeavyCrossing,
+    /// Nodes of degree 2 with large multipliers and flows, or with small multipliers and large costs.
+    SteepChain,
 }
 
-pub const SMALL: Taste =
+/// A sample network of the shape.
+pub fn network(draw: &mut Draw, shape: Shape) -> Network {
+    match shape {
+        Shape::Small => gadgets(draw, SMALL),
+        Shape::Spoilt => gadgets(draw, Taste { spoilt: 100, ..SMALL }),
+        Shape::Wide => gadgets(draw, WIDE),
+        Shape::Family => gadgets(draw, FAMILY),
+        Shape::Full => gadgets(draw, FULL),
+        Shape::LongRun => long_run(draw),
+        Shape::HeavyCrossing => heavy_crossing(draw),
+        Shape::SteepChain => steep_chain(draw),
+    }
+}
+
+/// How a network of gadgets is to look.
+#[derive(Clone, Copy)]
+struct Taste {
+    /// Core nodes to begin with, and gadgets added to them.
+    core: (i64, i64),
+    gadgets: (i64, i64),
+    /// Of a hundred figures so many are near the width.
+    wide: usize,
+    /// These are all made of one large number.
+    family: bool,
+    /// Of a hundred networks so many have costs for which some flow is optimal by design.
+    optimal: usize,
+    /// Of a hundred networks so many get a supply or bounds that hardly allow a flow.
+    spoilt: usize,
+    /// Goes on until 32 nodes and 96 arcs are there.
+    full: bool,
+}
+
+const SMALL: Taste =
     Taste { core: (0, 4), gadgets: (1, 4), wide: 0, family: false, optimal: 60, spoilt: 15, full: false };
-pub const WIDE: Taste =
-    Taste { core: (1, 3), gadgets: (1, 4), wide: 8, family: false, optimal: 40, spoilt: 3, full: false };
-pub const FAMILY: Taste =
-    Taste { core: (1, 3), gadgets: (1, 4), wide: 40, family: true, optimal: 30, spoilt: 2, full: false };
-pub const FULL: Taste =
-    Taste { core: (4, 12), gadgets: (5, 14), wide: 0, family: false, optimal: 60, spoilt: 5, full: true };
+const WIDE: Taste = Taste { core: (1, 3), wide: 8, optimal: 40, spoilt: 3, ..SMALL };
+const FAMILY: Taste = Taste { core: (1, 3), wide: 40, family: true, optimal: 30, spoilt: 2, ..SMALL };
+const FULL: Taste = Taste { core: (4, 12), gadgets: (5, 14), spoilt: 5, full: true, ..SMALL };
 
 /// Small fractions, zero among them.
-fn small(draw: &mut Draw) -> Fraction {
+pub fn small(draw: &mut Draw) -> Fraction {
     let numerator = draw.within(-6, 6);
     fitted(numerator, draw.of(&[1, 1, 1, 1, 2, 3]))
 }
@@ -85,7 +117,10 @@ struct Draft {
 struct DraftArc {
     arc: Arc,
     flow: Fraction,
+    /// Rule 4 is to apply.
     costly: bool,
+    /// The cost stands already.
+    priced: bool,
 }
 
 const OPEN: Bound = Bound::AbsentUpper;
@@ -175,7 +210,7 @@ impl Draft {
         let cost = self.figure(draw);
         let arc =
             Arc { from: ends[0], to: ends[1], cost, lower, upper, at_from: multipliers[0], at_to: multipliers[1] };
-        self.arcs.push(DraftArc { arc, flow, costly: false });
+        self.arcs.push(DraftArc { arc, flow, costly: false, priced: false });
     }
 
     /// An arc with the given multiplier at `node`, drawn in either direction.
@@ -212,6 +247,26 @@ impl Draft {
             self.some_root(draw, node);
         } else {
             self.road(draw, node, other);
+        }
+    }
+
+    /// Arcs between core nodes, from `least` to 3 for each node.
+    fn core_arcs(&mut self, draw: &mut Draw, least: usize) {
+        for _ in 0..draw.within((least * self.core) as i64, 3 * self.core as i64) {
+            self.core_arc(draw);
+        }
+    }
+
+    /// Goes on to 32 nodes and 96 arcs.
+    fn fill(&mut self, draw: &mut Draw) {
+        while self.has_room(1, 4) {
+            self.gadget(draw);
+        }
+        while self.has_room(1, 0) {
+            self.bare(draw);
+        }
+        while self.has_room(0, 1) {
+            self.core_arc(draw);
         }
     }
 
@@ -308,13 +363,8 @@ impl Draft {
         }
         let node = self.new_node();
         let around: Vec<usize> = (0..4).map(|_| self.core_node(draw)).collect();
-        let heavy = draw.chance(self.taste.wide);
-        for side in 0..2 {
-            if heavy {
-                self.heavy_side(draw, node, around[2 * side], around[2 * side + 1]);
-            } else {
-                self.side(draw, node, around[2 * side], around[2 * side + 1]);
-            }
+        for ends in around.chunks(2) {
+            self.side(draw, node, ends[0], ends[1]);
         }
     }
 
@@ -330,14 +380,55 @@ impl Draft {
         self.push_at(draw, node, ep, p_end, (flow_p, Bound::Finite(Fraction::ZERO), OPEN));
     }
 
-    /// The same with flows near the width, so that sums of them on the way back may not fit.
-    fn heavy_side(&mut self, draw: &mut Draw, node: usize, n_end: usize, p_end: usize) {
-        let e = fitted(draw.within(2, 3), 1);
-        let flow = fitted(draw.within(500_000_000, 1_000_000_000), 1);
-        let bounds = (flow, Bound::Finite(Fraction::ZERO), OPEN);
-        for (end, e) in [(n_end, e.negated()), (p_end, e)] {
-            let o = fitted(draw.sign(), 1);
-            self.push(draw, [end, node], [o, e], bounds);
+    /// A crossing with flows near the width: the new arcs' flows fit, the sum of two of them mostly doesn't.
+    fn heavy_crossing(&mut self, draw: &mut Draw) {
+        let node = self.new_node();
+        let middle = 1 + draw.below(self.core - 1);
+        let million = 1_000_000;
+        let large = draw.within(750 * million, 1000 * million);
+        let (other, opposite) = (draw.within(400 * million, 700 * million), draw.within(400 * million, 700 * million));
+        let e = 3 * draw.sign();
+        for (e, flow) in [(e, large), (e, other), (-e, opposite), (-e, large + other - opposite)] {
+            let end = if e < 0 { 1 + draw.below(middle) } else { 1 + middle + draw.below(self.core - middle) };
+            let (o, e) = (fitted(draw.sign(), 1), fitted(e, 1));
+            self.push(draw, [end, node], [o, e], (fitted(flow, 1), Bound::Finite(Fraction::ZERO), OPEN));
+        }
+    }
+
+    /// A node of degree 2 with large multipliers and flows: their products don't fit, the sum would.
+    fn loaded_node(&mut self, draw: &mut Draw, node: usize, ends: [usize; 2]) {
+        let e = fitted(self.large * draw.sign(), 1);
+        let opposite = draw.chance(60);
+        let flow = fitted(self.large * draw.within(1, 3), draw.within(1, 3));
+        let little = fitted(draw.within(0, 3), 1);
+        let other_flow = flow.minus(little).expect("fits");
+        let zero = Bound::Finite(Fraction::ZERO);
+        let lower = if draw.chance(50) { zero } else { Bound::AbsentLower };
+        self.push_at(draw, node, e, ends[0], (flow, lower, OPEN));
+        if opposite {
+            self.push_at(draw, node, e.negated(), ends[1], (other_flow, lower, OPEN));
+        } else {
+            self.push_at(draw, node, e, ends[1], (other_flow.negated(), Bound::AbsentLower, OPEN));
+        }
+    }
+
+    /// A node of degree 2 with small multipliers and large costs: the prices there don't fit, or hardly.
+    fn costly_node(&mut self, draw: &mut Draw, node: usize, ends: [usize; 2]) {
+        for end in ends {
+            let e = fitted(draw.within(1, 3) * draw.sign(), self.large);
+            let flow = fitted(draw.within(-3, 3), 1);
+            let (below, above) = (fitted(draw.within(0, 2), 1), fitted(draw.within(0, 2), 1));
+            let lower = Bound::Finite(flow.minus(below).expect("fits"));
+            let upper = Bound::Finite(flow.plus(above).expect("fits"));
+            if end == node {
+                self.root(draw, node, e, (flow, lower, upper));
+            } else {
+                self.push_at(draw, node, e, end, (flow, lower, upper));
+            }
+            let cost = draw.within(-3, 3) * draw.of(&[1, 1, self.large, self.large / 50]);
+            let last = self.arcs.last_mut().expect("just pushed");
+            last.arc.cost = fitted(cost, 1);
+            last.priced = true;
         }
     }
 
@@ -364,10 +455,10 @@ impl Draft {
     }
 
     /// Costs for which the flows kept are optimal: c = a × price + b × price + d, d of a permitted sign.
-    fn price_arcs(&mut self, draw: &mut Draw) {
-        let highest = draw.of(&[5, 5, 5, 0]);
+    /// Prices are at most `highest`.
+    fn price_arcs(&mut self, draw: &mut Draw, highest: i64) {
         let prices: Vec<Fraction> = (0..self.nodes).map(|_| fitted(draw.within(-highest, highest), 1)).collect();
-        for DraftArc { arc, flow, costly } in &mut self.arcs {
+        for DraftArc { arc, flow, costly, .. } in self.arcs.iter_mut().filter(|arc| !arc.priced) {
             let size = fitted(draw.within(0, 4) + if *costly { draw.within(0, 20) } else { 0 }, 1);
             let d = if Bound::Finite(*flow) == arc.lower {
                 size
@@ -387,384 +478,75 @@ impl Draft {
 
     /// At each node the sum of multiplier × flow; a random figure where that doesn't fit.
     fn supplies(&self, draw: &mut Draw) -> Vec<Fraction> {
-        let mut sums = vec![Some(Fraction::ZERO); self.nodes];
+        let mut sums = vec![Exact::zero(); self.nodes];
         for DraftArc { arc, flow, .. } in &self.arcs {
             for (node, multiplier) in arc.ends() {
-                sums[node - 1] = sums[node - 1].and_then(|sum| sum.plus(multiplier.times(*flow)?));
+                sums[node - 1] = &sums[node - 1] + &(&Exact::from(multiplier) * &Exact::from(*flow));
             }
         }
-        sums.into_iter().map(|sum| sum.unwrap_or_else(|| self.figure(draw))).collect()
+        sums.into_iter().map(|sum| sum.fraction().unwrap_or_else(|| self.figure(draw))).collect()
     }
 
-    fn spoil(&mut self, draw: &mut Draw, supplies: &mut [Fraction]) {
-        if !supplies.is_empty() && draw.chance(60) {
-            let node = draw.below(supplies.len());
-            supplies[node] = small(draw);
-        }
-        if !self.arcs.is_empty() && draw.chance(50) {
-            let number = draw.below(self.arcs.len());
-            let arc = &mut self.arcs[number].arc;
-            let bound = small(draw);
-            if draw.chance(50) {
-                arc.lower = Bound::Finite(bound);
-            } else {
-                arc.upper = Bound::Finite(bound);
-            }
+    /// The network with the draft's arcs and the supplies of its flows.
+    fn network(&self, draw: &mut Draw) -> Network {
+        Network {
+            supplies: (1..).zip(self.supplies(draw)).collect(),
+            arcs: (1..).zip(self.arcs.iter().map(|arc| arc.arc)).collect(),
         }
     }
 }
 
-/// A sample network.
-pub fn network(draw: &mut Draw, taste: Taste) -> Network {
-    let core = draw.within(taste.core.0 as i64, taste.core.1 as i64) as usize;
-    let mut draft = Draft { nodes: core, core, arcs: vec![], taste, large: draw.of(&LARGE) };
-    if core > 0 {
-        for _ in 0..draw.within(0, 3 * core as i64) {
-            draft.core_arc(draw);
+/// Changes a supply, a bound or both.
+fn spoil(draw: &mut Draw, network: &mut Network) {
+    if !network.supplies.is_empty() && draw.chance(60) {
+        let node = 1 + draw.below(network.supplies.len());
+        network.supplies.insert(node, small(draw));
+    }
+    if !network.arcs.is_empty() && draw.chance(50) {
+        let number = 1 + draw.below(network.arcs.len());
+        let arc = network.arcs.get_mut(&number).expect("numbered from 1");
+        let bound = Bound::Finite(small(draw));
+        if draw.chance(50) {
+            arc.lower = bound;
+        } else {
+            arc.upper = bound;
         }
     }
+}
+
+/// A core with gadgets.
+fn gadgets(draw: &mut Draw, taste: Taste) -> Network {
+    let core = draw.within(taste.core.0, taste.core.1) as usize;
+    let mut draft = Draft { nodes: core, core, arcs: vec![], taste, large: draw.of(&LARGE) };
     if core == 0 {
         for _ in 0..draw.below(3) {
             draft.bare(draw);
         }
     } else {
-        for _ in 0..draw.within(taste.gadgets.0 as i64, taste.gadgets.1 as i64) {
+        draft.core_arcs(draw, 0);
+        for _ in 0..draw.within(taste.gadgets.0, taste.gadgets.1) {
             draft.gadget(draw);
         }
     }
     if taste.full {
-        while draft.has_room(1, 0) {
-            if draft.has_room(1, 4) {
-                draft.gadget(draw);
-            } else {
-                draft.bare(draw);
-            }
-        }
-        while draft.has_room(0, 1) {
-            draft.core_arc(draw);
-        }
+        draft.fill(draw);
     }
     draft.stirred(draw);
     if draw.chance(taste.optimal) {
-        draft.price_arcs(draw);
+        let highest = draw.of(&[5, 5, 5, 0]);
+        draft.price_arcs(draw, highest);
     }
-    let mut supplies = draft.supplies(draw);
+    let mut network = draft.network(draw);
     if draw.chance(taste.spoilt) {
-        draft.spoil(draw, &mut supplies);
+        spoil(draw, &mut network);
     }
-    Network { supplies: (1..).zip(supplies).collect(), arcs: (1..).zip(draft.arcs.iter().map(|arc| arc.arc)).collect() }
+    network
 }
 
-/// Words that make no fraction in form, or marks.
-pub fn improper_figure(draw: &mut Draw) -> (i32, i32) {
-    draw.of(&[
-        (2, 4),
-        (0, 2),
-        (0, 0),
-        (0, -1),
-        (1, -1),
-        (-3, -2),
-        (1, 0),
-        (-1, 0),
-        (2, 0),
-        (-2147483648, 1),
-        (-2147483648, 0),
-        (1, -2147483648),
-        (2147483646, 2147483646),
-    ])
-}
-
-/// A figure that may be in form, and may be a mark.
-fn any_figure(draw: &mut Draw) -> (i32, i32) {
-    match draw.below(4) {
-        0 => small(draw).words(),
-        1 => wide(draw).words(),
-        _ => improper_figure(draw),
-    }
-}
-
-/// Puts a figure into a record's words; `position` counts the figures from 0.
-pub fn put(words: &mut [i32], position: usize, figure: (i32, i32)) {
-    let count = (words.len() - 2) / 2;
-    if position < count {
-        words[2 + position] = figure.0;
-        words[2 + count + position] = figure.1;
-    }
-}
-
-/// Damages a network's record in one place. The record must have the right length.
-fn damage_figure(draw: &mut Draw, words: &mut [i32], n: usize, m: usize) {
-    let count = n + ARC_FIGURES * m;
-    if count == 0 {
-        return;
-    }
-    if m == 0 || draw.chance(25) {
-        let position = draw.below(count);
-        let figure = any_figure(draw);
-        return put(words, position, figure);
-    }
-    let first = n + ARC_FIGURES * draw.below(m);
-    let n = n as i32;
-    match draw.below(10) {
-        0 => put(words, first + 3, (1, 0)),
-        1 => put(words, first + 4, (-1, 0)),
-        2 => {
-            let position = first + draw.of(&[0, 1, 2, 5, 6]);
-            let mark = draw.of(&[(1, 0), (-1, 0)]);
-            put(words, position, mark)
-        }
-        3 | 4 => {
-            let position = first + draw.below(2);
-            let end = draw.of(&[(0, 1), (n + 1, 1), (-1, 1), (3, 2), (1, 2), (2147483647, 1), (33, 1)]);
-            put(words, position, end)
-        }
-        5 => put(words, first + 5, (0, 1)),
-        6 => put(words, first + 6, (0, 1)),
-        7 => {
-            let figure = small(draw).words();
-            put(words, first + 6, figure)
-        }
-        8 => {
-            let position = first + draw.below(2);
-            let node = draw.within(1, n.max(1) as i64) as i32;
-            put(words, position, (node, 1))
-        }
-        _ => {
-            let position = first + draw.below(ARC_FIGURES);
-            let figure = any_figure(draw);
-            put(words, position, figure)
-        }
-    }
-}
-
-/// Damages one figure of a network's record, if its sizes and length still tell where.
-pub fn damage_network(draw: &mut Draw, words: &mut [i32]) {
-    if let Some((n, m)) = sizes(words) {
-        if words.len() == 2 + 2 * (n + ARC_FIGURES * m) {
-            damage_figure(draw, words, n, m);
-        }
-    }
-}
-
-fn damage_length(draw: &mut Draw, words: &mut Vec<i32>) {
-    match draw.below(5) {
-        0 => {
-            words.pop();
-        }
-        1 => words.push(draw.within(0, 1) as i32),
-        2 => words.truncate(draw.below(words.len() + 1)),
-        3 => words[0] += draw.sign() as i32,
-        _ => words[1] += draw.sign() as i32,
-    }
-}
-
-/// A network's record damaged in one to three places.
-pub fn damaged_record(draw: &mut Draw) -> Vec<i32> {
-    let sample = network(draw, SMALL);
-    let (n, m) = (sample.supplies.len(), sample.arcs.len());
-    let mut words = sample.record().words();
-    for _ in 0..draw.of(&[1, 1, 1, 2, 3]) {
-        damage_figure(draw, &mut words, n, m);
-    }
-    if draw.chance(20) {
-        damage_length(draw, &mut words);
-    }
-    words
-}
-
-/// Records with sizes at and past the limits, some of the length that the sizes ask for.
-fn limit_record(draw: &mut Draw) -> Vec<i32> {
-    let n = draw.of(&[0, 1, 31, 32, 32, 33, 34, -1, 2147483647, -2147483648, 2]);
-    let m = draw.of(&[0, 1, 2, 95, 96, 96, 97, 98, -1, 2147483647, -2147483648]);
-    let mut words = vec![n, m];
-    if (0..=34).contains(&n) && (0..=98).contains(&m) {
-        let mut figures: Vec<(i32, i32)> = (0..n).map(|_| (0, 1)).collect();
-        for _ in 0..m {
-            let from = draw.within(1, n.max(1) as i64) as i32;
-            let to = draw.within(1, n.max(1) as i64) as i32;
-            let flow = draw.within(0, 1) as i32;
-            let b = (from != to) as i32;
-            figures.extend([(from, 1), (to, 1), (1, 1), (flow, 1), (flow, 1), (1, 1), (b, 1)]);
-        }
-        words.extend(figures.iter().map(|figure| figure.0));
-        words.extend(figures.iter().map(|figure| figure.1));
-    }
-    if draw.chance(15) {
-        words.pop();
-    }
-    words
-}
-
-/// A word as it may be written: leading zeros, a minus sign before zero.
-fn spelling(draw: &mut Draw, word: i32, odd: bool) -> String {
-    if !odd || draw.chance(80) {
-        return word.to_string();
-    }
-    let zeros = "0".repeat(draw.below(4));
-    let sign = if word < 0 || (word == 0 && draw.chance(50)) { "-" } else { "" };
-    format!("{sign}{zeros}{}", (word as i64).abs())
-}
-
-/// The words as a text, plainly or with odd separators and spellings.
-pub fn text_of(draw: &mut Draw, words: &[i32]) -> Vec<u8> {
-    let odd = draw.chance(25);
-    let separators: &[&str] =
-        if odd { &[" ", "  ", "\n", "\r\n", "\r", "\n\n ", " \r\n"] } else { draw.of(&[&[" "], &["\n"], &["\r\n"]]) };
-    let mut text = String::new();
-    if odd && draw.chance(30) {
-        text += draw.of(separators);
-    }
-    for (position, word) in words.iter().enumerate() {
-        if position > 0 {
-            text += draw.of(separators);
-        }
-        text += &spelling(draw, *word, odd);
-    }
-    if draw.chance(60) {
-        text += draw.of(&["\n", "\r\n", " ", "\n"]);
-    }
-    text.into_bytes()
-}
-
-/// Fixed odd texts.
-const ODD_TEXTS: [&[u8]; 50] = [
-    b"",
-    b" ",
-    b"\n",
-    b"\r\n",
-    b" \n\r \n",
-    b"0",
-    b"0 0",
-    b"0 0\n",
-    b"0 0\r\n",
-    b"\r\n0\r\n0\r\n",
-    b"-0 -0",
-    b"-000 0000",
-    b"00000000000000000000000000000000000000000000 0",
-    b"-",
-    b"- 0",
-    b"0 0 -",
-    b"--1",
-    b"0 --0",
-    b"+1",
-    b"+0 +0",
-    b"0 1-1",
-    b"0\t0",
-    b"0 0\t",
-    b"0 0\0",
-    b"\0",
-    b"0\x0b0",
-    b"0\x0c0",
-    b"0 0\x0b",
-    b"0 0\x1a",
-    b"\xef\xbb\xbf0 0",
-    b"0 0\xa0",
-    b"0 0 \xff",
-    b"0 \xd9\xa0",
-    b"2147483647 0",
-    b"2147483648 0",
-    b"0 2147483648",
-    b"-2147483648 0",
-    b"-2147483649 0",
-    b"4294967296 0",
-    b"0 4294967296",
-    b"18446744073709551616 0",
-    b"99999999999999999999999999999999999999999999999999 0",
-    b"0 00000000000000000000000000002147483648",
-    b"1 0 0 1",
-    b"1 0 -0 001",
-    b"1 0 -1 1",
-    b"0 0 0",
-    b"1.0 0",
-    b"0x0 0",
-    b"0,0",
-];
-
-/// A text filled up or overfilled around the longest length.
-fn longest_text(draw: &mut Draw, words: &[i32]) -> Vec<u8> {
-    let length = LONGEST_TEXT + draw.of(&[0, 0, 0, 1, 1, 2, 4096]) - draw.of(&[0, 0, 0, 1]);
-    let mut text = text_of(draw, words);
-    let missing = length.saturating_sub(text.len());
-    let first_word = text.iter().position(|byte| byte.is_ascii_digit() || *byte == b'-');
-    match (draw.below(5), first_word) {
-        (0, Some(first)) => {
-            let digit = first + (text[first] == b'-') as usize;
-            text.splice(digit..digit, vec![b'0'; missing]);
-        }
-        (1, _) => {
-            let mut padded = vec![b' '; missing];
-            padded.extend(&text);
-            text = padded;
-        }
-        (2, _) => text.extend(vec![b'\n'; missing]),
-        (3, _) if missing > 1 => {
-            text.push(b' ');
-            text.extend(vec![b'0'; missing - 1]);
-        }
-        _ => {
-            text.extend(vec![b' '; missing.saturating_sub(1)]);
-            if missing > 0 {
-                text.push(draw.of(b"1 \n-x"));
-            }
-        }
-    }
-    text
-}
-
-/// A good text with one byte changed, put in or taken out, or something bad behind it.
-fn spoilt_text(draw: &mut Draw, words: &[i32]) -> Vec<u8> {
-    let mut text = text_of(draw, words);
-    let bad: [&[u8]; 16] = [
-        b"-",
-        b"+",
-        b"\t",
-        b"\0",
-        b"\x0b",
-        b"\x0c",
-        b"\xff",
-        b"\x80",
-        b".",
-        b"x",
-        b"9999999999",
-        b" - ",
-        b"--",
-        b",",
-        b"\x7f",
-        b"1",
-    ];
-    let piece = draw.of(&bad);
-    let position = draw.below(text.len() + 1);
-    match draw.below(4) {
-        0 => {
-            text.splice(position..position, piece.iter().copied());
-        }
-        1 if position < text.len() => {
-            text.splice(position..position + 1, piece.iter().copied());
-        }
-        2 => {
-            text.push(b' ');
-            text.extend(piece);
-        }
-        _ => text.truncate(position),
-    }
-    text
-}
-
-/// The n-th odd text: the fixed ones first, then made ones. Any record's words may be the good part.
-pub fn odd_text(draw: &mut Draw, number: usize, words: &[i32]) -> Vec<u8> {
-    if let Some(text) = ODD_TEXTS.get(number) {
-        text.to_vec()
-    } else if draw.chance(40) {
-        longest_text(draw, words)
-    } else {
-        spoilt_text(draw, words)
-    }
-}
-
-/// Many bare nodes and closed arcs, or a long chain: many steps.
 fn long_run(draw: &mut Draw) -> Network {
-    let n = draw.within(20, 32) as usize;
-    let m = draw.within(40, 96) as usize;
+    let longest = draw.chance(20);
+    let n = if longest { MOST_NODES } else { draw.within(20, 32) as usize };
+    let m = if longest { MOST_ARCS } else { draw.within(40, 96) as usize };
     let closed = draw.chance(50);
     let mut draft = Draft { nodes: n, core: n, arcs: vec![], taste: SMALL, large: 1 };
     for number in 0..m {
@@ -781,45 +563,37 @@ fn long_run(draw: &mut Draw) -> Network {
         }
     }
     draft.stirred(draw);
-    draft.price_arcs(draw);
-    let supplies = draft.supplies(draw);
-    Network { supplies: (1..).zip(supplies).collect(), arcs: (1..).zip(draft.arcs.iter().map(|arc| arc.arc)).collect() }
+    draft.price_arcs(draw, 5);
+    draft.network(draw)
 }
 
-/// The n-th text for the reducing program.
-pub fn reducing_text(draw: &mut Draw, number: usize) -> Vec<u8> {
-    match number % 20 {
-        0 => {
-            let words = network(draw, SMALL).record().words();
-            odd_text(draw, number / 20, &words)
-        }
-        1 => {
-            let words = limit_record(draw);
-            text_of(draw, &words)
-        }
-        2 | 3 => {
-            let words = damaged_record(draw);
-            text_of(draw, &words)
-        }
-        4 => {
-            let words = network(draw, FULL).record().words();
-            text_of(draw, &words)
-        }
-        5 => {
-            let words = long_run(draw).record().words();
-            text_of(draw, &words)
-        }
-        6..=8 => {
-            let words = network(draw, WIDE).record().words();
-            text_of(draw, &words)
-        }
-        9..=13 => {
-            let words = network(draw, FAMILY).record().words();
-            text_of(draw, &words)
-        }
-        _ => {
-            let words = network(draw, SMALL).record().words();
-            text_of(draw, &words)
+fn heavy_crossing(draw: &mut Draw) -> Network {
+    let core = draw.within(2, 5) as usize;
+    let mut draft = Draft { nodes: core, core, arcs: vec![], taste: SMALL, large: 1 };
+    draft.core_arcs(draw, 2);
+    draft.heavy_crossing(draw);
+    draft.stirred(draw);
+    draft.price_arcs(draw, 0);
+    draft.network(draw)
+}
+
+fn steep_chain(draw: &mut Draw) -> Network {
+    let core = draw.within(2, 4) as usize;
+    let large = draw.of(&[46341, 46349, 65536, 65537, 100_003, 1 << 20, 9_699_690]);
+    let mut draft = Draft { nodes: core, core, arcs: vec![], taste: SMALL, large };
+    draft.core_arcs(draw, 1);
+    for _ in 0..draw.within(1, 2) {
+        let (first, second) = (1 + draw.below(core - 1), core);
+        let node = draft.new_node();
+        if draw.chance(40) {
+            draft.loaded_node(draw, node, [first, second]);
+        } else {
+            let ends = draw.of(&[[first, second], [second, first], [first, node], [node, second]]);
+            draft.costly_node(draw, node, ends);
         }
     }
+    draft.stirred(draw);
+    let highest = draw.of(&[0, 5]);
+    draft.price_arcs(draw, highest);
+    draft.network(draw)
 }

@@ -279,7 +279,7 @@ pub fn is_optimal(network: &Network, pair: &Pair) -> bool {
 mod tests {
     use super::*;
     use crate::draw::Draw;
-    use crate::samples::{network, SMALL, WIDE};
+    use crate::samples::{network, Shape};
 
     /// Every optimum found satisfies the exact conditions, which suffice; the other answers are cross-checked
     /// by solving with the arcs the other way round.
@@ -288,7 +288,7 @@ mod tests {
         let mut draw = Draw::new(11);
         let mut counts = [0; 3];
         for number in 0..600 {
-            let sample = network(&mut draw, if number % 3 == 0 { WIDE } else { SMALL });
+            let sample = network(&mut draw, if number % 3 == 0 { Shape::Wide } else { Shape::Small });
             match (solve(&sample, false), solve(&sample, true)) {
                 (Solution::Optimal(first), Solution::Optimal(second)) => {
                     counts[0] += 1;

@@ -9,14 +9,15 @@ use crate::optimality::Pair;
 use crate::reduce::{reduce, End, Reduction};
 use crate::restore::{price_by, Restored};
 use crate::rules::Back;
-use crate::samples::{damage_network, improper_figure, network, odd_text, put, text_of, wide};
-use crate::samples::{Taste, FAMILY, FULL, SMALL, WIDE};
+use crate::sample_texts::{damage_network, improper_figure, odd_text, put, text_of};
+use crate::samples::{network, wide, Shape};
 use crate::solve::{is_optimal, solve, Solution};
 
-/// A sample network and its reduction.
+/// A sample network, its reduction and an optimal pair of the reduced network, if there is one that fits.
 pub struct Trip {
     pub original: Network,
     pub reduction: Reduction,
+    pub pair: Option<Pair>,
 }
 
 /// The words of a restoring text.
@@ -33,31 +34,32 @@ impl Words {
     }
 }
 
-/// A text and, where it was not damaged, the trip that it came from.
+/// A text, the trip that it came from, and whether it has all of that trip unchanged.
 pub struct Sample {
     pub text: Vec<u8>,
-    pub whole: Option<Trip>,
+    pub trip: Trip,
+    pub whole: bool,
 }
 
 impl Trip {
-    pub fn new(draw: &mut Draw, taste: Taste) -> Trip {
-        let original = network(draw, taste);
+    fn new(draw: &mut Draw, shape: Shape) -> Trip {
+        let original = network(draw, shape);
         let reduction = reduce(&original);
-        Trip { original, reduction }
+        let mut trip = Trip { original, reduction, pair: None };
+        trip.pair = trip.optimal_pair(draw);
+        trip
     }
 
-    /// A trip that ends in a reduced network with an optimum whose figures fit, if one comes soon.
-    fn with_pair(draw: &mut Draw, taste: Taste) -> (Trip, Option<Pair>) {
-        let mut trip = Trip::new(draw, taste);
-        let mut pair = trip.optimal_pair(draw);
+    /// A trip with a pair, mostly with arcs left, if one comes soon.
+    fn with_pair(draw: &mut Draw, shape: Shape) -> Trip {
+        let mut trip = Trip::new(draw, shape);
         for _ in 0..8 {
-            if pair.is_some() && (!trip.is_bare() || draw.chance(15)) {
+            if trip.pair.is_some() && (!trip.is_bare() || draw.chance(15)) {
                 break;
             }
-            trip = Trip::new(draw, taste);
-            pair = trip.optimal_pair(draw);
+            trip = Trip::new(draw, shape);
         }
-        (trip, pair)
+        trip
     }
 
     pub fn reduced(&self) -> Option<&Network> {
@@ -85,34 +87,38 @@ impl Trip {
         optimum.pair(reduced)
     }
 
-    /// The words with a pair; without one a pair of zeros.
-    fn words(&self, pair: Option<&Pair>) -> Words {
+    /// The words; without a pair they have one of zeros.
+    fn words(&self) -> Words {
+        self.words_with(self.pair.clone())
+    }
+
+    fn words_with(&self, pair: Option<Pair>) -> Words {
         let zeros = |network: &Network| Pair {
             prices: network.supplies.keys().map(|&node| (node, Fraction::ZERO)).collect(),
             flows: network.arcs.keys().map(|&arc| (arc, Fraction::ZERO)).collect(),
         };
-        let pair = pair.cloned().or(self.reduced().map(zeros)).unwrap_or_default();
+        let pair = pair.or(self.reduced().map(zeros)).unwrap_or_default();
         Words { network: self.original.record().words(), stack: self.reduction.stack(), pair: pair.record().words() }
     }
 
-    /// What theory says of an undamaged trip: None, or what is wrong.
-    pub fn complaint(&self, answer: &Result<Restored, Refusal>) -> Option<String> {
+    /// "No flow" and a reduced network that has none mean that the original has none; likewise for networks
+    /// without an optimum. None, or what is wrong.
+    pub fn complaint(&self) -> Option<String> {
         let before = solve(&self.original, false);
         let after = self.reduced().map_or(Solution::Infeasible, |reduced| solve(reduced, true));
         let same_kind = std::mem::discriminant(&before) == std::mem::discriminant(&after);
-        if !same_kind {
-            return Some(format!("original {before:?}, reduced {after:?}"));
-        }
-        let (Solution::Optimal(before), Solution::Optimal(after)) = (before, after) else {
-            return answer.is_ok().then(|| "restored without an optimum".to_string());
-        };
+        (!same_kind).then(|| format!("original {before:?}, reduced {after:?}"))
+    }
+
+    /// A whole trip with a pair is restored to an optimum of the original, unless some figure doesn't fit.
+    pub fn complaint_about(&self, answer: &Result<Restored, Refusal>) -> Option<String> {
         match answer {
             Err(Refusal(9 | 13)) => None,
             Err(refusal) => Some(format!("optimal pair, {refusal:?}")),
             Ok(restored) => {
-                let values = [(before.value, restored.value), (after.value, restored.reduced_value)];
-                let right = values.into_iter().all(|(wanted, found)| wanted == Exact::from(found));
-                let sound = right && is_optimal(&self.original, &restored.pair);
+                let value = Exact::from(restored.value);
+                let best = matches!(solve(&self.original, false), Solution::Optimal(best) if best.value == value);
+                let sound = best && is_optimal(&self.original, &restored.pair);
                 (!sound).then(|| format!("restored pair isn't optimal: {restored:?}"))
             }
         }
@@ -269,77 +275,86 @@ fn damage_any(draw: &mut Draw, words: &mut Words) {
 }
 
 /// A whole round trip.
-fn whole(draw: &mut Draw, taste: Taste) -> Sample {
-    let (trip, pair) = Trip::with_pair(draw, taste);
-    let words = trip.words(pair.as_ref()).all();
-    let text = text_of(draw, &words);
-    // Without a pair that fits there is nothing to say about the answer.
-    Sample { text, whole: pair.is_some().then_some(trip) }
+fn whole(draw: &mut Draw, shape: Shape) -> Sample {
+    let trip = Trip::with_pair(draw, shape);
+    let text = text_of(draw, &trip.words().all());
+    Sample { text, whole: true, trip }
 }
 
 /// A round trip with its words damaged.
 fn damaged(draw: &mut Draw, damage: impl FnOnce(&mut Draw, &mut Words)) -> Sample {
-    let taste = draw.of(&[SMALL, SMALL, SMALL, FAMILY]);
-    let (trip, pair) = Trip::with_pair(draw, taste);
-    let mut words = trip.words(pair.as_ref());
+    let shape = draw.of(&[Shape::Small, Shape::Small, Shape::Small, Shape::Family]);
+    let trip = Trip::with_pair(draw, shape);
+    let mut words = trip.words();
     damage(draw, &mut words);
-    Sample { text: text_of(draw, &words.all()), whole: None }
+    Sample { text: text_of(draw, &words.all()), whole: false, trip }
 }
 
 /// A round trip whose text ends early, at a word or a byte.
 fn cut(draw: &mut Draw) -> Sample {
-    let (trip, pair) = Trip::with_pair(draw, SMALL);
-    let words = trip.words(pair.as_ref());
+    let trip = Trip::with_pair(draw, Shape::Small);
+    let words = trip.words();
     let mut all = words.all();
-    match draw.below(3) {
+    let which = draw.below(3);
+    match which {
         0 => all.truncate(draw.below(all.len() + 1)),
         1 => all.truncate(words.network.len() + draw.below(words.stack.len() + 1)),
-        _ => {
-            let mut text = text_of(draw, &all);
-            text.truncate(draw.below(text.len() + 1));
-            return Sample { text, whole: None };
-        }
+        _ => {}
     }
-    Sample { text: text_of(draw, &all), whole: None }
+    let mut text = text_of(draw, &all);
+    if which == 2 {
+        text.truncate(draw.below(text.len() + 1));
+    }
+    Sample { text, whole: false, trip }
 }
 
-/// A network without flow, or any network, with any stack and pair.
-fn anything(draw: &mut Draw) -> Sample {
-    let trip = Trip::new(draw, Taste { spoilt: 100, ..SMALL });
-    let mut words = trip.words(None);
+/// A round trip with a pair that is nearly right.
+fn nearly_right(draw: &mut Draw) -> Sample {
+    let trip = Trip::with_pair(draw, Shape::Small);
+    let pair = nearly_right_pair(draw, &trip);
+    let text = text_of(draw, &trip.words_with(pair).all());
+    Sample { text, whole: false, trip }
+}
+
+/// A network that may have no flow, with any stack and pair.
+fn spoilt(draw: &mut Draw) -> Sample {
+    let trip = Trip::new(draw, Shape::Spoilt);
+    let mut words = trip.words();
     if draw.chance(50) {
         damage_any(draw, &mut words);
     }
-    Sample { text: text_of(draw, &words.all()), whole: None }
+    Sample { text: text_of(draw, &words.all()), whole: false, trip }
+}
+
+/// An odd text around a round trip's words.
+fn odd(draw: &mut Draw, number: usize) -> Sample {
+    let trip = Trip::with_pair(draw, Shape::Small);
+    let text = odd_text(draw, number, &trip.words().all());
+    Sample { text, whole: false, trip }
 }
 
 /// The n-th text for the restoring program.
 pub fn sample(draw: &mut Draw, number: usize) -> Sample {
     match number % 20 {
-        0 => {
-            let (trip, pair) = Trip::with_pair(draw, SMALL);
-            let words = trip.words(pair.as_ref()).all();
-            Sample { text: odd_text(draw, number / 20, &words), whole: None }
-        }
+        0 => odd(draw, number / 20),
         1 => cut(draw),
         2 => damaged(draw, damage_original),
         3 => damaged(draw, damage_stack),
         4 => damaged(draw, damage_pair_record),
         5 => damaged(draw, |draw, words| change_pair_figure(draw, words, false)),
-        6 | 7 => {
-            let (trip, _) = Trip::with_pair(draw, SMALL);
-            let pair = nearly_right_pair(draw, &trip);
-            Sample { text: text_of(draw, &trip.words(pair.as_ref()).all()), whole: None }
-        }
+        6 | 7 => nearly_right(draw),
         8 => damaged(draw, |draw, words| change_pair_figure(draw, words, true)),
         9 => damaged(draw, |draw, words| {
             damage_any(draw, words);
             damage_any(draw, words);
         }),
-        10 => anything(draw),
-        11 if number % 60 == 11 => whole(draw, FULL),
-        12..=13 => whole(draw, WIDE),
-        14..=15 => whole(draw, FAMILY),
-        _ => whole(draw, SMALL),
+        10 => spoilt(draw),
+        11 if number % 60 == 11 => whole(draw, Shape::Full),
+        11 => whole(draw, Shape::LongRun),
+        12 => whole(draw, Shape::Wide),
+        13 | 14 => whole(draw, Shape::Family),
+        15 | 18 => whole(draw, Shape::HeavyCrossing),
+        16 | 17 => whole(draw, Shape::SteepChain),
+        _ => whole(draw, Shape::Small),
     }
 }

@@ -94,6 +94,9 @@ isLess x y = cond (eqb (x .den) 0 && eqb (y .den) 0) (ltZ (x .num) (y .num)) (lt
 unfoldable pub isSame : Fraction → Fraction → Bool
 isSame x y = eqZ (x .num) (y .num) && eqb (x .den) (y .den)
 
+unfoldable pub isZero : Fraction → Bool
+isZero x = isSame x zeroFraction
+
 -- ---- words of a record
 
 -- a word as a denominator: a number below 0 is read as one beyond range, so that no fraction and no mark has it

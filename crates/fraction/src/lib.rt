@@ -6,7 +6,7 @@ ghost use mathlib.Core.Bool.{_&&_};
 ghost use Prim.Native.Nat.{_*_};
 ghost use lib.IntN.{pos, natAbs, _+ℤ_, _*ℤ_};
 ghost use lib.Signed.{ltZ};
-ghost use Rattle.fraction.specs.Exact.{zeroFraction, noLower, noUpper, Operand, isOperand, isProper, isSame, isLess, reduceOf, sumOf, differenceOf, productOf, quotientOf, negationOf, reciprocalOf, fromWords, denWord};
+ghost use Rattle.fraction.specs.Exact.{noLower, noUpper, Operand, isOperand, isProper, isSame, isZero, isLess, reduceOf, sumOf, differenceOf, productOf, quotientOf, negationOf, reciprocalOf, fromWords, denWord};
 ghost use Rattle.fraction.specs.Formula.{pairOf, _⊕_, _⊖_, _⊗_, _⊘_, ⊝_};
 
 // A figure: a numerator over a denominator, or a mark, which is written over 0.
@@ -54,6 +54,13 @@ impl Fraction {
             num: num as i32,
             den: m as u32,
         })
+    }
+
+    // It, as what a formula starts from.
+    pub fn fit(self) -> Worked
+        ensures { λ r. ⌜ r ≡ Worked.Fits self ⌝ }
+    {
+        Worked::Fits(self)
     }
 
     // Whether an operation can be worked on it: its parts are within range and the denominator is not 0.
@@ -166,7 +173,7 @@ impl Fraction {
     }
 
     pub fn is_zero(self) -> bool
-        ensures { λ r. ⌜ r ≡ isSame self zeroFraction ⌝ }
+        ensures { λ r. ⌜ r ≡ isZero self ⌝ }
     {
         self.same(Fraction::ZERO)
     }

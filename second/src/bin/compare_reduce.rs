@@ -4,7 +4,7 @@
 use second::compare::{arguments, own_program, Comparison};
 use second::draw::Draw;
 use second::programs::{read_and_reduce, reducing};
-use second::samples::reducing_text;
+use second::sample_texts::reducing_text;
 
 fn main() {
     let (other, count, folder) = arguments("compare_reduce", 3000);

@@ -4,34 +4,58 @@
 use second::compare::{arguments, own_program, Comparison};
 use second::draw::Draw;
 use second::programs::{read_and_restore, restoring};
-use second::trips::{sample, Ways};
+use second::trips::{sample, Sample, Ways};
+
+/// What the trips themselves showed, whatever the other program says.
+#[derive(Default)]
+struct Checks {
+    ways: Ways,
+    kinds: usize,
+    optima: usize,
+    complaints: usize,
+}
+
+impl Checks {
+    fn check(&mut self, number: usize, sample: &Sample) {
+        let mut complaint = sample.trip.complaint();
+        self.kinds += 1;
+        if sample.whole && sample.trip.pair.is_some() {
+            let answer = read_and_restore(&sample.text);
+            complaint = complaint.or(sample.trip.complaint_about(&answer));
+            if let Ok(restored) = &answer {
+                self.ways.count(&sample.trip.reduction, restored);
+                self.optima += 1;
+            }
+        }
+        if let Some(complaint) = complaint {
+            self.complaints += 1;
+            println!("text {number}: {complaint}\n{}", String::from_utf8_lossy(&sample.text));
+        }
+    }
+
+    fn print(&self) {
+        for (rule, times) in self.ways.steps.iter().enumerate().skip(1) {
+            println!("rule {rule} undone {times} times");
+        }
+        println!("rule 5 with its second price {} times", self.ways.second_prices);
+        println!("rule 6 with two different prices {} times", self.ways.different_prices);
+        println!("{} originals solved beside their reduced networks", self.kinds);
+        println!("{} restored pairs checked against the independent optimum", self.optima);
+        println!("{} checks failed", self.complaints);
+    }
+}
 
 fn main() {
     let (other, count, folder) = arguments("compare_restore", 3000);
     let mut comparison = Comparison::new(own_program("restore"), other, folder);
     let mut draw = Draw::new(0x5EC0_4D03);
-    let (mut ways, mut checked, mut complaints) = (Ways::default(), 0, 0);
+    let mut checks = Checks::default();
     for number in 0..count {
         let sample = sample(&mut draw, number);
         comparison.compare(&sample.text, &restoring(&sample.text));
-        if let Some(trip) = sample.whole {
-            let answer = read_and_restore(&sample.text);
-            if let Ok(restored) = &answer {
-                ways.count(&trip.reduction, restored);
-                checked += 1;
-            }
-            if let Some(complaint) = trip.complaint(&answer) {
-                complaints += 1;
-                println!("text {number}: {complaint}\n{}", String::from_utf8_lossy(&sample.text));
-            }
-        }
+        checks.check(number, &sample);
     }
-    for (rule, times) in ways.steps.iter().enumerate().skip(1) {
-        println!("rule {rule} undone {times} times");
-    }
-    println!("rule 5 with its second price {} times", ways.second_prices);
-    println!("rule 6 with two different prices {} times", ways.different_prices);
-    println!("restored value and pair checked against the independent optimum {checked} times, {complaints} wrong");
+    checks.print();
     let status = comparison.finish("restoring");
-    std::process::exit(if complaints > 0 { 1 } else { status });
+    std::process::exit(if checks.complaints > 0 { 1 } else { status });
 }
