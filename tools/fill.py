@@ -16,11 +16,11 @@ native.Mathlib.Omega arith
 native.Mathlib.Numerals add-one
 borrow.Author.Needs needs sfits-of
 borrow.Author.Tests lt-ltb le-ltb le-leb lt-leb eq-eqb ne-eqb ltb-true ltb-false leb-true leb-false eqb-true eqb-false
-lib.Dec T leb ltb eqb lit<
+lib.Dec T leb ltb eqb lit< lit≤
 lib.IntN ℤ pos negsuc negℤ natAbs _*ℤ_ _+ℤ_ _-ℤ_
 lib.Signed ltZ mag nonNeg
 lib.ListN List·getD-eq-default length getD take drop set replicate length-set length-drop length-append length-replicate
-lib.Seq getD-set-same getD-set-other take-length take-all take-at
+lib.Seq set-out take-suc getD-set-same getD-set-other take-length take-all take-at
 mir.Syntax w32 w64
 mir.Val Fits SFits toZ ofZ
 mir.Facts toZ-ofZ toZ-pos'''
@@ -50,8 +50,10 @@ for p in sorted(glob.glob(R+'crates/*/src/*.rt')):
     c=re.match(R+r'crates/(\w+)/',p).group(1)
     pre=f'Rattle.{c}.specs.declared.' if c==crate else f'Rattle.{c}.specs.declared.'
     s=open(p).read()
-    for n in re.findall(r'^pub struct (\w+)',s,flags=re.M): where[n]=pre+n
-    for n,b in re.findall(r'^pub enum (\w+) \{(.*?)^\}',s,flags=re.M|re.S):
+    sub=os.path.basename(p)[:-3]
+    if sub not in ('lib','main'): pre+=sub+'.'
+    for n in re.findall(r'^(?:pub )?struct (\w+)',s,flags=re.M): where[n]=pre+n
+    for n,b in re.findall(r'^(?:pub )?enum (\w+) \{(.*?)^\}',s,flags=re.M|re.S):
         where[n]=pre+n
         for v in re.findall(r'^    (\w+)',b,flags=re.M): where.setdefault(v,pre+n+'.the-variants') if not where.get(v,'').startswith('mir') else where.__setitem__(v,pre+n+'.the-variants')
 def toks(s):

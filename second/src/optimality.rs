@@ -114,3 +114,36 @@ pub fn keeps_price_rule(arc: &Arc, flow: Fraction, d: Fraction) -> bool {
     let flow = Bound::Finite(flow); // equal to a bound only if that is finite
     (!d.is_positive() || flow == arc.lower) && (!d.is_negative() || flow == arc.upper)
 }
+
+#[cfg(test)]
+mod tests {
+    use super::*;
+    use crate::text::read_words;
+
+    fn tested(network: &str, pair: &str) -> Result<(i32, i32), Refusal> {
+        let words = |text: &str| read_words(text.as_bytes()).expect("words");
+        test_alone(&words(network), &words(pair)).map(Fraction::words)
+    }
+
+    /// A's reduced network with the pairs of A to D.
+    #[test]
+    fn reduced_instances() {
+        let network = "2 2 4 -4 1 2 1 0 3 1 -1 1 2 2 0 1 1 -1 1 1 1 1 1 1 1 1 1 1 1 1 1 0 1 1";
+        assert_eq!(tested(network, "2 2 2 0 3 1 1 1 1 1"), Ok((5, 1)));
+        assert_eq!(tested(network, "2 2 2 0 2 2 1 1 1 1"), Err(Refusal(12)));
+        assert_eq!(tested(network, "2 2 2 0 4 0 1 1 1 1"), Err(Refusal(11)));
+        assert_eq!(tested(network, "2 2 2 0 3 2 1 1 1 1"), Err(Refusal(10)));
+        assert_eq!(tested(network, "2 2 2 0 2147483647 1 1 1 1 1"), Err(Refusal(9)));
+        assert_eq!(tested(network, "2 2 2 0 3 1 1 1 1 1 1"), Err(Refusal(8)));
+        assert_eq!(tested(network, "2 2 2 0 3 1 1 1 1 0"), Err(Refusal(8)));
+        assert_eq!(tested("1 0 0 2", "1 0 0 1"), Err(Refusal(3)));
+    }
+
+    /// A itself with the restored pair.
+    #[test]
+    fn restored_instance() {
+        let network = "3 3 4 -5 2 1 2 1 0 3 1 -1 1 2 2 0 1 1 -1 3 2 7 0 1 1 -1 \
+                       1 1 1 1 1 1 1 1 1 1 1 1 1 1 0 1 1 1 1 1 1 0 1 2";
+        assert_eq!(tested(network, "3 3 2 0 7 3 1 2 1 1 1 1 1 1"), Ok((19, 1)));
+    }
+}

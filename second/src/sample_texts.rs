@@ -332,7 +332,8 @@ fn shape(which: usize) -> Shape {
         6 | 7 => Shape::Wide,
         8..=10 => Shape::Family,
         11 => Shape::HeavyCrossing,
-        12 | 13 => Shape::SteepChain,
+        12 => Shape::SteepChain,
+        13 => Shape::SteepCostly,
         _ => Shape::Small,
     }
 }

@@ -24,6 +24,8 @@ pub enum Shape {
     HeavyCrossing,
     /// Nodes of degree 2 with large multipliers and flows, or with small multipliers and large costs.
     SteepChain,
+    /// A costly arc whose multipliers and those of the root arcs are far apart.
+    SteepCostly,
 }
 
 /// A sample network of the shape.
@@ -37,6 +39,7 @@ pub fn network(draw: &mut Draw, shape: Shape) -> Network {
         Shape::LongRun => long_run(draw),
         Shape::HeavyCrossing => heavy_crossing(draw),
         Shape::SteepChain => steep_chain(draw),
+        Shape::SteepCostly => steep_costly(draw),
     }
 }
 
@@ -56,10 +59,13 @@ struct Taste {
     spoilt: usize,
     /// Goes on until 32 nodes and 96 arcs are there.
     full: bool,
+    /// Whole figures and multipliers 1 or -1, so that large sums fit.
+    plain: bool,
 }
 
 const SMALL: Taste =
-    Taste { core: (0, 4), gadgets: (1, 4), wide: 0, family: false, optimal: 60, spoilt: 15, full: false };
+    Taste { core: (0, 4), gadgets: (1, 4), wide: 0, family: false, optimal: 60, spoilt: 15, full: false, plain: false };
+const PLAIN: Taste = Taste { plain: true, ..SMALL };
 const WIDE: Taste = Taste { core: (1, 3), wide: 8, optimal: 40, spoilt: 3, ..SMALL };
 const FAMILY: Taste = Taste { core: (1, 3), wide: 40, family: true, optimal: 30, spoilt: 2, ..SMALL };
 const FULL: Taste = Taste { core: (4, 12), gadgets: (5, 14), spoilt: 5, full: true, ..SMALL };
@@ -148,6 +154,9 @@ impl Draft {
     }
 
     fn figure(&self, draw: &mut Draw) -> Fraction {
+        if self.taste.plain {
+            return fitted(draw.within(-6, 6), 1);
+        }
         if draw.chance(self.taste.wide) {
             self.wide(draw)
         } else {
@@ -166,6 +175,9 @@ impl Draft {
 
     /// A multiplier, positive.
     fn multiplier(&self, draw: &mut Draw) -> Fraction {
+        if self.taste.plain {
+            return Fraction::ONE;
+        }
         if draw.chance(self.taste.wide) {
             let figure = self.wide(draw);
             return if figure.is_negative() { figure.negated() } else { figure };
@@ -332,6 +344,12 @@ impl Draft {
                 let (flow, lower, upper) = self.bounds(draw);
                 let upper = if draw.chance(90) { OPEN } else { upper };
                 self.root(draw, node, e, (flow, lower, upper));
+                if draw.chance(self.taste.wide) {
+                    // Then c1 × a ÷ a1 fits, and a ÷ a1 may not.
+                    let last = self.arcs.last_mut().expect("just pushed");
+                    last.arc.cost = Fraction::ZERO;
+                    last.priced = true;
+                }
             }
         }
     }
@@ -569,7 +587,7 @@ fn long_run(draw: &mut Draw) -> Network {
 
 fn heavy_crossing(draw: &mut Draw) -> Network {
     let core = draw.within(2, 5) as usize;
-    let mut draft = Draft { nodes: core, core, arcs: vec![], taste: SMALL, large: 1 };
+    let mut draft = Draft { nodes: core, core, arcs: vec![], taste: PLAIN, large: 1 };
     draft.core_arcs(draw, 2);
     draft.heavy_crossing(draw);
     draft.stirred(draw);
@@ -580,7 +598,7 @@ fn heavy_crossing(draw: &mut Draw) -> Network {
 fn steep_chain(draw: &mut Draw) -> Network {
     let core = draw.within(2, 4) as usize;
     let large = draw.of(&[46341, 46349, 65536, 65537, 100_003, 1 << 20, 9_699_690]);
-    let mut draft = Draft { nodes: core, core, arcs: vec![], taste: SMALL, large };
+    let mut draft = Draft { nodes: core, core, arcs: vec![], taste: draw.of(&[SMALL, PLAIN]), large };
     draft.core_arcs(draw, 1);
     for _ in 0..draw.within(1, 2) {
         let (first, second) = (1 + draw.below(core - 1), core);
@@ -595,5 +613,30 @@ fn steep_chain(draw: &mut Draw) -> Network {
     draft.stirred(draw);
     let highest = draw.of(&[0, 5]);
     draft.price_arcs(draw, highest);
+    draft.network(draw)
+}
+
+/// c1 is mostly 0: then c1 × a ÷ a1 fits, and a ÷ a1 may not.
+fn steep_costly(draw: &mut Draw) -> Network {
+    let core = draw.within(2, 3) as usize;
+    let large = draw.of(&[30030, 46340, 46341, 65536, 65537]);
+    let mut draft = Draft { nodes: core, core, arcs: vec![], taste: PLAIN, large };
+    draft.core_arcs(draw, 0);
+    let multiplier = |draw: &mut Draw, sign: i64| match draw.below(4) {
+        0 => fitted(sign, 1),
+        1 => fitted(sign * draw.within(1, 3), large),
+        _ => fitted(sign * large, draw.within(1, 3)),
+    };
+    let signs = [draw.sign(), draw.sign()];
+    let flow = fitted(draw.within(0, 3), 1);
+    let ends = signs.map(|sign| multiplier(draw, sign));
+    draft.push(draw, [1, 2], ends, (flow, Bound::Finite(flow), OPEN));
+    for (node, sign) in [(1, signs[0]), (2, signs[1])] {
+        let a = multiplier(draw, sign);
+        let bounds = draft.bounds(draw);
+        draft.root(draw, node, a, (bounds.0, bounds.1, OPEN));
+        draft.arcs.last_mut().expect("just pushed").arc.cost = fitted(draw.of(&[0, 0, 0, 1, -2]), 1);
+    }
+    draft.stirred(draw);
     draft.network(draw)
 }

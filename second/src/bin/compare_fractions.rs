@@ -244,6 +244,42 @@ fn output_of(program: &str, input: Vec<u8>) -> std::io::Result<Vec<u8>> {
     Ok(output)
 }
 
+/// Prints how often each kind gave each status here.
+fn print_tally(questions: &[Question], expected: &[Answer]) {
+    let names = ["sum", "difference", "product", "quotient", "less", "read", "lower", "upper", "negation", "other"];
+    let mut tally = [[0usize; 3]; 10];
+    for (asked, told) in questions.iter().zip(expected) {
+        let kind = if (0..9).contains(&asked[0]) { asked[0] as usize } else { 9 };
+        tally[kind][told[0] as usize] += 1;
+    }
+    for (name, [zero, one, two]) in names.iter().zip(tally) {
+        println!("{name}: status 0 {zero}, status 1 {one}, status 2 {two}");
+    }
+}
+
+fn words_of(bytes: &[u8]) -> Vec<i32> {
+    bytes.chunks_exact(4).map(|four| i32::from_le_bytes(four.try_into().expect("four"))).collect()
+}
+
+/// Prints the first differences and counts them all.
+fn count_differences(questions: &[Question], expected: &[Answer], output: &[u8]) -> usize {
+    let mut differ = 0;
+    for (number, (asked, told)) in questions.iter().zip(expected).enumerate() {
+        let found = output.get(12 * number..12 * number + 12).map(words_of);
+        if found.as_deref() != Some(&told[..]) {
+            differ += 1;
+            if differ <= 10 {
+                println!("operation {number}: {asked:?} here {told:?} there {found:?}");
+            }
+        }
+    }
+    if output.len() != 12 * questions.len() {
+        println!("output has {} bytes, not {}", output.len(), 12 * questions.len());
+        differ += 1;
+    }
+    differ
+}
+
 fn main() {
     let arguments: Vec<String> = std::env::args().collect();
     if arguments.len() < 2 {
@@ -255,35 +291,8 @@ fn main() {
     let questions: Vec<Question> = (0..count).map(|_| question(&mut draw)).collect();
     let expected: Vec<Answer> = questions.iter().map(|&asked| answer(asked)).collect();
     let output = output_of(&arguments[1], bytes_of(&questions)).expect("the program runs");
-
-    let mut tally = [[0usize; 3]; 10];
-    for (asked, told) in questions.iter().zip(&expected) {
-        let kind = if (0..9).contains(&asked[0]) { asked[0] as usize } else { 9 };
-        tally[kind][told[0] as usize] += 1;
-    }
-    let names = ["sum", "difference", "product", "quotient", "less", "read", "lower", "upper", "negation", "other"];
-    for (name, [zero, one, two]) in names.iter().zip(tally) {
-        println!("{name}: status 0 {zero}, status 1 {one}, status 2 {two}");
-    }
-
-    let mut differ = 0;
-    for (number, (asked, told)) in questions.iter().zip(&expected).enumerate() {
-        let wanted: Vec<u8> = bytes_of(&[*told]);
-        let found = output.get(12 * number..12 * number + 12);
-        if found != Some(&wanted[..]) {
-            differ += 1;
-            if differ <= 10 {
-                let words: Option<Vec<i32>> = found.map(|bytes| {
-                    bytes.chunks(4).map(|four| i32::from_le_bytes(four.try_into().expect("four"))).collect()
-                });
-                println!("operation {number}: {asked:?} here {told:?} there {words:?}");
-            }
-        }
-    }
-    if output.len() != 12 * questions.len() {
-        println!("output has {} bytes, not {}", output.len(), 12 * questions.len());
-        differ += 1;
-    }
+    print_tally(&questions, &expected);
+    let differ = count_differences(&questions, &expected, &output);
     println!("fractions: {count} operations, {differ} differ");
     exit((differ > 0) as i32);
 }

@@ -1,0 +1,28 @@
+use Prim.Native.Nat.{_-_}
+use Rattle.algebra.specs.Solver.{at}
+use Rattle.loops.proofs.Laws.{Folded, folded-all, folded-more, folded-none}
+use Rattle.network.specs.Output.{packArc}
+use borrow.Author.Needs.{needs}
+use native.Mathlib.Omega.{arith}
+use Rattle.network.proofs.output.pack_arcs.Statement.{statement}
+use Rattle.network.proofs.output.pack_arcs.Tie as tie
+
+abbrev Inv-loop : tie.InvT-loop
+Inv-loop net at₀ j₀ at j = Folded (packArc net) 96 at₀ j at
+
+abbrev μ-loop : tie.MeasureT-loop
+μ-loop net at₀ j₀ at j = 96 - j
+
+loop-holds : tie.Need-loop-holds Inv-loop μ-loop
+loop-holds c = folded-none _ _ _
+
+loop-again : tie.Need-loop-again Inv-loop μ-loop
+loop-again c = folded-more _ (c .before .before .loop .inv) (omega arith) (c .pack-arc .ensures)
+
+returns : tie.Need-returns Inv-loop μ-loop
+returns c = folded-all _ (c .before .loop .inv) (omega arith)
+
+pub pack-arcs-spec : {M : Type 1} → statement M
+pack-arcs-spec =
+    tie.close
+    (tie.spec Inv-loop μ-loop loop-holds (λ c κs. search needs) (λ c. search needs) (λ c. search needs) loop-again returns)

@@ -1,0 +1,21 @@
+use Rattle.network.specs.Network.{withArc}
+use borrow.Author.Needs.{needs}
+use borrow.Author.Tests.{le-leb, lt-leb}
+use native.Mathlib.Omega.{arith}
+use Rattle.network.proofs.put_arc.Statement.{statement}
+use Rattle.network.proofs.put_arc.Tie as tie
+
+returns : tie.Need-returns
+unfolding withArc
+returns c = rw (lt-leb 1 _ (c .if1 .taken))
+
+returns-2 : tie.Need-returns-2
+unfolding withArc
+returns-2 c = rw (le-leb 1 _ (c .before .if1 .left), le-leb (c .before .before .args .j) 96 (omega arith))
+
+returns-3 : tie.Need-returns-3
+unfolding withArc
+returns-3 c = rw (le-leb 1 _ (c .before .if1 .left), lt-leb (c .before .before .args .j) 96 (omega arith))
+
+pub put-arc-spec : {M : Type 1} → statement M
+put-arc-spec = tie.close (tie.spec returns (λ c. search needs) (λ c. search needs) returns-2 returns-3)

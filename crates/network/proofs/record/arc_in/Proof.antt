@@ -1,0 +1,31 @@
+use Rattle.network.specs.Record.{arcIn}
+use borrow.Author.Needs.{needs}
+use Rattle.network.proofs.record.arc_in.Statement.{statement}
+use Rattle.network.proofs.record.arc_in.Tie as tie
+
+returns : tie.Need-returns
+unfolding arcIn
+returns c = rw (c .figure-at7 .ensures, c .before .figure-at6 .ensures, c .before .before .figure-at5 .ensures, c .before .before .before .figure-at4 .ensures, c .before .before .before .before .figure-at3 .ensures, c .before .before .before .before .before .end-of2 .ensures, c .before .before .before .before .before .before .figure-at2 .ensures, c .before .before .before .before .before .before .before .end-of .ensures, c .before .before .before .before .before .before .before .before .figure-at .ensures)
+
+pub arc-in-spec : {M : Type 1} → statement M
+arc-in-spec =
+    tie.close
+    (tie.spec
+    (λ c. search needs)
+    (λ c. search needs)
+    (λ c κs. search needs)
+    (λ c κs. search needs)
+    (λ c. search needs)
+    (λ c κs. search needs)
+    (λ c κs. search needs)
+    (λ c. search needs)
+    (λ c κs. search needs)
+    (λ c. search needs)
+    (λ c κs. search needs)
+    (λ c. search needs)
+    (λ c κs. search needs)
+    (λ c. search needs)
+    (λ c κs. search needs)
+    (λ c. search needs)
+    (λ c κs. search needs)
+    returns)

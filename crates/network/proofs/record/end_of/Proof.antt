@@ -1,0 +1,16 @@
+use Rattle.network.proofs.Questions.{cast-ok, end-neg, end-pos}
+use borrow.Author.Needs.{needs}
+use Rattle.network.proofs.record.end_of.Statement.{statement}
+use Rattle.network.proofs.record.end_of.Tie as tie
+
+returns : tie.Need-returns
+returns c = end-neg (c .before .before .before .args .f .num) (search needs) (c .if1 .taken)
+
+cast-result : tie.Need-cast-result
+cast-result c = cast-ok (c .before .before .before .before .before .args .f .num) (search needs) (c .before .before .if1 .left)
+
+returns-2 : tie.Need-returns-2
+returns-2 c = end-pos (c .before .before .before .before .before .args .f .num) (search needs) (c .before .before .if1 .left)
+
+pub end-of-spec : {M : Type 1} → statement M
+end-of-spec = tie.close (tie.spec returns cast-result returns-2)

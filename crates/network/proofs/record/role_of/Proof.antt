@@ -1,0 +1,15 @@
+use Rattle.network.specs.Record.{roleOf}
+use borrow.Author.Tests.{le-ltb, lt-ltb}
+use Rattle.network.proofs.record.role_of.Statement.{statement}
+use Rattle.network.proofs.record.role_of.Tie as tie
+
+returns : tie.Need-returns
+unfolding roleOf
+returns c = rw (lt-ltb _ _ (c .if1 .taken))
+
+returns-2 : tie.Need-returns-2
+unfolding roleOf
+returns-2 c = rw (le-ltb _ _ (c .if1 .left))
+
+pub role-of-spec : {M : Type 1} → statement M
+role-of-spec = tie.close (tie.spec returns returns-2)

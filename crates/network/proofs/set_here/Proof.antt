@@ -1,0 +1,17 @@
+use borrow.Author.Needs.{needs}
+use borrow.Author.Tests.{le-leb, lt-leb}
+use native.Mathlib.Omega.{arith}
+use Rattle.network.proofs.set_here.Statement.{statement}
+use Rattle.network.proofs.set_here.Tie as tie
+
+returns : tie.Need-returns
+returns c = rw (lt-leb 1 _ (c .if1 .taken))
+
+returns-2 : tie.Need-returns-2
+returns-2 c = rw (le-leb 1 _ (c .before .if1 .left), le-leb (c .before .before .args .i) 32 (omega arith))
+
+returns-3 : tie.Need-returns-3
+returns-3 c = rw (le-leb 1 _ (c .before .if1 .left), lt-leb (c .before .before .args .i) 32 (omega arith))
+
+pub set-here-spec : {M : Type 1} → statement M
+set-here-spec = tie.close (tie.spec returns (λ c. search needs) returns-2 returns-3)

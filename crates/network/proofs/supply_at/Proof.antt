@@ -1,0 +1,17 @@
+use Rattle.network.proofs.Laws.{length-mapped}
+use Rattle.network.specs.Network.{noFigure}
+use borrow.Author.Needs.{needs}
+use lib.ListN.{List·getD-eq-default, length}
+use mathlib.Core.Path.{_≡_}
+use native.Mathlib.Omega.{arith}
+use Rattle.network.proofs.supply_at.Statement.{statement}
+use Rattle.network.proofs.supply_at.Tie as tie
+
+returns-2 : tie.Need-returns-2
+returns-2 c =
+    let long : length (c .before .before .args .t1 .supply) ≡ 33 = search (length-mapped, needs) in
+    rw (List·getD-eq-default (c .before .before .args .t1 .supply) noFigure {n = c .before .before .args .i} (omega arith)) (c .no-figure .ensures)
+
+pub supply-at-spec : {M : Type 1} → statement M
+supply-at-spec =
+    tie.close (tie.spec (λ c. search needs) (λ c. search needs) (λ c. search needs) (λ c κs. search needs) returns-2)

@@ -1,0 +1,59 @@
+use Prim.Native.Nat.{_+_, _-_, _≤_}
+use Rattle.loops.proofs.Laws.{Scanned, scanned-all, scanned-found, scanned-more, scanned-none}
+use Rattle.loops.specs.Loops.{scan}
+use Rattle.network.proofs.Laws.{stays}
+use Rattle.network.specs.Network.{orNext, touchAt, touchingAfter}
+use borrow.Author.Needs.{needs}
+use mathlib.Core.Path.{_∙_, _≡_, refl, sym}
+use native.Mathlib.Omega.{arith}
+use Rattle.network.proofs.touching.Statement.{statement}
+use Rattle.network.proofs.touching.Tie as tie
+
+abbrev Inv-loop : tie.InvT-loop
+Inv-loop i k net j₀ j = Scanned orNext 0 (touchAt net i) (96 - k) (k + 1) j
+
+abbrev μ-loop : tie.MeasureT-loop
+μ-loop i k net j₀ j = 97 - j
+
+returns : tie.Need-returns Inv-loop μ-loop
+unfolding touchingAfter scan
+returns c =
+    let e : 96 - c .before .args .k ≡ 0 = omega arith in
+    rw e
+
+loop-holds : tie.Need-loop-holds Inv-loop μ-loop
+loop-holds c = scanned-none _ _ _ _ _
+
+returns-2 : tie.Need-returns-2 Inv-loop μ-loop
+unfolding touchingAfter
+returns-2 c =
+    let e = sym (c .before .touches .ensures) ∙ c .if2 .taken in
+    let p : 1 ≤ c .before .before .before .before .loop .j = omega arith in
+    scanned-found _ _ (c .before .before .before .before .loop .inv) (omega arith) (rw e) (stays (c .before .before .before .before .loop .j) p)
+
+loop-again : tie.Need-loop-again Inv-loop μ-loop
+loop-again c =
+    let e = sym (c .before .touches .ensures) ∙ c .if2 .left in
+    scanned-more _ _ {t = 0} (c .before .before .before .before .loop .inv) (omega arith) (rw e) (λ g j. refl)
+
+returns-3 : tie.Need-returns-3 Inv-loop μ-loop
+unfolding touchingAfter
+returns-3 c = scanned-all _ _ (c .before .loop .inv) (omega arith)
+
+pub touching-spec : {M : Type 1} → statement M
+touching-spec =
+    tie.close
+    (tie.spec
+    Inv-loop
+    μ-loop
+    returns
+    (λ c. search needs)
+    loop-holds
+    (λ c. search needs)
+    (λ c. search needs)
+    (λ c κs. search needs)
+    returns-2
+    (λ c. search needs)
+    (λ c. search needs)
+    loop-again
+    returns-3)

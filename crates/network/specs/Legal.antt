@@ -1,0 +1,57 @@
+-- The form of a network that the questions let pass, and that every step keeps. Assumes nothing.
+use mathlib.Core.Path.{_≡_}
+use mathlib.Core.Bool.{true, false}
+use mathlib.Core.Logic.{_⊎_}
+use Prim.Native.Nat.{ℕ, _≤_}
+use lib.ListN.{length}
+use Rattle.fraction.specs.declared.Fraction.{Fraction}
+use Rattle.fraction.specs.Exact.{Proper, noLower, noUpper, isZero}
+use Rattle.network.specs.declared.Arc.{Arc}
+use Rattle.network.specs.declared.Net.{Net}
+use Rattle.network.specs.declared.Change.{Change}
+use Rattle.network.specs.Network.{noArc, arcAt, supplyAt, isHere, isRoot, isTouching, withPuts}
+
+-- a bound: a fraction in form, or the mark of its side
+abbrev pub Bound : Fraction → Fraction → Type 0
+Bound mark f = Proper f ⊎ (f ≡ mark)
+
+-- an arc in use
+pub record LegalArc (net : Net) (t : Arc) : Type 0 where
+  pub from-here : isHere net (t .from) ≡ true
+  pub to-here : isHere net (t .to) ≡ true
+  pub cost-proper : Proper (t .cost)
+  pub lower-bound : Bound noLower (t .lower)
+  pub upper-bound : Bound noUpper (t .upper)
+  pub a-proper : Proper (t .a)
+  pub b-proper : Proper (t .b)
+  -- "a is never zero", and b is zero exactly where from = to
+  pub a-nonzero : isZero (t .a) ≡ false
+  pub b-zero : isZero (t .b) ≡ isRoot t
+
+pub record Legal (net : Net) : Type 0 where
+  pub here-long : length (net .here) ≡ 33
+  pub supply-long : length (net .supply) ≡ 33
+  pub arcs-long : length (net .arcs) ≡ 97
+  pub few-nodes : net .n ≤ 32
+  pub few-arcs : net .m ≤ 96
+  -- numbers begin at 1
+  pub no-node : isHere net 0 ≡ false
+  pub no-arc : arcAt net 0 .from ≡ 0
+  pub supply-proper : (i : ℕ) → isHere net i ≡ true → Proper (supplyAt net i)
+  -- a number not in use has the zero record
+  pub unused : (j : ℕ) → arcAt net j .from ≡ 0 → arcAt net j ≡ noArc
+  pub used : (j : ℕ) → 1 ≤ arcAt net j .from → LegalArc net (arcAt net j)
+
+-- an arc that may be put at a number: none, or one in use
+abbrev pub MayPut : Net → Arc → Type 0
+MayPut net t = (t ≡ noArc) ⊎ LegalArc net t
+
+-- a change that keeps a network legal: the node dropped is touched by no arc that is left
+pub record LegalChange (net : Net) (c : Change) : Type 0 where
+  pub one : MayPut net (c .one .arc)
+  pub two : MayPut net (c .two .arc)
+  pub three : MayPut net (c .three .arc)
+  pub four : MayPut net (c .four .arc)
+  pub left : 1 ≤ c .left .node → Proper (c .left .supply)
+  pub right : 1 ≤ c .right .node → Proper (c .right .supply)
+  pub gone : 1 ≤ c .gone → (j : ℕ) → isTouching (arcAt (withPuts net c) j) (c .gone) ≡ false

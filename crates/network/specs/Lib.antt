@@ -1,0 +1,5 @@
+pub mod Network
+pub mod Record
+pub mod Output
+pub mod Legal
+pub mod Examples

@@ -1,0 +1,130 @@
+-- The network that a reduction works on (01, "The problem and its figures"), and what a step changes in it. Assumes nothing.
+use mathlib.Core.Bool.{Bool, true, false, cond, _||_, _&&_}
+use Prim.Native.Nat.{ℕ, zero, suc, _+_, _-_}
+use lib.Dec.{eqb, leb}
+use lib.IntN.{pos}
+use lib.ListN.{getD, set, replicate}
+use Rattle.loops.specs.Loops.{count, scan}
+use Rattle.fraction.specs.declared.Fraction.{Fraction}
+use Rattle.fraction.specs.Exact.{over}
+use Rattle.network.specs.declared.Arc.{Arc}
+use Rattle.network.specs.declared.Net.{Net}
+use Rattle.network.specs.declared.Put.{Put}
+use Rattle.network.specs.declared.Level.{Level}
+use Rattle.network.specs.declared.Change.{Change}
+use Rattle.network.specs.declared.Side.{Side}
+use Rattle.network.specs.declared.Kind.the-variants.{Passes, NoFlow, Changes}
+use Rattle.network.specs.declared.Tried.{Tried}
+
+-- what stands where there is nothing: every number is 0
+abbrev pub noFigure : Fraction
+noFigure = over (pos 0) 0
+
+abbrev pub noArc : Arc
+noArc = record { from = 0; to = 0; cost = noFigure; lower = noFigure; upper = noFigure; a = noFigure; b = noFigure }
+
+-- no node and no arc yet, of n and m
+abbrev pub emptyNet : ℕ → ℕ → Net
+emptyNet n m = record { n = n; m = m; here = replicate 33 false; supply = replicate 33 noFigure; arcs = replicate 97 noArc }
+
+-- arc j, the supply r of node i, and whether node i is in use
+abbrev pub arcAt : Net → ℕ → Arc
+arcAt net j = getD (net .arcs) j noArc
+
+abbrev pub supplyAt : Net → ℕ → Fraction
+supplyAt net i = getD (net .supply) i noFigure
+
+abbrev pub isHere : Net → ℕ → Bool
+isHere net i = getD (net .here) i false
+
+-- whether k is a number from 1 to top
+abbrev pub isNumber : ℕ → ℕ → Bool
+isNumber top k = leb 1 k && leb k top
+
+-- replaced, where there is such a number: arc j, the supply of node i, whether node i is in use
+unfoldable pub withArc : Net → ℕ → Arc → Net
+withArc net j t = record { n = net .n; m = net .m; here = net .here; supply = net .supply; arcs = cond (isNumber 96 j) (set (net .arcs) j t) (net .arcs) }
+
+unfoldable pub withSupply : Net → ℕ → Fraction → Net
+withSupply net i r = record { n = net .n; m = net .m; here = net .here; supply = cond (isNumber 32 i) (set (net .supply) i r) (net .supply); arcs = net .arcs }
+
+abbrev pub setHere : Net → ℕ → Bool → Net
+setHere net i h = record { n = net .n; m = net .m; here = cond (isNumber 32 i) (set (net .here) i h) (net .here); supply = net .supply; arcs = net .arcs }
+
+-- node i put in use, with its supply; node i dropped
+unfoldable pub withNode : Net → ℕ → Fraction → Net
+withNode net i r = setHere (withSupply net i r) i true
+
+unfoldable pub without : Net → ℕ → Net
+without net i = setHere net i false
+
+-- ---- a step's change
+
+abbrev pub withPut : Net → Put → Net
+withPut net p = withArc net (p .number) (p .arc)
+
+abbrev pub withLevel : Net → Level → Net
+withLevel net l = withSupply net (l .node) (l .supply)
+
+abbrev pub withPuts : Net → Change → Net
+withPuts net c = withPut (withPut (withPut (withPut net (c .one)) (c .two)) (c .three)) (c .four)
+
+unfoldable pub applied : Net → Change → Net
+applied net c = without (withLevel (withLevel (withPuts net c) (c .left)) (c .right)) (c .gone)
+
+-- ---- an arc as it is seen from a node
+
+unfoldable pub isTouching : Arc → ℕ → Bool
+isTouching t i = eqb (t .from) i || eqb (t .to) i
+
+-- "degree is the number of arcs touching a node; a root arc counts once"
+unfoldable pub degreeOf : Net → ℕ → ℕ
+degreeOf net i = count (λ j. isTouching (arcAt net j) i) 97
+
+-- the first arc after number k that touches node i; 0 where there is none
+abbrev pub orNext : ℕ → (ℕ → ℕ) → ℕ → ℕ
+orNext zero g j = g j
+orNext (suc k) g j = suc k
+
+abbrev pub touchAt : Net → ℕ → ℕ → ℕ
+touchAt net i j = cond (isTouching (arcAt net j) i) j 0
+
+unfoldable pub touchingAfter : Net → ℕ → ℕ → ℕ
+touchingAfter net i k = scan orNext 0 (touchAt net i) (96 - k) (k + 1)
+
+-- a root arc "touches one node: b is zero and from equals to"
+unfoldable pub isRoot : Arc → Bool
+isRoot t = eqb (t .from) (t .to)
+
+-- the end that is not the from node; 0 for a root arc, which has none
+unfoldable pub farEnd : Arc → ℕ
+farEnd t = cond (isRoot t) 0 (t .to)
+
+-- "at node i, e means an arc's multiplier there and o the one at its other end"
+unfoldable pub sideOf : Arc → ℕ → Side
+sideOf t i = cond (eqb (t .from) i) (record { e = t .a; o = t .b; other = farEnd t }) (record { e = t .b; o = t .a; other = t .from })
+
+-- ---- what a rule answers at a place
+
+abbrev pub noPut : Put
+noPut = record { number = 0; arc = noArc }
+
+abbrev pub noLevel : Level
+noLevel = record { node = 0; supply = noFigure }
+
+-- a change of one arc, two supplies and a node
+abbrev pub changeOne : Put → Level → Level → ℕ → Change
+changeOne one left right gone = record { one = one; two = noPut; three = noPut; four = noPut; left = left; right = right; gone = gone }
+
+abbrev pub noChange : Change
+noChange = changeOne noPut noLevel noLevel 0
+
+-- it doesn't apply; it shows that there is no flow; it is the next step, with this change
+abbrev pub passed : Tried
+passed = record { kind = Passes; change = noChange }
+
+abbrev pub refuted : Tried
+refuted = record { kind = NoFlow; change = noChange }
+
+abbrev pub changed : Change → Tried
+changed c = record { kind = Changes; change = c }

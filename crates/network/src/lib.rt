@@ -1,0 +1,374 @@
+// A network (01, "The problem and its figures") as a reduction works on it, its record read and written.
+ghost use mathlib.Core.Path.{_≡_};
+ghost use Rattle.network.specs.Network.{noFigure, noArc, emptyNet, arcAt, supplyAt, isHere, withArc, withSupply, setHere, withNode, without, withPut, withLevel, applied};
+ghost use Rattle.network.specs.Network.{isTouching, degreeOf, touchingAfter, isRoot, farEnd, sideOf, noPut, noLevel, noChange, changeOne, passed, refuted, changed};
+use fraction::Fraction;
+
+pub mod output;
+pub mod record;
+
+// An arc's seven figures: its from and to node, cost c, lower bound l, upper bound u, multipliers a and b.
+// A number not in use has from 0.
+pub struct Arc {
+    pub from: usize,
+    pub to: usize,
+    pub cost: Fraction,
+    pub lower: Fraction,
+    pub upper: Fraction,
+    pub a: Fraction,
+    pub b: Fraction,
+}
+
+// n nodes and m arcs were given. Each stands at its number, from 1: whether the node is in use, its supply r, and the arc.
+pub struct Net {
+    pub n: usize,
+    pub m: usize,
+    pub here: [bool; 33],
+    pub supply: [Fraction; 33],
+    pub arcs: [Arc; 97],
+}
+
+// An arc for a number; none where the number is 0.
+pub struct Put {
+    pub number: usize,
+    pub arc: Arc,
+}
+
+// A supply for a node; none where the node is 0.
+pub struct Level {
+    pub node: usize,
+    pub supply: Fraction,
+}
+
+// What a step changes: at most four arcs, two supplies, and the node that is dropped, or 0.
+pub struct Change {
+    pub one: Put,
+    pub two: Put,
+    pub three: Put,
+    pub four: Put,
+    pub left: Level,
+    pub right: Level,
+    pub gone: usize,
+}
+
+// A rule doesn't apply, shows no flow, or is the next step.
+pub enum Kind {
+    Passes,
+    NoFlow,
+    Changes,
+}
+
+// What a rule answers at a place; only a step has a change.
+pub struct Tried {
+    pub kind: Kind,
+    pub change: Change,
+}
+
+// An arc at node i: its multiplier e there, the multiplier o at its other end, and that end, which is 0 for a root arc.
+pub struct Side {
+    pub e: Fraction,
+    pub o: Fraction,
+    pub other: usize,
+}
+
+// What stands where there is nothing.
+pub fn no_figure() -> Fraction
+    ensures { λ r. ⌜ r ≡ noFigure ⌝ }
+{
+    Fraction { num: 0, den: 0 }
+}
+
+// What stands at a number not in use.
+pub fn no_arc() -> Arc
+    ensures { λ r. ⌜ r ≡ noArc ⌝ }
+{
+    let z = Fraction { num: 0, den: 0 };
+    Arc {
+        from: 0,
+        to: 0,
+        cost: z,
+        lower: z,
+        upper: z,
+        a: z,
+        b: z,
+    }
+}
+
+// No node and no arc yet, of n and m.
+pub fn empty_net(n: usize, m: usize) -> Net
+    ensures { λ r. ⌜ r ≡ emptyNet n m ⌝ }
+{
+    let f = no_figure();
+    let a = no_arc();
+    Net {
+        n,
+        m,
+        here: [false; 33],
+        supply: [f; 33],
+        arcs: [a; 97],
+    }
+}
+
+// The arc of number j.
+pub fn arc_at(net: Net, j: usize) -> Arc
+    ensures { λ r. ⌜ r ≡ arcAt net j ⌝ }
+{
+    if j < 97 {
+        return net.arcs[j];
+    }
+    no_arc()
+}
+
+// The supply of node i.
+pub fn supply_at(net: Net, i: usize) -> Fraction
+    ensures { λ r. ⌜ r ≡ supplyAt net i ⌝ }
+{
+    if i < 33 {
+        return net.supply[i];
+    }
+    no_figure()
+}
+
+// Whether node i is in use.
+pub fn is_here(net: Net, i: usize) -> bool
+    ensures { λ r. ⌜ r ≡ isHere net i ⌝ }
+{
+    if i < 33 {
+        return net.here[i];
+    }
+    false
+}
+
+// The arc of number j replaced.
+pub fn put_arc(mut net: Net, j: usize, a: Arc) -> Net
+    ensures { λ r. ⌜ r ≡ withArc net j a ⌝ }
+{
+    if j < 1 {
+        return net;
+    }
+    if j < 97 {
+        net.arcs[j] = a;
+        return net;
+    }
+    net
+}
+
+// The supply of node i replaced.
+pub fn put_supply(mut net: Net, i: usize, f: Fraction) -> Net
+    ensures { λ r. ⌜ r ≡ withSupply net i f ⌝ }
+{
+    if i < 1 {
+        return net;
+    }
+    if i < 33 {
+        net.supply[i] = f;
+        return net;
+    }
+    net
+}
+
+// Whether node i is in use, replaced.
+fn set_here(mut net: Net, i: usize, h: bool) -> Net
+    ensures { λ r. ⌜ r ≡ setHere net i h ⌝ }
+{
+    if i < 1 {
+        return net;
+    }
+    if i < 33 {
+        net.here[i] = h;
+        return net;
+    }
+    net
+}
+
+// Node i, with its supply, put in use.
+pub fn put_node(net: Net, i: usize, f: Fraction) -> Net
+    ensures { λ r. ⌜ r ≡ withNode net i f ⌝ }
+{
+    set_here(put_supply(net, i, f), i, true)
+}
+
+// Node i dropped.
+pub fn drop_node(net: Net, i: usize) -> Net
+    ensures { λ r. ⌜ r ≡ without net i ⌝ }
+{
+    set_here(net, i, false)
+}
+
+// An arc put at its number.
+fn put_one(net: Net, p: Put) -> Net
+    ensures { λ r. ⌜ r ≡ withPut net p ⌝ }
+{
+    let a = p.arc;
+    put_arc(net, p.number, a)
+}
+
+// A supply put at its node.
+fn put_level(net: Net, l: Level) -> Net
+    ensures { λ r. ⌜ r ≡ withLevel net l ⌝ }
+{
+    let f = l.supply;
+    put_supply(net, l.node, f)
+}
+
+// A step's change made.
+pub fn apply(net: Net, c: Change) -> Net
+    ensures { λ r. ⌜ r ≡ applied net c ⌝ }
+{
+    let one = c.one;
+    let two = c.two;
+    let three = c.three;
+    let four = c.four;
+    let left = c.left;
+    let right = c.right;
+    let a = put_one(put_one(put_one(put_one(net, one), two), three), four);
+    let b = put_level(put_level(a, left), right);
+    drop_node(b, c.gone)
+}
+
+// Whether an arc touches node i.
+pub fn touches(t: Arc, i: usize) -> bool
+    ensures { λ r. ⌜ r ≡ isTouching t i ⌝ }
+{
+    t.from == i || t.to == i
+}
+
+// The degree of node i: how many arcs touch it.
+pub fn degree(net: Net, i: usize) -> usize
+    ensures { λ r. ⌜ r ≡ degreeOf net i ⌝ }
+{
+    let mut d: usize = 0;
+    for j in 0..97 {
+        let t = net.arcs[j];
+        if touches(t, i) {
+            d += 1;
+        }
+    }
+    d
+}
+
+// The first arc after number k that touches node i; 0 where there is none.
+pub fn touching(net: Net, i: usize, k: usize) -> usize
+    ensures { λ r. ⌜ r ≡ touchingAfter net i k ⌝ }
+{
+    if 96 <= k {
+        return 0;
+    }
+    for j in k + 1..97 {
+        let t = net.arcs[j];
+        if touches(t, i) {
+            return j;
+        }
+    }
+    0
+}
+
+// Whether an arc is a root arc.
+pub fn is_root(t: Arc) -> bool
+    ensures { λ r. ⌜ r ≡ isRoot t ⌝ }
+{
+    t.from == t.to
+}
+
+// The end of an arc that is not its from node; 0 for a root arc.
+pub fn far_end(t: Arc) -> usize
+    ensures { λ r. ⌜ r ≡ farEnd t ⌝ }
+{
+    if is_root(t) {
+        return 0;
+    }
+    t.to
+}
+
+// An arc at node i.
+pub fn side_at(t: Arc, i: usize) -> Side
+    ensures { λ r. ⌜ r ≡ sideOf t i ⌝ }
+{
+    let a = t.a;
+    let b = t.b;
+    let far = far_end(t);
+    if t.from == i {
+        Side {
+            e: a,
+            o: b,
+            other: far,
+        }
+    } else {
+        Side {
+            e: b,
+            o: a,
+            other: t.from,
+        }
+    }
+}
+
+// No arc to be put.
+pub fn no_put() -> Put
+    ensures { λ r. ⌜ r ≡ noPut ⌝ }
+{
+    let arc = no_arc();
+    Put { number: 0, arc }
+}
+
+// No supply to be put.
+pub fn no_level() -> Level
+    ensures { λ r. ⌜ r ≡ noLevel ⌝ }
+{
+    let supply = no_figure();
+    Level { node: 0, supply }
+}
+
+// A change of one arc, two supplies and a node.
+pub fn change_one(one: Put, left: Level, right: Level, gone: usize) -> Change
+    ensures { λ r. ⌜ r ≡ changeOne one left right gone ⌝ }
+{
+    let z = no_put();
+    Change {
+        one,
+        two: z,
+        three: z,
+        four: z,
+        left,
+        right,
+        gone,
+    }
+}
+
+// Nothing changed.
+fn no_change() -> Change
+    ensures { λ r. ⌜ r ≡ noChange ⌝ }
+{
+    change_one(no_put(), no_level(), no_level(), 0)
+}
+
+// The rule doesn't apply.
+pub fn passes() -> Tried
+    ensures { λ r. ⌜ r ≡ passed ⌝ }
+{
+    let change = no_change();
+    Tried {
+        kind: Kind::Passes,
+        change,
+    }
+}
+
+// The rule shows that there is no flow.
+pub fn no_flow() -> Tried
+    ensures { λ r. ⌜ r ≡ refuted ⌝ }
+{
+    let change = no_change();
+    Tried {
+        kind: Kind::NoFlow,
+        change,
+    }
+}
+
+// The rule is the next step.
+pub fn changes(change: Change) -> Tried
+    ensures { λ r. ⌜ r ≡ changed change ⌝ }
+{
+    Tried {
+        kind: Kind::Changes,
+        change,
+    }
+}

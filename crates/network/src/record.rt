@@ -1,0 +1,283 @@
+// A network's record: the questions 2 to 5 before work, and the network that it holds.
+ghost use mathlib.Core.Path.{_≡_};
+ghost use Prim.Native.Nat.{_+_, _*_, _≤_};
+ghost use Rattle.loops.specs.Loops.{all, upto};
+ghost use Rattle.network.specs.Record.{word, figureAt, sizeOf, sizesOf, roleOf, isPermitted, isInForm, endOf, isEnd, hasEnds, arcIn, isWeighted, isWeightedAt, figuresAsked, askedOf, nodeTurn, arcTurn, netOf, readOf};
+use crate::Arc;
+use crate::Net;
+use fraction::Fraction;
+
+// A size within its limit.
+enum Size {
+    Is(usize),
+    Off,
+}
+
+// What the questions answer: the sizes n and m, or the number of the first that is answered by no.
+pub enum Asked {
+    Go(usize, usize),
+    No(usize),
+}
+
+// The word t + k places behind the two sizes; 0 outside.
+fn word_behind(xs: &[i32], t: usize, k: usize) -> i32
+    ensures { λ r. ⌜ r ≡ word (now (xs .entry)) (2 + t + k) ⌝ }
+{
+    if xs.len() < 2 {
+        return 0;
+    }
+    if xs.len() - 2 < t {
+        return 0;
+    }
+    if k < xs.len() - 2 - t {
+        return xs[2 + t + k];
+    }
+    0
+}
+
+// Figure k of the t figures of a record that begins with two sizes.
+pub fn figure_at(xs: &[i32], t: usize, k: usize) -> Fraction
+    ensures { λ r. ⌜ r ≡ figureAt (now (xs .entry)) t k ⌝ }
+{
+    Fraction::from_words(word_behind(xs, 0, k), word_behind(xs, t, k))
+}
+
+// A word as a size, up to a limit.
+fn size_at(xs: &[i32], at: usize, limit: usize) -> Size
+    ensures { λ r. ⌜ r ≡ sizeOf (word (now (xs .entry)) at) limit ⌝ }
+{
+    if at < xs.len() {
+        let n = xs[at];
+        if n < 0 {
+            return Size::Off;
+        }
+        let k = n as usize;
+        if k <= limit {
+            return Size::Is(k);
+        }
+        return Size::Off;
+    }
+    Size::Is(0)
+}
+
+// Question 2: the sizes, where they are within limits and the length is right.
+fn sizes(xs: &[i32]) -> Asked
+    ensures { λ r. ⌜ r ≡ sizesOf (now (xs .entry)) ⌝ }
+{
+    match size_at(xs, 0, 32) {
+        Size::Off => Asked::No(2),
+        Size::Is(n) => match size_at(xs, 1, 96) {
+            Size::Off => Asked::No(2),
+            Size::Is(m) => if xs.len() == 2 + 2 * (n + 7 * m) {
+                Asked::Go(n, m)
+            } else {
+                Asked::No(2)
+            },
+        },
+    }
+}
+
+// Which of an arc's seven figures figure k is, from 0; of a supply 0.
+fn role_of(n: usize, k: usize) -> usize
+    ensures { λ r. ⌜ r ≡ roleOf n k ⌝ }
+{
+    if k < n { 0 } else { (k - n) % 7 }
+}
+
+// Whether a figure is a fraction in form, or the mark that its place permits.
+fn permitted(role: usize, f: Fraction) -> bool
+    ensures { λ r. ⌜ r ≡ isPermitted role f ⌝ }
+{
+    if f.is_proper() {
+        return true;
+    }
+    match role {
+        3 => f.same(Fraction::NO_LOWER),
+        4 => f.same(Fraction::NO_UPPER),
+        _ => false,
+    }
+}
+
+// Question 3: whether each figure is a fraction in form or a permitted mark.
+fn all_in_form(xs: &[i32], n: usize, t: usize) -> bool
+    ensures { λ r. ⌜ r ≡ all (isInForm (now (xs .entry)) n t) t ⌝ }
+{
+    for k in 0..t {
+        let f = figure_at(xs, t, k);
+        if permitted(role_of(n, k), f) {} else {
+            return false;
+        }
+    }
+    true
+}
+
+// The number of an end; 0 below zero.
+fn end_of(f: Fraction) -> usize
+    ensures { λ r. ⌜ r ≡ endOf (f .num) ⌝ }
+{
+    if f.num < 0 {
+        return 0;
+    }
+    f.num as usize
+}
+
+// Whether a figure is whole and from 1 to n.
+fn is_end(n: usize, f: Fraction) -> bool
+    ensures { λ r. ⌜ r ≡ isEnd n f ⌝ }
+{
+    if f.den == 1 {
+        let i = end_of(f);
+        return 1 <= i && i <= n;
+    }
+    false
+}
+
+// Whether both ends of the arc of number j + 1 are right.
+fn has_ends(xs: &[i32], n: usize, t: usize, j: usize) -> bool
+    requires { ⌜ (n ≤ 32) × (j ≤ 96) ⌝ }
+    ensures { λ r. ⌜ r ≡ hasEnds (now (xs .entry)) n t j ⌝ }
+{
+    let k = n + 7 * j;
+    is_end(n, figure_at(xs, t, k)) && is_end(n, figure_at(xs, t, k + 1))
+}
+
+// Question 4: whether all ends are whole and from 1 to n.
+fn all_ends(xs: &[i32], n: usize, t: usize, m: usize) -> bool
+    requires { ⌜ (n ≤ 32) × (m ≤ 96) ⌝ }
+    ensures { λ r. ⌜ r ≡ all (hasEnds (now (xs .entry)) n t) m ⌝ }
+{
+    for j in 0..m {
+        if has_ends(xs, n, t, j) {} else {
+            return false;
+        }
+    }
+    true
+}
+
+// The arc of number j + 1.
+fn arc_in(xs: &[i32], n: usize, t: usize, j: usize) -> Arc
+    requires { ⌜ (n ≤ 32) × (j ≤ 96) ⌝ }
+    ensures { λ r. ⌜ r ≡ arcIn (now (xs .entry)) n t j ⌝ }
+{
+    let k = n + 7 * j;
+    let from = end_of(figure_at(xs, t, k));
+    let to = end_of(figure_at(xs, t, k + 1));
+    let cost = figure_at(xs, t, k + 2);
+    let lower = figure_at(xs, t, k + 3);
+    let upper = figure_at(xs, t, k + 4);
+    let a = figure_at(xs, t, k + 5);
+    let b = figure_at(xs, t, k + 6);
+    Arc {
+        from,
+        to,
+        cost,
+        lower,
+        upper,
+        a,
+        b,
+    }
+}
+
+// Whether a is nonzero, and b zero exactly where from = to.
+fn is_weighted(t: Arc) -> bool
+    ensures { λ r. ⌜ r ≡ isWeighted t ⌝ }
+{
+    let a = t.a;
+    let b = t.b;
+    if a.is_zero() {
+        return false;
+    }
+    let z = b.is_zero();
+    if crate::is_root(t) {
+        return z;
+    }
+    !z
+}
+
+// Question 5: whether every a is nonzero, and b zero exactly where from = to.
+fn all_weighted(xs: &[i32], n: usize, t: usize, m: usize) -> bool
+    requires { ⌜ (n ≤ 32) × (m ≤ 96) ⌝ }
+    ensures { λ r. ⌜ r ≡ all (isWeightedAt (now (xs .entry)) n t) m ⌝ }
+{
+    for j in 0..m {
+        if is_weighted(arc_in(xs, n, t, j)) {} else {
+            return false;
+        }
+    }
+    true
+}
+
+// Questions 3 to 5.
+fn ask_figures(xs: &[i32], n: usize, m: usize) -> Asked
+    requires { ⌜ (n ≤ 32) × (m ≤ 96) ⌝ }
+    ensures { λ r. ⌜ r ≡ figuresAsked (now (xs .entry)) n m ⌝ }
+{
+    let t = n + 7 * m;
+    if all_in_form(xs, n, t) {} else {
+        return Asked::No(3);
+    }
+    if all_ends(xs, n, t, m) {} else {
+        return Asked::No(4);
+    }
+    if all_weighted(xs, n, t, m) {} else {
+        return Asked::No(5);
+    }
+    Asked::Go(n, m)
+}
+
+// Questions 2 to 5, in their order.
+pub fn ask(network: &[i32]) -> Asked
+    ensures { λ r. ⌜ r ≡ askedOf (now (network .entry)) ⌝ }
+{
+    match sizes(network) {
+        Asked::No(q) => Asked::No(q),
+        Asked::Go(n, m) => ask_figures(network, n, m),
+    }
+}
+
+// Nodes 1 to n, with their supplies.
+fn read_nodes(net: Net, xs: &[i32], t: usize, n: usize) -> Net
+    requires { ⌜ n ≤ 32 ⌝ }
+    ensures { λ r. ⌜ r ≡ upto (nodeTurn (now (xs .entry)) t) n net ⌝ }
+{
+    let mut at = net;
+    for i in 0..n {
+        let f = figure_at(xs, t, i);
+        at = crate::put_node(at, i + 1, f);
+    }
+    at
+}
+
+// Arcs 1 to m.
+fn read_arcs(net: Net, xs: &[i32], n: usize, t: usize, m: usize) -> Net
+    requires { ⌜ (n ≤ 32) × (m ≤ 96) ⌝ }
+    ensures { λ r. ⌜ r ≡ upto (arcTurn (now (xs .entry)) n t) m net ⌝ }
+{
+    let mut at = net;
+    for j in 0..m {
+        let a = arc_in(xs, n, t, j);
+        at = crate::put_arc(at, j + 1, a);
+    }
+    at
+}
+
+// The network of a record with these sizes.
+fn read_sized(xs: &[i32], n: usize, m: usize) -> Net
+    requires { ⌜ (n ≤ 32) × (m ≤ 96) ⌝ }
+    ensures { λ r. ⌜ r ≡ netOf (now (xs .entry)) n m ⌝ }
+{
+    let t = n + 7 * m;
+    let z = crate::empty_net(n, m);
+    let a = read_nodes(z, xs, t, n);
+    read_arcs(a, xs, n, t, m)
+}
+
+// The network of a record; one without nodes and arcs where question 2 is answered by no.
+pub fn read(network: &[i32]) -> Net
+    ensures { λ r. ⌜ r ≡ readOf (now (network .entry)) ⌝ }
+{
+    match sizes(network) {
+        Asked::No(_) => crate::empty_net(0, 0),
+        Asked::Go(n, m) => read_sized(network, n, m),
+    }
+}
