@@ -1,10 +1,12 @@
 -- Laws that several proofs cite. Assumes nothing.
 use mathlib.Core.Path.{_≡_, refl, sym, _∙_}
 use mathlib.Core.List.{List, map}
-use native.Mathlib.Omega.{arith}
-use Prim.Native.Nat.{ℕ, zero, suc, _≤_}
+use Prim.Native.Nat.{ℕ, zero, suc, _+_, _-_, _≤_, _<_}
 use native.Mathlib.Nat.{not-suc-le-zero}
+use native.Mathlib.Omega.{arith}
 use lib.ListN.{length, length-map}
+use Rattle.loops.specs.Loops.{scan}
+use Rattle.loops.proofs.Laws.{Scanned, scanned-found, scanned-more}
 use Rattle.network.specs.Network.{orNext}
 
 -- an array of structs in a struct: what its relation says of the list
@@ -19,3 +21,14 @@ stays (suc k) h g j = refl
 -- two different numbers
 pub never {ℓ} : {X : Type ℓ} → _≡_ {A = ℕ} 0 1 → X
 never e = absurd (omega arith)
+
+-- ---- a loop over the arcs' numbers after k that stops at the first that counts (f j is j, or 0 where j doesn't count): where there is none, and the two turns
+pub sought-past : (f : ℕ → ℕ) {k : ℕ} → 96 ≤ k → 0 ≡ scan orNext 0 f (96 - k) (k + 1)
+unfolding scan
+sought-past f {k} l = let e : 96 - k ≡ 0 = omega arith in rw e refl
+
+pub sought-yes : {f : ℕ → ℕ} {k j : ℕ} → Scanned orNext 0 f (96 - k) (k + 1) j → k < 96 → j < 97 → j ≡ f j → j ≡ scan orNext 0 f (96 - k) (k + 1)
+sought-yes {j = j} h l m e = let q : 1 ≤ j = omega arith in scanned-found _ _ h (omega arith) e (stays j q)
+
+pub sought-no : {f : ℕ → ℕ} {k j : ℕ} → Scanned orNext 0 f (96 - k) (k + 1) j → k < 96 → j < 97 → 0 ≡ f j → Scanned orNext 0 f (96 - k) (k + 1) (j + 1)
+sought-no h l m e = scanned-more _ _ {t = 0} h (omega arith) e (λ g i. refl)

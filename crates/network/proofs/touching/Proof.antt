@@ -1,10 +1,9 @@
-use Prim.Native.Nat.{_+_, _-_, _≤_}
-use Rattle.loops.proofs.Laws.{Scanned, scanned-all, scanned-found, scanned-more, scanned-none}
-use Rattle.loops.specs.Loops.{scan}
-use Rattle.network.proofs.Laws.{stays}
+-- `network::touching` meets its contract. Assumes nothing.
+use Prim.Native.Nat.{_+_, _-_}
+use Rattle.loops.proofs.Laws.{Scanned, scanned-all, scanned-none}
+use Rattle.network.proofs.Laws.{sought-no, sought-past, sought-yes}
 use Rattle.network.specs.Network.{orNext, touchAt, touchingAfter}
 use borrow.Author.Needs.{needs}
-use mathlib.Core.Path.{_∙_, _≡_, refl, sym}
 use native.Mathlib.Omega.{arith}
 use Rattle.network.proofs.touching.Statement.{statement}
 use Rattle.network.proofs.touching.Tie as tie
@@ -16,25 +15,18 @@ abbrev μ-loop : tie.MeasureT-loop
 μ-loop i k net j₀ j = 97 - j
 
 returns : tie.Need-returns Inv-loop μ-loop
-unfolding touchingAfter scan
-returns c =
-    let e : 96 - c .before .args .k ≡ 0 = omega arith in
-    rw e
+unfolding touchingAfter
+returns c = sought-past _ (c .if1 .taken)
 
 loop-holds : tie.Need-loop-holds Inv-loop μ-loop
 loop-holds c = scanned-none _ _ _ _ _
 
 returns-2 : tie.Need-returns-2 Inv-loop μ-loop
 unfolding touchingAfter
-returns-2 c =
-    let e = sym (c .before .touches .ensures) ∙ c .if2 .taken in
-    let p : 1 ≤ c .before .before .before .before .loop .j = omega arith in
-    scanned-found _ _ (c .before .before .before .before .loop .inv) (omega arith) (rw e) (stays (c .before .before .before .before .loop .j) p)
+returns-2 c = sought-yes (c .before .before .before .before .loop .inv) (c .before .before .before .before .before .if1 .left) (c .before .before .before .loop-test .taken) (rw (← c .before .touches .ensures, c .if2 .taken))
 
 loop-again : tie.Need-loop-again Inv-loop μ-loop
-loop-again c =
-    let e = sym (c .before .touches .ensures) ∙ c .if2 .left in
-    scanned-more _ _ {t = 0} (c .before .before .before .before .loop .inv) (omega arith) (rw e) (λ g j. refl)
+loop-again c = sought-no (c .before .before .before .before .loop .inv) (c .before .before .before .before .before .if1 .left) (c .before .before .before .loop-test .taken) (rw (← c .before .touches .ensures, c .if2 .left))
 
 returns-3 : tie.Need-returns-3 Inv-loop μ-loop
 unfolding touchingAfter

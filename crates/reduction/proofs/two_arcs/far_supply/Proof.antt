@@ -1,0 +1,30 @@
+-- `reduction::two_arcs::far_supply` meets its contract. Assumes nothing.
+use Rattle.reduction.specs.Rules.{farSupply}
+use borrow.Author.Needs.{needs}
+use borrow.Author.Tests.{eq-eqb, ne-eqb}
+use Rattle.reduction.proofs.two_arcs.far_supply.Statement.{statement}
+use Rattle.reduction.proofs.two_arcs.far_supply.Tie as tie
+
+returns : tie.Need-returns
+unfolding farSupply
+returns c = rw (eq-eqb _ _ (c .before .before .if1 .taken), c .fit .ensures, c .before .no-figure .ensures)
+
+returns-2 : tie.Need-returns-2
+unfolding farSupply
+returns-2 c = rw (ne-eqb _ _ (c .before .before .before .before .before .before .before .if1 .left), c .minus .ensures, c .before .over .ensures, c .before .before .times .ensures, c .before .before .before .fit5 .ensures, c .before .before .before .before .fit4 .ensures, c .before .before .before .before .before .fit3 .ensures, c .before .before .before .before .before .before .fit2 .ensures)
+
+pub far-supply-spec : {M : Type 1} → statement M
+far-supply-spec =
+    tie.close
+    (tie.spec
+    (λ c κs. search needs)
+    (λ c κs. search needs)
+    returns
+    (λ c κs. search needs)
+    (λ c κs. search needs)
+    (λ c κs. search needs)
+    (λ c κs. search needs)
+    (λ c κs. search needs)
+    (λ c κs. search needs)
+    (λ c κs. search needs)
+    returns-2)

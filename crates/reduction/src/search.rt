@@ -1,0 +1,199 @@
+// The search for the next step, and steps until there is none.
+ghost use mathlib.Core.Path.{_≡_};
+ghost use Rattle.reduction.specs.Rules.{nodeRule, ruleAt};
+ghost use Rattle.reduction.specs.Search.{noStep, stepAt, lastPlace, ranked, nextOf, started, stepped, ended, ranOf};
+use network::Change;
+use network::Kind;
+use network::Net;
+use network::Tried;
+
+// The answer of a rule at a place.
+pub struct Step {
+    pub kind: Kind,
+    pub rule: usize,
+    pub place: usize,
+    pub change: Change,
+}
+
+// A step that was taken: its rule's number, and its place in original numbers.
+pub struct Taken {
+    pub rule: usize,
+    pub place: usize,
+}
+
+// A network after steps, the steps, and the answer after the last of them.
+pub struct Ran {
+    pub net: Net,
+    pub steps: usize,
+    pub taken: [Taken; 128],
+    pub last: Step,
+}
+
+fn node_rule(net: Net, k: usize, i: usize) -> Tried
+    ensures { λ x. ⌜ x ≡ nodeRule net k i ⌝ }
+{
+    if network::is_here(net, i) {
+        return match k {
+            2 => crate::removal::rule_two(net, i),
+            3 => crate::removal::rule_three(net, i),
+            5 => crate::two_arcs::rule_five(net, i),
+            6 => crate::crossing::rule_six(net, i),
+            _ => network::passes(),
+        };
+    }
+    network::passes()
+}
+
+// Rule k at place i.
+pub fn try_rule(net: Net, k: usize, i: usize) -> Tried
+    ensures { λ x. ⌜ x ≡ ruleAt net k i ⌝ }
+{
+    match k {
+        1 => crate::removal::rule_one(net, i),
+        4 => crate::costly::rule_four(net, i),
+        _ => node_rule(net, k, i),
+    }
+}
+
+fn no_step() -> Step
+    ensures { λ r. ⌜ r ≡ noStep ⌝ }
+{
+    let t = network::passes();
+    let change = t.change;
+    Step {
+        kind: Kind::Passes,
+        rule: 0,
+        place: 0,
+        change,
+    }
+}
+
+fn step_at(net: Net, k: usize, i: usize) -> Step
+    ensures { λ r. ⌜ r ≡ stepAt net k i ⌝ }
+{
+    let t = try_rule(net, k, i);
+    let kind = t.kind;
+    let change = t.change;
+    Step {
+        kind,
+        rule: k,
+        place: i,
+        change,
+    }
+}
+
+fn last_place(k: usize) -> usize
+    ensures { λ r. ⌜ r ≡ lastPlace k ⌝ }
+{
+    match k {
+        1 => 96,
+        4 => 96,
+        _ => 32,
+    }
+}
+
+fn scan_rule(net: Net, k: usize) -> Step
+    ensures { λ r. ⌜ r ≡ ranked net k ⌝ }
+{
+    let last = last_place(k);
+    let mut i = 1;
+    while i <= last {
+        let s = step_at(net, k, i);
+        let kind = s.kind;
+        if let Kind::Passes = kind {} else {
+            return s;
+        }
+        i += 1;
+    }
+    no_step()
+}
+
+// The next step: the first that applies, by the rules in order and the places upward.
+pub fn next(net: Net) -> Step
+    ensures { λ r. ⌜ r ≡ nextOf net ⌝ }
+{
+    for k in 1..7 {
+        let s = scan_rule(net, k);
+        let kind = s.kind;
+        if let Kind::Passes = kind {} else {
+            return s;
+        }
+    }
+    no_step()
+}
+
+fn take(at: Ran, s: Step) -> Ran
+    ensures { λ r. ⌜ r ≡ stepped at s ⌝ }
+{
+    let net = at.net;
+    let change = s.change;
+    let last = at.last;
+    let mut taken = at.taken;
+    let k = at.steps;
+    if k < 128 {
+        taken[k] = Taken {
+            rule: s.rule,
+            place: s.place,
+        };
+        let to = network::apply(net, change);
+        return Ran {
+            net: to,
+            steps: k + 1,
+            taken,
+            last,
+        };
+    }
+    at
+}
+
+fn start(net: Net) -> Ran
+    ensures { λ r. ⌜ r ≡ started net ⌝ }
+{
+    let last = no_step();
+    Ran {
+        net,
+        steps: 0,
+        taken: [Taken { rule: 0, place: 0 }; 128],
+        last,
+    }
+}
+
+fn end(at: Ran, last: Step) -> Ran
+    ensures { λ r. ⌜ r ≡ ended at last ⌝ }
+{
+    let net = at.net;
+    let taken = at.taken;
+    Ran {
+        net,
+        steps: at.steps,
+        taken,
+        last,
+    }
+}
+
+// Steps until there is none.
+pub fn run(net: Net) -> Ran
+    ensures { λ r. ⌜ r ≡ ranOf net ⌝ }
+{
+    let mut at = start(net);
+    let mut f: usize = 0;
+    while f < 128 {
+        let now = at.net;
+        let s = next(now);
+        let kind = s.kind;
+        match kind {
+            Kind::Passes => {
+                return end(at, s);
+            },
+            Kind::NoFlow => {
+                return end(at, s);
+            },
+            Kind::Changes => {
+                at = take(at, s);
+            },
+        }
+        f += 1;
+    }
+    let now = at.net;
+    end(at, next(now))
+}
