@@ -258,6 +258,11 @@ scan-each alt nil P zip both f (suc k) lo each =
     both _ _ _ (each lo (omega arith) (omega (arith, add-one k))) (scan-each alt nil P zip both f k (suc lo) (λ i g h. each i (omega (arith, add-one lo)) (omega (arith, add-one k, add-one lo))))
 
 -- two tests: where the second passes the first does, and at k only the first
+pub count-same : (p q : ℕ → Bool) (n : ℕ) → ((i : ℕ) → i < n → q i ≡ p i) → count q n ≡ count p n
+unfolding count
+count-same p q zero h = refl
+count-same p q (suc n) h = rw (h n (omega (arith, add-one n)), count-same p q n (λ i l. h i (omega (arith, add-one n))))
+
 pub count-mono : (p q : ℕ → Bool) (n : ℕ) → ((i : ℕ) → q i ≡ true → p i ≡ true) → count q n ≤ count p n
 unfolding count
 count-mono p q zero h = omega arith

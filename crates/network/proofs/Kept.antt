@@ -1,4 +1,4 @@
--- A change whose parts are legal keeps a network legal. Assumes nothing.
+-- An arc, a supply or a dropped node that is legal keeps a network legal. Assumes nothing.
 use mathlib.Core.Path.{_≡_, refl, sym, ap, _∙_}
 use mathlib.Core.Bool.{Bool, true, false, cond, _||_}
 use mathlib.Core.List.{List}
@@ -14,10 +14,8 @@ use Rattle.fraction.specs.Exact.{Proper}
 use Rattle.fraction.specs.Laws.{and-both}
 use Rattle.network.specs.declared.Arc.{Arc}
 use Rattle.network.specs.declared.Net.{Net}
-use Rattle.network.specs.declared.Put.{Put}
-use Rattle.network.specs.declared.Change.{Change}
-use Rattle.network.specs.Network.{noFigure, noArc, arcAt, supplyAt, isHere, isNumber, isTouching, withArc, withSupply, without, withPut, applied}
-use Rattle.network.specs.Legal.{LegalArc, Legal, MayPut, LegalChange}
+use Rattle.network.specs.Network.{noFigure, noArc, arcAt, supplyAt, isHere, isNumber, isTouching, withArc, withSupply, without}
+use Rattle.network.specs.Legal.{LegalArc, Legal, MayPut}
 use Rattle.network.proofs.Laws.{never}
 
 -- ---- one element replaced: what stands at a place then, and the length
@@ -163,20 +161,3 @@ module _ {net : Net} (g : Legal net) where
 
       stays : (i : ℕ) → isHere net i ≡ true → (1 ≤ j → i ≡ j → ⊥) → isHere (without net j) i ≡ true
       stays i e ne = ⊎-elim (λ q. q ∙ e) (λ w. absurd (ne (w .0) (w .1))) (here-either net j i)
-
--- ---- the whole change
-
--- a put changes no node, and a supply no arc
-still : {net : Net} (p : Put) {t : Arc} → MayPut net t → MayPut (withPut net p) t
-unfolding withArc
-still p (inl e) = inl e
-still p (inr h) = inr (moved h (h .from-here) (h .to-here))
-
-pub change-kept : {net : Net} → Legal net → (c : Change) → LegalChange net c → Legal (applied net c)
-unfolding applied withSupply
-change-kept {net} g c k =
-    let a = arc-kept g _ _ (k .one) in
-    let b = arc-kept a _ _ (still (c .one) (k .two)) in
-    let d = arc-kept b _ _ (still (c .two) (still (c .one) (k .three))) in
-    let e = arc-kept d _ _ (still (c .three) (still (c .two) (still (c .one) (k .four)))) in
-    node-kept (supply-kept (supply-kept e _ _ (k .left)) _ _ (k .right)) (c .gone) (k .gone)

@@ -8,8 +8,7 @@ use Rattle.fraction.specs.declared.Fraction.{Fraction}
 use Rattle.fraction.specs.Exact.{Proper, noLower, noUpper, isZero}
 use Rattle.network.specs.declared.Arc.{Arc}
 use Rattle.network.specs.declared.Net.{Net}
-use Rattle.network.specs.declared.Change.{Change}
-use Rattle.network.specs.Network.{noArc, arcAt, supplyAt, isHere, isRoot, isTouching, withPuts}
+use Rattle.network.specs.Network.{noArc, arcAt, supplyAt, isHere, isRoot}
 
 -- a bound: a fraction in form, or the mark of its side
 abbrev pub Bound : Fraction → Fraction → Type 0
@@ -45,13 +44,3 @@ pub record Legal (net : Net) : Type 0 where
 -- an arc that may be put at a number: none, or one in use
 abbrev pub MayPut : Net → Arc → Type 0
 MayPut net t = (t ≡ noArc) ⊎ LegalArc net t
-
--- a change that keeps a network legal: the node dropped is touched by no arc that is left
-pub record LegalChange (net : Net) (c : Change) : Type 0 where
-  pub one : MayPut net (c .one .arc)
-  pub two : MayPut net (c .two .arc)
-  pub three : MayPut net (c .three .arc)
-  pub four : MayPut net (c .four .arc)
-  pub left : 1 ≤ c .left .node → Proper (c .left .supply)
-  pub right : 1 ≤ c .right .node → Proper (c .right .supply)
-  pub gone : 1 ≤ c .gone → (j : ℕ) → isTouching (arcAt (withPuts net c) j) (c .gone) ≡ false

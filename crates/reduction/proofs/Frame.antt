@@ -4,10 +4,9 @@ use mathlib.Core.Bool.{Bool, true, false, cond}
 use mathlib.Core.Logic.{_⊎_, inl, inr, ⊎-elim}
 use Prim.Native.Nat.{ℕ, _≤_}
 use native.Mathlib.Omega.{arith}
-use lib.Dec.{ltb}
 use lib.ListN.{length, getD, set}
 use lib.Seq.{getD-set-same, getD-set-other}
-use borrow.Author.Tests.{ltb-true, ltb-false, le-leb}
+use borrow.Author.Tests.{le-leb}
 use Rattle.fraction.specs.Exact.{Proper}
 use Rattle.network.specs.declared.Arc.{Arc}
 use Rattle.network.specs.declared.Net.{Net}
@@ -15,9 +14,9 @@ use Rattle.network.specs.declared.Put.{Put}
 use Rattle.network.specs.declared.Level.{Level}
 use Rattle.network.specs.declared.Change.{Change}
 use Rattle.network.specs.Network.{noArc, arcAt, isNumber, isTouching, withArc, withSupply, without, withPut, withLevel, applied}
-use Rattle.network.specs.Legal.{Legal}
-use Rattle.network.proofs.Kept.{MayPut, used-number, touching-used, moved, arc-kept, supply-kept, node-kept}
-use Rattle.reduction.proofs.Touch.{never}
+use Rattle.network.specs.Legal.{Legal, MayPut}
+use Rattle.network.proofs.Kept.{used-number, touching-used, moved, arc-kept, supply-kept, node-kept}
+use Rattle.network.proofs.Laws.{never}
 
 -- what may be put at a number where node `gone` is dropped: no arc, or a legal one that does not touch it
 pub record Puts (net : Net) (gone : ℕ) (p : Put) : Type 0 where
@@ -68,7 +67,7 @@ module _ (net : Net) (k : ℕ) (t : Arc) where
 -- such a change keeps a network legal
 pub framed-kept : (net : Net) → Legal net → (c : Change) → Framed net c → Legal (applied net c)
 unfolding applied withSupply without
-framed-kept net g c f = by (ltb (c .gone) 1) refl
+framed-kept net g c f = node-kept g6 (c .gone) free
   where
     n1 : Net
     n1 = withPut net (c .one)
@@ -109,7 +108,3 @@ framed-kept net g c f = by (ltb (c .gone) 1) refl
             let s2 = still n1 _ _ (c .gone) j (g1 .arcs-long) (f .two .clear l) n (s3 .1) in
             let s1 = still net _ _ (c .gone) j (g .arcs-long) (f .one .clear l) n (s2 .1) in
             absurd (⊎-elim (s1 .0) (⊎-elim (s2 .0) (⊎-elim (s3 .0) (s4 .0))) (f .only j l (s1 .1)))
-
-    by : (b : Bool) → ltb (c .gone) 1 ≡ b → Legal (applied net c)
-    by true e = let z : c .gone ≡ 0 = omega (arith, ltb-true (c .gone) 1 e) in rw z g6
-    by false e = node-kept g6 (c .gone) (free (ltb-false (c .gone) 1 e))

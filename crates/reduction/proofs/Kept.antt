@@ -364,22 +364,3 @@ next-kept net g = found (ranked net) 6 (λ k. found (stepAt net k) (lastPlace k)
 
     found : (f : ℕ → Step) (n : ℕ) → ((k : ℕ) → Good (f k)) → Good (scan orElse noStep f n 1)
     found f n each = scan-each orElse noStep Good (λ e. never cc) (λ s h j. on (s .kind) s h j) f n 1 (λ k _ _. each k)
-
--- a step taken, where there is room for it
-stepped-kept : (r : Ran) (s : Step) → Legal (r .net) → Legal (applied (r .net) (s .change)) → Legal (stepped r s .net)
-unfolding stepped
-stepped-kept r s g h = by (ltb (r .steps) 128) refl
-  where
-    by : (b : Bool) → ltb (r .steps) 128 ≡ b → Legal (stepped r s .net)
-    by true e = rw e h
-    by false e = rw e g
-
--- and the network after all steps of a run is legal
-pub ran-kept : (net : Net) → Legal net → Legal (ranOf net .net)
-unfolding ranOf
-ran-kept net g = runs-keeps (λ (r : Ran). Legal (r .net)) moveOf (λ r t e h. on r t (nextOf (r .net) .kind) refl e h) 128 (started net) g
-  where
-    on : (r t : Ran) (k : Kind) → nextOf (r .net) .kind ≡ k → moved k r (nextOf (r .net)) ≡ some t → Legal (r .net) → Legal (t .net)
-    on r t Passes q e h = never cc
-    on r t NoFlow q e h = never cc
-    on r t Changes q e h = let f : t ≡ stepped r (nextOf (r .net)) = cc in rw f (stepped-kept r (nextOf (r .net)) h (next-kept (r .net) h q))

@@ -5,3 +5,6 @@ pub mod Frame
 pub mod Sides
 pub mod Arcs
 pub mod Kept
+pub mod Order
+pub mod Answers
+pub mod Done

@@ -1,2 +1,4 @@
 pub mod Rules
 pub mod Search
+pub mod Stack
+pub mod Reduce

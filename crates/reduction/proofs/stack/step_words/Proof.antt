@@ -1,0 +1,49 @@
+-- `reduction::stack::step_words` meets its contract. Assumes nothing.
+use Prim.Native.Nat.{_-_, _≤_}
+use Rattle.algebra.specs.Solver.{at}
+use Rattle.integer.specs.Machine.{back32}
+use Rattle.loops.proofs.Laws.{Filled, filled-more, filled-none, filled-whole}
+use Rattle.network.specs.Output.{two, wordsOf}
+use Rattle.network.specs.declared.output.Two.{Two}
+use Rattle.reduction.specs.Stack.{placeWord, ruleWord}
+use borrow.Author.Needs.{needs}
+use lib.Dec.{lit≤}
+use lib.ListN.{length}
+use mathlib.Core.List.{List}
+use mathlib.Core.Path.{ap, refl}
+use native.Mathlib.Omega.{arith}
+use Rattle.reduction.proofs.stack.step_words.Statement.{statement}
+use Rattle.reduction.proofs.stack.step_words.Tie as tie
+
+abbrev Inv-loop : tie.InvT-loop
+Inv-loop ran s₀ k₀ s k = Filled (λ i. two (ruleWord ran i) (placeWord ran i)) 704 (s₀ .at) (s .at) k
+
+abbrev μ-loop : tie.MeasureT-loop
+μ-loop ran s₀ k₀ s k = 704 - k
+
+loop-holds : tie.Need-loop-holds Inv-loop μ-loop
+loop-holds c = filled-none _ _ _
+
+loop-again : tie.Need-loop-again Inv-loop μ-loop
+loop-again c = let long : 704 ≤ length (c .before .before .before .before .before .before .no-words .result .at) = rw (c .before .before .before .before .before .before .no-words .ensures) (lit≤ tt) in rw (c .put-words .ensures, back32 (c .before .before .word-of .result) (search needs), back32 (c .before .word-of2 .result) (search needs), c .before .before .word-of .ensures, c .before .word-of2 .ensures, c .before .before .before .taken-at .ensures) (filled-more (c .before .before .before .before .before .loop .inv) (omega arith) long refl)
+
+returns : tie.Need-returns Inv-loop μ-loop
+unfolding wordsOf
+returns c = let long : length (c .before .before .no-words .result .at) ≤ 704 = rw (c .before .before .no-words .ensures) (lit≤ tt) in ap (λ (l : List Two). record { at = l }) (filled-whole (c .before .loop .inv) (omega arith) long)
+
+pub step-words-spec : {M : Type 1} → statement M
+step-words-spec =
+    tie.close
+    (tie.spec
+    Inv-loop
+    μ-loop
+    (λ c κs. search needs)
+    loop-holds
+    (λ c κs. search needs)
+    (λ c κs. search needs)
+    (λ c κs. search needs)
+    (λ c κs. search needs)
+    (λ c. search needs)
+    (λ c. search needs)
+    loop-again
+    returns)
