@@ -190,13 +190,13 @@ fn pass(text: &[u8], words: &mut [i32]) -> Reading
     close(after_separator(state), n)
 }
 
-// Every word zero.
-fn clear(words: &mut [i32])
-    ensures { λ _. ⌜ now (words .exit) ≡ replicate (length (now (words .entry))) (pos 0) ⌝ }
+// Every byte of a slice zero.
+pub fn clear(out: &mut [u8])
+    ensures { λ _. ⌜ now (out .exit) ≡ replicate (length (now (out .entry))) 0 ⌝ }
 {
     let mut i = 0;
-    while i < words.len() {
-        words[i] = 0;
+    while i < out.len() {
+        out[i] = 0;
         i += 1;
     }
 }
@@ -204,7 +204,7 @@ fn clear(words: &mut [i32])
 fn refuse(words: &mut [i32]) -> Reading
     ensures { λ r. ⌜ (r ≡ Reading.Refused) × (now (words .exit) ≡ replicate (length (now (words .entry))) (pos 0)) ⌝ }
 {
-    clear(words);
+    loops::clear(words);
     Reading::Refused
 }
 
@@ -215,7 +215,7 @@ pub fn read_words(text: &[u8], words: &mut [i32]) -> Reading
     if text.len() > LIMIT {
         return refuse(words);
     }
-    clear(words);
+    loops::clear(words);
     match pass(text, words) {
         Reading::Words(n) => if n <= words.len() {
             Reading::Words(n)

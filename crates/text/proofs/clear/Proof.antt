@@ -1,17 +1,16 @@
 use Prim.Native.Nat.{_-_}
 use Rattle.text.proofs.Writing.{Cleared, cleared-all, cleared-long, cleared-more, cleared-none}
 use borrow.Author.Needs.{needs}
-use lib.IntN.{pos}
 use lib.ListN.{length}
 use native.Mathlib.Omega.{arith}
 use Rattle.text.proofs.clear.Statement.{statement}
 use Rattle.text.proofs.clear.Tie as tie
 
 abbrev Inv-loop : tie.InvT-loop
-Inv-loop words₀ i₀ words i = Cleared (pos 0) words₀ words i
+Inv-loop out₀ i₀ out i = Cleared 0 out₀ out i
 
 abbrev μ-loop : tie.MeasureT-loop
-μ-loop words₀ i₀ words i = length words₀ - i
+μ-loop out₀ i₀ out i = length out₀ - i
 
 loop-holds : tie.Need-loop-holds Inv-loop μ-loop
 loop-holds c = cleared-none _ _
@@ -42,7 +41,6 @@ clear-spec =
     Inv-loop
     μ-loop
     loop-holds
-    (λ c. search needs)
     (λ c. search needs)
     add-i
     loop-less

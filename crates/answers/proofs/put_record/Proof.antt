@@ -1,0 +1,22 @@
+-- `answers::put_record` meets its contract. Assumes nothing.
+use Rattle.answers.specs.Answers.{recordLines}
+use Rattle.text.proofs.Writing.{put-append}
+use borrow.Author.Needs.{needs}
+use Rattle.text.proofs.Writing.{put-append}
+use Rattle.answers.proofs.put_record.Statement.{statement}
+use Rattle.answers.proofs.put_record.Tie as tie
+
+returns : tie.Need-returns
+unfolding recordLines
+returns c = put-append (c .before .before .before .before .before .before .before .before .before .before .put-part .ensures) (put-append (c .before .before .before .before .before .before .put-part2 .ensures) (c .before .before .put-part3 .ensures))
+
+pub put-record-spec : {M : Type 1} → statement M
+put-record-spec =
+    tie.close
+    (tie.spec
+    (λ c κs. search needs)
+    (λ c κs. search needs)
+    (λ c. search needs)
+    (λ c κs. search needs)
+    (λ c. search needs)
+    returns)

@@ -1,0 +1,23 @@
+-- `answers::put_refusal` meets its contract. Assumes nothing.
+use Rattle.algebra.specs.Solver.{at}
+use Rattle.integer.specs.Machine.{back32}
+use Rattle.text.proofs.Writing.{put-append}
+use borrow.Author.Needs.{needs}
+use Rattle.text.proofs.Writing.{put-append}
+use Rattle.answers.proofs.put_refusal.Statement.{statement}
+use Rattle.answers.proofs.put_refusal.Tie as tie
+
+returns : tie.Need-returns
+returns c = put-append (c .before .before .before .before .before .before .before .before .put-bytes .ensures) (rw (back32 (c .before .before .before .before .before .word-of .result) (c .before .before .before .before .before .word-of .ok), c .before .before .before .before .before .word-of .ensures) at (c .before .before .put-line .ensures))
+
+pub put-refusal-spec : {M : Type 1} → statement M
+put-refusal-spec =
+    tie.close
+    (tie.spec
+    (λ c. search needs)
+    (λ c κs. search needs)
+    (λ c κs. search needs)
+    (λ c. search needs)
+    (λ c κs. search needs)
+    (λ c. search needs)
+    returns)

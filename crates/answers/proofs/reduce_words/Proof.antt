@@ -1,0 +1,22 @@
+-- `answers::reduce_words` meets its contract. Assumes nothing.
+use Rattle.algebra.specs.Solver.{at}
+use borrow.Author.Needs.{needs}
+use Rattle.answers.proofs.reduce_words.Statement.{statement}
+use Rattle.answers.proofs.reduce_words.Tie as tie
+
+returns : tie.Need-returns
+returns c = let f = c .before .before .before .before .before .before .before .before .before .reduce .ensures in rw (f .result, f .out-is, f .stack-is) at (c .before .before .put-answer .ensures)
+
+pub reduce-words-spec : {M : Type 1} → statement M
+reduce-words-spec =
+    tie.close
+    (tie.spec
+    (λ c. search needs)
+    (λ c. search needs)
+    (λ c. search needs)
+    (λ c κs. search needs)
+    (λ c. search needs)
+    (λ c. search needs)
+    (λ c κs. search needs)
+    (λ c. search needs)
+    returns)

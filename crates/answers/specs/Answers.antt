@@ -1,0 +1,67 @@
+-- The lines that the programs print (01, "Instances", A), as bytes. Assumes nothing.
+use mathlib.Core.List.{List, [], _∷_, _++_}
+use mathlib.Core.Option.{Option, some, none}
+use Prim.Native.Nat.{ℕ, _+_}
+use lib.IntN.{ℤ}
+use lib.ListN.{take, drop, replicate}
+use Rattle.network.specs.Record.{word, endOf, figures}
+use Rattle.network.specs.Output.{wordOf}
+use Rattle.reduction.specs.declared.Answer.{Answer}
+use Rattle.reduction.specs.declared.Answer.the-variants.{Reduced, NoFlow, Refused}
+use Rattle.reduction.specs.Reduce.{questions, answerOf, outputOf, stackWords}
+use Rattle.text.specs.Text.{wordsOf}
+use Rattle.text.specs.Line.{lineOf}
+
+-- the kinds of answer: "reduced" and its line end, "no flow ", "refused "
+abbrev pub reducedBytes : List ℕ
+reducedBytes = 114 ∷ 101 ∷ 100 ∷ 117 ∷ 99 ∷ 101 ∷ 100 ∷ 10 ∷ []
+
+abbrev pub noFlowBytes : List ℕ
+noFlowBytes = 110 ∷ 111 ∷ 32 ∷ 102 ∷ 108 ∷ 111 ∷ 119 ∷ 32 ∷ []
+
+abbrev pub refusedBytes : List ℕ
+refusedBytes = 114 ∷ 101 ∷ 102 ∷ 117 ∷ 115 ∷ 101 ∷ 100 ∷ 32 ∷ []
+
+-- the size that word k of a record says
+abbrev pub sizeAt : List ℤ → ℕ → ℕ
+sizeAt xs k = endOf (word xs k)
+
+-- a line of count words of a record, from a place on
+abbrev pub partLine : List ℤ → ℕ → ℕ → List ℕ
+partLine xs from count = lineOf (take count (drop from xs))
+
+-- two parallel arrays of k words behind so many sizes: the line of the sizes, of the first array and of the second
+unfoldable pub recordLines : List ℤ → ℕ → ℕ → List ℕ
+recordLines xs sizes k = partLine xs 0 sizes ++ (partLine xs sizes k ++ partLine xs (sizes + k) k)
+
+-- sizes, numerators, denominators
+abbrev pub networkLines : List ℤ → List ℕ
+networkLines xs = recordLines xs 2 (figures (sizeAt xs 0) (sizeAt xs 1))
+
+-- step count, rules, places
+abbrev pub stackLines : List ℤ → List ℕ
+stackLines xs = recordLines xs 1 (sizeAt xs 0)
+
+-- an answer, with the words of the reduced network and of the stack
+abbrev pub reducedLines : Answer → List ℤ → List ℤ → List ℕ
+reducedLines Reduced net stack = reducedBytes ++ (networkLines net ++ stackLines stack)
+reducedLines (NoFlow rule place) net stack = noFlowBytes ++ (lineOf (wordOf rule ∷ wordOf place ∷ []) ++ stackLines stack)
+reducedLines (Refused q) net stack = refusedBytes ++ lineOf (wordOf q ∷ [])
+
+-- ---- the reducing program
+
+-- a network's words, reduced into slices of the lengths that question 1 asks for
+abbrev pub reducedText : List ℤ → List ℕ
+reducedText xs =
+    reducedLines (answerOf xs (questions xs 1410 257 10240)) (outputOf xs 1410 (questions xs 1410 257 10240)) (stackWords xs 257 (questions xs 1410 257 10240))
+
+-- question 14 first
+abbrev pub onWords : Option (List ℤ) → List ℕ
+onWords none = refusedBytes ++ lineOf (wordOf 14 ∷ [])
+onWords (some xs) = reducedText xs
+
+unfoldable pub reduceText : List ℕ → List ℕ
+reduceText text = onWords (wordsOf text)
+
+abbrev pub noBytes : ℕ → List ℕ
+noBytes n = replicate n 0
