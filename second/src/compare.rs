@@ -1,7 +1,7 @@
 //! Running two programs on the same text and telling where they differ.
 
 use std::collections::BTreeMap;
-use std::io::Write;
+use std::io::{Read, Write};
 use std::path::{Path, PathBuf};
 use std::process::{Child, Command, Stdio};
 
@@ -22,6 +22,29 @@ fn give(child: &mut Child, text: &[u8]) {
 
 fn output(child: Child) -> Vec<u8> {
     child.wait_with_output().expect("the program ends").stdout
+}
+
+/// Records of words as bytes, the lowest byte of each word first.
+pub fn bytes_of<const N: usize>(records: &[[i32; N]]) -> Vec<u8> {
+    records.iter().flatten().flat_map(|word| word.to_le_bytes()).collect()
+}
+
+pub fn words_of(bytes: &[u8]) -> Vec<i32> {
+    bytes.chunks_exact(4).map(|four| i32::from_le_bytes(four.try_into().expect("four"))).collect()
+}
+
+/// A program's whole output for an input of any length.
+pub fn output_of(program: &Path, input: Vec<u8>) -> std::io::Result<Vec<u8>> {
+    let mut child = start(program);
+    let mut stdin = child.stdin.take().expect("piped");
+    let writer = std::thread::spawn(move || {
+        let _ = stdin.write_all(&input);
+    });
+    let mut output = Vec::new();
+    child.stdout.take().expect("piped").read_to_end(&mut output)?;
+    let _ = writer.join();
+    child.wait()?;
+    Ok(output)
 }
 
 /// A program of this package, beside the one running.

@@ -13,6 +13,7 @@ pub mod restore;
 pub mod rules;
 pub mod sample_texts;
 pub mod samples;
+pub mod scenes;
 pub mod solve;
 pub mod text;
 pub mod trips;

@@ -1,32 +1,171 @@
 -- The marked instances of document 01, as one table: what the definitions compute, and what the document says. Assumes nothing.
 use mathlib.Core.Path.{_≡_, refl}
-use mathlib.Core.List.{List, [], _∷_}
-use lib.IntN.{pos}
+use mathlib.Core.List.{List, [], _∷_, _++_}
+use Prim.Native.Nat.{ℕ, _+_, _-_}
+use lib.IntN.{ℤ, pos, negℤ}
+use lib.ListN.{length}
 use Rattle.integer.specs.Gcd.{gcd, gcdBy}
+use Rattle.loops.specs.Loops.{zeros, build, upto, count, all, any, scan, runs}
+use Rattle.fraction.specs.declared.Fraction.{Fraction}
 use Rattle.fraction.specs.declared.Worked.{Worked}
 use Rattle.fraction.specs.declared.Worked.the-variants.{Fits, Misfit}
-use Rattle.fraction.specs.Exact.{over, isOperand, fitted, reduceOf, sumOf}
+use Rattle.fraction.specs.Exact.{over, noUpper, isOperand, isProper, fitted, reduceOf, sumOf, productOf, differenceOf, quotientOf, negationOf, reciprocalOf, isLess, isSame, isZero, fromWords, denWord}
+use Rattle.fraction.specs.Formula.{pairOf, _⊕_, _⊖_, _⊗_, _⊘_, ⊝_}
+use Rattle.network.specs.declared.Arc.{Arc}
+use Rattle.network.specs.declared.Net.{Net}
+use Rattle.network.specs.declared.Tried.{Tried}
+use Rattle.network.specs.declared.Kind.{Kind}
+use Rattle.network.specs.declared.Kind.the-variants.{Passes, Changes}
+use Rattle.network.specs.declared.record.Asked.{Asked}
+use Rattle.network.specs.Network.{emptyNet, withArc, withSupply, withNode, without, applied, isTouching, degreeOf, touchingAfter, isRoot, farEnd, sideOf}
+use Rattle.network.specs.Record.{figureAt, sizesOf, roleOf, isPermitted, isEnd, hasEnds, arcIn, isWeighted, figuresAsked, askedOf, netOf, readOf}
+use Rattle.network.specs.Output.{rankOf, packNode, packArc, packedOf, arraysOf, wordOf, roleFigure, figureOf, hasRoom, networkOf}
+use Rattle.reduction.specs.declared.Answer.{Answer}
+use Rattle.reduction.specs.declared.Answer.the-variants.{Reduced, NoFlow}
+use Rattle.reduction.specs.Rules.{isFinite, supplyLess, droppedOf, atFlow, closedArc, ruleOne, bareNode, ruleTwo, singleArc, ruleThree, isOpenRoot, isCostlier, hasPartner, hasPair, isCandidate, ruleFour, sameSign, farMultiplier, farSupply, keptCost, boundFrom, keptLower, keptUpper, keptOf, twoArcs, keepFirst, keepOne, ruleFive, hasSignAt, signedAfter, isFree, isApart, crossedOf, fourOf, crossingAt, withThree, withTwo, withOne, crossingOf, bothSigns, signsOf, ruleSix, nodeRule, ruleAt}
+use Rattle.reduction.specs.Search.{stepAt, lastPlace, ranked, nextOf, stepped, ranOf}
+use Rattle.reduction.specs.Stack.{stackOf}
+use Rattle.reduction.specs.Reduce.{isRoomy, questions, answerOf, outputOf, stackWords}
 
 pub record Row : Type 1 where
-  pub Answer : Type 0
-  pub computed : Answer
-  pub documented : Answer
+  pub Compared : Type 0
+  pub computed : Compared
+  pub documented : Compared
 
 abbrev row : (A : Type 0) → A → A → Row
-row A x y = record { Answer = A; computed = x; documented = y }
+row A x y = record { Compared = A; computed = x; documented = y }
 
 -- every row holds
 abbrev pub All : List Row → Type 0
 All [] = Unit
 All (r ∷ rs) = (r .computed ≡ r .documented) × All rs
 
+-- ---- A, E and F: reducing, with the least that may be lent: 1410 words for the network, 257 for the stack, 10240 of scratch
+
+-- the answer, all words of the network output and all words of the stack
+abbrev Outcome : Type 0
+Outcome = Answer × (List ℤ × List ℤ)
+
+abbrev outcomeBy : List ℤ → Asked → Outcome
+outcomeBy xs q = (answerOf xs q, (outputOf xs 1410 q, stackWords xs 257 q))
+
+abbrev reducing : List ℤ → Outcome
+reducing xs = outcomeBy xs (questions xs 1410 257 10240)
+
+-- "words behind a record are zero"
+abbrev filled : ℕ → List ℤ → List ℤ
+filled k xs = xs ++ zeros (k - length xs)
+
+abbrev outcome : Answer → List ℤ → List ℤ → Outcome
+outcome r net stack = (r, (filled 1410 net, filled 257 stack))
+
+abbrev neg : ℕ → ℤ
+neg k = negℤ (pos k)
+
+-- A, its reducing half. The text given: sizes, numerators, denominators
+abbrev given : List ℤ
+given =
+    (pos 3 ∷ pos 3 ∷ [])
+    ++ (pos 4 ∷ neg 5 ∷ pos 2 ∷ pos 1 ∷ pos 2 ∷ pos 1 ∷ pos 0 ∷ pos 3 ∷ pos 1 ∷ neg 1 ∷ pos 1 ∷ pos 2 ∷ pos 2 ∷ pos 0 ∷ pos 1 ∷ pos 1 ∷ neg 1 ∷ pos 3 ∷ pos 2 ∷ pos 7 ∷ pos 0 ∷ pos 1 ∷ pos 1 ∷ neg 1 ∷ [])
+    ++ (pos 1 ∷ pos 1 ∷ pos 1 ∷ pos 1 ∷ pos 1 ∷ pos 1 ∷ pos 1 ∷ pos 1 ∷ pos 1 ∷ pos 1 ∷ pos 1 ∷ pos 1 ∷ pos 1 ∷ pos 1 ∷ pos 0 ∷ pos 1 ∷ pos 1 ∷ pos 1 ∷ pos 1 ∷ pos 1 ∷ pos 1 ∷ pos 0 ∷ pos 1 ∷ pos 2 ∷ [])
+
+-- what is printed: sizes, numerators, denominators; then step count, rules, places
+abbrev left : List ℤ
+left =
+    (pos 2 ∷ pos 2 ∷ [])
+    ++ (pos 4 ∷ neg 4 ∷ pos 1 ∷ pos 2 ∷ pos 1 ∷ pos 0 ∷ pos 3 ∷ pos 1 ∷ neg 1 ∷ pos 1 ∷ pos 2 ∷ pos 2 ∷ pos 0 ∷ pos 1 ∷ pos 1 ∷ neg 1 ∷ [])
+    ++ (pos 1 ∷ pos 1 ∷ pos 1 ∷ pos 1 ∷ pos 1 ∷ pos 1 ∷ pos 1 ∷ pos 1 ∷ pos 1 ∷ pos 1 ∷ pos 1 ∷ pos 1 ∷ pos 1 ∷ pos 0 ∷ pos 1 ∷ pos 1 ∷ [])
+
+abbrev A : Row
+A = row Outcome (reducing given) (outcome Reduced left (pos 1 ∷ pos 3 ∷ pos 3 ∷ []))
+
+-- E. n = 0, m = 0: reduced, no steps
+abbrev nothing : List ℤ
+nothing = pos 0 ∷ pos 0 ∷ []
+
+abbrev E : Row
+E = row Outcome (reducing nothing) (outcome Reduced nothing (pos 0 ∷ []))
+
+-- F. One node, supply 1, no arc: no flow, rule 2, place 1; supply 0: one step
+abbrev oneNode : ℤ → List ℤ
+oneNode r = pos 1 ∷ pos 0 ∷ r ∷ pos 1 ∷ []
+
+abbrev F : Row
+F =
+    row (Outcome × Outcome) (reducing (oneNode (pos 1)), reducing (oneNode (pos 0)))
+    (outcome (NoFlow 2 1) [] (pos 0 ∷ []), outcome Reduced nothing (pos 1 ∷ pos 2 ∷ pos 1 ∷ []))
+
+-- ---- G, H and I: a rule at one place of a small network
+
+abbrev whole : ℕ → Fraction
+whole k = over (pos k) 1
+
+abbrev arc : ℕ → ℕ → Fraction → Fraction → Fraction → Fraction → Fraction → Arc
+arc from to c l u a b = record { from = from; to = to; cost = c; lower = l; upper = u; a = a; b = b }
+
+abbrev withArcs : ℕ → List Arc → Net → Net
+withArcs j [] net = net
+withArcs j (t ∷ ts) net = withArcs (j + 1) ts (withArc net j t)
+
+-- n nodes of supply 0, and arcs, both numbered from 1
+abbrev network : ℕ → List Arc → Net
+network n ts = withArcs 1 ts (upto (λ i net. withNode net (i + 1) (whole 0)) n (emptyNet n (length ts)))
+
+-- G. Rule 4, l = 0, root arcs without upper bound, multipliers 1 throughout, c1 = 2, c2 = 3: cost 6 applies, 5 doesn't
+abbrev costing : ℕ → Net
+costing c =
+    network 2
+    (arc 1 2 (whole c) (whole 0) noUpper (whole 1) (whole 1)
+    ∷ arc 1 1 (whole 2) (whole 0) noUpper (whole 1) (whole 0)
+    ∷ arc 2 2 (whole 3) (whole 0) noUpper (whole 1) (whole 0)
+    ∷ [])
+
+-- the kind of answer at arc 1
+abbrev G : Row
+G = row (Kind × Kind) (ruleFour (costing 6) 1 .kind, ruleFour (costing 5) 1 .kind) (Changes, Passes)
+
+-- H. Rule 5, r = 0, ej = -1/2, oj = 1, cj = 3, bounds 0 and none; ek = 1, ok = -1, ck = 1, bounds 0 and 4: multipliers 1 and -1/2, cost 7/2, bounds 0 and 8
+abbrev twoArcsAtOne : Net
+twoArcsAtOne = network 3 (arc 1 2 (whole 3) (whole 0) noUpper (over (neg 1) 2) (whole 1) ∷ arc 1 3 (whole 1) (whole 0) (whole 4) (whole 1) (over (neg 1) 1) ∷ [])
+
+-- the kind of answer at node 1, and the kept arc
+abbrev keptBy : Tried → Kind × Arc
+keptBy t = (t .kind, t .change .one .arc)
+
+abbrev H : Row
+H = row (Kind × Arc) (keptBy (ruleFive twoArcsAtOne 1)) (Changes, arc 2 3 (over (pos 7) 2) (whole 0) (whole 8) (whole 1) (over (neg 1) 2))
+
+-- I. Rule 6, N: e -1/2, o 1, c 1; P: e 2, o -1, c 4: multipliers 2 and -1/2, cost 4
+abbrev arcN : ℕ → Arc
+arcN k = arc 1 k (whole 1) (whole 0) noUpper (over (neg 1) 2) (whole 1)
+
+abbrev arcP : ℕ → Arc
+arcP k = arc 1 k (whole 4) (whole 0) noUpper (whole 2) (over (neg 1) 1)
+
+-- from N's other end to P's
+abbrev crossed : ℕ → ℕ → Arc
+crossed i k = arc i k (whole 4) (whole 0) noUpper (whole 2) (over (neg 1) 2)
+
+-- the kind of answer at node 1, and the four new arcs
+abbrev crossedBy : Tried → Kind × List Arc
+crossedBy t = (t .kind, t .change .one .arc ∷ t .change .two .arc ∷ t .change .three .arc ∷ t .change .four .arc ∷ [])
+
+abbrev I : Row
+I =
+    row (Kind × List Arc) (crossedBy (ruleSix (network 5 (arcN 2 ∷ arcN 3 ∷ arcP 4 ∷ arcP 5 ∷ [])) 1))
+    (Changes, crossed 2 4 ∷ crossed 2 5 ∷ crossed 3 4 ∷ crossed 3 5 ∷ [])
+
+-- ---- J: an operation on its own
+
 -- J. 2147483647 + 1 doesn't fit; 1/2 + 1/2 is 1 over 1
 abbrev J : Row
 J = row (Worked × Worked) (sumOf (over (pos 2147483647) 1) (over (pos 1) 1), sumOf (over (pos 1) 2) (over (pos 1) 2)) (Misfit, Fits (over (pos 1) 1))
 
+-- ---- the table
+
 abbrev pub table : List Row
-table = J ∷ []
+table = A ∷ E ∷ F ∷ G ∷ H ∷ I ∷ J ∷ []
 
 pub marked : All table
-unfolding sumOf isOperand reduceOf fitted gcd gcdBy
-marked = (refl, tt)
+unfolding gcd gcdBy build upto count all any scan runs isOperand isProper fitted reduceOf sumOf productOf differenceOf quotientOf negationOf reciprocalOf isLess isSame isZero fromWords denWord pairOf _⊕_ _⊖_ _⊗_ _⊘_ ⊝_ withArc withSupply withNode without applied isTouching degreeOf touchingAfter isRoot farEnd sideOf figureAt sizesOf roleOf isPermitted isEnd hasEnds arcIn isWeighted figuresAsked askedOf netOf readOf rankOf packNode packArc packedOf arraysOf wordOf roleFigure figureOf hasRoom networkOf isFinite supplyLess droppedOf atFlow closedArc ruleOne bareNode ruleTwo singleArc ruleThree isOpenRoot isCostlier hasPartner hasPair isCandidate ruleFour sameSign farMultiplier farSupply keptCost boundFrom keptLower keptUpper keptOf twoArcs keepFirst keepOne ruleFive hasSignAt signedAfter isFree isApart crossedOf fourOf crossingAt withThree withTwo withOne crossingOf bothSigns signsOf ruleSix nodeRule ruleAt stepAt lastPlace ranked nextOf stepped ranOf stackOf isRoomy questions
+marked = (refl, (refl, (refl, (refl, (refl, (refl, (refl, tt)))))))

@@ -93,82 +93,21 @@ fn answered(kind: i32, x: Fraction, y: Fraction) -> Answer {
     }
 }
 
-fn wide(x: u8) -> u64
-    ensures { λ r. ⌜ r < 256 ⌝ }
-{
-    x as u64
-}
-
-fn byte(b: &[u8], at: usize) -> u64
-    ensures { λ r. ⌜ r < 256 ⌝ }
-{
-    if at < b.len() {
-        return wide(b[at]);
-    }
-    0
-}
-
-// The word whose bits are u.
-fn signed(u: u64) -> i32
-    requires { ⌜ u < 4294967296 ⌝ }
-{
-    if u < 2147483648 {
-        return u as i32;
-    }
-    -1 - ((4294967295 - u) as i32)
-}
-
-fn word(b: &[u8], at: usize) -> i32
-    requires { ⌜ at < 100000 ⌝ }
-{
-    let low = byte(b, at) + 256 * byte(b, at + 1);
-    let high = byte(b, at + 2) + 256 * byte(b, at + 3);
-    signed(low + 65536 * high)
-}
-
-// The bits of a word.
-fn bits(v: i32) -> u64 {
-    let size = integer::size(v as i64);
-    if v < 0 {
-        if size <= 4294967296 {
-            return 4294967296 - size;
-        }
-        return 0;
-    }
-    size
-}
-
-fn put_byte(out: &mut [u8], at: usize, b: u8) {
-    if at < out.len() {
-        out[at] = b;
-    }
-}
-
-fn put(out: &mut [u8], at: usize, v: i32)
-    requires { ⌜ at < 100000 ⌝ }
-{
-    let u = bits(v);
-    put_byte(out, at, (u % 256) as u8);
-    put_byte(out, at + 1, (u / 256 % 256) as u8);
-    put_byte(out, at + 2, (u / 65536 % 256) as u8);
-    put_byte(out, at + 3, (u / 16777216 % 256) as u8);
-}
-
 fn put_answer(out: &mut [u8], at: usize, a: Answer)
     requires { ⌜ at < 50000 ⌝ }
 {
-    put(out, at, a.status);
-    put(out, at + 4, a.num);
-    put(out, at + 8, a.den);
+    wire::put(out, at, a.status);
+    wire::put(out, at + 4, a.num);
+    wire::put(out, at + 8, a.den);
 }
 
 fn answer_one(input: &[u8], out: &mut [u8], i: usize)
     requires { ⌜ i < 1024 ⌝ }
 {
     let at = i * 20;
-    let kind = word(input, at);
-    let x = Fraction::from_words(word(input, at + 4), word(input, at + 8));
-    let y = Fraction::from_words(word(input, at + 12), word(input, at + 16));
+    let kind = wire::word(input, at);
+    let x = Fraction::from_words(wire::word(input, at + 4), wire::word(input, at + 8));
+    let y = Fraction::from_words(wire::word(input, at + 12), wire::word(input, at + 16));
     put_answer(out, i * 12, answered(kind, x, y));
 }
 

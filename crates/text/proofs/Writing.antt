@@ -9,7 +9,7 @@ use native.Mathlib.Omega.{arith}
 use lib.ListN.{length, take, drop, set, replicate, length-set, length-append, length-replicate, replicate-append-replicate, drop-of-length-le}
 use lib.Seq.{set-out, sets, sets-eq}
 use lib.Dec.{ltb}
-use borrow.Author.Tests.{lt-ltb, le-ltb, ltb-false}
+use borrow.Author.Tests.{lt-ltb, le-ltb, ltb-true, ltb-false}
 use Rattle.text.specs.Placed.{placed, onward, behind, Put}
 
 module _ {A : Type 0} where
@@ -112,6 +112,19 @@ put-append {d} {at} {xs} {r} {m} {ys} {s} {e} f g =
 
 pub put-long : {d : List ℕ} {at : ℕ} {xs : List ℕ} {r : ℕ} {e : List ℕ} → Put d at xs r e → length e ≡ length d
 put-long {d} {at} {xs} p = ap length (p .bytes-are) ∙ length-placed d at xs
+
+behind-le : (room at n : ℕ) → at ≤ room → behind room at n ≤ room
+unfolding behind
+behind-le room at zero h = h
+behind-le room at (suc n) h = behind-le room (onward room at) n (by (ltb at room) refl)
+  where
+    by : (b : Bool) → ltb at room ≡ b → cond b (at + 1) at ≤ room
+    by true e = omega (arith, ltb-true at room e)
+    by false e = h
+
+-- the place behind what is written lies within the slice
+pub put-le : {d : List ℕ} {at : ℕ} {xs : List ℕ} {r : ℕ} {e : List ℕ} → Put d at xs r e → at ≤ length d → r ≤ length e
+put-le {d} {at} {xs} p h = rw (p .result, put-long p) (behind-le (length d) at (length xs) h)
 
 pub put-none : (d : List ℕ) (at : ℕ) → Put d at [] at d
 unfolding placed behind

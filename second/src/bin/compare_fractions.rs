@@ -1,10 +1,10 @@
 //! Compares another program's fraction operations with this implementation's.
 //! Argument 1: the program; argument 2: how many operations (200000 if absent).
 
+use second::compare::{arguments, bytes_of, output_of, words_of};
 use second::draw::Draw;
 use second::fraction::{Bound, Fraction};
-use std::io::{Read, Write};
-use std::process::{exit, Command, Stdio};
+use std::process::exit;
 
 /// kind, n1, d1, n2, d2
 type Question = [i32; 5];
@@ -226,24 +226,6 @@ fn question(draw: &mut Draw) -> Question {
     [kind, x.0, x.1, y.0, y.1]
 }
 
-fn bytes_of<const N: usize>(records: &[[i32; N]]) -> Vec<u8> {
-    records.iter().flatten().flat_map(|word| word.to_le_bytes()).collect()
-}
-
-/// The other program's whole output for the whole input.
-fn output_of(program: &str, input: Vec<u8>) -> std::io::Result<Vec<u8>> {
-    let mut child = Command::new(program).stdin(Stdio::piped()).stdout(Stdio::piped()).spawn()?;
-    let mut stdin = child.stdin.take().expect("piped");
-    let writer = std::thread::spawn(move || {
-        let _ = stdin.write_all(&input);
-    });
-    let mut output = Vec::new();
-    child.stdout.take().expect("piped").read_to_end(&mut output)?;
-    let _ = writer.join();
-    child.wait()?;
-    Ok(output)
-}
-
 /// Prints how often each kind gave each status here.
 fn print_tally(questions: &[Question], expected: &[Answer]) {
     let names = ["sum", "difference", "product", "quotient", "less", "read", "lower", "upper", "negation", "other"];
@@ -255,10 +237,6 @@ fn print_tally(questions: &[Question], expected: &[Answer]) {
     for (name, [zero, one, two]) in names.iter().zip(tally) {
         println!("{name}: status 0 {zero}, status 1 {one}, status 2 {two}");
     }
-}
-
-fn words_of(bytes: &[u8]) -> Vec<i32> {
-    bytes.chunks_exact(4).map(|four| i32::from_le_bytes(four.try_into().expect("four"))).collect()
 }
 
 /// Prints the first differences and counts them all.
@@ -281,16 +259,11 @@ fn count_differences(questions: &[Question], expected: &[Answer], output: &[u8])
 }
 
 fn main() {
-    let arguments: Vec<String> = std::env::args().collect();
-    if arguments.len() < 2 {
-        eprintln!("compare_fractions PROGRAM [COUNT]");
-        exit(2);
-    }
-    let count = arguments.get(2).map_or(200000, |text| text.parse().expect("a count"));
+    let (program, count, _) = arguments("compare_fractions", 200000);
     let mut draw = Draw::new(0x5EC0_4D01);
     let questions: Vec<Question> = (0..count).map(|_| question(&mut draw)).collect();
     let expected: Vec<Answer> = questions.iter().map(|&asked| answer(asked)).collect();
-    let output = output_of(&arguments[1], bytes_of(&questions)).expect("the program runs");
+    let output = output_of(&program, bytes_of(&questions)).expect("the program runs");
     print_tally(&questions, &expected);
     let differ = count_differences(&questions, &expected, &output);
     println!("fractions: {count} operations, {differ} differ");

@@ -1,4 +1,4 @@
--- `operations::signed` meets its contract. Assumes nothing.
+-- `wire::signed` meets its contract. Assumes nothing.
 use Prim.Native.Nat.{_-_, _≤_, suc, zero, ℕ}
 use borrow.Author.Needs.{needs}
 use lib.IntN.{_-ℤ_, negsuc, pos}
@@ -6,8 +6,8 @@ use mir.Facts.{toZ-pos}
 use mir.Syntax.{w32}
 use mir.Val.{SFits}
 use native.Mathlib.Omega.{arith}
-use Rattle.operations.proofs.signed.Statement.{statement}
-use Rattle.operations.proofs.signed.Tie as tie
+use Rattle.wire.proofs.signed.Statement.{statement}
+use Rattle.wire.proofs.signed.Tie as tie
 
 below : (k : ℕ) → k ≤ 2147483647 → SFits w32 (negsuc 0 -ℤ pos k)
 below zero h = record { sfits = omega arith }

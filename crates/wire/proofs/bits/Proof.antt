@@ -1,8 +1,8 @@
--- `operations::bits` meets its contract. Assumes nothing.
+-- `wire::bits` meets its contract. Assumes nothing.
 use Rattle.integer.specs.Machine.{widened}
 use borrow.Author.Needs.{needs}
-use Rattle.operations.proofs.bits.Statement.{statement}
-use Rattle.operations.proofs.bits.Tie as tie
+use Rattle.wire.proofs.bits.Statement.{statement}
+use Rattle.wire.proofs.bits.Tie as tie
 
 cast-size : tie.Need-cast-size
 cast-size c = widened (c .args .v) (search needs)

@@ -1,0 +1,177 @@
+// Answers one rule at one place of a network, for comparison with another implementation. Words are 32 bits,
+// signed, the lowest byte first. A record of 163 words comes in: the rule, the place, the length of a network's
+// record, and 160 words that begin with that record. 60 words go out: 0 where the rule passes, 1 for no flow, 2 for
+// a step, 3 where a question about the record is answered by no or it is longer; then what a step changes. That is
+// four arcs (a number and seven figures, the ends as one word each), two supplies (a node and a figure) and the node
+// dropped. All of an arc or a supply is 0 where nothing is put, and the figures of an arc dropped are 0.
+ghost use Prim.Native.Nat.{_≤_, _<_};
+use fraction::Fraction;
+use network::Arc;
+use network::Change;
+use network::Kind;
+use network::Level;
+use network::Put;
+use network::Tried;
+use network::record::Asked;
+
+// A word as a number; 0 below zero.
+fn number(v: i32) -> usize {
+    if v < 0 {
+        return 0;
+    }
+    v as usize
+}
+
+// A number as a word; -1 where it is too large.
+fn word_of(v: usize) -> i32 {
+    if v <= 2147483647 {
+        return v as i32;
+    }
+    -1
+}
+
+fn put_number(out: &mut [u8], at: usize, v: usize)
+    requires { ⌜ at < 100000 ⌝ }
+{
+    wire::put(out, at, word_of(v));
+}
+
+fn put_figure(out: &mut [u8], at: usize, f: Fraction)
+    requires { ⌜ at < 90000 ⌝ }
+{
+    wire::put(out, at, f.num);
+    wire::put(out, at + 4, f.den_word());
+}
+
+fn put_ends(out: &mut [u8], at: usize, t: Arc)
+    requires { ⌜ at < 90000 ⌝ }
+{
+    put_number(out, at, t.from);
+    put_number(out, at + 4, t.to);
+}
+
+fn put_figures(out: &mut [u8], at: usize, t: Arc)
+    requires { ⌜ at < 80000 ⌝ }
+{
+    put_figure(out, at, t.cost);
+    put_figure(out, at + 8, t.lower);
+    put_figure(out, at + 16, t.upper);
+    put_figure(out, at + 24, t.a);
+    put_figure(out, at + 32, t.b);
+}
+
+fn put_arc(out: &mut [u8], at: usize, p: Put)
+    requires { ⌜ at < 70000 ⌝ }
+{
+    if p.number == 0 {
+        return;
+    }
+    let t = p.arc;
+    put_number(out, at, p.number);
+    put_ends(out, at + 4, t);
+    put_figures(out, at + 12, t);
+}
+
+fn put_supply(out: &mut [u8], at: usize, l: Level)
+    requires { ⌜ at < 70000 ⌝ }
+{
+    if l.node == 0 {
+        return;
+    }
+    put_number(out, at, l.node);
+    put_figure(out, at + 4, l.supply);
+}
+
+fn put_change(out: &mut [u8], at: usize, c: Change)
+    requires { ⌜ at < 60000 ⌝ }
+{
+    put_arc(out, at, c.one);
+    put_arc(out, at + 52, c.two);
+    put_arc(out, at + 104, c.three);
+    put_arc(out, at + 156, c.four);
+    put_supply(out, at + 208, c.left);
+    put_supply(out, at + 220, c.right);
+    put_number(out, at + 232, c.gone);
+}
+
+fn put_tried(out: &mut [u8], at: usize, t: Tried)
+    requires { ⌜ at < 50000 ⌝ }
+{
+    let kind = t.kind;
+    match kind {
+        Kind::Passes => wire::put(out, at, 0),
+        Kind::NoFlow => wire::put(out, at, 1),
+        Kind::Changes => {
+            wire::put(out, at, 2);
+            put_change(out, at + 4, t.change);
+        },
+    }
+}
+
+fn answer(xs: &[i32], k: usize, i: usize, out: &mut [u8], at: usize)
+    requires { ⌜ at < 50000 ⌝ }
+{
+    match network::record::ask(xs) {
+        Asked::No(_) => wire::put(out, at, 3),
+        Asked::Go(_, _) => put_tried(
+            out,
+            at,
+            reduction::search::try_rule(network::record::read(xs), k, i),
+        ),
+    }
+}
+
+fn read_words(input: &[u8], at: usize, words: &mut [i32])
+    requires { ⌜ at < 50000 ⌝ }
+{
+    for i in 0..160 {
+        loops::put(words, i, wire::word(input, at + 4 * i));
+    }
+}
+
+fn answer_one(input: &[u8], out: &mut [u8], n: usize)
+    requires { ⌜ n < 32 ⌝ }
+{
+    let at = n * 652;
+    let k = number(wire::word(input, at));
+    let i = number(wire::word(input, at + 4));
+    let length = number(wire::word(input, at + 8));
+    let mut words = [0i32; 160];
+    read_words(input, at + 12, &mut words);
+    if length <= 160 {
+        answer(&words[..length], k, i, out, n * 240);
+    } else {
+        wire::put(out, n * 240, 3);
+    }
+}
+
+fn answer_all(input: &[u8], out: &mut [u8], count: usize)
+    requires { ⌜ count ≤ 32 ⌝ }
+{
+    for n in 0..count {
+        answer_one(input, out, n);
+    }
+}
+
+// Reads some records, answers them, and says whether more may come.
+fn answer_some() -> bool {
+    let mut input = [0u8; 20864];
+    let n = io::read_full(libc::STDIN_FILENO, &mut input);
+    let mut out = [0u8; 7680];
+    let count = n / 652;
+    answer_all(&input, &mut out, count);
+    let end = count * 240;
+    io::write_all(libc::STDOUT_FILENO, &out[..end]);
+    n == 20864
+}
+
+fn main() {
+    let mut turns: u64 = 1000000;
+    while 0 < turns {
+        if answer_some() {
+            turns -= 1;
+        } else {
+            turns = 0;
+        }
+    }
+}

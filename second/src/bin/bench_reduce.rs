@@ -1,0 +1,299 @@
+//! Times another reducing program against this package's on the same networks.
+//! Argument 1: the other program; 2: this package's.
+
+use second::draw::Draw;
+use second::fraction::{Bound, Fraction};
+use second::network::{Arc, Network};
+use second::reduce::{reduce, End};
+use second::samples::{self, Shape};
+use second::text::line;
+use std::io::Write;
+use std::process::{Command, Stdio};
+use std::time::{Duration, Instant};
+
+const SIZES: [(usize, usize); 3] = [(8, 24), (16, 48), (32, 96)];
+/// Texts of each size and kind.
+const TEXTS: usize = 20;
+/// Runs of each program on each text.
+const ROUNDS: usize = 30;
+/// So many texts are run between two runs on the empty network.
+const BETWEEN_EMPTY: usize = 6;
+const EMPTY: &str = "0 0\n";
+/// Refused before any network is made: beyond this, time on the empty network is work and not start-up.
+const REFUSED: &str = "x\n";
+
+#[derive(Clone, Copy)]
+enum Kind {
+    /// Many steps.
+    Long,
+    /// No rule applies.
+    Stuck,
+    /// Every rule applies somewhere.
+    Mixed,
+}
+
+const KINDS: [Kind; 3] = [Kind::Long, Kind::Stuck, Kind::Mixed];
+
+impl Kind {
+    fn name(self) -> &'static str {
+        match self {
+            Kind::Long => "long",
+            Kind::Stuck => "stuck",
+            Kind::Mixed => "mixed",
+        }
+    }
+
+    fn network(self, draw: &mut Draw, n: usize, m: usize) -> Network {
+        let mut network = match self {
+            Kind::Long => long(draw, n, m),
+            Kind::Stuck => stuck(draw, n, m),
+            Kind::Mixed => mixed(draw, n, m),
+        };
+        stir(draw, &mut network);
+        network
+    }
+
+    /// The network has a reduction of the kind.
+    fn suits(self, network: &Network) -> bool {
+        let reduction = reduce(network);
+        let reduced = matches!(reduction.end, End::Reduced(_));
+        reduced
+            && match self {
+                Kind::Long => reduction.steps.len() + 2 >= network.arcs.len(),
+                Kind::Stuck => reduction.steps.is_empty(),
+                Kind::Mixed => (1..=6).all(|rule| reduction.rules().contains(&rule)),
+            }
+    }
+}
+
+fn whole(number: i64) -> Fraction {
+    Fraction::whole(number).expect("fits")
+}
+
+/// An arc with multipliers 1 or -1; a root arc where the ends are equal.
+fn arc(draw: &mut Draw, from: usize, to: usize, lower: Bound, upper: Bound) -> Arc {
+    let cost = whole(draw.within(0, 9));
+    let at_to = if from == to { Fraction::ZERO } else { whole(draw.sign()) };
+    Arc { from, to, cost, lower, upper, at_from: whole(draw.sign()), at_to }
+}
+
+fn network_of(n: usize, arcs: Vec<Arc>) -> Network {
+    Network { supplies: (1..=n).map(|node| (node, Fraction::ZERO)).collect(), arcs: (1..).zip(arcs).collect() }
+}
+
+/// Half the nodes in a ring (rule 5), the others in trees that hang from it (rule 3), and all further arcs closed
+/// (rule 1). Two nodes and two arcs of the ring are left.
+fn long(draw: &mut Draw, n: usize, m: usize) -> Network {
+    let ring = n / 2;
+    let (lower, upper) = (Bound::Finite(whole(-1_000_000)), Bound::Finite(whole(1_000_000)));
+    let mut arcs = vec![];
+    for node in 1..=n {
+        let other = if node <= ring { 1 + node % ring } else { node - draw.within(1, ring as i64) as usize };
+        arcs.push(arc(draw, node, other, lower, upper));
+    }
+    while arcs.len() < m {
+        let flow = Bound::Finite(small(draw));
+        let (from, to) = two_of(draw, n);
+        arcs.push(arc(draw, from, to, flow, flow));
+    }
+    network_of(n, arcs)
+}
+
+fn small(draw: &mut Draw) -> Fraction {
+    Fraction::fitted(draw.within(-9, 9) as i128, draw.within(1, 3) as i128).expect("fits")
+}
+
+fn two_of(draw: &mut Draw, n: usize) -> (usize, usize) {
+    let from = 1 + draw.below(n);
+    (from, 1 + (from + draw.below(n - 1)) % n)
+}
+
+/// Every node has degree 5 or more, and no arc is closed or costly. In half of these networks each node has a
+/// root arc without upper bound, at which rule 4 looks in vain.
+fn stuck(draw: &mut Draw, n: usize, m: usize) -> Network {
+    let rooted = draw.chance(50);
+    let zero = Bound::Finite(Fraction::ZERO);
+    let mut arcs = vec![];
+    for number in 0..m {
+        let (node, round) = (1 + number % n, number / n);
+        if rooted && round == 2 {
+            let mut root = arc(draw, node, node, zero, Bound::AbsentUpper);
+            root.cost = whole(draw.within(5, 30));
+            arcs.push(root);
+        } else {
+            let upper = if draw.chance(50) { Bound::Finite(whole(draw.within(1, 9))) } else { Bound::AbsentUpper };
+            arcs.push(arc(draw, node, 1 + (number + round + 1) % n, zero, upper));
+        }
+    }
+    network_of(n, arcs)
+}
+
+/// Small sample networks side by side, then further arcs at the nodes that have the most.
+fn mixed(draw: &mut Draw, n: usize, m: usize) -> Network {
+    let mut all = Network::default();
+    let mut misses = 0;
+    while misses < 20 {
+        let part = samples::network(draw, Shape::Small);
+        let (nodes, arcs) = (all.supplies.len(), all.arcs.len());
+        if nodes + part.supplies.len() > n || arcs + part.arcs.len() > m {
+            misses += 1;
+            continue;
+        }
+        all.supplies.extend(part.supplies.iter().map(|(node, supply)| (nodes + node, *supply)));
+        let moved = |arc: &Arc| Arc { from: nodes + arc.from, to: nodes + arc.to, ..*arc };
+        all.arcs.extend(part.arcs.iter().map(|(number, arc)| (arcs + number, moved(arc))));
+    }
+    for node in all.supplies.len() + 1..=n {
+        all.supplies.insert(node, Fraction::ZERO);
+    }
+    let mut nodes: Vec<usize> = (1..=n).collect();
+    nodes.sort_by_key(|node| std::cmp::Reverse(all.arcs_at(*node).len()));
+    for number in all.arcs.len() + 1..=m {
+        let (from, to) = two_of(draw, 3);
+        let upper = Bound::Finite(whole(draw.within(1, 9)));
+        let further = arc(draw, nodes[from - 1], nodes[to - 1], Bound::Finite(Fraction::ZERO), upper);
+        all.arcs.insert(number, further);
+    }
+    all
+}
+
+/// Nodes and arcs under random numbers.
+fn stir(draw: &mut Draw, network: &mut Network) {
+    let mut numbers: Vec<usize> = network.supplies.keys().copied().collect();
+    draw.shuffle(&mut numbers);
+    let mut arcs: Vec<Arc> = network.arcs.values().copied().collect();
+    draw.shuffle(&mut arcs);
+    for arc in &mut arcs {
+        (arc.from, arc.to) = (numbers[arc.from - 1], numbers[arc.to - 1]);
+    }
+    network.arcs = (1..).zip(arcs).collect();
+    network.supplies = network.supplies.iter().map(|(node, supply)| (numbers[node - 1], *supply)).collect();
+}
+
+fn text_of(network: &Network) -> String {
+    let record = network.record();
+    let (n, m) = record.sizes;
+    line(&[n as i32, m as i32]) + &line(&record.numerators()) + &line(&record.denominators())
+}
+
+/// The step count in a printed answer is its third line from the end; none in a refusal.
+fn steps_of(answer: &str) -> usize {
+    if answer.starts_with("refused") {
+        return 0;
+    }
+    let count = answer.lines().rev().nth(2).and_then(|count| count.parse().ok());
+    count.unwrap_or_else(|| panic!("no step count: {answer}"))
+}
+
+/// A text, and the times of both programs on it.
+struct Case {
+    text: String,
+    steps: usize,
+    times: [Vec<Duration>; 2],
+}
+
+impl Case {
+    fn new(text: String, programs: &[String; 2]) -> Case {
+        let answers = [0, 1].map(|which| run(&programs[which], &text).1);
+        assert_eq!(answers[0], answers[1], "the programs' answers differ on\n{text}");
+        Case { steps: steps_of(&answers[0]), text, times: [vec![], vec![]] }
+    }
+
+    /// One run of each program.
+    fn run(&mut self, programs: &[String; 2], round: usize) {
+        for turn in 0..2 {
+            let which = (round + turn) % 2;
+            self.times[which].push(run(&programs[which], &self.text).0);
+        }
+    }
+
+    /// The median time in microseconds.
+    fn median(&self, which: usize) -> f64 {
+        let mut times = self.times[which].clone();
+        times.sort();
+        micros(times[times.len() / 2])
+    }
+}
+
+/// Runs a program on a text: the wall time from its start to its end, and its answer.
+fn run(program: &str, text: &str) -> (Duration, String) {
+    let start = Instant::now();
+    let mut child = Command::new(program)
+        .stdin(Stdio::piped())
+        .stdout(Stdio::piped())
+        .spawn()
+        .unwrap_or_else(|error| panic!("{program}: {error}"));
+    child.stdin.take().expect("piped").write_all(text.as_bytes()).expect("the text is read");
+    let output = child.wait_with_output().expect("the program ends");
+    let time = start.elapsed();
+    assert!(output.status.success(), "{program}: {}", output.status);
+    (time, String::from_utf8(output.stdout).expect("an answer in ASCII"))
+}
+
+fn micros(time: Duration) -> f64 {
+    time.as_secs_f64() * 1e6
+}
+
+fn mean(figures: impl Iterator<Item = f64>) -> f64 {
+    let figures: Vec<f64> = figures.collect();
+    figures.iter().sum::<f64>() / figures.len() as f64
+}
+
+fn main() {
+    let arguments: Vec<String> = std::env::args().skip(1).collect();
+    let Ok(programs) = <[String; 2]>::try_from(arguments) else {
+        eprintln!("bench_reduce VERIFIED RUST");
+        std::process::exit(2);
+    };
+
+    let mut draw = Draw::new(0x5EC0_4D05);
+    let mut cases = vec![];
+    for (n, m) in SIZES {
+        for kind in KINDS {
+            for _ in 0..TEXTS {
+                let network = std::iter::repeat_with(|| kind.network(&mut draw, n, m))
+                    .find(|network| kind.suits(network))
+                    .expect("some network suits");
+                cases.push(Case::new(text_of(&network), &programs));
+            }
+        }
+    }
+    let [mut empty, mut refused] = [EMPTY, REFUSED].map(|text| Case::new(text.to_string(), &programs));
+    for round in 0..ROUNDS {
+        for (number, case) in cases.iter_mut().enumerate() {
+            if number % BETWEEN_EMPTY == 0 {
+                empty.run(&programs, round + number / BETWEEN_EMPTY);
+                refused.run(&programs, round + number / BETWEEN_EMPTY);
+            }
+            case.run(&programs, round);
+        }
+    }
+    print_table(&cases, &empty, &refused);
+}
+
+/// Mean times over a row's texts, of each text's median less that of the empty network.
+fn print_table(cases: &[Case], empty: &Case, refused: &Case) {
+    let start_up = [0, 1].map(|which| empty.median(which));
+    println!("{TEXTS} texts in a row, {ROUNDS} runs of each program on each; microseconds, without the start-up");
+    println!("start-up (empty network, subtracted): verified {:.0}, Rust {:.0}", start_up[0], start_up[1]);
+    println!("for comparison, a refused text: verified {:.0}, Rust {:.0}", refused.median(0), refused.median(1));
+    println!("{:>5} {:>5} {:>6} {:>9} {:>9} {:>7}", "n/m", "kind", "steps", "verified", "Rust", "ratio");
+    let mut rows = vec![];
+    for (row, row_cases) in cases.chunks(TEXTS).enumerate() {
+        let (n, m) = SIZES[row / KINDS.len()];
+        let steps = mean(row_cases.iter().map(|case| case.steps as f64));
+        let [verified, rust] =
+            [0, 1].map(|which| mean(row_cases.iter().map(|case| case.median(which))) - start_up[which]);
+        let name = KINDS[row % KINDS.len()].name();
+        println!("{n:>2}/{m:<2} {name:>5} {steps:>6.1} {verified:>9.1} {rust:>9.1} {:>7.2}", verified / rust);
+        rows.push([verified, rust]);
+    }
+    println!("growth from {} to {} nodes:", SIZES[0].0, SIZES[SIZES.len() - 1].0);
+    let largest = &rows[rows.len() - KINDS.len()..];
+    for (kind, (least, most)) in KINDS.iter().zip(rows.iter().zip(largest)) {
+        println!("{:>11}  verified {:>6.1}, Rust {:>6.1}", kind.name(), most[0] / least[0], most[1] / least[1]);
+    }
+    let longest = cases.iter().flat_map(|case| &case.times[0]).max().expect("some run");
+    let slowest = cases.iter().map(|case| case.median(0)).fold(0.0, f64::max);
+    println!("verified, start-up included: longest single run {:.0}, longest median {slowest:.0}", micros(*longest));
+}
