@@ -1,7 +1,7 @@
 // Rule 4: costly arc.
 ghost use mathlib.Core.Path.{_≡_};
 ghost use mathlib.Core.Bool.{true};
-ghost use Rattle.reduction.specs.Rules.{isOpenRoot, isCostlier, hasPartner, hasPartnerBy, hasPair, isCandidate, ruleFour};
+ghost use Rattle.reduction.specs.Rules.{isOpenRoot, isCostlier, hasPartnerBy, hasPair, isCandidate, ruleFour};
 use crate::figures::at_flow;
 use crate::figures::is_finite;
 use crate::figures::is_positive;
@@ -59,23 +59,16 @@ fn any_partner(net: Net, t: Arc, x: Arc) -> bool
     false
 }
 
-// Whether the arc of number k is a root arc at the from node with a partner.
-fn has_partner(net: Net, t: Arc, k: usize) -> bool
-    ensures { λ r. ⌜ r ≡ hasPartner net t k ⌝ }
-{
-    let x = network::arc_at(net, k);
-    if is_open_root(x, t.from) {
-        return any_partner(net, t, x);
-    }
-    false
-}
-
+// Whether some pair of root arcs, at the from node and at the to node, makes t costly.
 fn has_pair(net: Net, t: Arc) -> bool
     ensures { λ r. ⌜ r ≡ hasPair net t ⌝ }
 {
     for k in 0..97 {
-        if has_partner(net, t, k) {
-            return true;
+        let x = net.arcs[k];
+        if is_open_root(x, t.from) {
+            if any_partner(net, t, x) {
+                return true;
+            }
         }
     }
     false
