@@ -7,13 +7,11 @@ use native.Mathlib.Omega.{arith}
 use lib.IntN.{ℤ}
 use lib.ListN.{length, take, length-append}
 use lib.Seq.{take-at}
+use Rattle.network.proofs.Laws.{never}
 use Rattle.text.specs.declared.Reading.{Reading}
 use Rattle.text.specs.declared.Reading.the-variants.{Words, Refused}
 use Rattle.text.specs.Text.{wordsOf, answer, padded, Read}
 use Rattle.text.proofs.Count.{room-enough}
-
-never {ℓ} : {X : Type ℓ} → _≡_ {A = ℕ} 0 1 → X
-never e = absurd (omega arith)
 
 module _ (text : List ℕ) (room : ℕ) (ws : List ℤ) (h : 12288 ≤ room) where
   pub record Found (n : ℕ) : Type 0 where

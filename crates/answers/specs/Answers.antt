@@ -1,9 +1,9 @@
 -- The lines that the programs print (01, "Instances", A), as bytes. Assumes nothing.
 use mathlib.Core.List.{List, [], _∷_, _++_}
 use mathlib.Core.Option.{Option, some, none}
-use Prim.Native.Nat.{ℕ, _+_}
+use Prim.Native.Nat.{ℕ, _+_, _*_, _≤_}
 use lib.IntN.{ℤ}
-use lib.ListN.{take, drop, replicate}
+use lib.ListN.{length, take, drop, replicate}
 use Rattle.network.specs.Record.{word, endOf, figures}
 use Rattle.network.specs.Output.{wordOf}
 use Rattle.reduction.specs.declared.Answer.{Answer}
@@ -11,6 +11,7 @@ use Rattle.reduction.specs.declared.Answer.the-variants.{Reduced, NoFlow, Refus
 use Rattle.reduction.specs.Reduce.{questions, answerOf, outputOf, stackWords}
 use Rattle.text.specs.Text.{wordsOf}
 use Rattle.text.specs.Line.{lineOf}
+use Rattle.text.specs.Placed.{Put}
 
 -- the kinds of answer: "reduced" and its line end, "no flow ", "refused "
 abbrev pub reducedBytes : List ℕ
@@ -65,3 +66,17 @@ reduceText text = onWords (wordsOf text)
 
 abbrev pub noBytes : ℕ → List ℕ
 noBytes n = replicate n 0
+
+-- ---- what a function that prints says: the bytes written from a place on, and how many they are at most
+
+pub record Printed (d : List ℕ) (at : ℕ) (bytes : List ℕ) (most r : ℕ) (e : List ℕ) : Type 0 where
+  pub put : Put d at bytes r e
+  pub few : length bytes ≤ most
+
+-- of the lines of records with so many words
+abbrev pub mostOf : ℕ → ℕ
+mostOf n = 3 * (n * 12 + 1)
+
+-- of an answer, and so of every answer of the reducing program
+abbrev pub mostReduced : ℕ → ℕ → ℕ
+mostReduced net stack = 33 + (mostOf net + mostOf stack)

@@ -1,12 +1,11 @@
 // From the bytes of a text to the bytes of the answer that a program prints.
 ghost use mathlib.Core.Path.{_≡_};
 ghost use mathlib.Core.List.{[], _∷_, _++_};
-ghost use Prim.Native.Nat.{_≤_};
+ghost use Prim.Native.Nat.{_+_, _*_, _≤_};
 ghost use lib.ListN.{length};
 ghost use Rattle.network.specs.Output.{wordOf};
 ghost use Rattle.text.specs.Line.{lineOf};
-ghost use Rattle.text.specs.Placed.{Put};
-ghost use Rattle.answers.specs.Answers.{noFlowBytes, refusedBytes, sizeAt, partLine, recordLines, networkLines, stackLines, reducedLines, reducedText, reduceText, noBytes};
+ghost use Rattle.answers.specs.Answers.{noFlowBytes, refusedBytes, sizeAt, partLine, recordLines, networkLines, stackLines, reducedLines, reducedText, reduceText, noBytes, Printed, mostOf, mostReduced};
 use reduction::Answer;
 use text::Reading;
 
@@ -26,7 +25,7 @@ fn size_at(words: &[i32], k: usize) -> usize
 
 // The line of count words from a place on.
 fn put_part(out: &mut [u8], at: usize, words: &[i32], from: usize, count: usize) -> usize
-    ensures { λ r. ⌜ Put (now (out .entry)) at (partLine (now (words .entry)) from count) r (now (out .exit)) ⌝ }
+    ensures { λ r. ⌜ Printed (now (out .entry)) at (partLine (now (words .entry)) from count) (length (now (words .entry)) * 12 + 1) r (now (out .exit)) ⌝ }
 {
     if from <= words.len() {
         let rest = &words[from..];
@@ -41,7 +40,7 @@ fn put_part(out: &mut [u8], at: usize, words: &[i32], from: usize, count: usize)
 // The lines of a record: its sizes, and two parallel arrays of k words.
 fn put_record(out: &mut [u8], at: usize, words: &[i32], sizes: usize, k: usize) -> usize
     requires { ⌜ (sizes ≤ 2) × (k ≤ 17179869184) ⌝ }
-    ensures { λ r. ⌜ Put (now (out .entry)) at (recordLines (now (words .entry)) sizes k) r (now (out .exit)) ⌝ }
+    ensures { λ r. ⌜ Printed (now (out .entry)) at (recordLines (now (words .entry)) sizes k) (mostOf (length (now (words .entry)))) r (now (out .exit)) ⌝ }
 {
     let a = put_part(out, at, words, 0, sizes);
     let b = put_part(out, a, words, sizes, k);
@@ -49,7 +48,7 @@ fn put_record(out: &mut [u8], at: usize, words: &[i32], sizes: usize, k: usize) 
 }
 
 fn put_network(out: &mut [u8], at: usize, words: &[i32]) -> usize
-    ensures { λ r. ⌜ Put (now (out .entry)) at (networkLines (now (words .entry))) r (now (out .exit)) ⌝ }
+    ensures { λ r. ⌜ Printed (now (out .entry)) at (networkLines (now (words .entry))) (mostOf (length (now (words .entry)))) r (now (out .exit)) ⌝ }
 {
     let n = size_at(words, 0);
     let m = size_at(words, 1);
@@ -57,14 +56,14 @@ fn put_network(out: &mut [u8], at: usize, words: &[i32]) -> usize
 }
 
 fn put_stack(out: &mut [u8], at: usize, words: &[i32]) -> usize
-    ensures { λ r. ⌜ Put (now (out .entry)) at (stackLines (now (words .entry))) r (now (out .exit)) ⌝ }
+    ensures { λ r. ⌜ Printed (now (out .entry)) at (stackLines (now (words .entry))) (mostOf (length (now (words .entry)))) r (now (out .exit)) ⌝ }
 {
     let s = size_at(words, 0);
     put_record(out, at, words, 1, s)
 }
 
 fn put_refusal(out: &mut [u8], at: usize, q: usize) -> usize
-    ensures { λ r. ⌜ Put (now (out .entry)) at (refusedBytes ++ lineOf (wordOf q ∷ [])) r (now (out .exit)) ⌝ }
+    ensures { λ r. ⌜ Printed (now (out .entry)) at (refusedBytes ++ lineOf (wordOf q ∷ [])) 33 r (now (out .exit)) ⌝ }
 {
     let a = text::put_bytes(out, at, b"refused ");
     let words = [network::output::word_of(q)];
@@ -72,7 +71,7 @@ fn put_refusal(out: &mut [u8], at: usize, q: usize) -> usize
 }
 
 fn put_no_flow(out: &mut [u8], at: usize, rule: usize, place: usize) -> usize
-    ensures { λ r. ⌜ Put (now (out .entry)) at (noFlowBytes ++ lineOf (wordOf rule ∷ wordOf place ∷ [])) r (now (out .exit)) ⌝ }
+    ensures { λ r. ⌜ Printed (now (out .entry)) at (noFlowBytes ++ lineOf (wordOf rule ∷ wordOf place ∷ [])) 33 r (now (out .exit)) ⌝ }
 {
     let a = text::put_bytes(out, at, b"no flow ");
     let words = [
@@ -83,7 +82,7 @@ fn put_no_flow(out: &mut [u8], at: usize, rule: usize, place: usize) -> usize
 }
 
 fn put_reduced(out: &mut [u8], at: usize, net: &[i32], stack: &[i32]) -> usize
-    ensures { λ r. ⌜ Put (now (out .entry)) at (reducedLines Answer.Reduced (now (net .entry)) (now (stack .entry))) r (now (out .exit)) ⌝ }
+    ensures { λ r. ⌜ Printed (now (out .entry)) at (reducedLines Answer.Reduced (now (net .entry)) (now (stack .entry))) (mostReduced (length (now (net .entry))) (length (now (stack .entry)))) r (now (out .exit)) ⌝ }
 {
     let a = text::put_bytes(out, at, b"reduced\n");
     let b = put_network(out, a, net);
@@ -92,7 +91,7 @@ fn put_reduced(out: &mut [u8], at: usize, net: &[i32], stack: &[i32]) -> usize
 
 // An answer, with the words of the reduced network and of the stack.
 fn put_answer(out: &mut [u8], at: usize, answer: Answer, net: &[i32], stack: &[i32]) -> usize
-    ensures { λ r. ⌜ Put (now (out .entry)) at (reducedLines answer (now (net .entry)) (now (stack .entry))) r (now (out .exit)) ⌝ }
+    ensures { λ r. ⌜ Printed (now (out .entry)) at (reducedLines answer (now (net .entry)) (now (stack .entry))) (mostReduced (length (now (net .entry))) (length (now (stack .entry)))) r (now (out .exit)) ⌝ }
 {
     match answer {
         Answer::Reduced => put_reduced(out, at, net, stack),
@@ -106,7 +105,7 @@ fn put_answer(out: &mut [u8], at: usize, answer: Answer, net: &[i32], stack: &[i
 
 // The words of a text, reduced; the answer's bytes.
 fn reduce_words(words: &[i32], out: &mut [u8]) -> usize
-    ensures { λ r. ⌜ Put (now (out .entry)) 0 (reducedText (now (words .entry))) r (now (out .exit)) ⌝ }
+    ensures { λ r. ⌜ Printed (now (out .entry)) 0 (reducedText (now (words .entry))) (mostReduced 1410 257) r (now (out .exit)) ⌝ }
 {
     let mut net = [0i32; 1410];
     let mut stack = [0i32; 257];
@@ -116,8 +115,9 @@ fn reduce_words(words: &[i32], out: &mut [u8]) -> usize
 }
 
 // From the bytes of a text to the bytes of the reducing program's answer, and how many they are; what stands behind them is zero.
+// They are never more than `mostReduced 1410 257`, which is below 65536.
 pub fn reduce_text(text: &[u8], out: &mut [u8]) -> usize
-    ensures { λ r. ⌜ Put (noBytes (length (now (out .entry)))) 0 (reduceText (now (text .entry))) r (now (out .exit)) ⌝ }
+    ensures { λ r. ⌜ Printed (noBytes (length (now (out .entry)))) 0 (reduceText (now (text .entry))) (mostReduced 1410 257) r (now (out .exit)) ⌝ }
 {
     text::clear(out);
     let mut words = [0i32; 12288];

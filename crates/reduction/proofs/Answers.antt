@@ -32,7 +32,8 @@ use Rattle.network.proofs.Kept.{here-number, used-number, touching-used}
 use Rattle.reduction.specs.declared.figures.Made.{Made}
 use Rattle.reduction.specs.declared.crossing.Four.{Four}
 use Rattle.reduction.specs.Rules.{droppedOf, atFlow, closedBy, closedArc, ruleOne, bareBy, bareNode, ruleTwo, singleIn, singleBy, singleArc, singleWhere, ruleThree, isFinite, isCandidate, costlyWith, costlyBy, hasPair, ruleFour, isFit, farSupply, keptOf, mergedBy, twoArcs, apartBy, keepFirst, keepBy, keepOne, twoWhere, ruleFive, putOf, signedAfter, allFree, allApart, fourOf, fourFit, crossingWith, crossingAt, withThree, withTwo, withOne, crossingBy, crossingOf, bothBy, bothSigns, signsOf, crossingWhere, ruleSix, noRule, whereHere, nodeRule, ruleAt}
-use Rattle.reduction.proofs.Touch.{never, unlike, First, touches, touching-first}
+use Rattle.network.proofs.Laws.{never}
+use Rattle.reduction.proofs.Touch.{unlike, First, touches, touching-first}
 
 -- ---- the nodes and arcs that are left
 

@@ -22,7 +22,7 @@ use Rattle.network.proofs.Kept.{here-number}
 use Rattle.reduction.specs.Rules.{isFit, figureOf, isFinite, farMultiplier, keptCost, boundFrom, tighterLower, tighterUpper, keptLower, keptUpper, lowerSource, upperSource, keptOf, crossedSides}
 use Rattle.reduction.proofs.Worked.{zero-proper, Unvanishing, unvanishing, times-unvanishing, over-unvanishing, negated-unvanishing, plus-fits, minus-fits, over-fits}
 use Rattle.reduction.proofs.Sides.{Near, Far}
-use Rattle.reduction.proofs.Touch.{never}
+use Rattle.network.proofs.Laws.{never}
 
 -- an arc that may take the place of one that touched node i
 pub record Replaces (net : Net) (i : ℕ) (t : Arc) : Type 0 where

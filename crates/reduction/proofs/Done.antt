@@ -27,7 +27,7 @@ use Rattle.reduction.specs.Rules.{ruleAt}
 use Rattle.reduction.specs.declared.search.Step.{Step}
 use Rattle.reduction.specs.declared.search.Ran.{Ran}
 use Rattle.reduction.specs.Search.{nextOf, started, stepped, moved, moveOf, ranOf}
-use Rattle.reduction.proofs.Touch.{never}
+use Rattle.network.proofs.Laws.{never}
 use Rattle.reduction.proofs.Kept.{next-kept}
 use Rattle.reduction.proofs.Order.{NoneApplies, next-none, next-first}
 use Rattle.reduction.proofs.Answers.{hasArc, leftOf, Fewer, Shown, no-flow-shown, change-fewer}

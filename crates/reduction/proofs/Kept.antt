@@ -35,7 +35,8 @@ use Rattle.reduction.proofs.Worked.{minus-fits}
 use Rattle.reduction.proofs.Frame.{Puts, Levels, framed-kept}
 use Rattle.reduction.proofs.Sides.{Near, Far, near, far, no-far}
 use Rattle.reduction.proofs.Arcs.{Replaces, MayFar, four-and, fit-is, kept-replaces, crossed-replaces}
-use Rattle.reduction.proofs.Touch.{never, Two, Four as All, At, touches, Numbered, legal-numbered, none-touching, one-touching, two-touching, four-touching, two-signs, signed-first}
+use Rattle.network.proofs.Laws.{never}
+use Rattle.reduction.proofs.Touch.{Two, Four as All, At, touches, Numbered, legal-numbered, none-touching, one-touching, two-touching, four-touching, two-signs, signed-first}
 
 -- the change of an answer keeps the network legal
 abbrev pub Keeps : Net → Tried → Type 0

@@ -11,7 +11,7 @@ use Rattle.network.specs.declared.Side.{Side}
 use Rattle.network.specs.Network.{isHere, isTouching, isRoot, farEnd, sideOf}
 use Rattle.network.specs.Legal.{LegalArc}
 use Rattle.reduction.proofs.Worked.{Nonzero}
-use Rattle.reduction.proofs.Touch.{never}
+use Rattle.network.proofs.Laws.{never}
 
 -- an arc from its from node, and from its to node
 abbrev pub fromSide : Arc → Side

@@ -15,15 +15,13 @@ use Rattle.fraction.specs.declared.Fraction.{Fraction}
 use Rattle.fraction.specs.Exact.{isLess}
 use Rattle.fraction.specs.Laws.{and-both}
 use Rattle.loops.specs.Loops.{tally, count, scan}
+use Rattle.network.proofs.Laws.{never}
 use Rattle.loops.proofs.Laws.{count-same}
 use Rattle.network.specs.declared.Net.{Net}
 use Rattle.network.specs.Network.{noArc, arcAt, isTouching, degreeOf, orNext, touchingAfter, sideOf}
 use Rattle.network.specs.Legal.{Legal}
 use Rattle.network.proofs.Kept.{used-number, touching-used}
 use Rattle.reduction.specs.Rules.{signBy, hasSignAt, signedAfter}
-
-pub never {ℓ} : {X : Type ℓ} → _≡_ {A = ℕ} 0 1 → X
-never e = absurd (omega arith)
 
 pub unlike {ℓ} : {X : Type ℓ} → false ≡ true → X
 unlike e = never cc

@@ -19,7 +19,7 @@ use Rattle.fraction.specs.Exact.{Operand, Proper, zeroFraction, isOperand, isPr
 use Rattle.fraction.specs.Laws.{operand-is, operands-are, proper-is}
 use Rattle.fraction.specs.Value.{value, Works, minus, minus-operand, minus-value, negation-is, sum-works, product-works, quotient-works, quotient-by-zero, zero-value, value-unique, same-is, is-same}
 use Rattle.fraction.specs.Formula.{worked, pairOf, _⊕_, _⊖_, _⊗_, _⊘_, ⊝_}
-use Rattle.reduction.proofs.Touch.{never}
+use Rattle.network.proofs.Laws.{never}
 
 -- ---- zero
 

@@ -2,7 +2,6 @@
 use mathlib.Core.Bool.{Bool, true, false, cond, _&&_, not}
 use Prim.Native.Nat.{ℕ, _+_, _-_}
 use lib.Dec.{eqb}
-use lib.IntN.{pos}
 use Rattle.loops.specs.Loops.{any, scan}
 use Rattle.fraction.specs.declared.Fraction.{Fraction}
 use Rattle.fraction.specs.declared.Worked.{Worked}
@@ -56,7 +55,7 @@ smaller x y = cond (isLess y x) y x
 unfoldable pub supplyLess : ℕ → Fraction → Fraction → Fraction → Worked
 supplyLess end s e v = cond (eqb end 0) (Fits noFigure) (Fits s ⊖ Fits e ⊗ Fits v)
 
--- arc j dropped, with the supplies x and y for two nodes, and a node dropped; none of these is number 0
+-- arc j dropped, with the supplies x and y for two nodes, and a node dropped; number 0 means none
 unfoldable pub droppedOf : Worked → Worked → ℕ → ℕ → ℕ → ℕ → Tried
 droppedOf (Fits x) (Fits y) j left right gone =
     changed (changeOne (record { number = j; arc = noArc }) (record { node = left; supply = x }) (record { node = right; supply = y }) gone)

@@ -1,7 +1,7 @@
 -- The fixed order of search, and steps until none applies (01, "The six reductions"). Assumes nothing.
-use mathlib.Core.Bool.{Bool, true, false, cond}
+use mathlib.Core.Bool.{cond}
 use mathlib.Core.Option.{Option, some, none}
-use Prim.Native.Nat.{ℕ, zero, suc, _+_}
+use Prim.Native.Nat.{ℕ, _+_}
 use lib.Dec.{eqb, ltb}
 use lib.ListN.{set, replicate}
 use Rattle.loops.specs.Loops.{scan, runs}
@@ -12,9 +12,9 @@ use Rattle.network.specs.declared.Tried.{Tried}
 use Rattle.network.specs.Network.{noChange, applied}
 use Rattle.reduction.specs.Rules.{ruleAt}
 use Rattle.reduction.specs.declared.search.Step.{Step}
-use Rattle.reduction.specs.declared.search.Taken.{Taken}
 use Rattle.reduction.specs.declared.search.Ran.{Ran}
 
+-- no rule applies
 abbrev pub noStep : Step
 noStep = record { kind = Passes; rule = 0; place = 0; change = noChange }
 

@@ -1,17 +1,17 @@
--- Laws of the signs of words.
-use mathlib.Core.Path.{_≡_, refl}
+-- Laws of the signs of words. Assumes nothing.
+use mathlib.Core.Path.{_≡_}
 use mathlib.Core.Bool.{true, false}
-use Prim.Native.Nat.{ℕ, zero, suc, _≤_, _<_, _^_}
+use Prim.Native.Nat.{ℕ, zero, suc, _≤_}
 use native.Mathlib.Nat.{not-suc-le-zero, lt-trans}
 use native.Mathlib.Numerals.{add-one}
 use native.Mathlib.Omega.{arith}
 use lib.Dec.{T, lit<}
 use lib.IntN.{ℤ, pos, negsuc, negℤ, natAbs, _-ℤ_, +ℤ-idl}
-use lib.Signed.{ltZ, nonNeg, mag}
+use lib.Signed.{ltZ, nonNeg}
 use borrow.Author.Tests.{ltb-true}
 use mir.Syntax.{w32, w64}
-use mir.Val.{Fits, SFits, toZ, ofZ}
-use mir.Facts.{toZ-ofZ, toZ-pos}
+use mir.Val.{Fits, SFits, toZ}
+use mir.Facts.{toZ-pos}
 
 pub minus-is : (z : ℤ) → pos 0 -ℤ z ≡ negℤ z
 minus-is z = +ℤ-idl (negℤ z)
@@ -24,11 +24,6 @@ pub wide-negated : (z : ℤ) → SFits w32 z → SFits w64 (negℤ z)
 wide-negated (pos zero) h = record { sfits = omega arith }
 wide-negated (pos (suc n)) h = record { sfits = omega (arith, h .sfits, add-one n) }
 wide-negated (negsuc n) h = record { sfits = omega (arith, h .sfits, add-one n) }
-
-pub natAbs-negated : (z : ℤ) → natAbs (negℤ z) ≡ natAbs z
-natAbs-negated (pos zero) = refl
-natAbs-negated (pos (suc n)) = refl
-natAbs-negated (negsuc n) = refl
 
 pub natAbs-fits : (z : ℤ) → SFits w32 z → Fits w64 (natAbs z)
 natAbs-fits (pos n) h = record { fits = omega (arith, h .sfits) }
@@ -49,7 +44,3 @@ negated-fits (suc n) h = record { sfits = omega (arith, h, add-one n) }
 
 pub negated : (v : ℕ) → v ≤ 2147483648 → pos 0 -ℤ toZ w64 v ≡ negℤ (pos v)
 negated v h = rw (toZ-pos w64 {n = v} (omega arith)) (minus-is (pos v))
-
--- a word that was read, as a call is handed it
-pub read-back : (z : ℤ) → mag z < 2 ^ 31 → toZ w32 (ofZ w32 z) ≡ z
-read-back z h = toZ-ofZ (record { sfits = h })

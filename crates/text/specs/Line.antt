@@ -1,9 +1,11 @@
--- The bytes of numbers and of lines.
+-- The bytes of numbers and of lines. Assumes nothing.
 use mathlib.Core.List.{List, [], _∷_, _++_}
 use mathlib.Core.Bool.{Bool, true, false}
-use Prim.Native.Nat.{ℕ, zero, suc, _+_, _/_, _%_}
+use Prim.Native.Nat.{ℕ, zero, suc, _+_, _*_, _/_, _%_, _≤_}
+use lib.ListN.{length}
 use lib.Dec.{ltb}
 use lib.IntN.{ℤ, pos, negsuc}
+use Rattle.text.specs.Placed.{Put}
 
 -- the digits of n, by whether it has one alone; `front` gives the digits of a number that are before the last
 abbrev pub digitsBy : Bool → ℕ → (ℕ → List ℕ) → List ℕ
@@ -42,3 +44,8 @@ lineOf zs = spaced zs ++ (10 ∷ [])
 abbrev pub itemOf : Bool → ℤ → List ℕ
 itemOf true z = decimal z
 itemOf false z = 32 ∷ decimal z
+
+-- what writing a line of words gives; a line has at most twelve bytes for each word, and one
+pub record Line (d : List ℕ) (at : ℕ) (words : List ℤ) (r : ℕ) (e : List ℕ) : Type 0 where
+  pub put : Put d at (lineOf words) r e
+  pub few : length (lineOf words) ≤ length words * 12 + 1

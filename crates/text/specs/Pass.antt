@@ -1,4 +1,4 @@
--- One pass through a text, byte by byte: where it stands, and the words that end.
+-- One pass through a text, byte by byte: where it stands, and the words that end. Assumes nothing.
 use mathlib.Core.Path.{_≡_}
 use mathlib.Core.List.{List, [], _∷_}
 use mathlib.Core.Bool.{Bool, true, false, cond}

@@ -4,7 +4,7 @@ ghost use Prim.Native.Nat.{_≤_, _<_, _^_};
 ghost use lib.ListN.{length, replicate};
 ghost use lib.IntN.{pos, natAbs};
 ghost use Rattle.text.specs.Text.{separator, digit, limit, withSign, Read};
-ghost use Rattle.text.specs.Line.{digits, decimal, itemOf, lineOf};
+ghost use Rattle.text.specs.Line.{digits, decimal, itemOf, Line};
 ghost use Rattle.text.specs.Placed.{Put};
 ghost use Rattle.text.specs.Pass.{afterValue, afterDigit, afterMinus, afterSeparator, after, endedAt, ended, Sound, Stored, closed, Passed};
 
@@ -296,7 +296,7 @@ fn put_word(out: &mut [u8], at: usize, z: i32, first: bool) -> usize
 
 // A line of words from a place on: one space between two words, and a line end behind the last.
 pub fn put_line(out: &mut [u8], at: usize, words: &[i32]) -> usize
-    ensures { λ r. ⌜ Put (now (out .entry)) at (lineOf (now (words .entry))) r (now (out .exit)) ⌝ }
+    ensures { λ r. ⌜ Line (now (out .entry)) at (now (words .entry)) r (now (out .exit)) ⌝ }
 {
     let mut place = at;
     let mut i = 0;

@@ -1,9 +1,9 @@
 -- `answers::put_answer` meets its contract. Assumes nothing.
 use Rattle.algebra.specs.Solver.{at}
-use Rattle.text.proofs.Writing.{put-append}
+use Rattle.answers.proofs.Printing.{printed-append, printed-most}
 use borrow.Author.Needs.{needs}
 use mathlib.Core.List.{append-assoc}
-use Rattle.text.proofs.Writing.{put-append}
+use native.Mathlib.Omega.{arith}
 use Rattle.answers.proofs.put_answer.Statement.{statement}
 use Rattle.answers.proofs.put_answer.Tie as tie
 
@@ -11,10 +11,10 @@ returns : tie.Need-returns
 returns c = rw (c .before .before .before .before .enum-told .given .1) (c .before .before .put-reduced .ensures)
 
 returns-2 : tie.Need-returns-2
-returns-2 c = rw (c .before .before .before .before .before .before .before .before .before .answer .given .1) (rw append-assoc at (put-append (c .before .before .before .before .before .before .put-no-flow .ensures) (c .before .before .put-stack .ensures)))
+returns-2 c = rw (c .before .before .before .before .before .before .before .before .before .answer .given .1) (printed-most (rw append-assoc at (printed-append (c .before .before .before .before .before .before .put-no-flow .ensures) (c .before .before .put-stack .ensures))) (omega arith))
 
 returns-3 : tie.Need-returns-3
-returns-3 c = rw (c .before .before .before .before .before .answer2 .given .1) (c .before .before .put-refusal .ensures)
+returns-3 c = rw (c .before .before .before .before .before .answer2 .given .1) (printed-most (c .before .before .put-refusal .ensures) (omega arith))
 
 pub put-answer-spec : {M : Type 1} → statement M
 put-answer-spec =

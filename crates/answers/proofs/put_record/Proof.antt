@@ -1,14 +1,14 @@
 -- `answers::put_record` meets its contract. Assumes nothing.
+use Rattle.answers.proofs.Printing.{printed-append, printed-most}
 use Rattle.answers.specs.Answers.{recordLines}
-use Rattle.text.proofs.Writing.{put-append}
 use borrow.Author.Needs.{needs}
-use Rattle.text.proofs.Writing.{put-append}
+use native.Mathlib.Omega.{arith}
 use Rattle.answers.proofs.put_record.Statement.{statement}
 use Rattle.answers.proofs.put_record.Tie as tie
 
 returns : tie.Need-returns
 unfolding recordLines
-returns c = put-append (c .before .before .before .before .before .before .before .before .before .before .put-part .ensures) (put-append (c .before .before .before .before .before .before .put-part2 .ensures) (c .before .before .put-part3 .ensures))
+returns c = printed-most (printed-append (c .before .before .before .before .before .before .before .before .before .before .put-part .ensures) (printed-append (c .before .before .before .before .before .before .put-part2 .ensures) (c .before .before .put-part3 .ensures))) (omega arith)
 
 pub put-record-spec : {M : Type 1} → statement M
 put-record-spec =

@@ -1,5 +1,6 @@
 -- `answers::reduce_text` meets its contract. Assumes nothing.
 use Rattle.algebra.specs.Solver.{at}
+use Rattle.answers.proofs.Printing.{printed-most}
 use Rattle.answers.proofs.Reading.{Found, read-none, read-some}
 use Rattle.answers.specs.Answers.{reduceText}
 use borrow.Author.Needs.{needs}
@@ -24,7 +25,7 @@ returns c = rw (found (c .before .before .before .before .before .before) .is) (
 
 returns-2 : tie.Need-returns-2
 unfolding reduceText
-returns-2 c = rw (read-none (c .before .before .before .before .before .before .before .before .before .before .before .before .before .before .before .args .text .now) 12288 (c .before .before .before .before .before .before .before .read-words .last .1 .0) (lit≤ tt) (rw (c .before .before .before .before .enum-told .given .1) at (c .before .before .before .before .before .before .before .read-words .ensures))) (rw (c .before .before .before .before .before .before .before .before .before .before .before .clear .ensures) at (c .before .before .put-refusal .ensures))
+returns-2 c = rw (read-none (c .before .before .before .before .before .before .before .before .before .before .before .before .before .before .before .args .text .now) 12288 (c .before .before .before .before .before .before .before .read-words .last .1 .0) (lit≤ tt) (rw (c .before .before .before .before .enum-told .given .1) at (c .before .before .before .before .before .before .before .read-words .ensures))) (printed-most (rw (c .before .before .before .before .before .before .before .before .before .before .before .clear .ensures) at (c .before .before .put-refusal .ensures)) (lit≤ tt))
 
 pub reduce-text-spec : {M : Type 1} → statement M
 reduce-text-spec =

@@ -1,3 +1,4 @@
+-- `network::apply` meets its contract. Assumes nothing.
 use Rattle.network.specs.Network.{applied}
 use borrow.Author.Needs.{needs}
 use Rattle.network.proofs.apply.Statement.{statement}

@@ -1,3 +1,4 @@
+-- `network::change_one` meets its contract. Assumes nothing.
 use borrow.Author.Needs.{needs}
 use Rattle.network.proofs.change_one.Statement.{statement}
 use Rattle.network.proofs.change_one.Tie as tie

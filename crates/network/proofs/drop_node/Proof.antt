@@ -1,3 +1,4 @@
+-- `network::drop_node` meets its contract. Assumes nothing.
 use Rattle.network.specs.Network.{without}
 use borrow.Author.Needs.{needs}
 use Rattle.network.proofs.drop_node.Statement.{statement}

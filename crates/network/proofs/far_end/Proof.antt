@@ -1,3 +1,4 @@
+-- `network::far_end` meets its contract. Assumes nothing.
 use Rattle.network.specs.Network.{farEnd}
 use borrow.Author.Needs.{needs}
 use Rattle.network.proofs.far_end.Statement.{statement}

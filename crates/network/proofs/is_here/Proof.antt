@@ -1,3 +1,4 @@
+-- `network::is_here` meets its contract. Assumes nothing.
 use Rattle.network.proofs.Laws.{length-mapped}
 use borrow.Author.Needs.{needs}
 use lib.ListN.{List·getD-eq-default, length}

@@ -1,3 +1,4 @@
+-- `network::no_change` meets its contract. Assumes nothing.
 use borrow.Author.Needs.{needs}
 use Rattle.network.proofs.no_change.Statement.{statement}
 use Rattle.network.proofs.no_change.Tie as tie

@@ -1,3 +1,4 @@
+-- `network::no_flow` meets its contract. Assumes nothing.
 use borrow.Author.Needs.{needs}
 use Rattle.network.proofs.no_flow.Statement.{statement}
 use Rattle.network.proofs.no_flow.Tie as tie

@@ -1,3 +1,4 @@
+-- `network::no_level` meets its contract. Assumes nothing.
 use borrow.Author.Needs.{needs}
 use Rattle.network.proofs.no_level.Statement.{statement}
 use Rattle.network.proofs.no_level.Tie as tie

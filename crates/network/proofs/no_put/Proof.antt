@@ -1,3 +1,4 @@
+-- `network::no_put` meets its contract. Assumes nothing.
 use borrow.Author.Needs.{needs}
 use Rattle.network.proofs.no_put.Statement.{statement}
 use Rattle.network.proofs.no_put.Tie as tie

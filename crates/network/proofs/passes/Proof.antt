@@ -1,3 +1,4 @@
+-- `network::passes` meets its contract. Assumes nothing.
 use borrow.Author.Needs.{needs}
 use Rattle.network.proofs.passes.Statement.{statement}
 use Rattle.network.proofs.passes.Tie as tie

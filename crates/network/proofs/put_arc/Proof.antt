@@ -1,3 +1,4 @@
+-- `network::put_arc` meets its contract. Assumes nothing.
 use Rattle.network.specs.Network.{withArc}
 use borrow.Author.Needs.{needs}
 use borrow.Author.Tests.{le-leb, lt-leb}

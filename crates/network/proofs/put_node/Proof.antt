@@ -1,3 +1,4 @@
+-- `network::put_node` meets its contract. Assumes nothing.
 use Rattle.network.specs.Network.{withNode}
 use borrow.Author.Needs.{needs}
 use Rattle.network.proofs.put_node.Statement.{statement}

@@ -1,3 +1,4 @@
+-- `network::supply_at` meets its contract. Assumes nothing.
 use Rattle.network.proofs.Laws.{length-mapped}
 use Rattle.network.specs.Network.{noFigure}
 use borrow.Author.Needs.{needs}

@@ -1,3 +1,4 @@
+-- `text::+put_digits` meets its contract. Assumes nothing.
 use native.Mathlib.Omega.{arith}
 use mathlib.Core.Path.{_∙_}
 use Rattle.text.proofs.Lines.{digits-one, digits-more}

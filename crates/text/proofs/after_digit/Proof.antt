@@ -1,3 +1,4 @@
+-- `text::after_digit` meets its contract. Assumes nothing.
 use Prim.Native.Nat.{_≤_}
 use Rattle.text.proofs.Words.{at-most}
 use borrow.Author.Needs.{needs}

@@ -1,3 +1,4 @@
+-- `text::close` meets its contract. Assumes nothing.
 use borrow.Author.Needs.{needs}
 use Rattle.text.proofs.close.Statement.{statement}
 use Rattle.text.proofs.close.Tie as tie

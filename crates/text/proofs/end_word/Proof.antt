@@ -1,4 +1,5 @@
-use Rattle.text.proofs.Signed.{read-back}
+-- `text::end_word` meets its contract. Assumes nothing.
+use Rattle.integer.specs.Machine.{back32}
 use Rattle.text.proofs.Words.{stored-none}
 use borrow.Author.Needs.{needs}
 use Rattle.text.proofs.end_word.Statement.{statement}
@@ -14,7 +15,7 @@ returns-2 : tie.Need-returns-2
 returns-2 c = rw (c .enum-told2 .given .1) (stored-none _ _)
 
 returns-3 : tie.Need-returns-3
-returns-3 c = rw (c .before .before .before .before .before .state .given .1) (rw (read-back _ (c .before .before .signed-word .ok), c .before .before .signed-word .ensures) at (c .before .store-word .ensures))
+returns-3 c = rw (c .before .before .before .before .before .state .given .1) (rw (back32 _ (c .before .before .signed-word .ok), c .before .before .signed-word .ensures) at (c .before .store-word .ensures))
 
 returns-4 : tie.Need-returns-4
 returns-4 c = rw (c .enum-told3 .given .1) (stored-none _ _)

@@ -1,3 +1,4 @@
+-- `text::is_separator` meets its contract. Assumes nothing.
 use Rattle.text.specs.Text.{separator}
 use borrow.Author.Tests.{eq-eqb, ne-eqb}
 use Rattle.text.proofs.is_separator.Statement.{statement}

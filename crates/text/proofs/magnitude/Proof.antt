@@ -1,4 +1,6 @@
-use Rattle.text.proofs.Signed.{minus-is, natAbs-fits, natAbs-negated, negative-negated, not-negative, wide, wide-negated}
+-- `text::magnitude` meets its contract. Assumes nothing.
+use Rattle.integer.specs.Whole.{natAbs-negℤ}
+use Rattle.text.proofs.Signed.{minus-is, natAbs-fits, negative-negated, not-negative, wide, wide-negated}
 use mathlib.Core.Path.{_≡_}
 use mir.Facts.{toZ-ofZ}
 use mir.Syntax.{w32}
@@ -20,7 +22,7 @@ sub-result c =
 cast-result-2 : tie.Need-cast-result-2
 cast-result-2 c =
     let f = c .before .fits .z in
-    rw (back (c .before), toZ-ofZ (wide f), minus-is, toZ-ofZ (wide-negated _ f)) (negative-negated (c .before .args .z) (rw (back (c .before)) at (c .if1 .taken)), rw (natAbs-negated (c .before .args .z)) (natAbs-fits (c .before .args .z) f))
+    rw (back (c .before), toZ-ofZ (wide f), minus-is, toZ-ofZ (wide-negated _ f)) (negative-negated (c .before .args .z) (rw (back (c .before)) at (c .if1 .taken)), rw (natAbs-negℤ (c .before .args .z)) (natAbs-fits (c .before .args .z) f))
 
 cast-result-3 : tie.Need-cast-result-3
 cast-result-3 c = rw (back (c .before)) (not-negative (c .before .args .z) (rw (back (c .before)) at (c .if1 .left)), natAbs-fits (c .before .args .z) (c .before .fits .z))
@@ -28,7 +30,7 @@ cast-result-3 c = rw (back (c .before)) (not-negative (c .before .args .z) (rw (
 returns : tie.Need-returns
 returns c =
     let f = c .before .fits .z in
-    rw (back (c .before), toZ-ofZ (wide f), minus-is, toZ-ofZ (wide-negated _ f)) (natAbs-negated (c .before .args .z))
+    rw (back (c .before), toZ-ofZ (wide f), minus-is, toZ-ofZ (wide-negated _ f)) (natAbs-negℤ (c .before .args .z))
 
 returns-2 : tie.Need-returns-2
 returns-2 c = rw (back (c .before))

@@ -1,3 +1,4 @@
+-- `text::store_ended` meets its contract. Assumes nothing.
 use Rattle.text.proofs.Words.{stored-none}
 use Rattle.text.specs.Pass.{ended}
 use borrow.Author.Needs.{needs}

@@ -1,3 +1,4 @@
+-- `text::store_word` meets its contract. Assumes nothing.
 use Rattle.text.proofs.Words.{stored-in, stored-out}
 use borrow.Author.Needs.{needs}
 use mir.Facts.{toZ-ofZ}

@@ -1,3 +1,4 @@
+-- `network::output::counts` meets its contract. Assumes nothing.
 use Rattle.network.proofs.output.counts.Statement.{statement}
 use Rattle.network.proofs.output.counts.Tie as tie
 

@@ -1,3 +1,4 @@
+-- `network::output::figure_of` meets its contract. Assumes nothing.
 use Rattle.network.specs.Output.{figureOf}
 use borrow.Author.Needs.{needs}
 use borrow.Author.Tests.{le-ltb, lt-ltb}

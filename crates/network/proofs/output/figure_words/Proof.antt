@@ -1,3 +1,4 @@
+-- `network::output::figure_words` meets its contract. Assumes nothing.
 use Prim.Native.Nat.{_-_, _≤_}
 use Rattle.algebra.specs.Solver.{at}
 use Rattle.integer.specs.Machine.{back32}

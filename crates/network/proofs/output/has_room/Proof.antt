@@ -1,3 +1,4 @@
+-- `network::output::has_room` meets its contract. Assumes nothing.
 use Rattle.network.specs.Output.{hasRoom}
 use borrow.Author.Tests.{le-leb, lt-leb}
 use Rattle.network.proofs.output.has_room.Statement.{statement}

@@ -1,3 +1,4 @@
+-- `network::output::pack` meets its contract. Assumes nothing.
 use Rattle.network.specs.Output.{packedOf}
 use borrow.Author.Needs.{needs}
 use Rattle.network.proofs.output.pack.Statement.{statement}

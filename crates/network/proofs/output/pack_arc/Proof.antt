@@ -1,3 +1,4 @@
+-- `network::output::pack_arc` meets its contract. Assumes nothing.
 use Rattle.network.specs.Output.{packArc}
 use borrow.Author.Needs.{needs}
 use borrow.Author.Tests.{le-ltb, lt-ltb}

@@ -1,3 +1,4 @@
+-- `network::output::pack_nodes` meets its contract. Assumes nothing.
 use Prim.Native.Nat.{_-_}
 use Rattle.algebra.specs.Solver.{at}
 use Rattle.loops.proofs.Laws.{Folded, folded-all, folded-more, folded-none}

@@ -1,3 +1,4 @@
+-- `network::output::put_words` meets its contract. Assumes nothing.
 use Rattle.algebra.specs.Solver.{at}
 use Rattle.network.proofs.Laws.{length-mapped}
 use Rattle.network.specs.declared.output.Two.{Two}

@@ -1,3 +1,4 @@
+-- `network::output::rank` meets its contract. Assumes nothing.
 use Prim.Native.Nat.{_-_}
 use Rattle.loops.proofs.Laws.{Counted, counted-all, counted-no, counted-none, counted-yes}
 use Rattle.network.specs.Network.{isHere}

@@ -1,3 +1,4 @@
+-- `network::output::renumber` meets its contract. Assumes nothing.
 use borrow.Author.Needs.{needs}
 use Rattle.network.proofs.output.renumber.Statement.{statement}
 use Rattle.network.proofs.output.renumber.Tie as tie

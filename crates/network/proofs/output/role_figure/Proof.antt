@@ -1,3 +1,4 @@
+-- `network::output::role_figure` meets its contract. Assumes nothing.
 use Rattle.network.specs.Output.{roleFigure}
 use borrow.Author.Needs.{needs}
 use borrow.Author.Tests.{ne-eqb}

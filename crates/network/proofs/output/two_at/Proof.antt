@@ -1,3 +1,4 @@
+-- `network::output::two_at` meets its contract. Assumes nothing.
 use Rattle.network.proofs.Laws.{length-mapped}
 use Rattle.network.specs.Output.{two}
 use borrow.Author.Needs.{needs}

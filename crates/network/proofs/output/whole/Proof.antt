@@ -1,3 +1,4 @@
+-- `network::output::whole` meets its contract. Assumes nothing.
 use Rattle.integer.specs.Machine.{back32}
 use borrow.Author.Needs.{needs}
 use Rattle.network.proofs.output.whole.Statement.{statement}

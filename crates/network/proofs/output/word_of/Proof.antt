@@ -1,3 +1,4 @@
+-- `network::output::word_of` meets its contract. Assumes nothing.
 use Rattle.integer.specs.Machine.{sfits-by}
 use Rattle.network.specs.Output.{wordOf}
 use borrow.Author.Tests.{le-leb, lt-leb}

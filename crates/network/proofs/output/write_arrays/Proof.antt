@@ -1,3 +1,4 @@
+-- `network::output::write_arrays` meets its contract. Assumes nothing.
 use Rattle.algebra.specs.Solver.{at}
 use Rattle.loops.proofs.Laws.{part-joined, part-long}
 use Rattle.network.proofs.Arrays.{arrays-fit, arrays-none}

@@ -1,3 +1,4 @@
+-- `network::output::write_network` meets its contract. Assumes nothing.
 use Rattle.network.proofs.Arrays.{room-is}
 use Rattle.network.specs.Output.{networkOf}
 use borrow.Author.Needs.{needs}

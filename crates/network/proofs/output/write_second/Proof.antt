@@ -1,3 +1,4 @@
+-- `network::output::write_second` meets its contract. Assumes nothing.
 use Prim.Native.Nat.{_-_}
 use Rattle.integer.specs.Machine.{back32}
 use Rattle.loops.proofs.Laws.{Filled, filled-front, filled-more, filled-none, part-back, part-long}

@@ -1,3 +1,4 @@
+-- `network::output::write_sized` meets its contract. Assumes nothing.
 use Rattle.algebra.specs.Solver.{at}
 use Rattle.integer.specs.Machine.{back32}
 use Rattle.loops.proofs.Laws.{part-long, part-sized}

@@ -1,3 +1,4 @@
+-- `network::record::all_weighted` meets its contract. Assumes nothing.
 use Prim.Native.Nat.{_-_}
 use Rattle.algebra.specs.Solver.{at}
 use Rattle.loops.proofs.Laws.{Passed, passed-all, passed-fails, passed-more, passed-none}

@@ -1,3 +1,4 @@
+-- `network::record::arc_in` meets its contract. Assumes nothing.
 use Rattle.network.specs.Record.{arcIn}
 use borrow.Author.Needs.{needs}
 use Rattle.network.proofs.record.arc_in.Statement.{statement}

@@ -1,3 +1,4 @@
+-- `network::record::ask` meets its contract. Assumes nothing.
 use Rattle.network.proofs.Questions.{sizes-go}
 use Rattle.network.specs.Record.{askedOf}
 use borrow.Author.Needs.{needs}

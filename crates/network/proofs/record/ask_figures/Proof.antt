@@ -1,3 +1,4 @@
+-- `network::record::ask_figures` meets its contract. Assumes nothing.
 use Rattle.network.specs.Record.{figuresAsked}
 use borrow.Author.Needs.{needs}
 use Rattle.network.proofs.record.ask_figures.Statement.{statement}

@@ -1,3 +1,4 @@
+-- `network::record::end_of` meets its contract. Assumes nothing.
 use Rattle.network.proofs.Questions.{cast-ok, end-neg, end-pos}
 use borrow.Author.Needs.{needs}
 use Rattle.network.proofs.record.end_of.Statement.{statement}

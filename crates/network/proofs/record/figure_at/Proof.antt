@@ -1,3 +1,4 @@
+-- `network::record::figure_at` meets its contract. Assumes nothing.
 use Rattle.integer.specs.Machine.{back32}
 use Rattle.network.specs.Record.{figureAt}
 use borrow.Author.Needs.{needs}

@@ -1,3 +1,4 @@
+-- `network::record::has_ends` meets its contract. Assumes nothing.
 use Rattle.algebra.specs.Solver.{at}
 use Rattle.network.specs.Record.{hasEnds}
 use borrow.Author.Needs.{needs}

@@ -1,3 +1,4 @@
+-- `network::record::is_end` meets its contract. Assumes nothing.
 use Rattle.network.specs.Record.{isEnd}
 use borrow.Author.Needs.{needs}
 use borrow.Author.Tests.{eq-eqb, le-leb, lt-leb, ne-eqb}

@@ -1,3 +1,4 @@
+-- `network::record::is_weighted` meets its contract. Assumes nothing.
 use Rattle.network.specs.Record.{isWeighted}
 use borrow.Author.Needs.{needs}
 use Rattle.network.proofs.record.is_weighted.Statement.{statement}

@@ -1,3 +1,4 @@
+-- `network::record::permitted` meets its contract. Assumes nothing.
 use Rattle.network.specs.Record.{isPermitted}
 use borrow.Author.Needs.{needs}
 use borrow.Author.Tests.{ne-eqb}

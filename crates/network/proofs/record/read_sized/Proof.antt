@@ -1,3 +1,4 @@
+-- `network::record::read_sized` meets its contract. Assumes nothing.
 use Rattle.network.specs.Record.{netOf}
 use borrow.Author.Needs.{needs}
 use Rattle.network.proofs.record.read_sized.Statement.{statement}

@@ -1,3 +1,4 @@
+-- `network::record::role_of` meets its contract. Assumes nothing.
 use Rattle.network.specs.Record.{roleOf}
 use borrow.Author.Tests.{le-ltb, lt-ltb}
 use Rattle.network.proofs.record.role_of.Statement.{statement}

@@ -1,3 +1,4 @@
+-- `network::record::size_at` meets its contract. Assumes nothing.
 use Rattle.network.proofs.Questions.{cast-ok, size-neg, size-no, size-yes}
 use Rattle.network.specs.Record.{word}
 use borrow.Author.Needs.{needs}

@@ -1,3 +1,4 @@
+-- `network::record::sizes` meets its contract. Assumes nothing.
 use Prim.Native.Nat.{_≤_}
 use Rattle.network.proofs.Questions.{size-le}
 use Rattle.network.specs.Record.{sizesOf, word}

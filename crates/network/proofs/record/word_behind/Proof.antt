@@ -1,3 +1,4 @@
+-- `network::record::word_behind` meets its contract. Assumes nothing.
 use Prim.Native.Nat.{_+_}
 use borrow.Author.Needs.{needs}
 use lib.IntN.{pos}
