@@ -27,9 +27,10 @@ fn signed(u: u64) -> i32
 }
 
 // The word that stands in b from place `at`; bytes behind its end count as 0.
-pub fn word(b: &[u8], at: usize) -> i32
-    requires { ⌜ at < 100000 ⌝ }
-{
+pub fn word(b: &[u8], at: usize) -> i32 {
+    if b.len() <= at {
+        return 0;
+    }
     let low = byte(b, at) + 256 * byte(b, at + 1);
     let high = byte(b, at + 2) + 256 * byte(b, at + 3);
     signed(low + 65536 * high)
@@ -54,9 +55,10 @@ fn put_byte(out: &mut [u8], at: usize, b: u8) {
 }
 
 // The word v put into `out` from place `at`, as far as there is room.
-pub fn put(out: &mut [u8], at: usize, v: i32)
-    requires { ⌜ at < 100000 ⌝ }
-{
+pub fn put(out: &mut [u8], at: usize, v: i32) {
+    if out.len() <= at {
+        return;
+    }
     let u = bits(v);
     put_byte(out, at, (u % 256) as u8);
     put_byte(out, at + 1, (u / 256 % 256) as u8);
