@@ -1,5 +1,5 @@
 -- The lines that the programs print (01, "Instances", A), as bytes. Assumes nothing.
-use mathlib.Core.List.{List, [], _∷_, _++_}
+use mathlib.Core.List.{List, [], _∷_, _++_, map}
 use mathlib.Core.Option.{Option, some, none}
 use Prim.Native.Nat.{ℕ, _+_, _*_, _≤_}
 use lib.IntN.{ℤ}
@@ -8,7 +8,7 @@ use Rattle.network.specs.Record.{word, endOf, figures}
 use Rattle.network.specs.Output.{wordOf}
 use Rattle.reduction.specs.declared.Answer.{Answer}
 use Rattle.reduction.specs.declared.Answer.the-variants.{Reduced, NoFlow, Refused}
-use Rattle.reduction.specs.Reduce.{questions, answerOf, outputOf, stackWords}
+use Rattle.reduction.specs.Reduce.{questions, answerOf, outputOf, stackWords, numberOf, valuesOf}
 use Rattle.text.specs.Text.{wordsOf}
 use Rattle.text.specs.Line.{lineOf}
 use Rattle.text.specs.Placed.{Put}
@@ -46,8 +46,8 @@ stackLines xs = recordLines xs 1 (sizeAt xs 0)
 -- an answer, with the words of the reduced network and of the stack
 abbrev pub reducedLines : Answer → List ℤ → List ℤ → List ℕ
 reducedLines Reduced net stack = reducedBytes ++ (networkLines net ++ stackLines stack)
-reducedLines (NoFlow rule place) net stack = noFlowBytes ++ (lineOf (wordOf rule ∷ wordOf place ∷ []) ++ stackLines stack)
-reducedLines (Refused q) net stack = refusedBytes ++ lineOf (wordOf q ∷ [])
+reducedLines (NoFlow rule place) net stack = noFlowBytes ++ (lineOf (map wordOf (valuesOf (NoFlow rule place))) ++ stackLines stack)
+reducedLines (Refused q) net stack = refusedBytes ++ lineOf (wordOf (numberOf (Refused q)) ∷ [])
 
 -- ---- the reducing program
 

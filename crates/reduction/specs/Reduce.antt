@@ -1,7 +1,7 @@
 -- What reducing answers, and the words that it writes. Assumes nothing.
 use mathlib.Core.Path.{_≡_}
 use mathlib.Core.Bool.{Bool, true, false, _&&_}
-use mathlib.Core.List.{List}
+use mathlib.Core.List.{List, [], _∷_}
 use Prim.Native.Nat.{ℕ}
 use lib.Dec.{leb}
 use lib.IntN.{ℤ}
@@ -69,8 +69,13 @@ pub record Reduction (xs : List ℤ) (o s w : ℕ) (r : Answer) (out stack scrat
   pub stack-is : stack ≡ stackWords xs s (questions xs o s w)
   pub scratch-is : scratch ≡ zeros w
 
--- the paper's number of an answer: that of the refusal; 0 where it is no refusal
+-- the paper's number of an answer, 0 where nothing is refused, and its values, the rule and the place of no flow
 abbrev pub numberOf : Answer → ℕ
 numberOf Reduced = 0
 numberOf (NoFlow rule place) = 0
 numberOf (Refused q) = q
+
+abbrev pub valuesOf : Answer → List ℕ
+valuesOf Reduced = []
+valuesOf (NoFlow rule place) = rule ∷ place ∷ []
+valuesOf (Refused q) = []
