@@ -7,7 +7,7 @@ use native.Mathlib.Omega.{arith}
 use lib.IntN.{ℤ}
 use lib.ListN.{length, take, length-append}
 use lib.Seq.{take-at}
-use Rattle.network.proofs.Laws.{never}
+use Rattle.fraction.specs.Laws.{never}
 use Rattle.text.specs.declared.Reading.{Reading}
 use Rattle.text.specs.declared.Reading.the-variants.{Words, Refused}
 use Rattle.text.specs.Text.{wordsOf, answer, padded, Read}

@@ -1,6 +1,6 @@
 -- What each operation on fractions answers, over numbers of any size (01, "The problem and its figures"). Assumes nothing.
 use mathlib.Core.Path.{_≡_}
-use mathlib.Core.Bool.{Bool, true, false, cond, _&&_}
+use mathlib.Core.Bool.{Bool, true, false, cond, _&&_, not}
 use Prim.Native.Nat.{ℕ, _*_, _/_, _≤_, _<_}
 use lib.IntN.{ℤ, pos, negsuc, negℤ, natAbs, _+ℤ_, _*ℤ_}
 use lib.Signed.{ltZ}
@@ -13,6 +13,10 @@ use Rattle.fraction.specs.declared.Worked.the-variants.{Fits, Misfit}
 
 abbrev pub over : ℤ → ℕ → Fraction
 over n d = record { num = n; den = d }
+
+-- what stands where there is nothing: every number is 0
+abbrev pub noFigure : Fraction
+noFigure = over (pos 0) 0
 
 -- the greatest numerator and denominator
 abbrev pub most : ℕ
@@ -96,6 +100,10 @@ isSame x y = eqZ (x .num) (y .num) && eqb (x .den) (y .den)
 
 unfoldable pub isZero : Fraction → Bool
 isZero x = isSame x zeroFraction
+
+-- a bound that is no mark
+unfoldable pub isFinite : Fraction → Bool
+isFinite z = not (eqb (z .den) 0)
 
 -- ---- words of a record
 

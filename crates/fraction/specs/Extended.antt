@@ -13,6 +13,7 @@ use Rattle.algebra.specs.Order.{_<_}
 use Rattle.algebra.specs.Frac.{frac, frac-lt}
 use Rattle.fraction.specs.declared.Fraction.{Fraction}
 use Rattle.fraction.specs.Exact.{over, noLower, noUpper, isLess}
+use Rattle.fraction.specs.Laws.{never}
 use Rattle.fraction.specs.Value.{value}
 
 -- the numbers, with one end below all of them and one above
@@ -37,7 +38,7 @@ pub data Figure : Fraction → Extended → Type 0 where
   absent-upper : Figure noUpper greatest
 
 unlike : {X : Type 0} → false ≡ true → X
-unlike e = absurd (let z : _≡_ {A = ℕ} 0 1 = cc in omega arith)
+unlike e = never cc
 
 minus-one : (d : ℕ) → negsuc 0 *ℤ pos (suc d) ≡ negsuc d
 minus-one d = ap (λ (k : ℕ). negℤ (pos k)) (one-mul (suc d))

@@ -14,11 +14,15 @@ use Rattle.fraction.specs.declared.Worked.{Worked}
 use Rattle.fraction.specs.declared.Worked.the-variants.{Fits, Misfit}
 use Rattle.fraction.specs.Exact.{Operand, Proper, isOperand, isProper, over, most, fitted, reduceOf}
 
+-- two different numbers are not equal
+pub never {ℓ} : {X : Type ℓ} → _≡_ {A = ℕ} 0 1 → X
+never e = absurd (omega arith)
+
 -- ---- the tests
 
 pub and-both : (s t : Bool) → (s && t) ≡ true → (s ≡ true) × (t ≡ true)
 and-both true t e = (refl, e)
-and-both false t e = absurd (let z : _≡_ {A = ℕ} 0 1 = cc in omega arith)
+and-both false t e = never cc
 
 pub operand-is : (x : Fraction) → isOperand x ≡ true → Operand x
 unfolding isOperand

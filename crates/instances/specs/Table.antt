@@ -9,7 +9,7 @@ use Rattle.loops.specs.Loops.{zeros, build, upto, count, all, any, scan, runs}
 use Rattle.fraction.specs.declared.Fraction.{Fraction}
 use Rattle.fraction.specs.declared.Worked.{Worked}
 use Rattle.fraction.specs.declared.Worked.the-variants.{Fits, Misfit}
-use Rattle.fraction.specs.Exact.{over, noUpper, isOperand, isProper, fitted, reduceOf, sumOf, productOf, differenceOf, quotientOf, negationOf, reciprocalOf, isLess, isSame, isZero, fromWords, denWord}
+use Rattle.fraction.specs.Exact.{over, noUpper, isOperand, isProper, fitted, reduceOf, sumOf, productOf, differenceOf, quotientOf, negationOf, reciprocalOf, isLess, isSame, isZero, fromWords, denWord, isFinite}
 use Rattle.fraction.specs.Formula.{pairOf, _⊕_, _⊖_, _⊗_, _⊘_, ⊝_}
 use Rattle.network.specs.declared.Arc.{Arc}
 use Rattle.network.specs.declared.Net.{Net}
@@ -22,7 +22,7 @@ use Rattle.network.specs.Record.{figureAt, sizesOf, roleOf, isPermitted, isEnd,
 use Rattle.network.specs.Output.{rankOf, packNode, packArc, packedOf, arraysOf, wordOf, roleFigure, figureOf, hasRoom, networkOf}
 use Rattle.reduction.specs.declared.Answer.{Answer}
 use Rattle.reduction.specs.declared.Answer.the-variants.{Reduced, NoFlow}
-use Rattle.reduction.specs.Rules.{isFinite, supplyLess, droppedOf, atFlow, closedArc, ruleOne, bareNode, ruleTwo, singleArc, ruleThree, isOpenRoot, isCostlier, hasPartner, hasPair, isCandidate, ruleFour, sameSign, farMultiplier, farSupply, keptCost, boundFrom, keptLower, keptUpper, keptOf, twoArcs, keepFirst, keepOne, ruleFive, hasSignAt, signedAfter, isFree, isApart, crossedOf, fourOf, crossingAt, withThree, withTwo, withOne, crossingOf, bothSigns, signsOf, ruleSix, nodeRule, ruleAt}
+use Rattle.reduction.specs.Rules.{supplyLess, droppedOf, atFlow, closedArc, ruleOne, bareNode, ruleTwo, singleArc, ruleThree, isOpenRoot, isCostlier, hasPartner, hasPair, isCandidate, ruleFour, sameSign, farMultiplier, farSupply, keptCost, boundFrom, keptLower, keptUpper, keptOf, twoArcs, keepFirst, keepOne, ruleFive, hasSignAt, signedAfter, isFree, isApart, crossedOf, fourOf, crossingAt, withThree, withTwo, withOne, crossingOf, bothSigns, signsOf, ruleSix, nodeRule, ruleAt}
 use Rattle.reduction.specs.Search.{stepAt, lastPlace, ranked, nextOf, stepped, ranOf}
 use Rattle.reduction.specs.Stack.{stackOf}
 use Rattle.reduction.specs.Reduce.{isRoomy, questions, answerOf, outputOf, stackWords}

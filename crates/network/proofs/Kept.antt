@@ -10,13 +10,12 @@ use lib.ListN.{List·getD-eq-default, length, getD, set, length-set}
 use lib.Seq.{getD-set-same, getD-set-other, set-out}
 use borrow.Author.Tests.{leb-true, ltb-true, ltb-false, eqb-true, eqb-false, ne-eqb}
 use Rattle.fraction.specs.declared.Fraction.{Fraction}
-use Rattle.fraction.specs.Exact.{Proper}
-use Rattle.fraction.specs.Laws.{and-both}
+use Rattle.fraction.specs.Exact.{Proper, noFigure}
+use Rattle.fraction.specs.Laws.{and-both, never}
 use Rattle.network.specs.declared.Arc.{Arc}
 use Rattle.network.specs.declared.Net.{Net}
-use Rattle.network.specs.Network.{noFigure, noArc, arcAt, supplyAt, isHere, isNumber, isTouching, withArc, withSupply, without}
+use Rattle.network.specs.Network.{noArc, arcAt, supplyAt, isHere, isNumber, isTouching, withArc, withSupply, without}
 use Rattle.network.specs.Legal.{LegalArc, Legal, MayPut}
-use Rattle.network.proofs.Laws.{never}
 
 -- ---- one element replaced: what stands at a place then, and the length
 

@@ -18,10 +18,6 @@ pub stays : (k : ℕ) → 1 ≤ k → (g : ℕ → ℕ) (j : ℕ) → orNext k g
 stays zero h g j = absurd (not-suc-le-zero h)
 stays (suc k) h g j = refl
 
--- two different numbers
-pub never {ℓ} : {X : Type ℓ} → _≡_ {A = ℕ} 0 1 → X
-never e = absurd (omega arith)
-
 -- ---- a loop over the arcs' numbers after k that stops at the first that counts (f j is j, or 0 where j doesn't count): where there is none, and the two turns
 pub sought-past : (f : ℕ → ℕ) {k : ℕ} → 96 ≤ k → 0 ≡ scan orNext 0 f (96 - k) (k + 1)
 unfolding scan

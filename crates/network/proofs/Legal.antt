@@ -15,17 +15,16 @@ use borrow.Author.Tests.{le-leb, le-ltb, lt-ltb, leb-true, ltb-true, ltb-false, 
 use Rattle.loops.specs.Loops.{upto}
 use Rattle.loops.proofs.Laws.{all-each}
 use Rattle.fraction.specs.declared.Fraction.{Fraction}
-use Rattle.fraction.specs.Exact.{Proper, noLower, noUpper, isProper, isSame, isZero}
-use Rattle.fraction.specs.Laws.{and-both, proper-is}
+use Rattle.fraction.specs.Exact.{Proper, noLower, noUpper, isProper, isSame, isZero, noFigure}
+use Rattle.fraction.specs.Laws.{and-both, proper-is, never}
 use Rattle.fraction.specs.Value.{same-is}
 use Rattle.network.specs.declared.Arc.{Arc}
 use Rattle.network.specs.declared.Net.{Net}
-use Rattle.network.specs.Network.{noFigure, noArc, emptyNet, arcAt, supplyAt, isHere, isNumber, isRoot, withArc, withSupply, withNode}
+use Rattle.network.specs.Network.{noArc, emptyNet, arcAt, supplyAt, isHere, isNumber, isRoot, withArc, withSupply, withNode}
 use Rattle.network.specs.Record.{figureAt, figures, roleOf, isPermitted, isInForm, endOf, isEnd, hasEnds, arcIn, isWeighted, isWeightedAt, askedOf, nodeTurn, arcTurn, netOf, readOf}
 use Rattle.network.specs.Legal.{Bound, LegalArc, Legal}
 use Rattle.network.specs.declared.record.Asked.the-variants.{Go}
 use Rattle.network.proofs.Questions.{Sized, Formed, sizes-go, asked-go}
-use Rattle.network.proofs.Laws.{never}
 
 -- ---- f 0, f 1, .., f (m - 1) at the numbers 1 to m of a list
 

@@ -12,16 +12,15 @@ use borrow.Author.Tests.{lt-ltb, ltb-true, ltb-false, le-leb, lt-leb, leb-true, 
 use Rattle.loops.specs.Loops.{upto, tally, count}
 use Rattle.loops.proofs.Laws.{upto-keeps, count-le, count-mono, count-under, count-shift, count-some}
 use Rattle.fraction.specs.declared.Fraction.{Fraction}
-use Rattle.fraction.specs.Exact.{Proper}
-use Rattle.fraction.specs.Laws.{and-both}
+use Rattle.fraction.specs.Exact.{Proper, noFigure}
+use Rattle.fraction.specs.Laws.{and-both, never}
 use Rattle.network.specs.declared.Arc.{Arc}
 use Rattle.network.specs.declared.Net.{Net}
-use Rattle.network.specs.Network.{noFigure, noArc, emptyNet, arcAt, supplyAt, isHere, isRoot, withArc, withSupply, withNode}
+use Rattle.network.specs.Network.{noArc, emptyNet, arcAt, supplyAt, isHere, isRoot, withArc, withSupply, withNode}
 use Rattle.network.specs.Output.{rankOf, renumbered, withSizes, behindNodes, behindArcs, packNode, packArc, packedOf}
 use Rattle.network.specs.Legal.{LegalArc, Legal}
 use Rattle.network.proofs.Legal.{number, getD-all}
 use Rattle.network.proofs.Kept.{here-number, moved, arc-kept}
-use Rattle.network.proofs.Laws.{never}
 
 -- ---- new numbers
 

@@ -19,7 +19,7 @@ use Rattle.network.specs.declared.record.Size.{Size}
 use Rattle.network.specs.declared.record.Size.the-variants.{Is, Off}
 use Rattle.network.specs.declared.record.Asked.{Asked}
 use Rattle.network.specs.declared.record.Asked.the-variants.{Go, No}
-use Rattle.network.proofs.Laws.{never}
+use Rattle.fraction.specs.Laws.{never}
 
 -- ---- a word that was read, with its sign
 

@@ -2,4 +2,5 @@ pub mod Network
 pub mod Record
 pub mod Output
 pub mod Legal
+pub mod Program
 pub mod Examples

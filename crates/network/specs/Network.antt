@@ -2,11 +2,10 @@
 use mathlib.Core.Bool.{Bool, true, false, cond, _||_, _&&_}
 use Prim.Native.Nat.{ℕ, zero, suc, _+_, _-_}
 use lib.Dec.{eqb, leb}
-use lib.IntN.{pos}
 use lib.ListN.{getD, set, replicate}
 use Rattle.loops.specs.Loops.{count, scan}
 use Rattle.fraction.specs.declared.Fraction.{Fraction}
-use Rattle.fraction.specs.Exact.{over}
+use Rattle.fraction.specs.Exact.{noFigure}
 use Rattle.network.specs.declared.Arc.{Arc}
 use Rattle.network.specs.declared.Net.{Net}
 use Rattle.network.specs.declared.Put.{Put}
@@ -17,9 +16,6 @@ use Rattle.network.specs.declared.Kind.the-variants.{Passes, NoFlow, Cha
 use Rattle.network.specs.declared.Tried.{Tried}
 
 -- what stands where there is nothing: every number is 0
-abbrev pub noFigure : Fraction
-noFigure = over (pos 0) 0
-
 abbrev pub noArc : Arc
 noArc = record { from = 0; to = 0; cost = noFigure; lower = noFigure; upper = noFigure; a = noFigure; b = noFigure }
 

@@ -1,6 +1,7 @@
 // A network (01, "The problem and its figures") as a reduction works on it, its record read and written.
 ghost use mathlib.Core.Path.{_≡_};
-ghost use Rattle.network.specs.Network.{noFigure, noArc, emptyNet, arcAt, supplyAt, isHere, withArc, withSupply, setHere, withNode, without, withPut, withLevel, applied};
+ghost use Rattle.fraction.specs.Exact.{noFigure};
+ghost use Rattle.network.specs.Network.{noArc, emptyNet, arcAt, supplyAt, isHere, withArc, withSupply, setHere, withNode, without, withPut, withLevel, applied};
 ghost use Rattle.network.specs.Network.{isTouching, degreeOf, touchingAfter, isRoot, farEnd, sideOf, noPut, noLevel, noChange, changeOne, passed, refuted, changed};
 use fraction::Fraction;
 

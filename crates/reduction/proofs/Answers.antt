@@ -14,9 +14,9 @@ use borrow.Author.Tests.{leb-true, le-leb, not-true, eqb-true, eqb-false, ltb-tr
 use Rattle.fraction.specs.declared.Fraction.{Fraction}
 use Rattle.fraction.specs.declared.Worked.{Worked}
 use Rattle.fraction.specs.declared.Worked.the-variants.{Fits, Misfit}
-use Rattle.fraction.specs.Exact.{isLess, isSame, isZero}
-use Rattle.fraction.specs.Formula.{_⊘_}
-use Rattle.fraction.specs.Laws.{and-both}
+use Rattle.fraction.specs.Exact.{isLess, isSame, isZero, isFinite}
+use Rattle.fraction.specs.Formula.{_⊘_, isFit}
+use Rattle.fraction.specs.Laws.{and-both, never}
 use Rattle.loops.specs.Loops.{tally, count}
 use Rattle.network.specs.declared.Arc.{Arc}
 use Rattle.network.specs.declared.Net.{Net}
@@ -31,8 +31,7 @@ use Rattle.network.specs.Legal.{Legal}
 use Rattle.network.proofs.Kept.{here-number, used-number, touching-used}
 use Rattle.reduction.specs.declared.figures.Made.{Made}
 use Rattle.reduction.specs.declared.crossing.Four.{Four}
-use Rattle.reduction.specs.Rules.{droppedOf, atFlow, closedBy, closedArc, ruleOne, bareBy, bareNode, ruleTwo, singleIn, singleBy, singleArc, singleWhere, ruleThree, isFinite, isCandidate, costlyWith, costlyBy, hasPair, ruleFour, isFit, farSupply, keptOf, mergedBy, twoArcs, apartBy, keepFirst, keepBy, keepOne, twoWhere, ruleFive, putOf, signedAfter, allFree, allApart, fourOf, fourFit, crossingWith, crossingAt, withThree, withTwo, withOne, crossingBy, crossingOf, bothBy, bothSigns, signsOf, crossingWhere, ruleSix, noRule, whereHere, nodeRule, ruleAt}
-use Rattle.network.proofs.Laws.{never}
+use Rattle.reduction.specs.Rules.{droppedOf, atFlow, closedBy, closedArc, ruleOne, bareBy, bareNode, ruleTwo, singleIn, singleBy, singleArc, singleWhere, ruleThree, isCandidate, costlyWith, costlyBy, hasPair, ruleFour, farSupply, keptOf, mergedBy, twoArcs, apartBy, keepFirst, keepBy, keepOne, twoWhere, ruleFive, putOf, signedAfter, allFree, allApart, fourOf, fourFit, crossingWith, crossingAt, withThree, withTwo, withOne, crossingBy, crossingOf, bothBy, bothSigns, signsOf, crossingWhere, ruleSix, noRule, whereHere, nodeRule, ruleAt}
 use Rattle.reduction.proofs.Touch.{unlike, First, touches, touching-first}
 
 -- ---- the nodes and arcs that are left

@@ -9,20 +9,19 @@ use borrow.Author.Tests.{eq-eqb, ne-eqb}
 use Rattle.fraction.specs.declared.Fraction.{Fraction}
 use Rattle.fraction.specs.declared.Worked.{Worked}
 use Rattle.fraction.specs.declared.Worked.the-variants.{Fits, Misfit}
-use Rattle.fraction.specs.Exact.{Proper, zeroFraction, noLower, noUpper, isZero, isLess}
-use Rattle.fraction.specs.Laws.{and-both}
+use Rattle.fraction.specs.Exact.{Proper, zeroFraction, noLower, noUpper, isZero, isLess, isFinite}
+use Rattle.fraction.specs.Laws.{and-both, never}
 use Rattle.fraction.specs.Value.{is-same}
-use Rattle.fraction.specs.Formula.{_⊖_, _⊗_, _⊘_, ⊝_}
+use Rattle.fraction.specs.Formula.{_⊖_, _⊗_, _⊘_, ⊝_, isFit, figureOf}
 use Rattle.network.specs.declared.Arc.{Arc}
 use Rattle.network.specs.declared.Net.{Net}
 use Rattle.network.specs.declared.Side.{Side}
 use Rattle.network.specs.Network.{isHere, isTouching, isRoot}
 use Rattle.network.specs.Legal.{LegalArc, Legal, Bound}
 use Rattle.network.proofs.Kept.{here-number}
-use Rattle.reduction.specs.Rules.{isFit, figureOf, isFinite, farMultiplier, keptCost, boundFrom, tighterLower, tighterUpper, keptLower, keptUpper, lowerSource, upperSource, keptOf, crossedSides}
-use Rattle.reduction.proofs.Worked.{zero-proper, Unvanishing, unvanishing, times-unvanishing, over-unvanishing, negated-unvanishing, plus-fits, minus-fits, over-fits}
+use Rattle.reduction.specs.Rules.{farMultiplier, keptCost, boundFrom, tighterLower, tighterUpper, keptLower, keptUpper, lowerSource, upperSource, keptOf, crossedSides}
+use Rattle.fraction.specs.Worked.{zero-proper, Unvanishing, unvanishing, times-unvanishing, over-unvanishing, negated-unvanishing, plus-fits, minus-fits, over-fits}
 use Rattle.reduction.proofs.Sides.{Near, Far}
-use Rattle.network.proofs.Laws.{never}
 
 -- an arc that may take the place of one that touched node i
 pub record Replaces (net : Net) (i : ℕ) (t : Arc) : Type 0 where

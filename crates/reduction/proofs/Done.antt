@@ -11,7 +11,7 @@ use native.Mathlib.Omega.{arith}
 use lib.Dec.{leb}
 use lib.IntN.{ℤ}
 use borrow.Author.Tests.{le-leb, lt-ltb}
-use Rattle.fraction.specs.Laws.{and-both}
+use Rattle.fraction.specs.Laws.{and-both, never}
 use Rattle.loops.specs.Loops.{count, runs}
 use Rattle.loops.proofs.Laws.{all-each, count-but-first, runs-keeps, runs-done-in}
 use Rattle.network.specs.declared.Net.{Net}
@@ -27,7 +27,6 @@ use Rattle.reduction.specs.Rules.{ruleAt}
 use Rattle.reduction.specs.declared.search.Step.{Step}
 use Rattle.reduction.specs.declared.search.Ran.{Ran}
 use Rattle.reduction.specs.Search.{nextOf, started, stepped, moved, moveOf, ranOf}
-use Rattle.network.proofs.Laws.{never}
 use Rattle.reduction.proofs.Kept.{next-kept}
 use Rattle.reduction.proofs.Order.{NoneApplies, next-none, next-first}
 use Rattle.reduction.proofs.Answers.{hasArc, leftOf, Fewer, Shown, no-flow-shown, change-fewer}

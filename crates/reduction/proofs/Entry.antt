@@ -10,7 +10,7 @@ use Rattle.network.specs.declared.record.Asked.{Asked}
 use Rattle.network.specs.declared.record.Asked.the-variants.{Go, No}
 use Rattle.network.specs.Record.{askedOf, readOf}
 use Rattle.network.specs.Legal.{Legal}
-use Rattle.network.proofs.Laws.{never}
+use Rattle.fraction.specs.Laws.{never}
 use Rattle.network.proofs.Legal.{read-legal, read-is}
 use Rattle.reduction.specs.declared.Answer.{Answer}
 use Rattle.reduction.specs.declared.Answer.the-variants.{Reduced, NoFlow, Refused}

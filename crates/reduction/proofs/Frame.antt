@@ -16,7 +16,7 @@ use Rattle.network.specs.declared.Change.{Change}
 use Rattle.network.specs.Network.{noArc, arcAt, isNumber, isTouching, withArc, withSupply, without, withPut, withLevel, applied}
 use Rattle.network.specs.Legal.{Legal, MayPut}
 use Rattle.network.proofs.Kept.{used-number, touching-used, moved, arc-kept, supply-kept, node-kept}
-use Rattle.network.proofs.Laws.{never}
+use Rattle.fraction.specs.Laws.{never}
 
 -- what may be put at a number where node `gone` is dropped: no arc, or a legal one that does not touch it
 pub record Puts (net : Net) (gone : ℕ) (p : Put) : Type 0 where

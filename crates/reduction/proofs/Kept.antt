@@ -12,9 +12,9 @@ use Rattle.loops.proofs.Laws.{scan-each, runs-keeps}
 use Rattle.fraction.specs.declared.Fraction.{Fraction}
 use Rattle.fraction.specs.declared.Worked.{Worked}
 use Rattle.fraction.specs.declared.Worked.the-variants.{Fits, Misfit}
-use Rattle.fraction.specs.Exact.{Proper, isZero, isLess, isSame}
-use Rattle.fraction.specs.Laws.{and-both}
-use Rattle.fraction.specs.Formula.{_⊖_, _⊗_, _⊘_}
+use Rattle.fraction.specs.Exact.{Proper, isZero, isLess, isSame, noFigure}
+use Rattle.fraction.specs.Laws.{and-both, never}
+use Rattle.fraction.specs.Formula.{_⊖_, _⊗_, _⊘_, isFit}
 use Rattle.network.specs.declared.Arc.{Arc}
 use Rattle.network.specs.declared.Net.{Net}
 use Rattle.network.specs.declared.Side.{Side}
@@ -22,20 +22,19 @@ use Rattle.network.specs.declared.Level.{Level}
 use Rattle.network.specs.declared.Kind.{Kind}
 use Rattle.network.specs.declared.Kind.the-variants.{Passes, NoFlow, Changes}
 use Rattle.network.specs.declared.Tried.{Tried}
-use Rattle.network.specs.Network.{noFigure, noArc, arcAt, supplyAt, isHere, degreeOf, isTouching, touchingAfter, isRoot, farEnd, sideOf, noLevel, passed, refuted, changeOne, applied}
+use Rattle.network.specs.Network.{noArc, arcAt, supplyAt, isHere, degreeOf, isTouching, touchingAfter, isRoot, farEnd, sideOf, noLevel, passed, refuted, changeOne, applied}
 use Rattle.network.specs.Legal.{LegalArc, Legal}
 use Rattle.network.proofs.Kept.{here-number, touching-used}
-use Rattle.reduction.specs.Rules.{supplyLess, droppedOf, atFlow, closedBy, closedArc, ruleOne, costlyBy, ruleFour, isCandidate, hasPair, bareBy, bareNode, ruleTwo, singleIn, singleBy, singleArc, singleWhere, ruleThree, isFit, farSupply, keptOf, mergedBy, twoArcs, apartBy, keepFirst, keepBy, keepOne, twoWhere, ruleFive, signedAfter, isFree, isApart, crossedOf, allFree, allApart, putOf, fourOf, fourFit, crossingWith, crossingAt, withThree, withTwo, withOne, crossingBy, crossingOf, bothBy, bothSigns, signsOf, crossingWhere, ruleSix, noRule, whereHere, ofNodes, nodeRule, ruleAt}
+use Rattle.reduction.specs.Rules.{supplyLess, droppedOf, atFlow, closedBy, closedArc, ruleOne, costlyBy, ruleFour, isCandidate, hasPair, bareBy, bareNode, ruleTwo, singleIn, singleBy, singleArc, singleWhere, ruleThree, farSupply, keptOf, mergedBy, twoArcs, apartBy, keepFirst, keepBy, keepOne, twoWhere, ruleFive, signedAfter, isFree, isApart, crossedOf, allFree, allApart, putOf, fourOf, fourFit, crossingWith, crossingAt, withThree, withTwo, withOne, crossingBy, crossingOf, bothBy, bothSigns, signsOf, crossingWhere, ruleSix, noRule, whereHere, ofNodes, nodeRule, ruleAt}
 use Rattle.reduction.specs.Search.{noStep, stepAt, orOn, orElse, lastPlace, ranked, nextOf, started, stepped, moved, moveOf, ranOf}
 use Rattle.reduction.specs.declared.search.Ran.{Ran}
 use Rattle.reduction.specs.declared.search.Step.{Step}
 use Rattle.reduction.specs.declared.crossing.Four.{Four}
 use Rattle.reduction.specs.declared.figures.Made.{Made}
-use Rattle.reduction.proofs.Worked.{minus-fits}
+use Rattle.fraction.specs.Worked.{minus-fits}
 use Rattle.reduction.proofs.Frame.{Puts, Levels, framed-kept}
 use Rattle.reduction.proofs.Sides.{Near, Far, near, far, no-far}
 use Rattle.reduction.proofs.Arcs.{Replaces, MayFar, four-and, fit-is, kept-replaces, crossed-replaces}
-use Rattle.network.proofs.Laws.{never}
 use Rattle.reduction.proofs.Touch.{Two, Four as All, At, touches, Numbered, legal-numbered, none-touching, one-touching, two-touching, four-touching, two-signs, signed-first}
 
 -- the change of an answer keeps the network legal

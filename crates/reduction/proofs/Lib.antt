@@ -1,6 +1,5 @@
 pub mod RunLaws
 pub mod Touch
-pub mod Worked
 pub mod Frame
 pub mod Sides
 pub mod Arcs

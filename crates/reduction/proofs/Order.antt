@@ -12,7 +12,7 @@ use Rattle.network.specs.declared.Kind.the-variants.{Passes, NoFlow, Changes}
 use Rattle.reduction.specs.Rules.{ruleAt}
 use Rattle.reduction.specs.declared.search.Step.{Step}
 use Rattle.reduction.specs.Search.{noStep, answered, stepAt, orOn, orElse, lastPlace, ranked, nextOf}
-use Rattle.network.proofs.Laws.{never}
+use Rattle.fraction.specs.Laws.{never}
 
 -- ---- the first answer among those at lo, .., lo + c - 1
 

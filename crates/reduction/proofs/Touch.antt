@@ -13,9 +13,8 @@ use lib.ListN.{List·getD-eq-default, length}
 use borrow.Author.Tests.{ltb-true, ltb-false, lt-ltb, le-ltb, eqb-true, eqb-false, eq-eqb, ne-eqb}
 use Rattle.fraction.specs.declared.Fraction.{Fraction}
 use Rattle.fraction.specs.Exact.{isLess}
-use Rattle.fraction.specs.Laws.{and-both}
+use Rattle.fraction.specs.Laws.{and-both, never}
 use Rattle.loops.specs.Loops.{tally, count, scan}
-use Rattle.network.proofs.Laws.{never}
 use Rattle.loops.proofs.Laws.{count-same}
 use Rattle.network.specs.declared.Net.{Net}
 use Rattle.network.specs.Network.{noArc, arcAt, isTouching, degreeOf, orNext, touchingAfter, sideOf}

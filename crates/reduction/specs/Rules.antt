@@ -6,32 +6,19 @@ use Rattle.loops.specs.Loops.{any, scan}
 use Rattle.fraction.specs.declared.Fraction.{Fraction}
 use Rattle.fraction.specs.declared.Worked.{Worked}
 use Rattle.fraction.specs.declared.Worked.the-variants.{Fits, Misfit}
-use Rattle.fraction.specs.Exact.{zeroFraction, noUpper, isZero, isLess, isSame}
-use Rattle.fraction.specs.Formula.{_⊕_, _⊖_, _⊗_, _⊘_, ⊝_}
+use Rattle.fraction.specs.Exact.{zeroFraction, noUpper, isFinite, isZero, isLess, isSame, noFigure}
+use Rattle.fraction.specs.Formula.{isFit, figureOf, _⊕_, _⊖_, _⊗_, _⊘_, ⊝_}
 use Rattle.network.specs.declared.Arc.{Arc}
 use Rattle.network.specs.declared.Net.{Net}
 use Rattle.network.specs.declared.Side.{Side}
 use Rattle.network.specs.declared.Put.{Put}
 use Rattle.network.specs.declared.Change.{Change}
 use Rattle.network.specs.declared.Tried.{Tried}
-use Rattle.network.specs.Network.{noFigure, noArc, arcAt, supplyAt, isHere, degreeOf, isTouching, touchingAfter, orNext, isRoot, farEnd, sideOf, noPut, noLevel, passed, refuted, changed, changeOne}
+use Rattle.network.specs.Network.{noArc, arcAt, supplyAt, isHere, degreeOf, isTouching, touchingAfter, orNext, isRoot, farEnd, sideOf, noPut, noLevel, passed, refuted, changed, changeOne}
 use Rattle.reduction.specs.declared.figures.Made.{Made}
 use Rattle.reduction.specs.declared.crossing.Four.{Four}
 
 -- ---- figures
-
--- a formula's result: whether it fits, and the figure; none where it doesn't
-abbrev pub isFit : Worked → Bool
-isFit (Fits x) = true
-isFit Misfit = false
-
-abbrev pub figureOf : Worked → Fraction
-figureOf (Fits x) = x
-figureOf Misfit = noFigure
-
--- a bound that is no mark
-unfoldable pub isFinite : Fraction → Bool
-isFinite z = not (eqb (z .den) 0)
 
 -- a result that fits and is above 0; one that fits and is below c
 abbrev pub isPositive : Worked → Bool

@@ -1,6 +1,8 @@
 // Figures of the rules, and an arc that is dropped at a known flow.
 ghost use mathlib.Core.Path.{_≡_};
-ghost use Rattle.reduction.specs.Rules.{isFit, figureOf, isFinite, isPositive, isUnder, larger as largerOf, smaller as smallerOf, supplyLess, droppedOf, atFlow};
+ghost use Rattle.fraction.specs.Formula.{isFit, figureOf};
+ghost use Rattle.fraction.specs.Exact.{isFinite};
+ghost use Rattle.reduction.specs.Rules.{isPositive, isUnder, larger as largerOf, smaller as smallerOf, supplyLess, droppedOf, atFlow};
 use fraction::Fraction;
 use fraction::Worked;
 use network::Arc;

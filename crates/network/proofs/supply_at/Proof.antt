@@ -1,6 +1,6 @@
 -- `network::supply_at` meets its contract. Assumes nothing.
 use Rattle.network.proofs.Laws.{length-mapped}
-use Rattle.network.specs.Network.{noFigure}
+use Rattle.fraction.specs.Exact.{noFigure}
 use borrow.Author.Needs.{needs}
 use lib.ListN.{List·getD-eq-default, length}
 use mathlib.Core.Path.{_≡_}

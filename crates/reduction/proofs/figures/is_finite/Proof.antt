@@ -1,5 +1,5 @@
 -- `reduction::figures::is_finite` meets its contract. Assumes nothing.
-use Rattle.reduction.specs.Rules.{isFinite}
+use Rattle.fraction.specs.Exact.{isFinite}
 use mathlib.Core.Path.{refl}
 use Rattle.reduction.proofs.figures.is_finite.Statement.{statement}
 use Rattle.reduction.proofs.figures.is_finite.Tie as tie

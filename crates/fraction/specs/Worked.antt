@@ -12,14 +12,13 @@ use Rattle.algebra.specs.Solver.{_:*_, :neg, :0, _:=_, ring1}
 use Rattle.algebra.specs.Rat.{ℚ, ℚ-ring, _+ℚ_, _*ℚ_, -ℚ_, invℚ, 0ℚ, mulℚ-inv, one≢zeroℚ}
 use Rattle.algebra.specs.Frac.{frac-int, frac-exact}
 use Rattle.algebra.specs.Inverse.{mul-ne}
 use Rattle.fraction.specs.declared.Fraction.{Fraction}
 use Rattle.fraction.specs.declared.Worked.{Worked}
 use Rattle.fraction.specs.declared.Worked.the-variants.{Fits, Misfit}
 use Rattle.fraction.specs.Exact.{Operand, Proper, zeroFraction, isOperand, isProper, isZero, andThen, sumOf, differenceOf, productOf, quotientOf, negationOf, reciprocalOf}
-use Rattle.fraction.specs.Laws.{operand-is, operands-are, proper-is}
+use Rattle.fraction.specs.Laws.{never, operand-is, operands-are, proper-is}
 use Rattle.fraction.specs.Value.{value, Works, minus, minus-operand, minus-value, negation-is, sum-works, product-works, quotient-works, quotient-by-zero, zero-value, value-unique, same-is, is-same}
 use Rattle.fraction.specs.Formula.{worked, pairOf, _⊕_, _⊖_, _⊗_, _⊘_, ⊝_}
-use Rattle.network.proofs.Laws.{never}
 
 -- ---- zero
 

@@ -1,0 +1,38 @@
+-- A network in exact numbers: the linear program over ℚ that 01, "The problem and its figures", says. Nodes are its rows and arcs its columns, at their numbers. Assumes nothing.
+use mathlib.Core.Bool.{cond, not}
+use mathlib.Core.Option.{Option, some, none}
+use Prim.Native.Nat.{ℕ}
+use lib.Dec.{eqb}
+use Rattle.algebra.specs.Rat.{ℚ, 0ℚ}
+use Rattle.presolve.specs.LP.{LP}
+use Rattle.presolve.specs.Net.{Working, lpOf}
+use Rattle.presolve.specs.Net as Exact
+use Rattle.fraction.specs.declared.Fraction.{Fraction}
+use Rattle.fraction.specs.Exact.{isFinite}
+use Rattle.fraction.specs.Value.{value}
+use Rattle.network.specs.declared.Arc.{Arc}
+use Rattle.network.specs.declared.Net.{Net}
+use Rattle.network.specs.Network.{arcAt, supplyAt, isHere}
+
+-- a bound; none where it is a mark
+unfoldable pub boundOf : Fraction → Option ℚ
+boundOf z = cond (isFinite z) (some (value z)) none
+
+abbrev pub exactArc : Arc → Exact.Arc
+exactArc t = record { from = t .from; to = t .to; cost = value (t .cost); lower = boundOf (t .lower); upper = boundOf (t .upper); a = value (t .a); b = value (t .b) }
+
+-- numbers below 33 are the places of nodes, and below 97 those of arcs; which of them are in use
+unfoldable pub exactOf : Net → Working
+exactOf net =
+    record {
+      n = 33;
+      m = 97;
+      node? = isHere net;
+      arc? = λ j. not (eqb (arcAt net j .from) 0);
+      constant = 0ℚ;
+      supply = λ i. value (supplyAt net i);
+      arc = λ j. exactArc (arcAt net j);
+    }
+
+abbrev pub programOf : Net → LP
+programOf net = lpOf (exactOf net)

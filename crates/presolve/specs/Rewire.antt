@@ -1,0 +1,201 @@
+-- A step at a node, between two working networks: the node is dropped, a few named arcs are changed or dropped, one supply and the constant shift. So are rules 5 and 6.
+use mathlib.Core.Path.{_≡_, refl, sym, _∙_, ap, ap₂, subst}
+use mathlib.Core.Logic.{_⊎_, inl, inr}
+use mathlib.Core.List.{List, [], _∷_, List·Memᴰ}
+use mathlib.Core.Option.{Option, none, some}
+use Prim.Native.Nat.{ℕ, _<_ as _<ⁿ_}
+use native.Mathlib.Decide.{ℕ-discrete}
+use lib.Dec.{T}
+use Rattle.algebra.specs.Ring.{combo, combo2}
+use Rattle.algebra.specs.Solver.{_:+_, _:*_, _:-_, :neg, :0, :1, _:=_, ring1, ring2, ring3}
+use Rattle.algebra.specs.Rat.{ℚ, ℚ-ring, _+ℚ_ as _+_, _*ℚ_ as _*_, -ℚ_ as -_, _≤ℚ_ as _≤_, 0ℚ as 𝟘, 1ℚ as 𝟙, invℚ as inv, mulℚ-inv as mul-inv, addℚ-zero as add-zero}
+use Rattle.algebra.specs.Order.{_<_}
+use Rattle.algebra.specs.Sum.{Absent, step, only, range, range-once, range-mem}
+use Rattle.algebra.specs.Sum as Sum
+use Rattle.presolve.specs.Named.{Distinct, Perm, named?, absent-mem}
+use Rattle.presolve.specs.LP.{Column}
+use Rattle.presolve.specs.Price.{Ends, only-zero, only-scale}
+use Rattle.presolve.specs.Spoke.{Side, plus, minus, sgn, Spoke, SpokeAt, Through, through-flip}
+use Rattle.presolve.specs.TwoArcs.{NewBounds, TwoArcs}
+use Rattle.presolve.specs.Junction.{Open}
+use Rattle.presolve.specs.Crossing.{four, Crossing, crossing-arc}
+use Rattle.presolve.specs.Net.{Sane, Legal, gone-out, touch, Arc, Working, column, columnAt, rhsAt, lpOf, column-in, rhs-in, rhs-out, column-same, rhs-less}
+
+-- `far` loses v, the constant gains `gain`
+pub record Rewired (w w′ : Working) (i : ℕ) (names : List ℕ) (far : ℕ) (v gain : ℚ) : Type 0 where
+  pub n-same : w′ .n ≡ w .n
+  pub m-same : w′ .m ≡ w .m
+  pub node-in : T (w .node? i)
+  pub node-out : ¬ (T (w′ .node? i))
+  pub nodes : (s : ℕ) → s <ⁿ w .n → ¬ (s ≡ i) → w′ .node? s ≡ w .node? s
+  pub far-in : T (w .node? far) ⊎ (v ≡ 𝟘)
+  pub supplies : (s : ℕ) → s <ⁿ w .n → ¬ (s ≡ i) → T (w .node? s) → w′ .supply s ≡ w .supply s + - only far v s
+  pub arcs-in : (c : ℕ) → c <ⁿ w .m → Absent c names → w′ .arc? c ≡ w .arc? c
+  pub arcs : (c : ℕ) → c <ⁿ w .m → Absent c names → w′ .arc c ≡ w .arc c
+  pub constants : w′ .constant ≡ w .constant + gain
+
+module _ {w w′ : Working} {i : ℕ} {names : List ℕ} {far : ℕ} {v gain : ℚ} (R : Rewired w w′ i names far v gain) where
+  pub same-of : (c : ℕ) → List·Memᴰ c (range (w .m)) → Absent c names → columnAt w′ c ≡ columnAt w c
+  same-of c m a = column-same w w′ c (R .arcs-in c (range-mem c (w .m) m) a) (R .arcs c (range-mem c (w .m) m) a)
+
+  pub rhs-i-of : rhsAt w′ i ≡ 𝟘
+  rhs-i-of = rhs-out w′ i (R .node-out)
+
+  pub rhs-of : (s : ℕ) → List·Memᴰ s (range (w .n)) → ¬ (s ≡ i) → rhsAt w′ s ≡ rhsAt w s + - only far v s
+  rhs-of s m n = rhs-less w w′ far s v (R .far-in) (R .nodes s (range-mem s (w .n) m) n) (R .supplies s (range-mem s (w .n) m) n)
+
+-- a new arc of rule 6
+abbrev pub cross-arc : Working → Spoke → Spoke → Arc
+cross-arc w n p = record { from = n .far; to = p .far; cost = - (w .arc (n .arc) .cost * inv (n .e)) + w .arc (p .arc) .cost * inv (p .e); lower = some 𝟘; upper = none; a = - (n .o * inv (n .e)); b = p .o * inv (p .e) }
+
+-- an arc that is in and lies between 0 and no bound
+pub record OpenArc (w : Working) (c : ℕ) : Type 0 where
+  pub is-in : T (w .arc? c)
+  pub lower-0 : w .arc c .lower ≡ some 𝟘
+  pub free : w .arc c .upper ≡ none
+
+pub open-of : (w : Working) (c : ℕ) → OpenArc w c → Open (columnAt w c)
+open-of w c O = record { lower-0 = ap (λ t. t .lower) (column-in w c (O .is-in)) ∙ O .lower-0; free = ap (λ t. t .upper) (column-in w c (O .is-in)) ∙ O .free }
+
+-- RULE 6 between two working networks
+pub crossing-of : (w w′ : Working) (i : ℕ) (n₁ n₂ p₁ p₂ : Spoke) (k₁₁ k₁₂ k₂₁ k₂₂ : ℕ)
+    → Rewired w w′ i (four (p₁ .arc) (p₂ .arc) (n₁ .arc) (n₂ .arc)) i 𝟘 𝟘
+    → i <ⁿ w .n → w .supply i ≡ 𝟘
+    → SpokeAt (lpOf w) i n₁ → SpokeAt (lpOf w) i n₂ → SpokeAt (lpOf w) i p₁ → SpokeAt (lpOf w) i p₂
+    → n₁ .e < 𝟘 → n₂ .e < 𝟘 → 𝟘 < p₁ .e → 𝟘 < p₂ .e
+    → OpenArc w (n₁ .arc) → OpenArc w (n₂ .arc) → OpenArc w (p₁ .arc) → OpenArc w (p₂ .arc)
+    → Distinct (four (p₁ .arc) (p₂ .arc) (n₁ .arc) (n₂ .arc))
+    → ((c : ℕ) → List·Memᴰ c (range (w .m)) → Absent c (four (p₁ .arc) (p₂ .arc) (n₁ .arc) (n₂ .arc)) → columnAt w c .coef i ≡ 𝟘)
+    → Perm (four (p₁ .arc) (p₂ .arc) (n₁ .arc) (n₂ .arc)) (four k₁₁ k₁₂ k₂₁ k₂₂)
+    → T (w′ .arc? k₁₁) → T (w′ .arc? k₁₂) → T (w′ .arc? k₂₁) → T (w′ .arc? k₂₂)
+    → w′ .arc k₁₁ ≡ cross-arc w n₁ p₁ → w′ .arc k₁₂ ≡ cross-arc w n₁ p₂ → w′ .arc k₂₁ ≡ cross-arc w n₂ p₁ → w′ .arc k₂₂ ≡ cross-arc w n₂ p₂
+    → Crossing (lpOf w) (lpOf w′) i n₁ n₂ p₁ p₂ k₁₁ k₁₂ k₂₁ k₂₂
+crossing-of w w′ i n₁ n₂ p₁ p₂ k₁₁ k₁₂ k₂₁ k₂₂ R hi z N₁ N₂ P₁ P₂ sn₁ sn₂ sp₁ sp₂ on₁ on₂ op₁ op₂ d alone perm t₁₁ t₁₂ t₂₁ t₂₂ e₁₁ e₁₂ e₂₁ e₂₂ = record {
+  listed-i = range-once i (w .n) hi;
+  no-supply = rhs-in w i (R .node-in) ∙ z;
+  at-n₁ = N₁;
+  at-n₂ = N₂;
+  at-p₁ = P₁;
+  at-p₂ = P₂;
+  neg₁ = sn₁;
+  neg₂ = sn₂;
+  pos₁ = sp₁;
+  pos₂ = sp₂;
+  open-n₁ = open-of w (n₁ .arc) on₁;
+  open-n₂ = open-of w (n₂ .arc) on₂;
+  open-p₁ = open-of w (p₁ .arc) op₁;
+  open-p₂ = open-of w (p₂ .arc) op₂;
+  different = d;
+  alone = alone;
+  rows-same = ap range (R .n-same);
+  cols-same = ap range (R .m-same);
+  renumbered = perm;
+  same = same-of R;
+  new₁₁ = through n₁ p₁ on₁ op₁ k₁₁ t₁₁ e₁₁;
+  new₁₂ = through n₁ p₂ on₁ op₂ k₁₂ t₁₂ e₁₂;
+  new₂₁ = through n₂ p₁ on₂ op₁ k₂₁ t₂₁ e₂₁;
+  new₂₂ = through n₂ p₂ on₂ op₂ k₂₂ t₂₂ e₂₂;
+  open₁₁ = opened n₁ p₁ k₁₁ t₁₁ e₁₁;
+  open₁₂ = opened n₁ p₂ k₁₂ t₁₂ e₁₂;
+  open₂₁ = opened n₂ p₁ k₂₁ t₂₁ e₂₁;
+  open₂₂ = opened n₂ p₂ k₂₂ t₂₂ e₂₂;
+  rhs-is = λ s m. rhs s m (ℕ-discrete s i);
+  constant-is = R .constants ∙ add-zero (w .constant);
+}
+  where
+    new : (n p : Spoke) (k : ℕ) → T (w′ .arc? k) → w′ .arc k ≡ cross-arc w n p → columnAt w′ k ≡ column (cross-arc w n p)
+    new n p k t e = column-in w′ k t ∙ ap column e
+
+    through : (n p : Spoke) → OpenArc w (n .arc) → OpenArc w (p .arc) → (k : ℕ) → T (w′ .arc? k) → w′ .arc k ≡ cross-arc w n p → Through (lpOf w) p n 𝟙 (columnAt w′ k)
+    through n p on op k t e = subst (Through (lpOf w) p n 𝟙) (sym (new n p k t e)) (crossing-arc (lpOf w) n p (column (cross-arc w n p)) (λ s. refl)
+        (ap₂ (λ x y. - (x .cost * inv (n .e)) + y .cost * inv (p .e)) (sym (column-in w (n .arc) (on .is-in))) (sym (column-in w (p .arc) (op .is-in)))))
+
+    opened : (n p : Spoke) (k : ℕ) → T (w′ .arc? k) → w′ .arc k ≡ cross-arc w n p → Open (columnAt w′ k)
+    opened n p k t e = subst Open (sym (new n p k t e)) (record { lower-0 = refl; free = refl })
+
+    rhs : (s : ℕ) → List·Memᴰ s (range (w .n)) → Dec (s ≡ i) → rhsAt w′ s ≡ rhsAt w s
+    rhs s m (yes q) = subst (λ t. rhsAt w′ t ≡ rhsAt w t) (sym q) (rhs-i-of R ∙ sym (rhs-in w i (R .node-in) ∙ z))
+    rhs s m (no n) = rhs-of R s m n ∙ ap (λ t. rhsAt w s + - t) (only-zero i s) ∙ ring1 ℚ-ring (rhsAt w s) (λ r. r :- :0 := r) refl
+
+-- a shift is none where the far end has the multiplier 0
+pub shift-in : (w : Working) (a : Spoke) (r : ℚ) → T (w .node? (a .far)) ⊎ (a .o ≡ 𝟘) → T (w .node? (a .far)) ⊎ (a .o * r * inv (a .e) ≡ 𝟘)
+shift-in w a r (inl t) = inl t
+shift-in w a r (inr z) = inr (ap (λ o. o * r * inv (a .e)) z ∙ ring2 ℚ-ring r (inv (a .e)) (λ r i. :0 :* r :* i := :0) refl)
+
+-- the arc a takes the supply with it: its far end loses o × r ÷ e, the constant gains c × r ÷ e
+abbrev pub Taking : (w w′ : Working) (i : ℕ) (a : Spoke) (names : List ℕ) → Type 0
+Taking w w′ i a names = Rewired w w′ i names (a .far) (a .o * w .supply i * inv (a .e)) (w .arc (a .arc) .cost * w .supply i * inv (a .e))
+
+module _ {w w′ : Working} {i : ℕ} (a : Spoke) {names : List ℕ} (R : Taking w w′ i a names) (t : T (w .arc? (a .arc))) where
+  pub taking-rhs : (s : ℕ) → List·Memᴰ s (range (w .n)) → ¬ (s ≡ i) → rhsAt w′ s ≡ rhsAt w s + - only (a .far) (a .o * rhsAt w i * inv (a .e)) s
+  taking-rhs s m n = rhs-of R s m n ∙ ap (λ r. rhsAt w s + - only (a .far) (a .o * r * inv (a .e)) s) (sym (rhs-in w i (R .node-in)))
+
+  pub taking-constant : w′ .constant ≡ w .constant + columnAt w (a .arc) .cost * rhsAt w i * inv (a .e)
+  taking-constant = R .constants ∙ ap₂ (λ c r. w .constant + c .cost * r * inv (a .e)) (sym (column-in w (a .arc) t)) (sym (rhs-in w i (R .node-in)))
+
+-- RULE 5 between two working networks: k is out, and j's number has the arc e
+pub two-of : (w w′ : Working) (i : ℕ) (j k : Spoke) (e : Arc)
+    → Taking w w′ i k (j .arc ∷ k .arc ∷ [])
+    → i <ⁿ w .n → SpokeAt (lpOf w) i j → SpokeAt (lpOf w) i k → T (w .arc? (j .arc)) → T (w .arc? (k .arc)) → ¬ (j .arc ≡ k .arc)
+    → ((c : ℕ) → List·Memᴰ c (range (w .m)) → Absent c (j .arc ∷ k .arc ∷ []) → columnAt w c .coef i ≡ 𝟘)
+    → T (w′ .arc? (j .arc)) → ¬ (T (w′ .arc? (k .arc))) → w′ .arc (j .arc) ≡ e
+    → Ends (column e) (j .far) (j .o) (k .far) (- (k .o * j .e * inv (k .e))) → e .cost ≡ w .arc (j .arc) .cost + - (w .arc (k .arc) .cost * j .e * inv (k .e))
+    → NewBounds (column (w .arc (j .arc))) (column (w .arc (k .arc))) (column e) (w .supply i) (j .e) (k .e)
+    → TwoArcs (lpOf w) (lpOf w′) i j k
+two-of w w′ i j k e R hi J K tj tk d alone nj nk q E c b = record {
+  listed-i = range-once i (w .n) hi;
+  at-j = J;
+  at-k = K;
+  different = d;
+  alone = λ c m n n′. alone c m (step n (step n′ Sum.none));
+  rows-same = ap range (R .n-same);
+  cols-same = ap range (R .m-same);
+  same = λ c m n n′. same-of R c m (step n (step n′ Sum.none));
+  gone-k = gone-out w′ (k .arc) nk;
+  ends-new = λ s. ap (λ t. t .coef s) new ∙ E s;
+  cost-new = ap (λ t. t .cost) new ∙ c ∙ ap₂ (λ x y. x .cost + - (y .cost * j .e * inv (k .e))) (sym (column-in w (j .arc) tj)) (sym (column-in w (k .arc) tk));
+  bounds-new = rw (column-in w (j .arc) tj, column-in w (k .arc) tk, new, rhs-in w i (R .node-in)) b;
+  rhs-i = rhs-i-of R;
+  rhs-is = taking-rhs k R tk;
+  constant-is = taking-constant k R tk;
+}
+  where
+    new : columnAt w′ (j .arc) ≡ column e
+    new = column-in w′ (j .arc) nj ∙ ap column q
+
+-- ---- what such a step keeps up
+
+-- an arc that is in after the step is legal, and its ends are nodes that are in
+pub record NewArc (w′ : Working) (c : ℕ) : Type 0 where
+  pub legal : Legal (w′ .arc c)
+  pub from-in : (w′ .arc c .from <ⁿ w′ .n) × T (w′ .node? (w′ .arc c .from))
+  pub to-in : (w′ .arc c .to <ⁿ w′ .n) × T (w′ .node? (w′ .arc c .to))
+
+pub sane-of : {w w′ : Working} {i : ℕ} {names : List ℕ} {far : ℕ} {v gain : ℚ} → Sane w → Rewired w w′ i names far v gain
+    → ((c : ℕ) → c <ⁿ w .m → T (w .arc? c) → (w .arc c .from ≡ i) ⊎ (w .arc c .to ≡ i) → List·Memᴰ c names)
+    → ((c : ℕ) → List·Memᴰ c names → T (w′ .arc? c) → NewArc w′ c) → Sane w′
+sane-of {w} {w′} {i} {names} S R all new = record { legal = λ c h k. arc c h k .legal; from-in = λ c h k. arc c h k .from-in; to-in = λ c h k. arc c h k .to-in }
+  where
+    stays : (c : ℕ) → c <ⁿ w .m → Absent c names → T (w′ .arc? c) → NewArc w′ c
+    stays c h a k = let t : T (w .arc? c) = subst T (R .arcs-in c h a) k in record {
+      legal = subst Legal (sym (R .arcs c h a)) (S .legal c h t);
+      from-in = place (w .arc c .from) (w′ .arc c .from) (ap (λ e. e .from) (sym (R .arcs c h a))) (S .from-in c h t) (λ q. absent-mem a (all c h t (inl q)));
+      to-in = place (w .arc c .to) (w′ .arc c .to) (ap (λ e. e .to) (sym (R .arcs c h a))) (S .to-in c h t) (λ q. absent-mem a (all c h t (inr q)));
+    }
+      where
+        place : (u u′ : ℕ) → u ≡ u′ → ((u <ⁿ w .n) × T (w .node? u)) → ¬ (u ≡ i) → (u′ <ⁿ w′ .n) × T (w′ .node? u′)
+        place u u′ q p n = subst (λ t. (t <ⁿ w′ .n) × T (w′ .node? t)) q (subst (λ t. u <ⁿ t) (sym (R .n-same)) (p .0), subst T (sym (R .nodes u (p .0) n)) (p .1))
+
+    arc : (c : ℕ) → c <ⁿ w′ .m → T (w′ .arc? c) → NewArc w′ c
+    arc c h k = go (named? c names)
+      where
+        go : List·Memᴰ c names ⊎ Absent c names → NewArc w′ c
+        go (inl m) = new c m k
+        go (inr a) = stays c (subst (λ t. c <ⁿ t) (R .m-same) h) a k
+
+-- multipliers stay other than 0
+pub quotient-ne : (o e : ℚ) → ¬ (o ≡ 𝟘) → ¬ (e ≡ 𝟘) → ¬ (o * inv e ≡ 𝟘)
+quotient-ne o e ho he z = ho (combo2 ℚ-ring e (- o) z (mul-inv e he) (ring3 ℚ-ring o e (inv e) (λ o e i. o :- :0 := e :* (o :* i :- :0) :+ :neg o :* (e :* i :- :1)) refl))
+
+pub negative-ne : (x : ℚ) → ¬ (x ≡ 𝟘) → ¬ (- x ≡ 𝟘)
+negative-ne x h e = h (combo ℚ-ring (- 𝟙) e (ring1 ℚ-ring x (λ x. x :- :0 := :neg :1 :* (:neg x :- :0)) refl))

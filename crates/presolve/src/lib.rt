@@ -1,0 +1,1 @@
+// The mathematics stands in specs/.
