@@ -4,3 +4,5 @@ pub mod Arrays
 pub mod Legal
 pub mod Kept
 pub mod Packed
+pub mod Sane
+pub mod Ranks

@@ -1,5 +1,5 @@
 -- What is left of a network, numbered from 1, and its record; two parallel arrays, as every record has them (01, "Records"). Assumes nothing.
-use mathlib.Core.Bool.{Bool, true, false, cond, _&&_}
+use mathlib.Core.Bool.{Bool, true, false, cond, not, _&&_}
 use mathlib.Core.List.{List, _∷_, _++_}
 use Prim.Native.Nat.{ℕ, _+_, _-_, _/_, _%_}
 use lib.Dec.{eqb, ltb, leb}
@@ -20,6 +20,13 @@ use Rattle.network.specs.Record.{figures}
 -- the new number of node i: how many nodes up to it are left
 unfoldable pub rankOf : Net → ℕ → ℕ
 rankOf net i = count (λ k. isHere net k && leb k i) 33
+
+-- whether arc j is in use, and its new number
+abbrev pub isUsed : Net → ℕ → Bool
+isUsed net j = not (eqb (arcAt net j .from) 0)
+
+unfoldable pub arcRank : Net → ℕ → ℕ
+arcRank net j = count (λ k. isUsed net k && leb k j) 97
 
 abbrev pub renumbered : Net → Arc → Arc
 renumbered net t = record { from = rankOf net (t .from); to = rankOf net (t .to); cost = t .cost; lower = t .lower; upper = t .upper; a = t .a; b = t .b }
