@@ -6,3 +6,4 @@ pub mod Kept
 pub mod Packed
 pub mod Sane
 pub mod Ranks
+pub mod Survivors

@@ -1,16 +1,16 @@
 -- The numbers below a bound that pass a test, numbered from 1 in their order: how many they are, sums over them, and what stands at each number of a list that they are packed into. Assumes nothing.
 use mathlib.Core.Path.{_≡_, refl, sym, ap, _∙_, subst}
 use mathlib.Core.Bool.{Bool, true, false, cond, _&&_, and-false}
-use mathlib.Core.List.{List, [], _∷_}
+use mathlib.Core.List.{List, [], _∷_, List·Memᴰ, List·Memᴰ·head, List·Memᴰ·tail}
 use mathlib.Core.Logic.{_⊎_, inl, inr, ⊎-elim}
 use Prim.Native.Nat.{ℕ, zero, suc, _+_, _-_, _≤_, _<_}
 use native.Mathlib.Nat.{eq-or-lt-of-le, le-of-suc-le-suc}
 use native.Mathlib.Numerals.{add-one}
 use native.Mathlib.Omega.{arith}
-use lib.Dec.{T, leb}
+use lib.Dec.{T, ltb, leb}
 use lib.ListN.{length, getD, set, length-set}
 use lib.Seq.{getD-set-same, getD-set-other}
-use borrow.Author.Tests.{le-leb, lt-leb}
+use borrow.Author.Tests.{le-leb, lt-leb, ltb-true, ltb-false}
 use Rattle.loops.specs.Loops.{tally, count}
 use Rattle.loops.proofs.Laws.{count-same, count-shift, count-le}
 use Rattle.fraction.specs.Laws.{never}
@@ -66,20 +66,7 @@ module _ (p : ℕ → Bool) where
   pub one-rank : (i j : ℕ) → p i ≡ true → p j ≡ true → count p i ≡ count p j → i ≡ j
   one-rank i j e f q = count-inj p i j (subst T (sym e) tt) (subst T (sym f) tt) (count-is i ∙ q ∙ sym (count-is j))
 
--- the numbers 1 to m alone
-module _ (p : ℕ → Bool) (m : ℕ) (first : p 0 ≡ false) (low : (k : ℕ) → 1 ≤ k → k ≤ m → p k ≡ true) where
-  pub count-run : (i : ℕ) → i ≤ m → count p (suc i) ≡ i
-  unfolding count
-  count-run zero h = rw first
-  count-run (suc i) h = rw (low (suc i) (omega arith) h, count-run i (omega (arith, add-one i))) (add-one i)
-
-  pub count-all : ((k : ℕ) → m < k → p k ≡ false) → (n : ℕ) → m < n → count p n ≡ m
-  unfolding count
-  count-all out zero h = absurd (omega arith)
-  count-all out (suc n) h =
-      ⊎-elim (λ (q : m ≡ n). rw (← q) (count-run m (omega arith))) (λ (l : m < n). rw (out n l) (count-all out n l)) (eq-or-lt-of-le (le-of-suc-le-suc h))
-
--- ---- sums
+-- ---- lists of them
 
 -- m, .., 2, 1
 pub numbers : ℕ → List ℕ
@@ -97,11 +84,41 @@ numbering p rank (suc n) h = by (p n) refl (numbering p rank n (λ i l. h i (ome
         rw add-one (subst (λ (k : ℕ). Numbering p rank (n ∷ range n) (k ∷ numbers (count p n))) r (keep (subst T (sym e) tt) rest))
     by false e rest = drop (λ t. never (let f = sym e ∙ is-true (p n) t in cc)) rest
 
+pub mem-numbers : (m k : ℕ) → 1 ≤ k → k ≤ m → List·Memᴰ k (numbers m)
+unfolding numbers
+mem-numbers zero k a b = absurd (omega arith)
+mem-numbers (suc m) k a b = ⊎-elim (λ (q : k ≡ suc m). List·Memᴰ·head q) (λ (l : k < suc m). List·Memᴰ·tail (mem-numbers m k a (omega (arith, add-one m)))) (eq-or-lt-of-le b)
+
+-- the numbers 1 to m alone
+module _ (p : ℕ → Bool) (m : ℕ) (first : p 0 ≡ false) (low : (k : ℕ) → 1 ≤ k → k ≤ m → p k ≡ true) (beyond : (k : ℕ) → m < k → p k ≡ false) where
+  count-run : (i : ℕ) → i ≤ m → count p (suc i) ≡ i
+  unfolding count
+  count-run zero h = rw first
+  count-run (suc i) h = rw (low (suc i) (omega arith) h, count-run i (omega (arith, add-one i))) (add-one i)
+
+  count-all : (n : ℕ) → m < n → count p n ≡ m
+  unfolding count
+  count-all zero h = absurd (omega arith)
+  count-all (suc n) h =
+      ⊎-elim (λ (q : m ≡ n). rw (← q) (count-run m (omega arith))) (λ (l : m < n). rw (beyond n l) (count-all n l)) (eq-or-lt-of-le (le-of-suc-le-suc h))
+
+  run-rank : (i : ℕ) → p i ≡ true → i ≡ count p i + 1
+  run-rank zero e = never (let f = sym e ∙ first in cc)
+  run-rank (suc i) e = by (ltb m (suc i)) refl
+    where
+      by : (b : Bool) → ltb m (suc i) ≡ b → suc i ≡ count p (suc i) + 1
+      by true q = never (let f = sym e ∙ beyond (suc i) (ltb-true m (suc i) q) in cc)
+      by false q = rw (count-run i (omega (arith, add-one i, ltb-false m (suc i) q))) (sym (add-one i))
+
+  -- they keep their numbers
+  pub run-numbering : (n : ℕ) → m < n → Numbering p (λ k. k) (range n) (numbers m)
+  run-numbering n h = subst (λ (c : ℕ). Numbering p (λ k. k) (range n) (numbers c)) (count-all n h) (numbering p (λ k. k) n (λ i l e. run-rank i e))
+
 -- ---- a list that they are packed into
 
 module _ {A : Type 0} (p : ℕ → Bool) (f : ℕ → A) (l : List A) where
   -- f at those of 1 to n, put at 1, 2, ..
-  pub packs : ℕ → List A
+  unfoldable pub packs : ℕ → List A
   packs zero = l
   packs (suc n) = cond (p (n + 1)) (set (packs n) (count (λ k. p (k + 1)) n + 1) (f (n + 1))) (packs n)
 

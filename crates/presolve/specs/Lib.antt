@@ -14,6 +14,7 @@ pub mod TwoArcs
 pub mod Junction
 pub mod Crossing
 pub mod Renumber
+pub mod Spare
 pub mod Net
 pub mod TakeOut
 pub mod Rewire
