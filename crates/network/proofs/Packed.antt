@@ -50,7 +50,7 @@ module _ {net : Net} (g : Legal net) where
       (rw (e, lt-leb j i l))
       (λ k q. let b = and-both (isHere net k) _ q in rw (b .0, le-leb k j (omega (arith, leb-true k i (b .1)))))
 
-  rank-root : (i j : ℕ) → isHere net i ≡ true → isHere net j ≡ true → eqb (rankOf net i) (rankOf net j) ≡ eqb i j
+  pub rank-root : (i j : ℕ) → isHere net i ≡ true → isHere net j ≡ true → eqb (rankOf net i) (rankOf net j) ≡ eqb i j
   rank-root i j e f = by (ltb i j) refl (ltb j i) refl
     where
       by : (s : Bool) → ltb i j ≡ s → (t : Bool) → ltb j i ≡ t → eqb (rankOf net i) (rankOf net j) ≡ eqb i j

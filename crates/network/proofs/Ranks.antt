@@ -39,7 +39,7 @@ module _ (p : ℕ → Bool) where
           whole true = refl
           whole false = refl
 
-  count-more : (i n : ℕ) → i < n → p i ≡ true → count p i < count p n
+  pub count-more : (i n : ℕ) → i < n → p i ≡ true → count p i < count p n
   unfolding count
   count-more i zero h e = absurd (omega arith)
   count-more i (suc n) h e =
