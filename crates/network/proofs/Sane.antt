@@ -1,11 +1,11 @@
 -- A legal network in exact numbers: its arcs in use are legal there, and their ends are in use. Assumes nothing.
 use mathlib.Core.Path.{_≡_, refl, sym, ap, _∙_, subst}
-use mathlib.Core.Bool.{Bool, true, false, not}
+use mathlib.Core.Bool.{Bool, true, false}
 use Prim.Native.Nat.{ℕ, _≤_, _<_}
 use native.Mathlib.Omega.{arith}
-use lib.Dec.{T, eqb}
+use lib.Dec.{T}
 use lib.IntN.{natAbs}
-use borrow.Author.Tests.{not-true, eqb-false, eqb-true, eq-eqb, ne-eqb}
+use borrow.Author.Tests.{not-true, eqb-false, eq-eqb, ne-eqb}
 use Rattle.presolve.specs.Net.{Sane}
 use Rattle.presolve.specs.Net as Exact
 use Rattle.algebra.specs.Rat.{0ℚ}

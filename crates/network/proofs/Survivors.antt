@@ -1,14 +1,14 @@
 -- What is left of a legal network, at its new numbers; and a pair that is optimal there, read at them, is optimal in the whole. Assumes nothing.
 use mathlib.Core.Path.{_≡_, refl, sym, ap, ap₂, _∙_, subst}
-use mathlib.Core.Bool.{Bool, true, false, cond, not, _&&_}
+use mathlib.Core.Bool.{Bool, true, false, cond}
 use mathlib.Core.List.{List}
-use mathlib.Core.Logic.{_⊎_, inl, inr, ⊎-elim}
+use mathlib.Core.Logic.{inr}
 use Prim.Native.Nat.{ℕ, zero, suc, _+_, _-_, _≤_, _<_}
 use native.Mathlib.Numerals.{add-one}
 use native.Mathlib.Omega.{arith}
-use lib.Dec.{T, eqb, ltb, leb}
-use lib.ListN.{getD, set, replicate}
-use borrow.Author.Tests.{lt-ltb, ltb-true, ltb-false, eq-eqb, ne-eqb, not-true, eqb-true}
+use lib.Dec.{T, ltb}
+use lib.ListN.{set, replicate}
+use borrow.Author.Tests.{lt-ltb, ltb-true, ltb-false, eq-eqb, ne-eqb}
 use Rattle.loops.specs.Loops.{upto, tally, count}
 use Rattle.loops.proofs.Laws.{count-le, count-shift}
 use Rattle.algebra.specs.Solver.{_:+_, _:-_, :0, _:=_, ring1}
@@ -21,11 +21,12 @@ use Rattle.presolve.specs.Spare.{listed, Spare, spare-sound}
 use Rattle.presolve.specs.Net.{column, columnAt, rhsAt, column-in, gone-out, rhs-in, rhs-out, row-out}
 use Rattle.fraction.specs.declared.Fraction.{Fraction}
 use Rattle.fraction.specs.Exact.{noFigure}
+use Rattle.fraction.specs.Laws.{never}
 use Rattle.fraction.specs.Value.{value}
 use Rattle.network.specs.declared.Arc.{Arc}
 use Rattle.network.specs.declared.Net.{Net}
-use Rattle.network.specs.Network.{noArc, emptyNet, arcAt, supplyAt, isHere, isNumber, withArc, withSupply, withNode}
-use Rattle.network.specs.Output.{rankOf, isUsed, arcRank, renumbered, withSizes, behindNodes, behindArcs, packNode, packArc, packedOf}
+use Rattle.network.specs.Network.{noArc, emptyNet, arcAt, supplyAt, isHere, withArc, withSupply, withNode}
+use Rattle.network.specs.Output.{rankOf, isUsed, arcRank, renumbered, behindNodes, behindArcs, packNode, packArc, packedOf}
 use Rattle.network.specs.Legal.{Legal}
 use Rattle.network.specs.Program.{exactArc, exactOf, programOf}
 use Rattle.network.proofs.Legal.{number, getD-all}
@@ -172,6 +173,20 @@ module _ {net : Net} (g : Legal net) where
       let e = count-shift (isUsed net) 96 unused-0 in
       rw (packed-is net, packs-out (isUsed net) (λ k. renumbered net (arcAt net k)) (replicate 97 noArc) noArc 96 k (inr (omega (arith, arcs-left))), getD-all 97 k noArc)
 
+  pub node-up : (k : ℕ) → isHere (packedOf net) k ≡ true → (1 ≤ k) × (k ≤ packedOf net .n)
+  node-up k e = by (ltb (packedOf net .n) k) refl
+    where
+      by : (b : Bool) → ltb (packedOf net .n) k ≡ b → (1 ≤ k) × (k ≤ packedOf net .n)
+      by true q = never (let f = sym e ∙ node-beyond k (ltb-true _ _ q) in cc)
+      by false q = (here-number (packed-legal g) k e .0, ltb-false _ _ q)
+
+  pub arc-up : (k : ℕ) → isUsed (packedOf net) k ≡ true → (1 ≤ k) × (k ≤ packedOf net .m)
+  arc-up k e = by (ltb (packedOf net .m) k) refl
+    where
+      by : (b : Bool) → ltb (packedOf net .m) k ≡ b → (1 ≤ k) × (k ≤ packedOf net .m)
+      by true q = never (let f = sym e ∙ arc-beyond k (ltb-true _ _ q) in cc)
+      by false q = let h = packed-legal g in (used-number h k (used-from h k e) .0, ltb-false _ _ q)
+
 -- ---- a pair of the survivors, read at their new numbers; 0 elsewhere
 
 abbrev pub spread : Net → Pair → Pair
@@ -221,8 +236,8 @@ module _ {net : Net} (g : Legal net) where
         origin = λ k. find (isUsed net) 97 (k - 1);
         origin-is = λ j m k. rw (rank-arc g j (is-true (isUsed net j) k)) (found (isUsed net) 97 j (range-mem j 97 m) (is-true (isUsed net j) k));
         coef-is = λ j i m k mi ki.
-          let t = g .used j (used-from g j (is-true (isUsed net j) k)) in
-          ap (λ c. c .coef i) (column-in (exactOf net) j k) ∙ ap₂ _+ℚ_ (only-there _ i (value (arcAt net j .a)) (t .from-here) ki) (only-there _ i (value (arcAt net j .b)) (t .to-here) ki) ∙ sym (ap (λ c. c .coef (rankOf net i)) (column-there j k));
+            let t = g .used j (used-from g j (is-true (isUsed net j) k)) in
+            ap (λ c. c .coef i) (column-in (exactOf net) j k) ∙ ap₂ _+ℚ_ (only-there _ i (value (arcAt net j .a)) (t .from-here) ki) (only-there _ i (value (arcAt net j .b)) (t .to-here) ki) ∙ sym (ap (λ c. c .coef (rankOf net i)) (column-there j k));
         cost-is = λ j m k. ap (λ c. c .cost) (column-in (exactOf net) j k) ∙ sym (ap (λ c. c .cost) (column-there j k));
         lower-is = λ j m k. ap (λ c. c .lower) (column-in (exactOf net) j k) ∙ sym (ap (λ c. c .lower) (column-there j k));
         upper-is = λ j m k. ap (λ c. c .upper) (column-in (exactOf net) j k) ∙ sym (ap (λ c. c .upper) (column-there j k));

@@ -18,17 +18,20 @@ use Rattle.presolve.specs.LP.{LP, Gone, Pair, Feasible, Solved, InBounds
 use Rattle.presolve.specs.Step.{SoundStep}
 use Rattle.presolve.specs.Removed.{gone-within}
 
-kept-dec : (b : Bool) → Dec (T b)
+pub kept-dec : (b : Bool) → Dec (T b)
 kept-dec true = yes tt
 kept-dec false = no (λ h. h)
 
-cond-yes : (b : Bool) (u v : ℚ) → T b → cond b u v ≡ u
+pub cond-yes : (b : Bool) (u v : ℚ) → T b → cond b u v ≡ u
 cond-yes true u v t = refl
 cond-yes false u v t = absurd t
 
-cond-no : (b : Bool) (u v : ℚ) → ¬ (T b) → cond b u v ≡ v
+pub cond-no : (b : Bool) (u v : ℚ) → ¬ (T b) → cond b u v ≡ v
 cond-no true u v t = absurd (t tt)
 cond-no false u v t = refl
+
+pub zero-times : (a b : ℚ) → a ≡ 𝟘 → a * b ≡ 𝟘
+zero-times a b e = ap (λ t. t * b) e ∙ ring1 ℚ-ring b (λ b. :0 :* b := :0) refl
 
 -- the second list holds the new numbers of what is kept of the first
 pub data Numbering (kept : ℕ → Bool) (rank : ℕ → ℕ) : List ℕ → List ℕ → Type 0 where
@@ -93,9 +96,6 @@ abbrev pub renumber-back : (row? col? : ℕ → Bool) (row# col# : ℕ → ℕ) 
 renumber-back row? col? row# col# z s = record { flow = λ c. cond (col? c) (s .flow (col# c)) 𝟘; price = λ i. cond (row? i) (s .price (row# i)) (z i) }
 
 module _ {N C : LP} {row? col? : ℕ → Bool} {row# col# : ℕ → ℕ} (R : Renumbered N C row? col? row# col#) where
-  zero-times : (a b : ℚ) → a ≡ 𝟘 → a * b ≡ 𝟘
-  zero-times a b e = ap (λ t. t * b) e ∙ ring1 ℚ-ring b (λ b. :0 :* b := :0) refl
-
   module _ (z : ℕ → ℚ) (s : Pair) where
     x : ℕ → ℚ
     x c = cond (col? c) (s .flow (col# c)) 𝟘

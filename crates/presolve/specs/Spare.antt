@@ -1,16 +1,15 @@
 -- A program with spare places, for rows and columns that are out, and the same program without them: the two have the same pairs.
 use mathlib.Core.Path.{_≡_, refl, sym, _∙_, ap, subst}
 use mathlib.Core.List.{List, List·Memᴰ}
-use mathlib.Core.Bool.{Bool, true, false, cond}
+use mathlib.Core.Bool.{Bool, cond}
 use Prim.Native.Nat.{ℕ}
 use lib.Dec.{T}
-use Rattle.algebra.specs.Solver.{_:*_, :0, _:=_, ring1}
-use Rattle.algebra.specs.Rat.{ℚ, ℚ-ring, _+ℚ_ as _+_, _*ℚ_ as _*_, 0ℚ as 𝟘}
+use Rattle.algebra.specs.Rat.{ℚ, _+ℚ_ as _+_, _*ℚ_ as _*_, 0ℚ as 𝟘}
 use Rattle.algebra.specs.Sum.{sum-congr, sum-zero}
-use Rattle.presolve.specs.LP.{LP, Gone, Pair, Feasible, Solved, InBounds, PriceRule, worth, brings, total, value}
+use Rattle.presolve.specs.LP.{LP, Gone, Feasible, InBounds, worth, brings, total}
 use Rattle.presolve.specs.Step.{SoundStep}
 use Rattle.presolve.specs.Removed.{gone-within}
-use Rattle.presolve.specs.Renumber.{Numbering, Survivor, sum-numbered, mem-numbered, survivor}
+use Rattle.presolve.specs.Renumber.{Numbering, Survivor, kept-dec, cond-yes, cond-no, zero-times, sum-numbered, mem-numbered, survivor}
 
 abbrev pub listed : LP → List ℕ → List ℕ → LP
 listed P rows cols = record { rows = rows; cols = cols; constant = P .constant; rhs = P .rhs; col = P .col }
@@ -22,13 +21,6 @@ pub record Spare (P : LP) (row? col? : ℕ → Bool) (rows cols : List ℕ) : Ty
   pub gone-col : (c : ℕ) → List·Memᴰ c (P .cols) → ¬ (T (col? c)) → Gone (P .col c)
   pub gone-row : (c s : ℕ) → List·Memᴰ c (P .cols) → List·Memᴰ s (P .rows) → ¬ (T (row? s)) → P .col c .coef s ≡ 𝟘
   pub gone-rhs : (s : ℕ) → List·Memᴰ s (P .rows) → ¬ (T (row? s)) → P .rhs s ≡ 𝟘
-
-zero-times : (a b : ℚ) → a ≡ 𝟘 → a * b ≡ 𝟘
-zero-times a b e = ap (λ t. t * b) e ∙ ring1 ℚ-ring b (λ b. :0 :* b := :0) refl
-
-whether : (b : Bool) → Dec (T b)
-whether true = yes tt
-whether false = no (λ h. h)
 
 still : {kept : ℕ → Bool} {l m : List ℕ} → Numbering kept (λ k. k) l m → (k : ℕ) → List·Memᴰ k m → List·Memᴰ k l
 still {kept} {l} r k i = let v : Survivor kept (λ k. k) l k = survivor r k i in subst (λ t. List·Memᴰ t l) (sym (v .number)) (v .listed)
@@ -53,23 +45,15 @@ module _ {P : LP} {row? col? : ℕ → Bool} {rows cols : List ℕ} (S : Spare P
 
     cut-in : (c : ℕ) → T (col? c) → cut c ≡ x c
     unfolding cut
-    cut-in c k = go (col? c) k
-      where
-        go : (b : Bool) → T b → cond b (x c) 𝟘 ≡ x c
-        go true t = refl
-        go false t = absurd t
+    cut-in c k = cond-yes (col? c) (x c) 𝟘 k
 
     cut-out : (c : ℕ) → ¬ (T (col? c)) → cut c ≡ 𝟘
     unfolding cut
-    cut-out c n = go (col? c) n
-      where
-        go : (b : Bool) → ¬ (T b) → cond b (x c) 𝟘 ≡ 𝟘
-        go true t = absurd (t tt)
-        go false t = refl
+    cut-out c n = cond-no (col? c) (x c) 𝟘 n
 
     balance : (s : ℕ) → List·Memᴰ s (P .rows) → brings P cut s ≡ P .rhs s
     unfolding brings
-    balance s m = go (whether (row? s))
+    balance s m = go (kept-dec (row? s))
       where
         go : Dec (T (row? s)) → brings P cut s ≡ P .rhs s
         go (yes k) = sum-numbered (S .cols-in) (λ c. P .col c .coef s * cut c) (λ c. P .col c .coef s * x c) (λ c i k. ap (λ t. P .col c .coef s * t) (cut-in c k)) (λ c i n. zero-times (P .col c .coef s) (cut c) (S .gone-col c i n .coef-0 s))
@@ -77,7 +61,7 @@ module _ {P : LP} {row? col? : ℕ → Bool} {rows cols : List ℕ} (S : Spare P
         go (no n) = sum-congr (P .cols) (λ c. P .col c .coef s * cut c) (λ c. 𝟘) (λ c i. zero-times (P .col c .coef s) (cut c) (S .gone-row c s i m n)) ∙ sum-zero (P .cols) ∙ sym (S .gone-rhs s m n)
 
     within : (c : ℕ) → List·Memᴰ c (P .cols) → InBounds (P .col c) (cut c)
-    within c m = go (whether (col? c))
+    within c m = go (kept-dec (col? c))
       where
         go : Dec (T (col? c)) → InBounds (P .col c) (cut c)
         go (yes k) = subst (InBounds (P .col c)) (sym (cut-in c k)) (f .within c (mem-numbered (S .cols-in) c m k))
