@@ -1,5 +1,6 @@
 pub mod Laws
 pub mod Questions
+pub mod Pairs
 pub mod Arrays
 pub mod Legal
 pub mod Kept

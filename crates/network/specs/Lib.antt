@@ -3,4 +3,5 @@ pub mod Record
 pub mod Output
 pub mod Legal
 pub mod Program
+pub mod Pair
 pub mod Examples

@@ -6,6 +6,7 @@ ghost use Rattle.network.specs.Network.{isTouching, degreeOf, touchingAf
 use fraction::Fraction;
 
 pub mod output;
+pub mod pair;
 pub mod record;
 
 // An arc's seven figures: its from and to node, cost c, lower bound l, upper bound u, multipliers a and b.

@@ -8,7 +8,7 @@ use crate::Net;
 use fraction::Fraction;
 
 // A size within its limit.
-enum Size {
+pub enum Size {
     Is(usize),
     Off,
 }
@@ -42,8 +42,8 @@ pub fn figure_at(xs: &[i32], t: usize, k: usize) -> Fraction
     Fraction::from_words(word_behind(xs, 0, k), word_behind(xs, t, k))
 }
 
-// A word as a size, up to a limit.
-fn size_at(xs: &[i32], at: usize, limit: usize) -> Size
+// A word as a size, up to a limit; 0 outside.
+pub fn size_at(xs: &[i32], at: usize, limit: usize) -> Size
     ensures { λ r. ⌜ r ≡ sizeOf (word (now (xs .entry)) at) limit ⌝ }
 {
     if at < xs.len() {

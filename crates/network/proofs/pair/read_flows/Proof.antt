@@ -1,0 +1,40 @@
+-- `network::pair::read_flows` meets its contract. Assumes nothing.
+use Prim.Native.Nat.{_-_}
+use Rattle.algebra.specs.Solver.{at}
+use Rattle.loops.proofs.Laws.{Folded, folded-all, folded-more, folded-none}
+use Rattle.network.specs.Pair.{flowTurn}
+use borrow.Author.Needs.{needs}
+use native.Mathlib.Omega.{arith}
+use Rattle.network.proofs.pair.read_flows.Statement.{statement}
+use Rattle.network.proofs.pair.read_flows.Tie as tie
+
+abbrev Inv-loop : tie.InvT-loop
+Inv-loop words n t m at₀ j₀ at j = Folded (flowTurn words n t) m at₀ j at
+
+abbrev μ-loop : tie.MeasureT-loop
+μ-loop words n t m at₀ j₀ at j = m - j
+
+loop-holds : tie.Need-loop-holds Inv-loop μ-loop
+loop-holds c = folded-none _ _ _
+
+loop-again : tie.Need-loop-again Inv-loop μ-loop
+loop-again c = folded-more _ (c .before .before .before .loop .inv) (omega arith) (rw (c .before .figure-at .ensures) at (c .put-flow .ensures))
+
+returns : tie.Need-returns Inv-loop μ-loop
+returns c = folded-all _ (c .before .loop .inv) (omega arith)
+
+pub read-flows-spec : {M : Type 1} → statement M
+read-flows-spec =
+    tie.close
+    (tie.spec
+    Inv-loop
+    μ-loop
+    loop-holds
+    (λ c. search needs)
+    (λ c κs. search needs)
+    (λ c. search needs)
+    (λ c κs. search needs)
+    (λ c. search needs)
+    (λ c. search needs)
+    loop-again
+    returns)

@@ -1,0 +1,39 @@
+-- `network::pair::read_prices` meets its contract. Assumes nothing.
+use Prim.Native.Nat.{_-_}
+use Rattle.algebra.specs.Solver.{at}
+use Rattle.loops.proofs.Laws.{Folded, folded-all, folded-more, folded-none}
+use Rattle.network.specs.Pair.{priceTurn}
+use borrow.Author.Needs.{needs}
+use native.Mathlib.Omega.{arith}
+use Rattle.network.proofs.pair.read_prices.Statement.{statement}
+use Rattle.network.proofs.pair.read_prices.Tie as tie
+
+abbrev Inv-loop : tie.InvT-loop
+Inv-loop words t n at₀ i₀ at i = Folded (priceTurn words t) n at₀ i at
+
+abbrev μ-loop : tie.MeasureT-loop
+μ-loop words t n at₀ i₀ at i = n - i
+
+loop-holds : tie.Need-loop-holds Inv-loop μ-loop
+loop-holds c = folded-none _ _ _
+
+loop-again : tie.Need-loop-again Inv-loop μ-loop
+loop-again c = folded-more _ (c .before .before .before .loop .inv) (omega arith) (rw (c .before .figure-at .ensures) at (c .put-price .ensures))
+
+returns : tie.Need-returns Inv-loop μ-loop
+returns c = folded-all _ (c .before .loop .inv) (omega arith)
+
+pub read-prices-spec : {M : Type 1} → statement M
+read-prices-spec =
+    tie.close
+    (tie.spec
+    Inv-loop
+    μ-loop
+    loop-holds
+    (λ c κs. search needs)
+    (λ c. search needs)
+    (λ c κs. search needs)
+    (λ c. search needs)
+    (λ c. search needs)
+    loop-again
+    returns)
