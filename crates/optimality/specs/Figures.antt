@@ -1,0 +1,98 @@
+-- The figures of the optimality test (01, "The optimality test"), and its questions 9 to 12. Assumes nothing.
+use mathlib.Core.Bool.{Bool, true, false, _&&_, not}
+use Prim.Native.Nat.{ℕ, _+_}
+use Rattle.loops.specs.Loops.{all, upto}
+use Rattle.fraction.specs.declared.Fraction.{Fraction}
+use Rattle.fraction.specs.declared.Worked.{Worked}
+use Rattle.fraction.specs.declared.Worked.the-variants.{Fits, Misfit}
+use Rattle.fraction.specs.Exact.{zeroFraction, isFinite, isLess, isSame}
+use Rattle.fraction.specs.Formula.{isFit, figureOf, _⊕_, _⊖_, _⊗_}
+use Rattle.network.specs.declared.Arc.{Arc}
+use Rattle.network.specs.declared.Net.{Net}
+use Rattle.network.specs.declared.pair.Pair.{Pair}
+use Rattle.network.specs.Network.{arcAt, supplyAt, isTouching, isRoot, sideOf}
+use Rattle.network.specs.Pair.{priceAt, flowAt}
+
+-- ---- the balance of node i: multiplier × flow over the arcs touching it; "sums start at 0 and run over the arcs upward"
+
+abbrev pub balanceBy : Bool → Fraction → Fraction → Worked → Worked
+balanceBy true e x w = w ⊕ Fits e ⊗ Fits x
+balanceBy false e x w = w
+
+abbrev pub balanceTurn : Net → Pair → ℕ → ℕ → Worked → Worked
+balanceTurn net pair i j w = balanceBy (isTouching (arcAt net (j + 1)) i) (sideOf (arcAt net (j + 1)) i .e) (flowAt pair (j + 1)) w
+
+unfoldable pub balanceOf : Net → Pair → ℕ → Worked
+balanceOf net pair i = upto (balanceTurn net pair i) (net .m) (Fits zeroFraction)
+
+-- ---- "reduced cost d = c - a × price(from) - b × price(to), the last term absent for a root arc"
+
+abbrev pub reducedBy : Bool → Arc → Fraction → Fraction → Worked
+reducedBy true t p q = Fits (t .cost) ⊖ Fits (t .a) ⊗ Fits p
+reducedBy false t p q = Fits (t .cost) ⊖ Fits (t .a) ⊗ Fits p ⊖ Fits (t .b) ⊗ Fits q
+
+unfoldable pub reducedCost : Arc → Pair → Worked
+reducedCost t pair = reducedBy (isRoot t) t (priceAt pair (t .from)) (priceAt pair (t .to))
+
+-- ---- "the value is the sum of c × flow, arcs upward"
+
+abbrev pub valueTurn : Net → Pair → ℕ → Worked → Worked
+valueTurn net pair j w = w ⊕ Fits (arcAt net (j + 1) .cost) ⊗ Fits (flowAt pair (j + 1))
+
+unfoldable pub valueOf : Net → Pair → Worked
+valueOf net pair = upto (valueTurn net pair) (net .m) (Fits zeroFraction)
+
+-- ---- 9. "Do all balances, reduced costs and the value fit?" Nodes and arcs are counted from 0 here
+
+abbrev pub balanceFits : Net → Pair → ℕ → Bool
+balanceFits net pair i = isFit (balanceOf net pair (i + 1))
+
+abbrev pub costFits : Net → Pair → ℕ → Bool
+costFits net pair j = isFit (reducedCost (arcAt net (j + 1)) pair)
+
+unfoldable pub allFit : Net → Pair → Bool
+allFit net pair = all (balanceFits net pair) (net .n) && (all (costFits net pair) (net .m) && isFit (valueOf net pair))
+
+-- ---- 10. "Balanced at every node?"
+
+abbrev pub isBalanced : Net → Pair → ℕ → Bool
+isBalanced net pair i = isSame (figureOf (balanceOf net pair (i + 1))) (supplyAt net (i + 1))
+
+-- ---- 11. "Within all bounds?"
+
+unfoldable pub isWithin : Arc → Fraction → Bool
+isWithin t x = not (isLess x (t .lower)) && not (isLess (t .upper) x)
+
+abbrev pub isWithinAt : Net → Pair → ℕ → Bool
+isWithinAt net pair j = isWithin (arcAt net (j + 1)) (flowAt pair (j + 1))
+
+-- ---- 12. "Price rule kept?" "d > 0 only where l is finite and flow = l; d < 0 only where u is finite and flow = u"
+
+unfoldable pub isAt : Fraction → Fraction → Bool
+isAt bound x = isFinite bound && isSame x bound
+
+-- by whether d > 0, and whether d < 0
+abbrev pub keepsBy : Bool → Bool → Fraction → Fraction → Fraction → Bool
+keepsBy true below l u x = isAt l x
+keepsBy false true l u x = isAt u x
+keepsBy false false l u x = true
+
+unfoldable pub keepsRule : Fraction → Fraction → Fraction → Fraction → Bool
+keepsRule l u x d = keepsBy (isLess zeroFraction d) (isLess d zeroFraction) l u x
+
+abbrev pub keepsRuleAt : Net → Pair → ℕ → Bool
+keepsRuleAt net pair j =
+    keepsRule (arcAt net (j + 1) .lower) (arcAt net (j + 1) .upper) (flowAt pair (j + 1)) (figureOf (reducedCost (arcAt net (j + 1)) pair))
+
+-- ---- the first of 9 to 12 that is answered by no; 0 where none is. Each is asked whole before the next
+
+abbrev pub verdictBy : Bool → Bool → Bool → Bool → ℕ
+verdictBy false balanced within kept = 9
+verdictBy true false within kept = 10
+verdictBy true true false kept = 11
+verdictBy true true true false = 12
+verdictBy true true true true = 0
+
+unfoldable pub verdictOf : Net → Pair → ℕ
+verdictOf net pair =
+    verdictBy (allFit net pair) (all (isBalanced net pair) (net .n)) (all (isWithinAt net pair) (net .m)) (all (keepsRuleAt net pair) (net .m))
