@@ -4,3 +4,4 @@ pub mod Arrays
 pub mod Legal
 pub mod Kept
 pub mod Packed
+pub mod Bounds
