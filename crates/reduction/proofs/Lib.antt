@@ -8,3 +8,4 @@ pub mod Order
 pub mod Answers
 pub mod Done
 pub mod Entry
+pub mod Exactly
