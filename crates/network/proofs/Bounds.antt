@@ -1,5 +1,5 @@
 -- Bounds in exact numbers: which of them are numbers, and how they compare. Assumes nothing.
-use mathlib.Core.Path.{_≡_, refl, sym, ap, _∙_}
+use mathlib.Core.Path.{_≡_, refl, sym, ap, _∙_, subst}
 use mathlib.Core.Bool.{Bool, true, false, cond}
 use mathlib.Core.Logic.{inl, inr}
 use mathlib.Core.Option.{some, none}
@@ -11,6 +11,7 @@ use Rattle.presolve.specs.Bounds.{some-inj, none-some}
 use Rattle.fraction.specs.declared.Fraction.{Fraction}
 use Rattle.fraction.specs.Exact.{Proper, noLower, noUpper, isFinite, isLess}
 use Rattle.fraction.specs.Value.{value}
+use Rattle.fraction.specs.Laws.{never}
 use Rattle.fraction.specs.Extended.{absent-lower, absent-upper, proper-figure, less-is, less-value, not-less}
 use Rattle.network.specs.Legal.{Bound}
 use Rattle.network.specs.Program.{boundOf}
@@ -42,6 +43,17 @@ lower-number = number-of no-lower
 
 pub upper-number : {z : Fraction} {q : ℚ} → Bound noUpper z → boundOf z ≡ some q → Number z q
 upper-number = number-of no-upper
+
+-- a bound that is no mark is a fraction in form; so is one that is both a lower and an upper bound
+pub finite-proper : {z : Fraction} → Bound noLower z → isFinite z ≡ true → Proper z
+unfolding isFinite
+finite-proper (inl p) e = p
+finite-proper (inr m) e = never (let f = rw m at e in cc)
+
+pub both-proper : {z : Fraction} → Bound noLower z → Bound noUpper z → Proper z
+both-proper (inl p) b = p
+both-proper (inr m) (inl q) = q
+both-proper (inr m) (inr n) = absurd (less-is absent-lower absent-lower .0 (subst (λ k. isLess noLower k ≡ true) (sym n ∙ m) (less-is absent-lower absent-upper .1 tt)))
 
 -- ---- a fraction v within bounds, or outside of them
 

@@ -13,7 +13,7 @@ use Rattle.presolve.specs.LP.{LP, Pair}
 use Rattle.presolve.specs.Step.{SoundStep, with-constant}
 use Rattle.presolve.specs.Price.{root, only-zero}
 use Rattle.presolve.specs.Spoke.{Spoke, SpokeAt}
-use Rattle.presolve.specs.Net.{Sane, columnAt, rhsAt, tail-of, head-of, column-in, column-out, touch-off, rhs-in, rhs-out}
+use Rattle.presolve.specs.Net.{Sane, columnAt, rhsAt, tail-of, head-of, column-in, column-out, column-same, touch-off, rhs-in, rhs-out}
 use Rattle.presolve.specs.Net as Exact
 use Rattle.fraction.specs.declared.Fraction.{Fraction}
 use Rattle.fraction.specs.Exact.{zeroFraction, isZero}
@@ -27,6 +27,7 @@ use Rattle.network.specs.Network.{noArc, arcAt, supplyAt, isHere, isTouching, i
 use Rattle.network.specs.Legal.{LegalArc, Legal}
 use Rattle.network.specs.Program.{boundOf, exactArc, exactOf, programOf}
 use Rattle.network.proofs.Kept.{here-number, used-number, touching-used}
+use Rattle.reduction.proofs.Frame.{Unnamed, arc-same}
 use Rattle.reduction.proofs.Sides.{Seen, at-from, at-to, seen, fromSide, toSide}
 
 -- ---- what is in
@@ -158,6 +159,31 @@ module _ (net : Net) (g : Legal net) where
       by true a r b e = never cc
       by false a true b e = never cc
       by false a false b e = in-or-out (exactOf net .arc? c) refl (eqb-false _ _ a) (eqb-false _ _ b)
+
+  -- the one arc that touches a node: no other column sees it
+  pub alone : (i j : ℕ) → ((c : ℕ) → isTouching (arcAt net c) i ≡ true → c ≡ j) → (c : ℕ) → (c ≡ j → ⊥) → columnAt (exactOf net) c .coef i ≡ 0ℚ
+  alone i j all c n = unseen i c (by (isTouching (arcAt net c) i) refl)
+    where
+      by : (b : Bool) → isTouching (arcAt net c) i ≡ b → isTouching (arcAt net c) i ≡ false
+      by true e = absurd (n (all c e))
+      by false e = e
+
+-- ---- before and after a change
+
+module _ (net : Net) (c : Change) where
+  -- a column that it does not name
+  pub column-kept : (j : ℕ) → Unnamed c j → columnAt (exactOf (applied net c)) j ≡ columnAt (exactOf net) j
+  unfolding exactOf
+  column-kept j u = let e = arc-same net c j u in column-same (exactOf net) (exactOf (applied net c)) j (ap (λ (t : Arc). not (eqb (t .from) 0)) e) (ap exactArc e)
+
+  -- the right-hand side of a node that is not in use, or is dropped
+  pub rhs-off : (i : ℕ) → isHere (applied net c) i ≡ false → programOf (applied net c) .rhs i ≡ 0ℚ
+  unfolding exactOf
+  rhs-off i e = rhs-out (exactOf (applied net c)) i (false-not e)
+
+  pub rhs-on : (i : ℕ) → isHere (applied net c) i ≡ true → programOf (applied net c) .rhs i ≡ value (supplyAt (applied net c) i)
+  unfolding exactOf
+  rhs-on i e = rhs-in (exactOf (applied net c)) i (is-true e)
 
 -- ---- a change that is a sound step, whatever constant it adds
 

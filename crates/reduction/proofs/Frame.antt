@@ -120,13 +120,30 @@ framed-kept net g c f = node-kept g6 (c .gone) free
 
 -- the supply of node k replaced by r; node k dropped
 module _ (net : Net) (k : ℕ) where
-  supply-put : (r : Fraction) → length (net .supply) ≡ 33 → (1 ≤ k) × (k ≤ 32) → supplyAt (withSupply net k r) k ≡ r
+  pub supply-put : (r : Fraction) → length (net .supply) ≡ 33 → (1 ≤ k) × (k ≤ 32) → supplyAt (withSupply net k r) k ≡ r
   unfolding withSupply
   supply-put r h l = rw (le-leb 1 k (l .0), le-leb k 32 (l .1)) (getD-set-same (net .supply) k r noFigure (omega arith))
 
-  supply-left : (r : Fraction) (i : ℕ) → (1 ≤ k → i ≡ k → ⊥) → supplyAt (withSupply net k r) i ≡ supplyAt net i
+  pub supply-left : (r : Fraction) (i : ℕ) → (1 ≤ k → i ≡ k → ⊥) → supplyAt (withSupply net k r) i ≡ supplyAt net i
   unfolding withSupply
   supply-left r i ne = replaced-left noFigure 32 (net .supply) k r i ne
+
+-- an array stays as long
+long-put : (p : Net) (k : ℕ) (t : Arc) → length (p .arcs) ≡ 97 → length (withArc p k t .arcs) ≡ 97
+unfolding withArc
+long-put p k t h = by (isNumber 96 k)
+  where
+    by : (b : Bool) → length (cond b (set (p .arcs) k t) (p .arcs)) ≡ 97
+    by true = length-set (p .arcs) k t ∙ h
+    by false = h
+
+pub long-supply : (p : Net) (k : ℕ) (r : Fraction) → length (p .supply) ≡ 33 → length (withSupply p k r .supply) ≡ 33
+unfolding withSupply
+long-supply p k r h = by (isNumber 32 k)
+  where
+    by : (b : Bool) → length (cond b (set (p .supply) k r) (p .supply)) ≡ 33
+    by true = length-set (p .supply) k r ∙ h
+    by false = h
 
 -- the numbers that a change names: j is none of them. Number 0 names nothing.
 pub record Unnamed (c : Change) (j : ℕ) : Type 0 where
@@ -149,22 +166,6 @@ module _ (net : Net) (c : Change) where
   here-same i n = replaced-left false 32 (net .here) (c .gone) false i n
 
   module _ (g : Legal net) where
-    long-put : (p : Net) (k : ℕ) (t : Arc) → length (p .arcs) ≡ 97 → length (withArc p k t .arcs) ≡ 97
-    unfolding withArc
-    long-put p k t h = by (isNumber 96 k)
-      where
-        by : (b : Bool) → length (cond b (set (p .arcs) k t) (p .arcs)) ≡ 97
-        by true = length-set (p .arcs) k t ∙ h
-        by false = h
-
-    long-supply : (p : Net) (k : ℕ) (r : Fraction) → length (p .supply) ≡ 33 → length (withSupply p k r .supply) ≡ 33
-    unfolding withSupply
-    long-supply p k r h = by (isNumber 32 k)
-      where
-        by : (b : Bool) → length (cond b (set (p .supply) k r) (p .supply)) ≡ 33
-        by true = length-set (p .supply) k r ∙ h
-        by false = h
-
     pub arc-one : (1 ≤ c .one .number) × (c .one .number ≤ 96) → (1 ≤ c .two .number → c .one .number ≡ c .two .number → ⊥) → (1 ≤ c .three .number → c .one .number ≡ c .three .number → ⊥) → (1 ≤ c .four .number → c .one .number ≡ c .four .number → ⊥) → arcAt (applied net c) (c .one .number) ≡ c .one .arc
     unfolding applied withSupply without
     arc-one l n2 n3 n4 = arc-left _ _ _ _ n4 ∙ arc-left _ _ _ _ n3 ∙ arc-left _ _ _ _ n2 ∙ arc-put net _ _ (g .arcs-long) l

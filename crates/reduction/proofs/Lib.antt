@@ -9,3 +9,4 @@ pub mod Answers
 pub mod Done
 pub mod Entry
 pub mod Exactly
+pub mod Removals
