@@ -54,7 +54,7 @@ use Rattle.reduction.specs.Rules.{isPositive, isUnder, supplyLess, dropp
 use Rattle.reduction.proofs.Frame.{Unnamed, arc-one, supply-put, supply-left, long-supply, supply-same, here-same, node-gone}
 use Rattle.reduction.proofs.Sides.{fromSide}
 use Rattle.reduction.proofs.Touch.{unlike, touches, One, Numbered, legal-numbered, none-touching, one-touching}
-use Rattle.reduction.proofs.Answers.{ClosedShows, BareShows, SingleShows, Shown, nodes-under, no-flow-shown}
+use Rattle.reduction.proofs.Answers.{ClosedShows, BareShows, SingleShows, Shown, nodes-under, rootless-used, no-flow-shown}
 use Rattle.reduction.proofs.Exactly.{is-true, false-not, arc-in, arc-off, zero-figure, sane, arc-place, listed-arc, listed-node, column-is, rhs-is, spokeOf, spoke-at, unseen, alone, column-kept, rhs-off, rhs-on, SoundChange}
 
 -- the change of an answer is a sound step
@@ -66,6 +66,17 @@ passed-sounds e = never cc
 
 refuted-sounds : {net : Net} {back : Pair → Pair} → Sounds net refuted back
 refuted-sounds e = never cc
+
+-- ---- a formula that fits and is above 0, or below c
+
+module _ {q : ℚ} where
+  positive-is : (w : Worked) → Gives w q → ((z : Fraction) → w ≡ Fits z → Proper z) → isPositive w ≡ true → 0ℚ < q
+  positive-is Misfit h p e = never cc
+  positive-is (Fits x) h p e = rw (← h x refl, ← zero-is) (less-value zero-proper (p x refl) e)
+
+  under-is : (w : Worked) (c : Fraction) → Proper c → Gives w q → ((z : Fraction) → w ≡ Fits z → Proper z) → isUnder w c ≡ true → q < value c
+  under-is Misfit c k h p e = never cc
+  under-is (Fits x) c k h p e = rw (← h x refl) (less-value (p x refl) k e)
 
 -- ---- an arc at a known flow is dropped
 
@@ -340,3 +351,135 @@ module _ (net : Net) (g : Legal net) where
       by : (x : Bool) → eqb (degreeOf net i) 1 ≡ x → Sounds net (singleWhere x net i j) back
       by false d = passed-sounds
       by true d = flow (eqb-true _ _ d) (Fits (supplyAt net i) ⊘ Fits (w .e)) refl
+
+  -- ---- rule 4
+
+  -- a root arc at node i without upper bound
+  record OpenRoot (k i : ℕ) : Type 0 where
+    used : 1 ≤ arcAt net k .from
+    loops : arcAt net k .from ≡ arcAt net k .to
+    at : arcAt net k .from ≡ i
+    unbounded : boundOf (arcAt net k .upper) ≡ none
+
+  open-root : (k i : ℕ) → 1 ≤ i → isOpenRoot (arcAt net k) i ≡ true → OpenRoot k i
+  unfolding isOpenRoot isRoot
+  open-root k i l e =
+      let x = and-both (eqb (arcAt net k .from) (arcAt net k .to)) _ e in
+      let y = and-both (eqb (arcAt net k .from) i) _ (x .1) in
+      let z : arcAt net k .from ≡ i = eqb-true _ _ (y .0) in
+      record { used = rw z l; loops = eqb-true _ _ (x .0); at = z; unbounded = ap boundOf (same-is _ _ (y .1)) ∙ no-upper }
+
+  -- the pair of root arcs that the rule finds
+  record Pays (t : Arc) (k m : ℕ) : Type 0 where
+    first : isOpenRoot (arcAt net k) (t .from) ≡ true
+    second : isOpenRoot (arcAt net m) (t .to) ≡ true
+    costlier : isCostlier t (arcAt net k) (arcAt net m) ≡ true
+
+  pays : (t : Arc) → hasPair net t ≡ true → (k : ℕ) × (m : ℕ) × Pays t k m
+  unfolding hasPair hasPartner
+  pays t e =
+      let x = any-some (hasPartner net t) 97 e in
+      let y = partner (isOpenRoot (arcAt net (x .0)) (t .from)) (arcAt net (x .0)) (x .2) in
+      let z = any-some (isPartner net t (arcAt net (x .0))) 97 (y .1) in
+      let u = both (isOpenRoot (arcAt net (z .0)) (t .to)) (arcAt net (x .0)) (arcAt net (z .0)) (z .2) in
+      (x .0, z .0, record { first = y .0; second = u .0; costlier = u .1 })
+    where
+      partner : (b : Bool) (x : Arc) → hasPartnerBy b net t x ≡ true → (b ≡ true) × (any (isPartner net t x) 97 ≡ true)
+      partner true x e = (refl, e)
+      partner false x e = never cc
+
+      both : (b : Bool) (x y : Arc) → partnerBy b t x y ≡ true → (b ≡ true) × (isCostlier t x y ≡ true)
+      both true x y e = (refl, e)
+      both false x y e = never cc
+
+  costly-sounds : (j : ℕ) → isRoot (arcAt net j) ≡ false → isFinite (arcAt net j .lower) ≡ true → isLess (arcAt net j .upper) (arcAt net j .lower) ≡ false → (k m : ℕ) → Pays (arcAt net j) k m
+      → Sounds net (atFlow j (arcAt net j) (arcAt net j .lower) (supplyAt net (arcAt net j .from)) (supplyAt net (arcAt net j .to))) (closed-back j (value (arcAt net j .lower)))
+  unfolding exactOf isCostlier isRoot
+  costly-sounds j root finite room k m w = flow-sounds j (t .lower) used (λ c r. costly-sound (arc c r))
+    where
+      t : Arc
+      t = arcAt net j
+
+      x : Arc
+      x = arcAt net k
+
+      y : Arc
+      y = arcAt net m
+
+      used : 1 ≤ t .from
+      used = rootless-used g j root
+
+      legal : LegalArc net t
+      legal = g .used j used
+
+      proper : Proper (t .lower)
+      proper = finite-proper (legal .lower-bound) finite
+
+      first : OpenRoot k (t .from)
+      first = open-root k (t .from) used (w .first)
+
+      second : OpenRoot m (t .to)
+      second = open-root m (t .to) (here-number g (t .to) (legal .to-here) .0) (w .second)
+
+      tests : (isPositive (Fits (t .a) ⊘ Fits (x .a)) ≡ true) × (isPositive (Fits (t .b) ⊘ Fits (y .a)) ≡ true) × (isUnder (Fits (x .cost) ⊗ Fits (t .a) ⊘ Fits (x .a) ⊕ Fits (y .cost) ⊗ Fits (t .b) ⊘ Fits (y .a)) (t .cost) ≡ true)
+      tests =
+          let p = and-both (isPositive (Fits (t .a) ⊘ Fits (x .a))) _ (w .costlier) in
+          let q = and-both (isPositive (Fits (t .b) ⊘ Fits (y .a))) _ (p .1) in
+          (p .0, q .0, q .1)
+
+      ratio : (a b : Fraction) → isPositive (Fits a ⊘ Fits b) ≡ true → 0ℚ < value a * invℚ (value b)
+      ratio a b e = positive-is (Fits a ⊘ Fits b) (over-gives (given a) (given b)) (λ z q. over-fits q .is .proper) e
+
+      share : (c a b : Fraction) → Gives (Fits c ⊗ Fits a ⊘ Fits b) (value c * value a * invℚ (value b))
+      share c a b = over-gives (times-gives (given c) (given a)) (given b)
+
+      arc : (c : Change) → Removed (programOf net) (after j c (value (t .lower))) j (value (t .lower))
+          → CostlyArc (programOf net) (after j c (value (t .lower))) j k m (t .from) (t .to) (value (t .a)) (value (t .b)) (value (x .a)) (value (y .a)) (value (t .lower))
+      arc c r =
+          let C =
+              costly-arc (exactOf net) (sane net g) j k m (arc-place net g j used) (arc-in net j used) (arc-place net g k (first .used)) (arc-in net k (first .used)) (arc-place net g m (second .used)) (arc-in net m (second .used)) (value (t .lower))
+              (eqb-false _ _ root) (first .loops) (second .loops) (first .at) (second .at) (first .unbounded) (second .unbounded) (ratio (t .a) (x .a) (tests .0)) (ratio (t .b) (y .a) (tests .1))
+              (under-is _ (t .cost) (legal .cost-proper) (plus-gives (share (x .cost) (t .a) (x .a)) (share (y .cost) (t .b) (y .a))) (λ z q. plus-fits q .is .proper) (tests .2))
+              (bound-is proper) (not-over proper (legal .upper-bound) room) in
+          record { ends = C .ends; root₁ = C .root₁; root₂ = C .root₂; different = C .different; rate₁ = C .rate₁; rate₂ = C .rate₂; costly = C .costly; lower-is = C .lower-is; room = C .room; removed = r }
+
+  -- rule 1 comes first: where it does not answer no flow, the bounds do not cross
+  not-crossed : (j : ℕ) → 1 ≤ arcAt net j .from → (ruleOne net j .kind ≡ NoFlow → ⊥) → isLess (arcAt net j .upper) (arcAt net j .lower) ≡ false
+  unfolding ruleOne closedArc
+  not-crossed j used n = by (isLess (arcAt net j .upper) (arcAt net j .lower)) refl
+    where
+      by : (b : Bool) → isLess (arcAt net j .upper) (arcAt net j .lower) ≡ b → isLess (arcAt net j .upper) (arcAt net j .lower) ≡ false
+      by false e = e
+      by true e = absurd (n (rw (e, ne-eqb (arcAt net j .from) 0 (λ z. omega arith))))
+
+  pub four-sounds : (j : ℕ) → (ruleOne net j .kind ≡ NoFlow → ⊥) → Sounds net (ruleFour net j) (closed-back j (value (arcAt net j .lower)))
+  unfolding ruleFour isCandidate
+  four-sounds j n = by (isRoot t) refl (isFinite (t .lower)) refl
+    where
+      t : Arc
+      t = arcAt net j
+
+      paired : isRoot t ≡ false → isFinite (t .lower) ≡ true → (b : Bool) → hasPair net t ≡ b → Sounds net (costlyWith b net j t) (closed-back j (value (t .lower)))
+      paired r f false e = passed-sounds
+      paired r f true e = let w = pays t e in costly-sounds j r f (not-crossed j (rootless-used g j r) n) (w .0) (w .1) (w .2)
+
+      by : (x : Bool) → isRoot t ≡ x → (y : Bool) → isFinite (t .lower) ≡ y → Sounds net (costlyBy (not x && y) net j t) (closed-back j (value (t .lower)))
+      by true r y f = passed-sounds
+      by false r false f = passed-sounds
+      by false r true f = paired r f (hasPair net t) refl
+
+  -- ---- no flow
+
+  -- what a rule shows, holds
+  pub shown-holds : (k i : ℕ) → Shown net k i → LP.NoFlow (programOf net)
+  shown-holds k i (inl (e, s)) =
+      let c = crossing (g .used i (s .used) .lower-bound) (g .used i (s .used) .upper-bound) (s .crossed) in
+      closed-no-flow _ _ (once-mem (listed-arc net g i (s .used))) (ap (λ k. k .lower) (column-is net g i (s .used)) ∙ c .0) (ap (λ k. k .upper) (column-is net g i (s .used)) ∙ c .1) (c .2)
+  shown-holds k i (inr (inl (e, s))) =
+      bare-no-flow i (untouched i (s .here) (s .bare)) (once-mem (listed-node net g i (s .here))) (λ z. nonzero-value (g .supply-proper i (s .here)) (s .supplied) (sym (rhs-is net g i (s .here)) ∙ z))
+  shown-holds k i (inr (inr (e, s))) =
+      single-no-flow (single-at i (s .here) (s .single)) (single-out i (s .here) (s .single) (rw (s .arc-is) at (s .flow-is)) (rw (s .arc-is) at (s .outside)))
+
+  -- where a rule answers no flow, there is none
+  pub shown-no-flow : (k i : ℕ) → ruleAt net k i .kind ≡ NoFlow → LP.NoFlow (programOf net)
+  shown-no-flow k i e = shown-holds k i (no-flow-shown g k i e)
