@@ -4,6 +4,7 @@ pub mod Frame
 pub mod Sides
 pub mod Arcs
 pub mod Kept
+pub mod Values
 pub mod Order
 pub mod Answers
 pub mod Done
