@@ -21,7 +21,7 @@ use Rattle.fraction.specs.declared.Worked.the-variants.{Fits, Misfit}
 use Rattle.fraction.specs.Exact.{Proper, over, zeroFraction, noLower, noUpper, isZero, isLess, isFinite}
 use Rattle.fraction.specs.Extended.{Extended, Figure, number, greatest, least, fraction, absent-lower, absent-upper, Below, less-is}
 use Rattle.fraction.specs.Laws.{never}
-use Rattle.fraction.specs.Value.{value, zero-value}
+use Rattle.fraction.specs.Value.{value, zero-value, same-is}
 use Rattle.fraction.specs.Formula.{_⊕_, _⊖_, _⊗_, _⊘_, ⊝_, isFit, figureOf}
 use Rattle.fraction.specs.Worked.{Gives, given, plus-gives, minus-gives, times-gives, over-gives, negated-gives, over-fits, zero-proper, Nonzero, nonzero-value}
 use Rattle.network.specs.declared.Arc.{Arc}
@@ -94,3 +94,116 @@ smaller-bound {u} {v} (inl p) q = by (isLess v u) refl
     by true e = rw (proper-bound p, proper-bound q) (sym (mergeU-second (lt→le (less-is (proper-figure q) (proper-figure p) .0 e))))
     by false e = rw (proper-bound p, proper-bound q) (sym (mergeU-first (not-less (proper-figure q) (proper-figure p) e)))
 smaller-bound {u} {v} (inr m) q = rw (m, less-is (proper-figure q) absent-upper .1 tt, no-upper-bound) (sym (none-mergeU (boundOf v)))
+
+-- ---- signs
+
+pub zero-value-is : value zeroFraction ≡ 𝟘
+zero-value-is = zero-value zeroFraction (zero-proper .operand) refl
+
+pub zero-is-zero : (x : Fraction) → isZero x ≡ true → value x ≡ 𝟘
+unfolding isZero
+zero-is-zero x e = ap value (same-is x zeroFraction e) ∙ zero-value-is
+
+pub above-zero : {x : Fraction} → Proper x → isLess zeroFraction x ≡ true → 𝟘 < value x
+above-zero p e = rw zero-value-is at (less-is (proper-figure zero-proper) (proper-figure p) .0 e)
+
+pub below-zero : {x : Fraction} → Proper x → isLess x zeroFraction ≡ true → value x < 𝟘
+below-zero p e = rw zero-value-is at (less-is (proper-figure p) (proper-figure zero-proper) .0 e)
+
+not-above-zero : {x : Fraction} → Proper x → isLess zeroFraction x ≡ false → value x ≤ 𝟘
+not-above-zero p e = rw zero-value-is at (not-less (proper-figure zero-proper) (proper-figure p) e)
+
+-- ej and ek have the same sign, or opposite signs
+module _ {x y : Fraction} (nx : Nonzero x) (ny : Nonzero y) where
+  product-ne : ¬ (value x * value y ≡ 𝟘)
+  product-ne = mul-ne (nonzero-value (nx .proper) (nx .nonzero)) (nonzero-value (ny .proper) (ny .nonzero))
+
+  up : 𝟘 ≤ value x * value y → 𝟘 < value x * value y
+  up h k = product-ne (le-antisym _ _ k h)
+
+  down : value x * value y ≤ 𝟘 → value x * value y < 𝟘
+  down h k = product-ne (le-antisym _ _ h k)
+
+  pub same-sign : sameSign x y ≡ true → 𝟘 < value x * value y
+  unfolding sameSign
+  same-sign e = by (isLess zeroFraction x) refl (isLess zeroFraction y) refl e
+    where
+      by : (s : Bool) → isLess zeroFraction x ≡ s → (t : Bool) → isLess zeroFraction y ≡ t → sameBool s t ≡ true → 𝟘 < value x * value y
+      by true a true b e = up (mul-nn′ (lt→le (above-zero (nx .proper) a)) (lt→le (above-zero (ny .proper) b)))
+      by false a false b e =
+          up (le-by (mul-nn′ (sub-nn (not-above-zero (nx .proper) a)) (sub-nn (not-above-zero (ny .proper) b))) (ring2 ℚ-ring (value x) (value y) (λ x y. x :* y :- :0 := (:0 :- x) :* (:0 :- y)) refl))
+      by true a false b e = never cc
+      by false a true b e = never cc
+
+  pub opposite-signs : sameSign x y ≡ false → value x * value y < 𝟘
+  unfolding sameSign
+  opposite-signs e = by (isLess zeroFraction x) refl (isLess zeroFraction y) refl e
+    where
+      by : (s : Bool) → isLess zeroFraction x ≡ s → (t : Bool) → isLess zeroFraction y ≡ t → sameBool s t ≡ false → value x * value y < 𝟘
+      by true a true b e = never cc
+      by false a false b e = never cc
+      by true a false b e =
+          down (le-by (mul-nn′ (lt→le (above-zero (nx .proper) a)) (sub-nn (not-above-zero (ny .proper) b))) (ring2 ℚ-ring (value x) (value y) (λ x y. :0 :- x :* y := x :* (:0 :- y)) refl))
+      by false a true b e =
+          down (le-by (mul-nn′ (sub-nn (not-above-zero (nx .proper) a)) (lt→le (above-zero (ny .proper) b))) (ring2 ℚ-ring (value x) (value y) (λ x y. :0 :- x :* y := (:0 :- x) :* y) refl))
+
+-- ---- rule 5: j is kept and k goes, at a node of supply r
+
+module _ (r : Fraction) (j k : Side) where
+  -- j's flow where k's is z
+  abbrev across : ℚ → ℚ
+  across z = image (value r) (value (j .e)) (value (k .e)) z
+
+  from-bound : (z v : Fraction) → isFinite z ≡ true → boundFrom z r j k ≡ Fits v → Proper v × (boundOf v ≡ mapO across (boundOf z))
+  unfolding boundFrom
+  from-bound z v f e =
+      let p : Proper v = over-fits {x = Fits r ⊖ Fits (k .e) ⊗ Fits z} {y = Fits (j .e)} e .is .proper in
+      (p, proper-bound p ∙ ap some (over-gives (minus-gives (given r) (times-gives (given (k .e)) (given z))) (given (j .e)) v e) ∙ sym (mapO-at across (value z)) ∙ ap (mapO across) (sym (finite-bound z f)))
+
+  pub lower-value : (l z : Fraction) → Bound noLower l → isFit (keptLower l z r j k) ≡ true → boundOf (figureOf (keptLower l z r j k)) ≡ mergeL (boundOf l) (mapO across (boundOf z))
+  unfolding keptLower
+  lower-value l z b e = by (isFinite z) refl (boundFrom z r j k) refl e
+    where
+      by : (f : Bool) → isFinite z ≡ f → (w : Worked) → boundFrom z r j k ≡ w → isFit (cond f (tighterLower l w) (Fits l)) ≡ true → boundOf (figureOf (cond f (tighterLower l w) (Fits l))) ≡ mergeL (boundOf l) (mapO across (boundOf z))
+      by false f w q e = rw (mark-bound z f, mapO-none across) (sym (mergeL-none (boundOf l)))
+      by true f Misfit q e = never cc
+      by true f (Fits v) q e = let c = from-bound z v f q in larger-bound b (c .0) ∙ ap (mergeL (boundOf l)) (c .1)
+
+  pub upper-value : (u z : Fraction) → Bound noUpper u → isFit (keptUpper u z r j k) ≡ true → boundOf (figureOf (keptUpper u z r j k)) ≡ mergeU (boundOf u) (mapO across (boundOf z))
+  unfolding keptUpper
+  upper-value u z b e = by (isFinite z) refl (boundFrom z r j k) refl e
+    where
+      by : (f : Bool) → isFinite z ≡ f → (w : Worked) → boundFrom z r j k ≡ w → isFit (cond f (tighterUpper u w) (Fits u)) ≡ true → boundOf (figureOf (cond f (tighterUpper u w) (Fits u))) ≡ mergeU (boundOf u) (mapO across (boundOf z))
+      by false f w q e = rw (mark-bound z f, mapO-none across) (sym (mergeU-none (boundOf u)))
+      by true f Misfit q e = never cc
+      by true f (Fits v) q e = let c = from-bound z v f q in smaller-bound b (c .0) ∙ ap (mergeU (boundOf u)) (c .1)
+
+  -- the far end of k: the multiplier there, and the supply, where there is one
+  pub far-multiplier : ¬ (k .other ≡ 0) → isFit (farMultiplier j k) ≡ true → value (figureOf (farMultiplier j k)) ≡ - (value (k .o) * value (j .e) * inv (value (k .e)))
+  unfolding farMultiplier
+  far-multiplier n = rw (ne-eqb (k .other) 0 n) (fit-value (negated-gives (over-gives (times-gives (given (k .o)) (given (j .e))) (given (k .e)))))
+
+  pub no-far-multiplier : k .other ≡ 0 → value (figureOf (farMultiplier j k)) ≡ 𝟘
+  unfolding farMultiplier
+  no-far-multiplier z = rw (eq-eqb (k .other) 0 z) zero-value-is
+
+  pub far-supply : (s : Fraction) → ¬ (k .other ≡ 0) → isFit (farSupply k s r) ≡ true → value (figureOf (farSupply k s r)) ≡ value s + - (value (k .o) * value r * inv (value (k .e)))
+  unfolding farSupply
+  far-supply s n = rw (ne-eqb (k .other) 0 n) (fit-value (minus-gives (given s) (over-gives (times-gives (given (k .o)) (given r)) (given (k .e)))))
+
+  pub kept-cost : (t u : Arc) → isFit (keptCost t u j k) ≡ true → value (figureOf (keptCost t u j k)) ≡ value (t .cost) + - (value (u .cost) * value (j .e) * inv (value (k .e)))
+  unfolding keptCost
+  kept-cost t u = fit-value (minus-gives (given (t .cost)) (over-gives (times-gives (given (u .cost)) (given (j .e))) (given (k .e))))
+
+  -- the kept arc's bounds
+  pub kept-bounds : (t u : Arc) → Bound noLower (t .lower) → Bound noUpper (t .upper) → Nonzero (j .e) → Nonzero (k .e) → KeptFits t u j k r → NewBounds (column (exactArc t)) (column (exactArc u)) (column (exactArc (keptOf t u j k r .arc))) (value r) (value (j .e)) (value (k .e))
+  unfolding keptOf
+  kept-bounds t u bl bu nj nk f = by (sameSign (j .e) (k .e)) refl
+    where
+      by : (b : Bool) → sameSign (j .e) (k .e) ≡ b → NewBounds (column (exactArc t)) (column (exactArc u)) (column (exactArc (keptOf t u j k r .arc))) (value r) (value (j .e)) (value (k .e))
+      by true e =
+          exchanged (same-sign nj nk e) (lower-value (t .lower) _ bl (f .lower) ∙ ap (λ b. mergeL (boundOf (t .lower)) (mapO across (boundOf (cond b (u .upper) (u .lower))))) e)
+          (upper-value (t .upper) _ bu (f .upper) ∙ ap (λ b. mergeU (boundOf (t .upper)) (mapO across (boundOf (cond b (u .lower) (u .upper))))) e)
+      by false e =
+          straight (opposite-signs nj nk e) (lower-value (t .lower) _ bl (f .lower) ∙ ap (λ b. mergeL (boundOf (t .lower)) (mapO across (boundOf (cond b (u .upper) (u .lower))))) e)
+          (upper-value (t .upper) _ bu (f .upper) ∙ ap (λ b. mergeU (boundOf (t .upper)) (mapO across (boundOf (cond b (u .lower) (u .upper))))) e)
