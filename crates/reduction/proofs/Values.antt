@@ -3,10 +3,7 @@ use mathlib.Core.Path.{_≡_, refl, sym, ap, ap₂, _∙_}
 use mathlib.Core.Bool.{Bool, true, false, cond}
 use mathlib.Core.Logic.{_⊎_, inl, inr, _↔_}
 use mathlib.Core.Option.{Option, none, some}
-use Prim.Native.Nat.{ℕ, zero, suc, _<_ as _<ⁿ_}
-use native.Mathlib.Omega.{arith}
-use lib.Dec.{eqb}
-use lib.IntN.{ℤ}
+use Prim.Native.Nat.{ℕ}
 use borrow.Author.Tests.{eq-eqb, ne-eqb}
 use Rattle.algebra.specs.Solver.{_:+_, _:*_, _:-_, :neg, :0, _:=_, ring2, ring3}
 use Rattle.algebra.specs.Rat.{ℚ, ℚ-ring, _+ℚ_ as _+_, _*ℚ_ as _*_, -ℚ_ as -_, _≤ℚ_ as _≤_, 0ℚ as 𝟘, invℚ as inv, ≤ℚ-dec as le-dec, ≤ℚ-antisym as le-antisym}
@@ -19,7 +16,7 @@ use Rattle.fraction.specs.declared.Fraction.{Fraction}
 use Rattle.fraction.specs.declared.Worked.{Worked}
 use Rattle.fraction.specs.declared.Worked.the-variants.{Fits, Misfit}
 use Rattle.fraction.specs.Exact.{Proper, over, zeroFraction, noLower, noUpper, isZero, isLess, isFinite}
-use Rattle.fraction.specs.Extended.{Extended, Figure, number, greatest, least, fraction, absent-lower, absent-upper, Below, less-is}
+use Rattle.fraction.specs.Extended.{absent-lower, absent-upper, proper-figure, less-is, less-value, not-less}
 use Rattle.fraction.specs.Laws.{never}
 use Rattle.fraction.specs.Value.{value, zero-value, same-is}
 use Rattle.fraction.specs.Formula.{_⊕_, _⊖_, _⊗_, _⊘_, ⊝_, isFit, figureOf}
@@ -28,30 +25,13 @@ use Rattle.network.specs.declared.Arc.{Arc}
 use Rattle.network.specs.declared.Side.{Side}
 use Rattle.network.specs.Legal.{Bound}
 use Rattle.network.specs.Program.{boundOf, exactArc}
+use Rattle.network.proofs.Bounds.{bound-is, no-lower, no-upper}
 use Rattle.reduction.specs.Rules.{sameSign, sameBool, farMultiplier, farSupply, keptCost, boundFrom, tighterLower, tighterUpper, keptLower, keptUpper, lowerSource, upperSource, keptOf, larger, smaller}
 use Rattle.reduction.proofs.Arcs.{KeptFits, fit-is}
 
 -- a result that fits has the value of its formula
 pub fit-value : {w : Worked} {q : ℚ} → Gives w q → isFit w ≡ true → value (figureOf w) ≡ q
 fit-value {w} g e = g _ (fit-is w e)
-
--- ---- comparisons
-
--- a fraction in form stands at its value
-pub proper-figure : {x : Fraction} → Proper x → Figure x (number (value x))
-proper-figure {x} p = by (x .num) (x .den) (p .operand .den-pos)
-  where
-    by : (n : ℤ) (d : ℕ) → 0 <ⁿ d → Figure (over n d) (number (value (over n d)))
-    by n zero h = absurd (omega arith)
-    by n (suc d) h = fraction n d
-
--- where the test fails, the order is the other way
-not-less : {x y : Fraction} {p q : ℚ} → Figure x (number p) → Figure y (number q) → isLess x y ≡ false → q ≤ p
-not-less {x} {y} {p} {q} f g e = by (le-dec q p)
-  where
-    by : Dec (q ≤ p) → q ≤ p
-    by (yes h) = h
-    by (no h) = never (let z = sym e ∙ less-is f g .1 h in cc)
 
 -- ---- bounds
 
@@ -63,37 +43,22 @@ mark-bound : (z : Fraction) → isFinite z ≡ false → boundOf z ≡ none
 unfolding boundOf
 mark-bound z e = rw e
 
-no-lower-bound : boundOf noLower ≡ none
-unfolding boundOf isFinite
-no-lower-bound = refl
-
-pub no-upper-bound : boundOf noUpper ≡ none
-unfolding boundOf isFinite
-no-upper-bound = refl
-
-proper-finite : {x : Fraction} → Proper x → isFinite x ≡ true
-unfolding isFinite
-proper-finite {x} p = rw (ne-eqb (x .den) 0 (λ z. omega (arith, p .operand .den-pos)))
-
-pub proper-bound : {x : Fraction} → Proper x → boundOf x ≡ some (value x)
-proper-bound {x} p = finite-bound x (proper-finite p)
-
 -- the tighter of two: a bound and a fraction in form
 pub larger-bound : {l v : Fraction} → Bound noLower l → Proper v → boundOf (larger l v) ≡ mergeL (boundOf l) (boundOf v)
 larger-bound {l} {v} (inl p) q = by (isLess l v) refl
   where
     by : (b : Bool) → isLess l v ≡ b → boundOf (cond b v l) ≡ mergeL (boundOf l) (boundOf v)
-    by true e = rw (proper-bound p, proper-bound q) (sym (mergeL-second (lt→le (less-is (proper-figure p) (proper-figure q) .0 e))))
-    by false e = rw (proper-bound p, proper-bound q) (sym (mergeL-first (not-less (proper-figure p) (proper-figure q) e)))
-larger-bound {l} {v} (inr m) q = rw (m, less-is absent-lower (proper-figure q) .1 tt, no-lower-bound) (sym (none-mergeL (boundOf v)))
+    by true e = rw (bound-is p, bound-is q) (sym (mergeL-second (lt→le (less-value p q e))))
+    by false e = rw (bound-is p, bound-is q) (sym (mergeL-first (not-less p q e)))
+larger-bound {l} {v} (inr m) q = rw (m, less-is absent-lower (proper-figure q) .1 tt, no-lower) (sym (none-mergeL (boundOf v)))
 
 pub smaller-bound : {u v : Fraction} → Bound noUpper u → Proper v → boundOf (smaller u v) ≡ mergeU (boundOf u) (boundOf v)
 smaller-bound {u} {v} (inl p) q = by (isLess v u) refl
   where
     by : (b : Bool) → isLess v u ≡ b → boundOf (cond b v u) ≡ mergeU (boundOf u) (boundOf v)
-    by true e = rw (proper-bound p, proper-bound q) (sym (mergeU-second (lt→le (less-is (proper-figure q) (proper-figure p) .0 e))))
-    by false e = rw (proper-bound p, proper-bound q) (sym (mergeU-first (not-less (proper-figure q) (proper-figure p) e)))
-smaller-bound {u} {v} (inr m) q = rw (m, less-is (proper-figure q) absent-upper .1 tt, no-upper-bound) (sym (none-mergeU (boundOf v)))
+    by true e = rw (bound-is p, bound-is q) (sym (mergeU-second (lt→le (less-value q p e))))
+    by false e = rw (bound-is p, bound-is q) (sym (mergeU-first (not-less q p e)))
+smaller-bound {u} {v} (inr m) q = rw (m, less-is (proper-figure q) absent-upper .1 tt, no-upper) (sym (none-mergeU (boundOf v)))
 
 -- ---- signs
 
@@ -105,13 +70,13 @@ unfolding isZero
 zero-is-zero x e = ap value (same-is x zeroFraction e) ∙ zero-value-is
 
 pub above-zero : {x : Fraction} → Proper x → isLess zeroFraction x ≡ true → 𝟘 < value x
-above-zero p e = rw zero-value-is at (less-is (proper-figure zero-proper) (proper-figure p) .0 e)
+above-zero p e = rw zero-value-is at (less-value zero-proper p e)
 
 pub below-zero : {x : Fraction} → Proper x → isLess x zeroFraction ≡ true → value x < 𝟘
-below-zero p e = rw zero-value-is at (less-is (proper-figure p) (proper-figure zero-proper) .0 e)
+below-zero p e = rw zero-value-is at (less-value p zero-proper e)
 
 not-above-zero : {x : Fraction} → Proper x → isLess zeroFraction x ≡ false → value x ≤ 𝟘
-not-above-zero p e = rw zero-value-is at (not-less (proper-figure zero-proper) (proper-figure p) e)
+not-above-zero p e = rw zero-value-is at (not-less zero-proper p e)
 
 -- ej and ek have the same sign, or opposite signs
 module _ {x y : Fraction} (nx : Nonzero x) (ny : Nonzero y) where
@@ -158,7 +123,7 @@ module _ (r : Fraction) (j k : Side) where
   unfolding boundFrom
   from-bound z v f e =
       let p : Proper v = over-fits {x = Fits r ⊖ Fits (k .e) ⊗ Fits z} {y = Fits (j .e)} e .is .proper in
-      (p, proper-bound p ∙ ap some (over-gives (minus-gives (given r) (times-gives (given (k .e)) (given z))) (given (j .e)) v e) ∙ sym (mapO-at across (value z)) ∙ ap (mapO across) (sym (finite-bound z f)))
+      (p, bound-is p ∙ ap some (over-gives (minus-gives (given r) (times-gives (given (k .e)) (given z))) (given (j .e)) v e) ∙ sym (mapO-at across (value z)) ∙ ap (mapO across) (sym (finite-bound z f)))
 
   pub lower-value : (l z : Fraction) → Bound noLower l → isFit (keptLower l z r j k) ≡ true → boundOf (figureOf (keptLower l z r j k)) ≡ mergeL (boundOf l) (mapO across (boundOf z))
   unfolding keptLower
