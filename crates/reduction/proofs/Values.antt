@@ -17,7 +17,7 @@ use Rattle.fraction.specs.declared.Worked.{Worked}
 use Rattle.fraction.specs.declared.Worked.the-variants.{Fits, Misfit}
 use Rattle.fraction.specs.Exact.{Proper, over, zeroFraction, noLower, noUpper, isZero, isLess, isFinite}
 use Rattle.fraction.specs.Extended.{absent-lower, absent-upper, proper-figure, less-is, less-value, not-less}
-use Rattle.fraction.specs.Laws.{never}
+use Rattle.fraction.specs.Laws.{and-both, never}
 use Rattle.fraction.specs.Value.{value, zero-value, same-is}
 use Rattle.fraction.specs.Formula.{_⊕_, _⊖_, _⊗_, _⊘_, ⊝_, isFit, figureOf}
 use Rattle.fraction.specs.Worked.{Gives, given, plus-gives, minus-gives, times-gives, over-gives, negated-gives, over-fits, zero-proper, Nonzero, nonzero-value}
@@ -26,7 +26,7 @@ use Rattle.network.specs.declared.Side.{Side}
 use Rattle.network.specs.Legal.{Bound}
 use Rattle.network.specs.Program.{boundOf, exactArc}
 use Rattle.network.proofs.Bounds.{bound-is, no-lower, no-upper}
-use Rattle.reduction.specs.Rules.{sameSign, sameBool, farMultiplier, farSupply, keptCost, boundFrom, tighterLower, tighterUpper, keptLower, keptUpper, lowerSource, upperSource, keptOf, larger, smaller}
+use Rattle.reduction.specs.Rules.{sameSign, sameBool, farMultiplier, farSupply, keptCost, boundFrom, tighterLower, tighterUpper, keptLower, keptUpper, lowerSource, upperSource, keptOf, larger, smaller, crossedSides}
 use Rattle.reduction.proofs.Arcs.{KeptFits, fit-is}
 
 -- a result that fits has the value of its formula
@@ -172,3 +172,24 @@ module _ (r : Fraction) (j k : Side) where
       by false e =
           straight (opposite-signs nj nk e) (lower-value (t .lower) _ bl (f .lower) ∙ ap (λ b. mergeL (boundOf (t .lower)) (mapO across (boundOf (cond b (u .upper) (u .lower))))) e)
           (upper-value (t .upper) _ bu (f .upper) ∙ ap (λ b. mergeU (boundOf (t .upper)) (mapO across (boundOf (cond b (u .lower) (u .upper))))) e)
+
+-- ---- rule 6: the new arc of n and p
+
+pub crossed-arc : (n p : Side) (cn cp : Fraction) → crossedSides n p cn cp .fits ≡ true →
+    exactArc (crossedSides n p cn cp .arc) ≡ record { from = n .other; to = p .other; cost = - (value cn * inv (value (n .e))) + value cp * inv (value (p .e)); lower = some 𝟘; upper = none; a = - (value (n .o) * inv (value (n .e))); b = value (p .o) * inv (value (p .e)) }
+crossed-arc n p cn cp e = λ i. record { from = n .other; to = p .other; cost = c i; lower = l i; upper = no-upper i; a = q i; b = r i }
+  where
+    fit : (isFit (⊝ (Fits (n .o) ⊘ Fits (n .e))) ≡ true) × (isFit (Fits (p .o) ⊘ Fits (p .e)) ≡ true) × (isFit (⊝ (Fits cn ⊘ Fits (n .e)) ⊕ Fits cp ⊘ Fits (p .e)) ≡ true)
+    fit = let x = and-both (isFit (⊝ (Fits (n .o) ⊘ Fits (n .e)))) _ e in let y = and-both (isFit (Fits (p .o) ⊘ Fits (p .e))) _ (x .1) in (x .0, y .0, y .1)
+
+    c : value (figureOf (⊝ (Fits cn ⊘ Fits (n .e)) ⊕ Fits cp ⊘ Fits (p .e))) ≡ - (value cn * inv (value (n .e))) + value cp * inv (value (p .e))
+    c = fit-value (plus-gives (negated-gives (over-gives (given cn) (given (n .e)))) (over-gives (given cp) (given (p .e)))) (fit .2)
+
+    q : value (figureOf (⊝ (Fits (n .o) ⊘ Fits (n .e)))) ≡ - (value (n .o) * inv (value (n .e)))
+    q = fit-value (negated-gives (over-gives (given (n .o)) (given (n .e)))) (fit .0)
+
+    r : value (figureOf (Fits (p .o) ⊘ Fits (p .e))) ≡ value (p .o) * inv (value (p .e))
+    r = fit-value (over-gives (given (p .o)) (given (p .e))) (fit .1)
+
+    l : boundOf zeroFraction ≡ some 𝟘
+    l = bound-is zero-proper ∙ ap some zero-value-is
