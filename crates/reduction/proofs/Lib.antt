@@ -4,10 +4,12 @@ pub mod Frame
 pub mod Sides
 pub mod Arcs
 pub mod Kept
-pub mod Values
 pub mod Order
 pub mod Answers
 pub mod Done
 pub mod Entry
 pub mod Exactly
 pub mod Removals
+pub mod Values
+pub mod Rewiring
+pub mod Merged

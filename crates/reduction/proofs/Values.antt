@@ -18,9 +18,9 @@ use Rattle.fraction.specs.declared.Worked.the-variants.{Fits, Misfit}
 use Rattle.fraction.specs.Exact.{Proper, over, zeroFraction, noLower, noUpper, isZero, isLess, isFinite}
 use Rattle.fraction.specs.Extended.{absent-lower, absent-upper, proper-figure, less-is, less-value, not-less}
 use Rattle.fraction.specs.Laws.{and-both, never}
-use Rattle.fraction.specs.Value.{value, zero-value, same-is}
+use Rattle.fraction.specs.Value.{value}
 use Rattle.fraction.specs.Formula.{_⊕_, _⊖_, _⊗_, _⊘_, ⊝_, isFit, figureOf}
-use Rattle.fraction.specs.Worked.{Gives, given, plus-gives, minus-gives, times-gives, over-gives, negated-gives, over-fits, zero-proper, Nonzero, nonzero-value}
+use Rattle.fraction.specs.Worked.{Gives, given, plus-gives, minus-gives, times-gives, over-gives, negated-gives, over-fits, zero-proper, zero-is, Nonzero, nonzero-value}
 use Rattle.network.specs.declared.Arc.{Arc}
 use Rattle.network.specs.declared.Side.{Side}
 use Rattle.network.specs.Legal.{Bound}
@@ -62,21 +62,14 @@ smaller-bound {u} {v} (inr m) q = rw (m, less-is (proper-figure q) absent-upper 
 
 -- ---- signs
 
-pub zero-value-is : value zeroFraction ≡ 𝟘
-zero-value-is = zero-value zeroFraction (zero-proper .operand) refl
-
-pub zero-is-zero : (x : Fraction) → isZero x ≡ true → value x ≡ 𝟘
-unfolding isZero
-zero-is-zero x e = ap value (same-is x zeroFraction e) ∙ zero-value-is
-
 pub above-zero : {x : Fraction} → Proper x → isLess zeroFraction x ≡ true → 𝟘 < value x
-above-zero p e = rw zero-value-is at (less-value zero-proper p e)
+above-zero p e = rw zero-is at (less-value zero-proper p e)
 
 pub below-zero : {x : Fraction} → Proper x → isLess x zeroFraction ≡ true → value x < 𝟘
-below-zero p e = rw zero-value-is at (less-value p zero-proper e)
+below-zero p e = rw zero-is at (less-value p zero-proper e)
 
 not-above-zero : {x : Fraction} → Proper x → isLess zeroFraction x ≡ false → value x ≤ 𝟘
-not-above-zero p e = rw zero-value-is at (not-less zero-proper p e)
+not-above-zero p e = rw zero-is at (not-less zero-proper p e)
 
 -- ej and ek have the same sign, or opposite signs
 module _ {x y : Fraction} (nx : Nonzero x) (ny : Nonzero y) where
@@ -150,7 +143,7 @@ module _ (r : Fraction) (j k : Side) where
 
   pub no-far-multiplier : k .other ≡ 0 → value (figureOf (farMultiplier j k)) ≡ 𝟘
   unfolding farMultiplier
-  no-far-multiplier z = rw (eq-eqb (k .other) 0 z) zero-value-is
+  no-far-multiplier z = rw (eq-eqb (k .other) 0 z) zero-is
 
   pub far-supply : (s : Fraction) → ¬ (k .other ≡ 0) → isFit (farSupply k s r) ≡ true → value (figureOf (farSupply k s r)) ≡ value s + - (value (k .o) * value r * inv (value (k .e)))
   unfolding farSupply
@@ -192,4 +185,4 @@ crossed-arc n p cn cp e = λ i. record { from = n .other; to = p .other; cost = 
     r = fit-value (over-gives (given (p .o)) (given (p .e))) (fit .1)
 
     l : boundOf zeroFraction ≡ some 𝟘
-    l = bound-is zero-proper ∙ ap some zero-value-is
+    l = bound-is zero-proper ∙ ap some zero-is

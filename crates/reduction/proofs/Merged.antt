@@ -1,0 +1,90 @@
+-- Rule 5 is sound: the change that it answers is a step of the theory, and the two arcs' flows and the node's price come back by `two-back`. Assumes nothing.
+use mathlib.Core.Path.{_≡_, refl, sym, ap, ap₂, _∙_, subst}
+use mathlib.Core.Bool.{Bool, true, false, cond, _&&_}
+use mathlib.Core.List.{[], _∷_, List·Memᴰ, List·Memᴰ·head, List·Memᴰ·tail}
+use mathlib.Core.Logic.{_⊎_, inl, inr, ⊎-elim}
+use Prim.Native.Nat.{ℕ, _≤_}
+use native.Mathlib.Decide.{ℕ-discrete}
+use native.Mathlib.Omega.{arith}
+use lib.Dec.{T, eqb}
+use borrow.Author.Tests.{eqb-true, eqb-false, eq-eqb, ne-eqb}
+use Rattle.algebra.specs.Solver.{_:+_, _:*_, _:-_, :neg, :0, _:=_, ring1, ring2}
+use Rattle.algebra.specs.Rat.{ℚ, ℚ-ring, _+ℚ_ as _+_, _*ℚ_ as _*_, -ℚ_ as -_, 0ℚ as 𝟘, invℚ as inv}
+use Rattle.algebra.specs.Sum.{Absent, only, only-same, only-other}
+use Rattle.presolve.specs.Named.{apart, further}
+use Rattle.presolve.specs.LP.{Pair}
+use Rattle.presolve.specs.Step.{SoundStep}
+use Rattle.presolve.specs.Price.{Ends, only-zero}
+use Rattle.presolve.specs.Net.{column}
+use Rattle.presolve.specs.TwoArcs.{two-back, two-sound}
+use Rattle.presolve.specs.Rewire.{Taking, two-of}
+use Rattle.fraction.specs.declared.Fraction.{Fraction}
+use Rattle.fraction.specs.declared.Worked.{Worked}
+use Rattle.fraction.specs.Laws.{and-both, never}
+use Rattle.fraction.specs.Value.{value}
+use Rattle.fraction.specs.Formula.{isFit, figureOf}
+use Rattle.network.specs.declared.Arc.{Arc}
+use Rattle.network.specs.declared.Net.{Net}
+use Rattle.network.specs.declared.Side.{Side}
+use Rattle.network.specs.declared.Change.{Change}
+use Rattle.network.specs.declared.Kind.the-variants.{Changes}
+use Rattle.network.specs.declared.Tried.{Tried}
+use Rattle.network.specs.Network.{arcAt, supplyAt, isHere, degreeOf, isTouching, touchingAfter, isRoot, sideOf, applied}
+use Rattle.network.specs.Legal.{Legal}
+use Rattle.network.specs.Program.{exactArc, exactOf, programOf}
+use Rattle.network.proofs.Kept.{here-number, touching-used}
+use Rattle.reduction.specs.Rules.{farMultiplier, farSupply, keptOf, changeTwo, mergedBy, twoArcs, apartBy, keepFirst, keepBy, keepOne, twoWhere, ruleFive}
+use Rattle.reduction.specs.declared.figures.Made.{Made}
+use Rattle.reduction.proofs.Frame.{Unnamed, arc-one, arc-two, supply-one, supply-same}
+use Rattle.reduction.proofs.Sides.{Far, Seen, at-from, at-to, seen, no-far}
+use Rattle.reduction.proofs.Arcs.{KeptFits, kept-fits}
+use Rattle.reduction.proofs.Touch.{Two, At, touches, two-touching}
+use Rattle.reduction.proofs.Kept.{low, number, legal-at, near-at, far-at}
+use Rattle.reduction.proofs.Exactly.{is-true, arc-in, arc-off, zero-figure, spokeOf, spoke-at, SoundChange}
+use Rattle.reduction.proofs.Values.{far-multiplier, no-far-multiplier, far-supply, kept-cost, kept-bounds}
+use Rattle.reduction.proofs.Rewiring.{shifted, shifted-is, rewired, alone}
+
+-- the two arcs of a node of degree 2: the one that is kept, and the one that goes
+abbrev pub keptAt : Net → ℕ → ℕ
+keptAt net i = cond (isRoot (arcAt net (touchingAfter net i 0))) (touchingAfter net i (touchingAfter net i 0)) (touchingAfter net i 0)
+
+abbrev pub mergedAt : Net → ℕ → ℕ
+mergedAt net i = cond (isRoot (arcAt net (touchingAfter net i 0))) (touchingAfter net i 0) (touchingAfter net i (touchingAfter net i 0))
+
+-- the change of an answer at node i, where j is kept and k goes, is sound
+abbrev Merges : Net → ℕ → ℕ → ℕ → Tried → Type 0
+Merges net i j k t = t .kind ≡ Changes → SoundChange net (t .change) (two-back (programOf net) i (spokeOf net i j) (spokeOf net i k))
+
+module _ (net : Net) (g : Legal net) (i : ℕ) (here : isHere net i ≡ true) where
+  -- the far end of an arc: none, and the multiplier 0, for a root arc
+  data End (w : Side) : Type 0 where
+    no-end : w .other ≡ 0 → value (w .o) ≡ 𝟘 → End w
+    an-end : Far net i w → End w
+
+  end-of : (k : ℕ) → isTouching (arcAt net k) i ≡ true → End (sideOf (arcAt net k) i)
+  unfolding isRoot
+  end-of k t = by (isRoot (arcAt net k)) refl
+    where
+      zero : isRoot (arcAt net k) ≡ true → Seen (arcAt net k) i → value (sideOf (arcAt net k) i .o) ≡ 𝟘
+      zero e (at-from a is) = rw is (zero-figure _ (legal-at net g i here k t .b-zero ∙ e))
+      zero e (at-to a b is) = absurd (a (eqb-true _ _ e ∙ b))
+
+      by : (b : Bool) → isRoot (arcAt net k) ≡ b → End (sideOf (arcAt net k) i)
+      by true e = no-end (no-far _ i t e) (zero e (seen _ i t))
+      by false e = an-end (far-at net g i here k t e)
+
+  end-number : {w : Side} → Far net i w → (1 ≤ w .other) × (w .other ≤ 32)
+  end-number f = here-number g _ (f .here)
+
+  some-end : {w : Side} → Far net i w → ¬ (w .other ≡ 0)
+  some-end f z = omega (arith, end-number f .0)
+
+  -- j is kept, and runs on to k's far end
+  kept-ends : (t u : Arc) (j k : Side) (r : Fraction) → End k → KeptFits t u j k r → Ends (column (exactArc (keptOf t u j k r .arc))) (j .other) (value (j .o)) (k .other) (- (value (k .o) * value (j .e) * inv (value (k .e))))
+  unfolding keptOf
+  kept-ends t u j k r (no-end z o) f s =
+      ap (λ v. only (j .other) (value (j .o)) s + v)
+      (rw (eq-eqb (k .other) 0 z, no-far-multiplier r j k z) (only-zero (j .other) s)
+      ∙ sym (ap (λ v. only (k .other) (- (v * value (j .e) * inv (value (k .e)))) s) o ∙ ap (λ v. only (k .other) v s) (ring2 ℚ-ring (value (j .e)) (inv (value (k .e))) (λ e i. :neg (:0 :* e :* i) := :0) refl) ∙ only-zero (k .other) s))
+  kept-ends t u j k r (an-end a) f s =
+      ap (λ v. only (j .other) (value (j .o)) s + v) (rw (ne-eqb (k .other) 0 (some-end a), far-multiplier r j k (some-end a) (f .multiplier)))
