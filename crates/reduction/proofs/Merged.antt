@@ -88,3 +88,57 @@ module _ (net : Net) (g : Legal net) (i : ℕ) (here : isHere net i ≡ true) wh
       ∙ sym (ap (λ v. only (k .other) (- (v * value (j .e) * inv (value (k .e)))) s) o ∙ ap (λ v. only (k .other) v s) (ring2 ℚ-ring (value (j .e)) (inv (value (k .e))) (λ e i. :neg (:0 :* e :* i) := :0) refl) ∙ only-zero (k .other) s))
   kept-ends t u j k r (an-end a) f s =
       ap (λ v. only (j .other) (value (j .o)) s + v) (rw (ne-eqb (k .other) 0 (some-end a), far-multiplier r j k (some-end a) (f .multiplier)))
+
+  -- j is kept and k goes, where all their figures fit
+  module _ (j k : ℕ) (aj : At (touches net i) j) (ak : At (touches net i) k) (ne : ¬ (j ≡ k)) (all : (x : ℕ) → isTouching (arcAt net x) i ≡ true → (x ≡ j) ⊎ (x ≡ k)) where
+    wj : Side
+    wj = sideOf (arcAt net j) i
+
+    wk : Side
+    wk = sideOf (arcAt net k) i
+
+    made : Made
+    made = keptOf (arcAt net j) (arcAt net k) wj wk (supplyAt net i)
+
+    far : Worked
+    far = farSupply wk (supplyAt net (wk .other)) (supplyAt net i)
+
+    change : Change
+    change = changeTwo j (made .arc) k (wk .other) (figureOf far) i
+
+    -- what k takes of the node's supply to its far end, and of its cost to the constant
+    taken : ℚ
+    taken = value (wk .o) * value (supplyAt net i) * inv (value (wk .e))
+
+    gain : ℚ
+    gain = value (arcAt net k .cost) * value (supplyAt net i) * inv (value (wk .e))
+
+    unnamed : (x : ℕ) → Absent x (j ∷ k ∷ []) → Unnamed change x
+    unfolding change
+    unnamed x a = record { not-one = λ _. apart a; not-two = λ _. apart (further a); not-three = λ l. absurd (omega arith); not-four = λ l. absurd (omega arith) }
+
+    nothing-taken : value (wk .o) ≡ 𝟘 → taken ≡ 𝟘
+    unfolding taken
+    nothing-taken z = ap (λ v. v * value (supplyAt net i) * inv (value (wk .e))) z ∙ ring2 ℚ-ring (value (supplyAt net i)) (inv (value (wk .e))) (λ r e. :0 :* r :* e := :0) refl
+
+    far-in : End wk → T (isHere net (wk .other)) ⊎ (taken ≡ 𝟘)
+    far-in (no-end z o) = inr (nothing-taken o)
+    far-in (an-end f) = inl (is-true (f .here))
+
+    supplies : End wk → isFit far ≡ true → (s : ℕ) → value (supplyAt (applied net change) s) ≡ value (supplyAt net s) + - only (wk .other) taken s
+    unfolding change taken far wk
+    supplies (no-end z o) fit s =
+        ap value (supply-same net change s (λ l. absurd (omega (arith, z))) (λ l. absurd (omega arith)))
+        ∙ ring1 ℚ-ring (value (supplyAt net s)) (λ r. r := r :- :0) refl
+        ∙ ap (λ v. value (supplyAt net s) + - v) (sym (ap (λ v. only (wk .other) v s) (nothing-taken o) ∙ only-zero (wk .other) s))
+    supplies (an-end f) fit s = by (ℕ-discrete s (wk .other))
+      where
+        by : Dec (s ≡ wk .other) → value (supplyAt (applied net change) s) ≡ value (supplyAt net s) + - only (wk .other) taken s
+        by (yes q) =
+            rw q
+            (ap value (supply-one net change g (end-number f) (λ l. absurd (omega arith))) ∙ far-supply (supplyAt net i) wj wk (supplyAt net (wk .other)) (some-end f) fit
+            ∙ ap (λ v. value (supplyAt net (wk .other)) + - v) (sym (only-same (wk .other) taken)))
+        by (no n) =
+            ap value (supply-same net change s (λ _. n) (λ l. absurd (omega arith)))
+            ∙ ring1 ℚ-ring (value (supplyAt net s)) (λ r. r := r :- :0) refl
+            ∙ ap (λ v. value (supplyAt net s) + - v) (sym (only-other (wk .other) s taken (λ q. n (sym q))))
