@@ -29,7 +29,7 @@ use Rattle.network.specs.declared.Side.{Side}
 use Rattle.network.specs.declared.Change.{Change}
 use Rattle.network.specs.declared.Kind.the-variants.{Changes}
 use Rattle.network.specs.declared.Tried.{Tried}
-use Rattle.network.specs.Network.{arcAt, supplyAt, isHere, degreeOf, isTouching, touchingAfter, isRoot, sideOf, applied}
+use Rattle.network.specs.Network.{noArc, arcAt, supplyAt, isHere, degreeOf, isTouching, touchingAfter, isRoot, sideOf, applied}
 use Rattle.network.specs.Legal.{Legal}
 use Rattle.network.specs.Program.{exactArc, exactOf, programOf}
 use Rattle.network.proofs.Kept.{here-number, touching-used}
@@ -142,3 +142,44 @@ module _ (net : Net) (g : Legal net) (i : ℕ) (here : isHere net i ≡ true) wh
             ap value (supply-same net change s (λ _. n) (λ l. absurd (omega arith)))
             ∙ ring1 ℚ-ring (value (supplyAt net s)) (λ r. r := r :- :0) refl
             ∙ ap (λ v. value (supplyAt net s) + - v) (sym (only-other (wk .other) s taken (λ q. n (sym q))))
+
+    merged-sound : Far net i wj → made .fits ≡ true → isFit far ≡ true → SoundChange net change (two-back (programOf net) i (spokeOf net i j) (spokeOf net i k))
+    unfolding change taken gain wj wk made exactOf keptOf
+    merged-sound fj fits fit =
+        record {
+          shift = 𝟘 + gain;
+          sound =
+              subst (λ N. SoundStep (programOf net) N (two-back (programOf net) i (spokeOf net i j) (spokeOf net i k))) (shifted-is (applied net change) (𝟘 + gain))
+              (two-sound
+              (two-of (exactOf net) (shifted (applied net change) (𝟘 + gain)) i (spokeOf net i j) (spokeOf net i k) (exactArc (made .arc))
+              (rewired net g change here (j ∷ k ∷ []) unnamed (wk .other) taken gain (far-in end) (supplies end fit))
+              (omega (arith, here-number g i here .1))
+              (spoke-at net g i j here (aj .passes))
+              (spoke-at net g i k here (ak .passes))
+              (arc-in net j (touching-used g j i (low net g i here) (aj .passes)))
+              (arc-in net k (touching-used g k i (low net g i here) (ak .passes)))
+              ne
+              (alone net g change here (j ∷ k ∷ []) named)
+              (arc-in (applied net change) j (rw at-j (end-number fj .0)))
+              (arc-off (applied net change) k at-k)
+              (ap exactArc at-j)
+              (kept-ends (arcAt net j) (arcAt net k) wj wk (supplyAt net i) end f)
+              (kept-cost (supplyAt net i) wj wk (arcAt net j) (arcAt net k) (f .cost))
+              (kept-bounds (supplyAt net i) wj wk (arcAt net j) (arcAt net k) (legal-at net g i here j (aj .passes) .lower-bound) (legal-at net g i here j (aj .passes) .upper-bound) (near-at net g i here j (aj .passes) .e-nonzero)
+              (near-at net g i here k (ak .passes) .e-nonzero) f)));
+        }
+      where
+        end : End wk
+        end = end-of k (ak .passes)
+
+        f : KeptFits (arcAt net j) (arcAt net k) wj wk (supplyAt net i)
+        f = kept-fits (arcAt net j) (arcAt net k) wj wk (supplyAt net i) fits
+
+        named : (x : ℕ) → isTouching (arcAt net x) i ≡ true → List·Memᴰ x (j ∷ k ∷ [])
+        named x t = ⊎-elim (λ e. List·Memᴰ·head e) (λ e. List·Memᴰ·tail (List·Memᴰ·head e)) (all x t)
+
+        at-j : arcAt (applied net change) j ≡ made .arc
+        at-j = arc-one net change g (aj .one, aj .within) (λ _. ne) (λ l. absurd (omega arith)) (λ l. absurd (omega arith))
+
+        at-k : arcAt (applied net change) k ≡ noArc
+        at-k = arc-two net change g (ak .one, ak .within) (λ l. absurd (omega arith)) (λ l. absurd (omega arith))
