@@ -183,3 +183,39 @@ module _ (net : Net) (g : Legal net) (i : ℕ) (here : isHere net i ≡ true) wh
 
         at-k : arcAt (applied net change) k ≡ noArc
         at-k = arc-two net change g (ak .one, ak .within) (λ l. absurd (omega arith)) (λ l. absurd (omega arith))
+
+    -- as the rule answers, where j is no root arc unless k is one
+    first-sound : (isRoot (arcAt net j) ≡ true → isRoot (arcAt net k) ≡ true) → Merges net i j k (keepFirst net i j k)
+    unfolding keepFirst twoArcs change made far wj wk
+    first-sound roots = by (eqb (wj .other) (wk .other)) refl
+      where
+        no-root : (wj .other ≡ wk .other → ⊥) → (b : Bool) → isRoot (arcAt net j) ≡ b → Far net i wj
+        no-root n true e = absurd (n (no-far _ i (aj .passes) e ∙ sym (no-far _ i (ak .passes) (roots e))))
+        no-root n false e = far-at net g i here j (aj .passes) e
+
+        fitting : (wj .other ≡ wk .other → ⊥) → (b : Bool) → (made .fits && isFit far) ≡ b → Merges net i j k (mergedBy b i j k wk made far)
+        fitting n false e = λ q. never cc
+        fitting n true e = λ _. let f = and-both (made .fits) (isFit far) e in merged-sound (no-root n _ refl) (f .0) (f .1)
+
+        by : (b : Bool) → eqb (wj .other) (wk .other) ≡ b → Merges net i j k (apartBy b net i j k)
+        by true e = λ q. never cc
+        by false e = fitting (eqb-false _ _ e) (made .fits && isFit far) refl
+
+  -- RULE 5 IS SOUND
+  pub five-sound : ruleFive net i .kind ≡ Changes → SoundChange net (ruleFive net i .change) (two-back (programOf net) i (spokeOf net i (keptAt net i)) (spokeOf net i (mergedAt net i)))
+  unfolding ruleFive keepOne
+  five-sound = by (eqb (degreeOf net i) 2) refl
+    where
+      a : ℕ
+      a = touchingAfter net i 0
+
+      b : ℕ
+      b = touchingAfter net i a
+
+      which : Two (touches net i) a b → (r : Bool) → isRoot (arcAt net a) ≡ r → Merges net i (cond r b a) (cond r a b) (keepBy r net i a b)
+      which w false e = first-sound a b (w .first) (w .second) (λ q. omega (arith, w .upward)) (w .all) (λ q. never (let z = sym e ∙ q in cc))
+      which w true e = first-sound b a (w .second) (w .first) (λ q. omega (arith, w .upward)) (λ x t. ⊎-elim inr inl (w .all x t)) (λ q. e)
+
+      by : (x : Bool) → eqb (degreeOf net i) 2 ≡ x → Merges net i (keptAt net i) (mergedAt net i) (twoWhere x net i)
+      by false d = λ q. never cc
+      by true d = which (two-touching net i (number net g i here) refl (eqb-true _ _ d)) (isRoot (arcAt net a)) refl
