@@ -13,3 +13,4 @@ pub mod Removals
 pub mod Values
 pub mod Rewiring
 pub mod Merged
+pub mod Crossed
