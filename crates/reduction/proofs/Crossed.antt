@@ -96,3 +96,99 @@ module _ (net : Net) (g : Legal net) (i : ℕ) (here : isHere net i ≡ true) wh
   open-arc : (j : ℕ) → At (touches net i) j → isFree (arcAt net j) ≡ true → OpenArc (exactOf net) j
   unfolding exactOf
   open-arc j a f = record { is-in = arc-in net j (touching-used g j i (low net g i here) (a .passes)); lower-0 = free-lower _ f; free = free-upper _ f ∙ no-upper }
+
+  -- n1, n2 and p1, p2 are the arcs at the node, and k1 to k4 their numbers
+  module _ (n1 n2 p1 p2 k1 k2 k3 k4 : ℕ) (at : All (touches net i) n1 n2 p1 p2) (upward : All (touches net i) k1 k2 k3 k4) where
+    made : Four
+    made = fourOf (arcAt net n1) (arcAt net n2) (arcAt net p1) (arcAt net p2) i
+
+    change : Change
+    change = changeFour (putOf k1 (made .first .arc)) (putOf k2 (made .second .arc)) (putOf k3 (made .third .arc)) (putOf k4 (made .fourth .arc)) i
+
+    after : Net
+    after = applied net change
+
+    order : Perm (four p1 p2 n1 n2) (four k1 k2 k3 k4)
+    order = perm-of (four p1 p2 n1 n2) (four k1 k2 k3 k4) (all-distinct (turn at)) (all-distinct upward) (λ x m. all-named upward x (all-pass (turn at) x m)) (λ x m. all-named (turn at) x (all-pass upward x m))
+
+    unnamed : (x : ℕ) → Absent x (four p1 p2 n1 n2) → Unnamed change x
+    unfolding change
+    unnamed x a =
+        let b = absent-perm order a in
+        record { not-one = λ _. apart b; not-two = λ _. apart (further b); not-three = λ _. apart (further (further b)); not-four = λ _. apart (further (further (further b))) }
+
+    supplies : (s : ℕ) → value (supplyAt after s) ≡ value (supplyAt net s) + - only i 𝟘 s
+    unfolding change after
+    supplies s =
+        ap value (supply-same net change s (λ l. absurd (omega arith)) (λ l. absurd (omega arith)))
+        ∙ ring1 ℚ-ring (value (supplyAt net s)) (λ r. r := r :- :0) refl
+        ∙ ap (λ v. value (supplyAt net s) + - v) (sym (only-zero i s))
+
+    -- what stands at a number after the change: the new arc of n and p
+    module _ (k n p : ℕ) (is : arcAt after k ≡ crossedOf (arcAt net n) (arcAt net p) i .arc) where
+      new-in : At (touches net i) n → isFree (arcAt net n) ≡ true → T (exactOf after .arc? k)
+      unfolding crossedOf
+      new-in a f = arc-in after k (rw is (here-number g _ (far-at net g i here n (a .passes) (free-no-root _ f) .here) .0))
+
+      new-arc : crossedOf (arcAt net n) (arcAt net p) i .fits ≡ true → exactOf after .arc k ≡ cross-arc (exactOf net) (spokeOf net i n) (spokeOf net i p)
+      unfolding crossedOf exactOf
+      new-arc fits = ap exactArc is ∙ crossed-arc (sideOf (arcAt net n) i) (sideOf (arcAt net p) i) (arcAt net n .cost) (arcAt net p .cost) fits
+
+    at-k1 : arcAt after k1 ≡ crossedOf (arcAt net n1) (arcAt net p1) i .arc
+    unfolding after change made fourOf
+    at-k1 = arc-one net change g (upward .first .one, upward .first .within) (λ _. upward .a-not-b) (λ _. upward .a-not-c) (λ _. upward .a-not-d)
+
+    at-k2 : arcAt after k2 ≡ crossedOf (arcAt net n1) (arcAt net p2) i .arc
+    unfolding after change made fourOf
+    at-k2 = arc-two net change g (upward .second .one, upward .second .within) (λ _. upward .b-not-c) (λ _. upward .b-not-d)
+
+    at-k3 : arcAt after k3 ≡ crossedOf (arcAt net n2) (arcAt net p1) i .arc
+    unfolding after change made fourOf
+    at-k3 = arc-three net change g (upward .third .one, upward .third .within) (λ _. upward .c-not-d)
+
+    at-k4 : arcAt after k4 ≡ crossedOf (arcAt net n2) (arcAt net p2) i .arc
+    unfolding after change made fourOf
+    at-k4 = arc-four net change g (upward .fourth .one, upward .fourth .within)
+
+    back : Pair → Pair
+    back = crossing-back (programOf net) i (spokeOf net i n1) (spokeOf net i n2) (spokeOf net i p1) (spokeOf net i p2) k1 k2 k3 k4
+
+    crossed-sound : isZero (supplyAt net i) ≡ true → signs net i true n1 ≡ true → signs net i true n2 ≡ true → signs net i false p1 ≡ true → signs net i false p2 ≡ true →
+        allFree (arcAt net n1) (arcAt net n2) (arcAt net p1) (arcAt net p2) ≡ true → fourFit made ≡ true → SoundChange net change back
+    unfolding change after made fourOf back exactOf
+    crossed-sound zero sn1 sn2 sp1 sp2 frees fits =
+        let f = four-and (isFree (arcAt net n1)) _ _ _ frees in
+        let x = four-and (made .first .fits) _ _ _ fits in
+        record {
+          shift = 𝟘 + 𝟘;
+          sound =
+              subst (λ N. SoundStep (programOf net) N back) (shifted-is after (𝟘 + 𝟘))
+              (crossing-sound
+              (crossing-of (exactOf net) (shifted after (𝟘 + 𝟘)) i (spokeOf net i n1) (spokeOf net i n2) (spokeOf net i p1) (spokeOf net i p2) k1 k2 k3 k4
+              (rewired net g change here (four p1 p2 n1 n2) unnamed i 𝟘 𝟘 (inr refl) supplies)
+              (omega (arith, here-number g i here .1))
+              (zero-figure _ zero)
+              (spoke-at net g i n1 here (at .first .passes))
+              (spoke-at net g i n2 here (at .second .passes))
+              (spoke-at net g i p1 here (at .third .passes))
+              (spoke-at net g i p2 here (at .fourth .passes))
+              (negative n1 sn1)
+              (negative n2 sn2)
+              (above p1 sp1)
+              (above p2 sp2)
+              (open-arc n1 (at .first) (f .0))
+              (open-arc n2 (at .second) (f .1))
+              (open-arc p1 (at .third) (f .2))
+              (open-arc p2 (at .fourth) (f .3))
+              (all-distinct (turn at))
+              (alone net g change here (four p1 p2 n1 n2) (all-named (turn at)))
+              order
+              (new-in k1 n1 p1 at-k1 (at .first) (f .0))
+              (new-in k2 n1 p2 at-k2 (at .first) (f .0))
+              (new-in k3 n2 p1 at-k3 (at .second) (f .1))
+              (new-in k4 n2 p2 at-k4 (at .second) (f .1))
+              (new-arc k1 n1 p1 at-k1 (x .0))
+              (new-arc k2 n1 p2 at-k2 (x .1))
+              (new-arc k3 n2 p1 at-k3 (x .2))
+              (new-arc k4 n2 p2 at-k4 (x .3))));
+        }
