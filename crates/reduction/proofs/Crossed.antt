@@ -44,6 +44,34 @@ use Rattle.reduction.proofs.Exactly.{is-true, arc-in, zero-figure, spok
 use Rattle.reduction.proofs.Values.{above-zero, below-zero, crossed-arc}
 use Rattle.reduction.proofs.Rewiring.{shifted, shifted-is, rewired, alone}
 
+-- the arcs that rule 6 names at a node: the first and the second N (e < 0) and P (e > 0), and the four numbers upward
+abbrev pub firstN : Net → ℕ → ℕ
+firstN net i = signedAfter net i true 0
+
+abbrev pub secondN : Net → ℕ → ℕ
+secondN net i = signedAfter net i true (firstN net i)
+
+abbrev pub firstP : Net → ℕ → ℕ
+firstP net i = signedAfter net i false 0
+
+abbrev pub secondP : Net → ℕ → ℕ
+secondP net i = signedAfter net i false (firstP net i)
+
+abbrev pub firstAt : Net → ℕ → ℕ
+firstAt net i = touchingAfter net i 0
+
+abbrev pub secondAt : Net → ℕ → ℕ
+secondAt net i = touchingAfter net i (firstAt net i)
+
+abbrev pub thirdAt : Net → ℕ → ℕ
+thirdAt net i = touchingAfter net i (secondAt net i)
+
+abbrev pub fourthAt : Net → ℕ → ℕ
+fourthAt net i = touchingAfter net i (thirdAt net i)
+
+abbrev pub crossingBack : Net → ℕ → Pair → Pair
+crossingBack net i = crossing-back (programOf net) i (spokeOf net i (firstN net i)) (spokeOf net i (secondN net i)) (spokeOf net i (firstP net i)) (spokeOf net i (secondP net i)) (firstAt net i) (secondAt net i) (thirdAt net i) (fourthAt net i)
+
 -- four different numbers that pass a test, as lists have them
 module _ {p : ℕ → Bool} {a b c d : ℕ} (h : All p a b c d) where
   all-distinct : Distinct (four a b c d)
@@ -192,3 +220,56 @@ module _ (net : Net) (g : Legal net) (i : ℕ) (here : isHere net i ≡ true) wh
               (new-arc k3 n2 p1 at-k3 (x .2))
               (new-arc k4 n2 p2 at-k4 (x .3))));
         }
+
+  -- RULE 6 IS SOUND
+  pub six-sound : ruleSix net i .kind ≡ Changes → SoundChange net (ruleSix net i .change) (crossingBack net i)
+  unfolding ruleSix signsOf bothSigns crossingOf withOne withTwo withThree crossingAt change made back
+  six-sound = by (eqb (degreeOf net i) 4 && isZero (supplyAt net i)) refl
+    where
+      n1 : ℕ
+      n1 = firstN net i
+
+      n2 : ℕ
+      n2 = secondN net i
+
+      p1 : ℕ
+      p1 = firstP net i
+
+      p2 : ℕ
+      p2 = secondP net i
+
+      Crosses : Tried → Type 0
+      Crosses t = t .kind ≡ Changes → SoundChange net (t .change) (crossingBack net i)
+
+      f : Four
+      f = fourOf (arcAt net n1) (arcAt net n2) (arcAt net p1) (arcAt net p2) i
+
+      frees : Bool
+      frees = allFree (arcAt net n1) (arcAt net n2) (arcAt net p1) (arcAt net p2)
+
+      ok : Bool
+      ok = frees && allApart (arcAt net n1) (arcAt net n2) (arcAt net p1) (arcAt net p2) i
+
+      fitting : (degreeOf net i ≡ 4) × (isZero (supplyAt net i) ≡ true) → All (touches net i) n1 n2 p1 p2 → ok ≡ true → (b : Bool) → fourFit f ≡ b → Crosses (crossingWith b f (firstAt net i) (secondAt net i) (thirdAt net i) (fourthAt net i) i)
+      fitting d at o false e = λ q. never cc
+      fitting d at o true e =
+          λ _.
+          crossed-sound n1 n2 p1 p2 (firstAt net i) (secondAt net i) (thirdAt net i) (fourthAt net i) at (four-touching net i (number net g i here) refl refl refl (d .0) .0) (d .1)
+          (signed-first net i true 0 .passes (at .first .one)) (signed-first net i true n1 .passes (at .second .one)) (signed-first net i false 0 .passes (at .third .one)) (signed-first net i false p1 .passes (at .fourth .one))
+          (and-both frees _ o .0) e
+
+      crossing : (degreeOf net i ≡ 4) × (isZero (supplyAt net i) ≡ true) → All (touches net i) n1 n2 p1 p2 → (b : Bool) → ok ≡ b → Crosses (crossingBy b net i (arcAt net n1) (arcAt net n2) (arcAt net p1) (arcAt net p2))
+      crossing d at false e = λ q. never cc
+      crossing d at true e = fitting d at e (fourFit f) refl
+
+      both : (degreeOf net i ≡ 4) × (isZero (supplyAt net i) ≡ true) → (b : Bool) → (not (eqb n2 0) && not (eqb p2 0)) ≡ b → Crosses (bothBy b net i n1 n2 p1 p2)
+      both d false e = λ q. never cc
+      both d true e =
+          let w = and-both (not (eqb n2 0)) _ e in
+          crossing d
+          (two-signs net i (number net g i here) (d .0) (signed-first net i true 0) (signed-first net i true n1) (signed-first net i false 0) (signed-first net i false p1) (positive n2 (not-true _ (w .0))) (positive p2 (not-true _ (w .1))) .0)
+          ok refl
+
+      by : (x : Bool) → (eqb (degreeOf net i) 4 && isZero (supplyAt net i)) ≡ x → Crosses (crossingWhere x net i)
+      by false d = λ q. never cc
+      by true d = let w = and-both (eqb (degreeOf net i) 4) _ d in both (eqb-true _ _ (w .0), w .1) (not (eqb n2 0) && not (eqb p2 0)) refl
