@@ -1,15 +1,15 @@
 -- Rule 6 is sound: the change that it answers is a step of the theory, and the four arcs' flows and the node's price come back by `crossing-back`. Assumes nothing.
-use mathlib.Core.Path.{_≡_, refl, sym, ap, ap₂, _∙_, subst}
+use mathlib.Core.Path.{_≡_, refl, sym, ap, _∙_, subst}
 use mathlib.Core.Bool.{Bool, true, false, _&&_, not}
-use mathlib.Core.List.{[], _∷_, List·Memᴰ, List·Memᴰ·head, List·Memᴰ·tail}
-use mathlib.Core.Logic.{_⊎_, inl, inr, ⊎-elim}
-use mathlib.Core.Option.{some}
-use Prim.Native.Nat.{ℕ, _≤_}
+use mathlib.Core.List.{List·Memᴰ, List·Memᴰ·head, List·Memᴰ·tail}
+use mathlib.Core.Logic.{inl, inr, ⊎-elim}
+use mathlib.Core.Option.{none, some}
+use Prim.Native.Nat.{ℕ}
 use native.Mathlib.Omega.{arith}
 use lib.Dec.{T, eqb}
 use borrow.Author.Tests.{eqb-true, not-true}
 use Rattle.algebra.specs.Solver.{_:-_, :0, _:=_, ring1}
-use Rattle.algebra.specs.Rat.{ℚ, ℚ-ring, _+ℚ_ as _+_, -ℚ_ as -_, 0ℚ as 𝟘}
+use Rattle.algebra.specs.Rat.{ℚ-ring, _+ℚ_ as _+_, -ℚ_ as -_, 0ℚ as 𝟘}
 use Rattle.algebra.specs.Order.{_<_}
 use Rattle.algebra.specs.Sum.{Absent, step, only}
 use Rattle.algebra.specs.Sum as Sum
@@ -19,28 +19,27 @@ use Rattle.presolve.specs.Step.{SoundStep}
 use Rattle.presolve.specs.Price.{only-zero}
 use Rattle.presolve.specs.Crossing.{four, crossing-back, crossing-sound}
 use Rattle.presolve.specs.Rewire.{OpenArc, cross-arc, crossing-of}
-use Rattle.fraction.specs.Exact.{zeroFraction, noUpper, isZero, isLess, isSame}
+use Rattle.fraction.specs.Exact.{zeroFraction, noUpper, isZero}
 use Rattle.fraction.specs.Laws.{and-both, never}
 use Rattle.fraction.specs.Value.{value, same-is}
 use Rattle.fraction.specs.Worked.{zero-proper, zero-is}
 use Rattle.network.specs.declared.Arc.{Arc}
 use Rattle.network.specs.declared.Net.{Net}
 use Rattle.network.specs.declared.Change.{Change}
-use Rattle.network.specs.declared.Kind.the-variants.{Changes}
 use Rattle.network.specs.declared.Tried.{Tried}
-use Rattle.network.specs.Network.{arcAt, supplyAt, isHere, degreeOf, isTouching, touchingAfter, isRoot, sideOf, applied}
+use Rattle.network.specs.Network.{arcAt, supplyAt, isHere, degreeOf, touchingAfter, isRoot, sideOf, applied}
 use Rattle.network.specs.Legal.{Legal}
 use Rattle.network.specs.Program.{boundOf, exactArc, exactOf, programOf}
 use Rattle.network.proofs.Kept.{here-number, touching-used}
 use Rattle.network.proofs.Bounds.{bound-is, no-upper}
-use Rattle.reduction.specs.Rules.{signBy, hasSignAt, signedAfter, isFree, crossedOf, allFree, allApart, putOf, changeFour, fourOf, fourFit, crossingWith, crossingAt, withThree, withTwo, withOne, crossingBy, crossingOf, bothBy, bothSigns, signsOf, crossingWhere, ruleSix}
+use Rattle.reduction.specs.Rules.{hasSignAt, signedAfter, isFree, crossedOf, allFree, allApart, putOf, changeFour, fourOf, fourFit, crossingWith, crossingAt, withThree, withTwo, withOne, crossingBy, crossingOf, bothBy, bothSigns, signsOf, crossingWhere, ruleSix}
 use Rattle.reduction.specs.declared.crossing.Four.{Four}
 use Rattle.reduction.proofs.Frame.{Unnamed, arc-one, arc-two, arc-three, arc-four, supply-same}
-use Rattle.reduction.proofs.Sides.{Far}
 use Rattle.reduction.proofs.Arcs.{four-and}
 use Rattle.reduction.proofs.Touch.{Four as All, At, touches, signs, sign-touches, four-touching, two-signs, signed-first}
 use Rattle.reduction.proofs.Kept.{low, number, near-at, far-at, free-no-root, positive}
-use Rattle.reduction.proofs.Exactly.{is-true, arc-in, zero-figure, spokeOf, spoke-at, SoundChange}
+use Rattle.reduction.proofs.Exactly.{arc-in, zero-figure, spokeOf, spoke-at, SoundChange}
+use Rattle.reduction.proofs.Removals.{Sounds}
 use Rattle.reduction.proofs.Values.{above-zero, below-zero, crossed-arc}
 use Rattle.reduction.proofs.Rewiring.{shifted, shifted-is, rewired, alone}
 
@@ -69,8 +68,9 @@ thirdAt net i = touchingAfter net i (secondAt net i)
 abbrev pub fourthAt : Net → ℕ → ℕ
 fourthAt net i = touchingAfter net i (thirdAt net i)
 
-abbrev pub crossingBack : Net → ℕ → Pair → Pair
-crossingBack net i = crossing-back (programOf net) i (spokeOf net i (firstN net i)) (spokeOf net i (secondN net i)) (spokeOf net i (firstP net i)) (spokeOf net i (secondP net i)) (firstAt net i) (secondAt net i) (thirdAt net i) (fourthAt net i)
+-- postsolve
+abbrev pub crossedBack : Net → ℕ → Pair → Pair
+crossedBack net i = crossing-back (programOf net) i (spokeOf net i (firstN net i)) (spokeOf net i (secondN net i)) (spokeOf net i (firstP net i)) (spokeOf net i (secondP net i)) (firstAt net i) (secondAt net i) (thirdAt net i) (fourthAt net i)
 
 -- four different numbers that pass a test, as lists have them
 module _ {p : ℕ → Bool} {a b c d : ℕ} (h : All p a b c d) where
@@ -107,9 +107,9 @@ free-lower t e =
     let z = and-both (isZero (t .lower)) _ (and-both (not (isRoot t)) _ e .1) in
     ap boundOf (same-is (t .lower) zeroFraction (z .0)) ∙ bound-is zero-proper ∙ ap some zero-is
 
-free-upper : (t : Arc) → isFree t ≡ true → boundOf (t .upper) ≡ boundOf noUpper
+free-upper : (t : Arc) → isFree t ≡ true → boundOf (t .upper) ≡ none
 unfolding isFree
-free-upper t e = ap boundOf (same-is (t .upper) noUpper (and-both (isZero (t .lower)) _ (and-both (not (isRoot t)) _ e .1) .1))
+free-upper t e = ap boundOf (same-is (t .upper) noUpper (and-both (isZero (t .lower)) _ (and-both (not (isRoot t)) _ e .1) .1)) ∙ no-upper
 
 module _ (net : Net) (g : Legal net) (i : ℕ) (here : isHere net i ≡ true) where
   -- the sign of an arc's multiplier at the node
@@ -123,7 +123,7 @@ module _ (net : Net) (g : Legal net) (i : ℕ) (here : isHere net i ≡ true) wh
 
   open-arc : (j : ℕ) → At (touches net i) j → isFree (arcAt net j) ≡ true → OpenArc (exactOf net) j
   unfolding exactOf
-  open-arc j a f = record { is-in = arc-in net j (touching-used g j i (low net g i here) (a .passes)); lower-0 = free-lower _ f; free = free-upper _ f ∙ no-upper }
+  open-arc j a f = record { is-in = arc-in net j (touching-used g j i (low net g i here) (a .passes)); lower-0 = free-lower _ f; free = free-upper _ f }
 
   -- n1, n2 and p1, p2 are the arcs at the node, and k1 to k4 their numbers
   module _ (n1 n2 p1 p2 k1 k2 k3 k4 : ℕ) (at : All (touches net i) n1 n2 p1 p2) (upward : All (touches net i) k1 k2 k3 k4) where
@@ -222,9 +222,9 @@ module _ (net : Net) (g : Legal net) (i : ℕ) (here : isHere net i ≡ true) wh
         }
 
   -- RULE 6 IS SOUND
-  pub six-sound : ruleSix net i .kind ≡ Changes → SoundChange net (ruleSix net i .change) (crossingBack net i)
+  pub six-sounds : Sounds net (ruleSix net i) (crossedBack net i)
   unfolding ruleSix signsOf bothSigns crossingOf withOne withTwo withThree crossingAt change made back
-  six-sound = by (eqb (degreeOf net i) 4 && isZero (supplyAt net i)) refl
+  six-sounds = by (eqb (degreeOf net i) 4 && isZero (supplyAt net i)) refl
     where
       n1 : ℕ
       n1 = firstN net i
@@ -239,7 +239,7 @@ module _ (net : Net) (g : Legal net) (i : ℕ) (here : isHere net i ≡ true) wh
       p2 = secondP net i
 
       Crosses : Tried → Type 0
-      Crosses t = t .kind ≡ Changes → SoundChange net (t .change) (crossingBack net i)
+      Crosses t = Sounds net t (crossedBack net i)
 
       f : Four
       f = fourOf (arcAt net n1) (arcAt net n2) (arcAt net p1) (arcAt net p2) i

@@ -1,5 +1,5 @@
 -- Rule 5 is sound: the change that it answers is a step of the theory, and the two arcs' flows and the node's price come back by `two-back`. Assumes nothing.
-use mathlib.Core.Path.{_≡_, refl, sym, ap, ap₂, _∙_, subst}
+use mathlib.Core.Path.{_≡_, refl, sym, ap, _∙_, subst}
 use mathlib.Core.Bool.{Bool, true, false, cond, _&&_}
 use mathlib.Core.List.{[], _∷_, List·Memᴰ, List·Memᴰ·head, List·Memᴰ·tail}
 use mathlib.Core.Logic.{_⊎_, inl, inr, ⊎-elim}
@@ -8,7 +8,7 @@ use native.Mathlib.Decide.{ℕ-discrete}
 use native.Mathlib.Omega.{arith}
 use lib.Dec.{T, eqb}
 use borrow.Author.Tests.{eqb-true, eqb-false, eq-eqb, ne-eqb}
-use Rattle.algebra.specs.Solver.{_:+_, _:*_, _:-_, :neg, :0, _:=_, ring1, ring2}
+use Rattle.algebra.specs.Solver.{_:*_, _:-_, :neg, :0, _:=_, ring1, ring2}
 use Rattle.algebra.specs.Rat.{ℚ, ℚ-ring, _+ℚ_ as _+_, _*ℚ_ as _*_, -ℚ_ as -_, 0ℚ as 𝟘, invℚ as inv}
 use Rattle.algebra.specs.Sum.{Absent, only, only-same, only-other}
 use Rattle.presolve.specs.Named.{apart, further}
@@ -17,7 +17,7 @@ use Rattle.presolve.specs.Step.{SoundStep}
 use Rattle.presolve.specs.Price.{Ends, only-zero}
 use Rattle.presolve.specs.Net.{column}
 use Rattle.presolve.specs.TwoArcs.{two-back, two-sound}
-use Rattle.presolve.specs.Rewire.{Taking, two-of}
+use Rattle.presolve.specs.Rewire.{two-of}
 use Rattle.fraction.specs.declared.Fraction.{Fraction}
 use Rattle.fraction.specs.declared.Worked.{Worked}
 use Rattle.fraction.specs.Laws.{and-both, never}
@@ -27,13 +27,12 @@ use Rattle.network.specs.declared.Arc.{Arc}
 use Rattle.network.specs.declared.Net.{Net}
 use Rattle.network.specs.declared.Side.{Side}
 use Rattle.network.specs.declared.Change.{Change}
-use Rattle.network.specs.declared.Kind.the-variants.{Changes}
 use Rattle.network.specs.declared.Tried.{Tried}
 use Rattle.network.specs.Network.{noArc, arcAt, supplyAt, isHere, degreeOf, isTouching, touchingAfter, isRoot, sideOf, applied}
 use Rattle.network.specs.Legal.{Legal}
 use Rattle.network.specs.Program.{exactArc, exactOf, programOf}
 use Rattle.network.proofs.Kept.{here-number, touching-used}
-use Rattle.reduction.specs.Rules.{farMultiplier, farSupply, keptOf, changeTwo, mergedBy, twoArcs, apartBy, keepFirst, keepBy, keepOne, twoWhere, ruleFive}
+use Rattle.reduction.specs.Rules.{farSupply, keptOf, changeTwo, mergedBy, twoArcs, apartBy, keepFirst, keepBy, keepOne, twoWhere, ruleFive}
 use Rattle.reduction.specs.declared.figures.Made.{Made}
 use Rattle.reduction.proofs.Frame.{Unnamed, arc-one, arc-two, supply-one, supply-same}
 use Rattle.reduction.proofs.Sides.{Far, Seen, at-from, at-to, seen, no-far}
@@ -41,6 +40,7 @@ use Rattle.reduction.proofs.Arcs.{KeptFits, kept-fits}
 use Rattle.reduction.proofs.Touch.{Two, At, touches, two-touching}
 use Rattle.reduction.proofs.Kept.{low, number, legal-at, near-at, far-at}
 use Rattle.reduction.proofs.Exactly.{is-true, arc-in, arc-off, zero-figure, spokeOf, spoke-at, SoundChange}
+use Rattle.reduction.proofs.Removals.{Sounds}
 use Rattle.reduction.proofs.Values.{far-multiplier, no-far-multiplier, far-supply, kept-cost, kept-bounds}
 use Rattle.reduction.proofs.Rewiring.{shifted, shifted-is, rewired, alone}
 
@@ -51,9 +51,13 @@ keptAt net i = cond (isRoot (arcAt net (touchingAfter net i 0))) (touchingAfter 
 abbrev pub mergedAt : Net → ℕ → ℕ
 mergedAt net i = cond (isRoot (arcAt net (touchingAfter net i 0))) (touchingAfter net i 0) (touchingAfter net i (touchingAfter net i 0))
 
+-- postsolve
+abbrev pub mergedBack : Net → ℕ → Pair → Pair
+mergedBack net i = two-back (programOf net) i (spokeOf net i (keptAt net i)) (spokeOf net i (mergedAt net i))
+
 -- the change of an answer at node i, where j is kept and k goes, is sound
 abbrev Merges : Net → ℕ → ℕ → ℕ → Tried → Type 0
-Merges net i j k t = t .kind ≡ Changes → SoundChange net (t .change) (two-back (programOf net) i (spokeOf net i j) (spokeOf net i k))
+Merges net i j k t = Sounds net t (two-back (programOf net) i (spokeOf net i j) (spokeOf net i k))
 
 module _ (net : Net) (g : Legal net) (i : ℕ) (here : isHere net i ≡ true) where
   -- the far end of an arc: none, and the multiplier 0, for a root arc
@@ -202,9 +206,9 @@ module _ (net : Net) (g : Legal net) (i : ℕ) (here : isHere net i ≡ true) wh
         by false e = fitting (eqb-false _ _ e) (made .fits && isFit far) refl
 
   -- RULE 5 IS SOUND
-  pub five-sound : ruleFive net i .kind ≡ Changes → SoundChange net (ruleFive net i .change) (two-back (programOf net) i (spokeOf net i (keptAt net i)) (spokeOf net i (mergedAt net i)))
+  pub five-sounds : Sounds net (ruleFive net i) (mergedBack net i)
   unfolding ruleFive keepOne
-  five-sound = by (eqb (degreeOf net i) 2) refl
+  five-sounds = by (eqb (degreeOf net i) 2) refl
     where
       a : ℕ
       a = touchingAfter net i 0

@@ -1,5 +1,5 @@
 -- A change that drops a node, as a step between two networks in exact numbers: what rules 5 and 6 share. Assumes nothing.
-use mathlib.Core.Path.{_≡_, refl, sym, ap, _∙_}
+use mathlib.Core.Path.{_≡_, refl, ap}
 use mathlib.Core.Bool.{Bool, true, false, not}
 use mathlib.Core.List.{List, List·Memᴰ}
 use mathlib.Core.Logic.{_⊎_}
@@ -19,7 +19,7 @@ use Rattle.network.specs.Legal.{Legal}
 use Rattle.network.specs.Program.{exactArc, exactOf, programOf}
 use Rattle.network.proofs.Kept.{here-number}
 use Rattle.reduction.proofs.Frame.{Unnamed, arc-same, here-same, node-gone}
-use Rattle.reduction.proofs.Exactly.{is-true, true-is, false-not, unseen}
+use Rattle.reduction.proofs.Exactly.{is-true, false-not, unseen}
 
 -- a network in exact numbers, read with the constant k
 abbrev pub shifted : Net → ℚ → Working

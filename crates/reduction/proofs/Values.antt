@@ -1,13 +1,12 @@
 -- The values in ℚ of the figures that rules 5 and 6 work out, where they fit. Assumes nothing.
-use mathlib.Core.Path.{_≡_, refl, sym, ap, ap₂, _∙_}
+use mathlib.Core.Path.{_≡_, refl, sym, ap, _∙_}
 use mathlib.Core.Bool.{Bool, true, false, cond}
-use mathlib.Core.Logic.{_⊎_, inl, inr, _↔_}
-use mathlib.Core.Option.{Option, none, some}
-use Prim.Native.Nat.{ℕ}
+use mathlib.Core.Logic.{inl, inr}
+use mathlib.Core.Option.{none, some}
 use borrow.Author.Tests.{eq-eqb, ne-eqb}
-use Rattle.algebra.specs.Solver.{_:+_, _:*_, _:-_, :neg, :0, _:=_, ring2, ring3}
-use Rattle.algebra.specs.Rat.{ℚ, ℚ-ring, _+ℚ_ as _+_, _*ℚ_ as _*_, -ℚ_ as -_, _≤ℚ_ as _≤_, 0ℚ as 𝟘, invℚ as inv, ≤ℚ-dec as le-dec, ≤ℚ-antisym as le-antisym}
-use Rattle.algebra.specs.Order.{_<_, lt→le, le-by, sub-nn, mul-nn′, le-of-eq}
+use Rattle.algebra.specs.Solver.{_:*_, _:-_, :0, _:=_, ring2}
+use Rattle.algebra.specs.Rat.{ℚ, ℚ-ring, _+ℚ_ as _+_, _*ℚ_ as _*_, -ℚ_ as -_, _≤ℚ_ as _≤_, 0ℚ as 𝟘, invℚ as inv, ≤ℚ-antisym as le-antisym}
+use Rattle.algebra.specs.Order.{_<_, lt→le, le-by, sub-nn, mul-nn′}
 use Rattle.algebra.specs.Inverse.{mul-ne}
 use Rattle.presolve.specs.Bounds.{mapO, mapO-at, mapO-none, mergeL, mergeU, mergeL-none, mergeU-none, none-mergeL, none-mergeU, mergeL-first, mergeL-second, mergeU-first, mergeU-second}
 use Rattle.presolve.specs.TwoArcs.{image, NewBounds, exchanged, straight}
@@ -15,7 +14,7 @@ use Rattle.presolve.specs.Net.{column}
 use Rattle.fraction.specs.declared.Fraction.{Fraction}
 use Rattle.fraction.specs.declared.Worked.{Worked}
 use Rattle.fraction.specs.declared.Worked.the-variants.{Fits, Misfit}
-use Rattle.fraction.specs.Exact.{Proper, over, zeroFraction, noLower, noUpper, isZero, isLess, isFinite}
+use Rattle.fraction.specs.Exact.{Proper, zeroFraction, noLower, noUpper, isLess, isFinite}
 use Rattle.fraction.specs.Extended.{absent-lower, absent-upper, proper-figure, less-is, less-value, not-less}
 use Rattle.fraction.specs.Laws.{and-both, never}
 use Rattle.fraction.specs.Value.{value}
@@ -26,7 +25,7 @@ use Rattle.network.specs.declared.Side.{Side}
 use Rattle.network.specs.Legal.{Bound}
 use Rattle.network.specs.Program.{boundOf, exactArc}
 use Rattle.network.proofs.Bounds.{bound-is, no-lower, no-upper}
-use Rattle.reduction.specs.Rules.{sameSign, sameBool, farMultiplier, farSupply, keptCost, boundFrom, tighterLower, tighterUpper, keptLower, keptUpper, lowerSource, upperSource, keptOf, larger, smaller, crossedSides}
+use Rattle.reduction.specs.Rules.{sameSign, sameBool, farMultiplier, farSupply, keptCost, boundFrom, tighterLower, tighterUpper, keptLower, keptUpper, keptOf, larger, smaller, crossedSides}
 use Rattle.reduction.proofs.Arcs.{KeptFits, fit-is}
 
 -- a result that fits has the value of its formula
