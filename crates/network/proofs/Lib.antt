@@ -8,3 +8,4 @@ pub mod Packed
 pub mod Sane
 pub mod Ranks
 pub mod Survivors
+pub mod Bounds

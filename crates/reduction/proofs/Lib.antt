@@ -8,3 +8,9 @@ pub mod Order
 pub mod Answers
 pub mod Done
 pub mod Entry
+pub mod Exactly
+pub mod Removals
+pub mod Values
+pub mod Rewiring
+pub mod Merged
+pub mod Crossed

@@ -253,6 +253,13 @@ twoWhere true net i = keepOne net i (touchingAfter net i 0) (touchingAfter net i
 unfoldable pub ruleFive : Net → ℕ → Tried
 ruleFive net i = twoWhere (eqb (degreeOf net i) 2) net i
 
+-- the two arcs of a node of degree 2: the one that is kept, j, and the one that goes, k
+abbrev pub keptAt : Net → ℕ → ℕ
+keptAt net i = cond (isRoot (arcAt net (touchingAfter net i 0))) (touchingAfter net i (touchingAfter net i 0)) (touchingAfter net i 0)
+
+abbrev pub mergedAt : Net → ℕ → ℕ
+mergedAt net i = cond (isRoot (arcAt net (touchingAfter net i 0))) (touchingAfter net i 0) (touchingAfter net i (touchingAfter net i 0))
+
 -- ---- 6. Crossing
 
 -- the first arc after number k whose multiplier at node i is below 0 (N), or above 0 (P); 0 where there is none
@@ -358,6 +365,31 @@ crossingWhere true net i = signsOf net i (signedAfter net i true 0) (signedAfter
 
 unfoldable pub ruleSix : Net → ℕ → Tried
 ruleSix net i = crossingWhere (eqb (degreeOf net i) 4 && isZero (supplyAt net i)) net i
+
+-- the arcs that rule 6 names at a node: the first and the second N and P, and the four numbers upward
+abbrev pub firstN : Net → ℕ → ℕ
+firstN net i = signedAfter net i true 0
+
+abbrev pub secondN : Net → ℕ → ℕ
+secondN net i = signedAfter net i true (firstN net i)
+
+abbrev pub firstP : Net → ℕ → ℕ
+firstP net i = signedAfter net i false 0
+
+abbrev pub secondP : Net → ℕ → ℕ
+secondP net i = signedAfter net i false (firstP net i)
+
+abbrev pub firstAt : Net → ℕ → ℕ
+firstAt net i = touchingAfter net i 0
+
+abbrev pub secondAt : Net → ℕ → ℕ
+secondAt net i = touchingAfter net i (firstAt net i)
+
+abbrev pub thirdAt : Net → ℕ → ℕ
+thirdAt net i = touchingAfter net i (secondAt net i)
+
+abbrev pub fourthAt : Net → ℕ → ℕ
+fourthAt net i = touchingAfter net i (thirdAt net i)
 
 -- ---- rule k at its place; the rules of nodes at nodes in use
 
