@@ -1,0 +1,4 @@
+pub mod Trace
+pub mod Back
+pub mod Way
+pub mod Restore

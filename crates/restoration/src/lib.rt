@@ -1,0 +1,9 @@
+// Restoring: the pair of a reduced network, tested there, goes back over the steps to the original network.
+pub mod back;
+pub mod trace;
+
+// A restored pair, or the number of the question that is answered by no.
+pub enum Answer {
+    Restored,
+    Refused(usize),
+}
