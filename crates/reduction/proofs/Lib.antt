@@ -10,3 +10,4 @@ pub mod Done
 pub mod Entry
 pub mod Exactly
 pub mod Removals
+pub mod Sound
