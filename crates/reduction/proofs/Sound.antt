@@ -7,9 +7,8 @@ use native.Mathlib.Omega.{arith}
 use lib.Dec.{eqb, ltb}
 use borrow.Author.Tests.{eqb-true, lt-ltb}
 use Rattle.algebra.specs.Rat.{ℚ, 0ℚ}
-use Rattle.presolve.specs.LP.{LP, Pair}
+use Rattle.presolve.specs.LP.{Pair}
 use Rattle.presolve.specs.LP as LP
-use Rattle.presolve.specs.Step.{SoundStep, with-constant, feasible-constant, stay, then, shifted, no-flow}
 use Rattle.presolve.specs.Closed.{closed-back}
 use Rattle.presolve.specs.Bare.{bare-back}
 use Rattle.presolve.specs.Single.{single-back}
@@ -29,7 +28,7 @@ use Rattle.reduction.specs.declared.search.Ran.{Ran}
 use Rattle.reduction.proofs.Kept.{next-kept}
 use Rattle.reduction.proofs.Order.{IsFirst, next-first}
 use Rattle.reduction.proofs.Done.{ran-no-flow, ran-legal}
-use Rattle.reduction.proofs.Exactly.{spokeOf, SoundChange}
+use Rattle.reduction.proofs.Exactly.{spokeOf, SoundTo, SoundChange, sound-stay, sound-then, sound-no-flow}
 use Rattle.reduction.proofs.Removals.{Sounds, passed-sounds, one-sounds, two-sounds, three-sounds, four-sounds, shown-no-flow}
 
 -- ---- one step
@@ -79,3 +78,48 @@ module _ {five six : Net → ℕ → Pair → Pair} (given : NodeSteps five six)
     where
       before : IsFirst net (nextOf net) → nextOf net .rule ≡ 4 → ruleOne net (nextOf net .place) .kind ≡ NoFlow → ⊥
       before f r q = never (let z = sym q ∙ f .rules-before 1 (omega arith) (omega arith) (nextOf net .place) (f .place-low) (rw r at (f .place-high)) in cc)
+
+-- ---- the run
+
+-- back over at most f steps from a network, the last undone first
+abbrev pub backOn : Kind → (Pair → Pair) → (Pair → Pair) → Pair → Pair
+backOn Passes back rest s = s
+backOn NoFlow back rest s = s
+backOn Changes back rest s = back (rest s)
+
+unfoldable pub backFrom : (five six : Net → ℕ → Pair → Pair) → ℕ → Net → Pair → Pair
+backFrom five six zero net s = s
+backFrom five six (suc f) net s = backOn (nextOf net .kind) (backBy five six net (nextOf net .rule) (nextOf net .place)) (backFrom five six f (applied net (nextOf net .change))) s
+
+module _ {five six : Net → ℕ → Pair → Pair} (given : NodeSteps five six) where
+  run-sounds : (f : ℕ) (at : Ran) → Legal (at .net) → at .steps + f ≤ 128 → SoundTo (at .net) (runs moveOf f at .net) (backFrom five six f (at .net))
+  unfolding runs backFrom stepped
+  run-sounds zero at g h = sound-stay (at .net)
+  run-sounds (suc f) at g h = by (nextOf (at .net) .kind) refl (λ t. run-sounds f t)
+    where
+      s : Step
+      s = nextOf (at .net)
+
+      back : Pair → Pair
+      back = backBy five six (at .net) (s .rule) (s .place)
+
+      rest : Pair → Pair
+      rest = backFrom five six f (applied (at .net) (s .change))
+
+      by : (k : Kind) → s .kind ≡ k → ((t : Ran) → Legal (t .net) → t .steps + f ≤ 128 → SoundTo (t .net) (runs moveOf f t .net) (backFrom five six f (t .net)))
+          → SoundTo (at .net) (onward (moved k at s) at (runs moveOf f) .net) (λ p. backOn k back rest p)
+      by Passes e r = sound-stay (at .net)
+      by NoFlow e r = sound-stay (at .net)
+      by Changes e r =
+          let room : at .steps < 128 = omega (arith, add-one f) in
+          rw (lt-ltb (at .steps) 128 room)
+          (sound-then (next-sounds given (at .net) g e) (r _ (next-kept (at .net) g e) (omega (arith, add-one f))))
+
+  -- A WHOLE RUN: a sound step from the network to what is left of it
+  pub ran-sounds : (net : Net) → Legal net → SoundTo net (ranOf net .net) (backFrom five six 128 net)
+  unfolding ranOf
+  ran-sounds net g = run-sounds 128 (started net) g (omega arith)
+
+  -- NO FLOW: where a run ends so, the network has none
+  pub ran-flowless : (net : Net) → Legal net → ranOf net .last .kind ≡ NoFlow → LP.NoFlow (programOf net)
+  ran-flowless net g e = sound-no-flow (ran-sounds net g) (shown-no-flow (ranOf net .net) (ran-legal net g) _ _ (ran-no-flow net e))
