@@ -1,18 +1,18 @@
 -- The one order of fractions and both marks: an absent lower bound lies below everything, an absent upper bound above everything. Assumes nothing.
-use mathlib.Core.Path.{_≡_, refl, ap, ap₂, _∙_}
+use mathlib.Core.Path.{_≡_, refl, sym, ap, ap₂, _∙_}
 use mathlib.Core.Bool.{true, false, and-false}
 use mathlib.Core.Logic.{_↔_}
-use Prim.Native.Nat.{ℕ, suc}
+use Prim.Native.Nat.{ℕ, zero, suc, _<_ as _<ⁿ_}
 use native.Mathlib.Nat.{zero-lt-suc, one-mul}
 use native.Mathlib.Omega.{arith}
 use lib.IntN.{ℤ, pos, negsuc, negℤ, _*ℤ_, *ℤ-zero}
 use borrow.Author.Tests.{lt-ltb, le-ltb, ne-eqb}
 use lib.Signed.{ltZ}
-use Rattle.algebra.specs.Rat.{ℚ}
+use Rattle.algebra.specs.Rat.{ℚ, _≤ℚ_, ≤ℚ-dec}
 use Rattle.algebra.specs.Order.{_<_}
 use Rattle.algebra.specs.Frac.{frac, frac-lt}
 use Rattle.fraction.specs.declared.Fraction.{Fraction}
-use Rattle.fraction.specs.Exact.{over, noLower, noUpper, isLess}
+use Rattle.fraction.specs.Exact.{Proper, over, noLower, noUpper, isLess}
 use Rattle.fraction.specs.Laws.{never}
 use Rattle.fraction.specs.Value.{value}
 
@@ -71,3 +71,30 @@ less-is absent-lower absent-upper = rw (marks (negsuc 0) (pos 1)) (λ e. tt, λ 
 less-is absent-upper (fraction n d) = rw (right (pos 1) n d 0 ∙ ap₂ ltZ (plus-one d) (*ℤ-zero n) ∙ le-ltb (suc d) 0 (omega arith)) (λ e. unlike e, λ b. absurd b)
 less-is absent-upper absent-lower = rw (marks (pos 1) (negsuc 0)) (λ e. unlike e, λ b. absurd b)
 less-is absent-upper absent-upper = rw (marks (pos 1) (pos 1)) (λ e. unlike e, λ b. absurd b)
+
+-- ---- fractions in form
+
+pub proper-figure : {x : Fraction} → Proper x → Figure x (number (value x))
+proper-figure {x} p = at (x .num) (x .den) (p .operand .den-pos)
+  where
+    at : (n : ℤ) (d : ℕ) → 0 <ⁿ d → Figure (over n d) (number (value (over n d)))
+    at n zero h = absurd (omega arith)
+    at n (suc d) h = fraction n d
+
+-- where the test fails, the order is the other way
+pub not-below : {x y : Fraction} {p q : ℚ} → Figure x (number p) → Figure y (number q) → isLess x y ≡ false → q ≤ℚ p
+not-below {p = p} {q} a b e = by (≤ℚ-dec q p)
+  where
+    by : Dec (q ≤ℚ p) → q ≤ℚ p
+    by (yes h) = h
+    by (no n) = unlike (sym e ∙ less-is a b .1 n)
+
+module _ {x y : Fraction} (p : Proper x) (q : Proper y) where
+  pub less-value : isLess x y ≡ true → value x < value y
+  less-value = less-is (proper-figure p) (proper-figure q) .0
+
+  pub value-less : value x < value y → isLess x y ≡ true
+  value-less = less-is (proper-figure p) (proper-figure q) .1
+
+  pub not-less : isLess x y ≡ false → value y ≤ℚ value x
+  not-less = not-below (proper-figure p) (proper-figure q)

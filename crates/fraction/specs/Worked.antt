@@ -26,7 +26,7 @@ pub zero-proper : Proper zeroFraction
 unfolding isProper isOperand gcd gcdBy
 zero-proper = proper-is zeroFraction refl
 
-zero-is : value zeroFraction ≡ 0ℚ
+pub zero-is : value zeroFraction ≡ 0ℚ
 zero-is = zero-value zeroFraction (zero-proper .operand) refl
 
 -- a fraction in form other than zero has a value other than 0, and the other way round

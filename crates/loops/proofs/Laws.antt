@@ -184,6 +184,16 @@ any-all p (suc n) = rw (any-all p n) (by (all (λ k. not (p k)) n))
     by true = sym (Bool·not-not (p n))
     by false = refl
 
+-- what some pass, one of them passes
+pub any-some : (p : ℕ → Bool) (n : ℕ) → any p n ≡ true → (i : ℕ) × (i < n) × (p i ≡ true)
+unfolding any
+any-some p zero e = absurd (let z : _≡_ {A = ℕ} 0 1 = cc in omega arith)
+any-some p (suc n) e = by (any p n) (any-some p n) e
+  where
+    by : (b : Bool) → (b ≡ true → (i : ℕ) × (i < n) × (p i ≡ true)) → (b || p n) ≡ true → (i : ℕ) × (i < suc n) × (p i ≡ true)
+    by true f e = let w = f refl in (w .0, omega (arith, add-one n, w .1), w .2)
+    by false f e = (n, omega (arith, add-one n), e)
+
 pub missed-none : (p : ℕ → Bool) (n : ℕ) → Missed p n 0
 missed-none p n = record { fails = passed-none _ n }
 

@@ -5,6 +5,7 @@ pub mod Arrays
 pub mod Legal
 pub mod Kept
 pub mod Packed
+pub mod Bounds
 pub mod Sane
 pub mod Ranks
 pub mod Survivors

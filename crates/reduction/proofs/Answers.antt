@@ -128,7 +128,7 @@ module _ {net : Net} (g : Legal net) where
   unfolding applied withSupply without
   change-under c w = arcs-under _ (c .four) (w .four) (arcs-under _ (c .three) (w .three) (arcs-under _ (c .two) (w .two) (arcs-under net (c .one) (w .one) (λ i h. h))))
 
-  nodes-under : (c : Change) (i : ℕ) → isHere (applied net c) i ≡ true → isHere net i ≡ true
+  pub nodes-under : (c : Change) (i : ℕ) → isHere (applied net c) i ≡ true → isHere net i ≡ true
   unfolding applied withArc withSupply without
   nodes-under c = put-under false (net .here) (c .gone) (λ (t : Bool). t) refl (λ i. isHere net i ≡ true) (λ i h. h) (isNumber 32 (c .gone)) false (inl refl)
 
@@ -252,7 +252,7 @@ module _ {net : Net} (g : Legal net) where
           flow (Fits v) q = within v q (isLess v (arcAt net j .lower)) refl (isLess (arcAt net j .upper) v) refl
 
   -- an arc that is no root arc is in use
-  rootless-used : (j : ℕ) → isRoot (arcAt net j) ≡ false → 1 ≤ arcAt net j .from
+  pub rootless-used : (j : ℕ) → isRoot (arcAt net j) ≡ false → 1 ≤ arcAt net j .from
   unfolding isRoot
   rootless-used j e = positive _ (λ z. unlike (sym (rw (g .unused j z) at e)))
 

@@ -8,3 +8,6 @@ pub mod Order
 pub mod Answers
 pub mod Done
 pub mod Entry
+pub mod Exactly
+pub mod Removals
+pub mod Sound
