@@ -9,3 +9,7 @@ pub mod Sane
 pub mod Ranks
 pub mod Survivors
 pub mod Bounds
+pub mod Bounds
+pub mod Sane
+pub mod Ranks
+pub mod Survivors

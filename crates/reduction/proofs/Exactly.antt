@@ -9,8 +9,8 @@ use lib.Dec.{T, eqb}
 use borrow.Author.Tests.{eqb-true, eqb-false, ne-eqb, eq-eqb, not-true}
 use Rattle.algebra.specs.Rat.{ℚ, 0ℚ, _+ℚ_}
 use Rattle.algebra.specs.Sum.{Once, only, range, range-once}
-use Rattle.presolve.specs.LP.{LP, Pair}
-use Rattle.presolve.specs.Step.{SoundStep, with-constant}
+use Rattle.presolve.specs.LP.{LP, Pair, NoFlow}
+use Rattle.presolve.specs.Step.{SoundStep, with-constant, feasible-constant, stay, then, shifted, no-flow}
 use Rattle.presolve.specs.Price.{root, only-zero}
 use Rattle.presolve.specs.Spoke.{Spoke, SpokeAt}
 use Rattle.presolve.specs.Net.{Sane, columnAt, rhsAt, tail-of, head-of, column-in, column-out, column-same, touch-off, rhs-in, rhs-out}
@@ -167,8 +167,22 @@ module _ (net : Net) (c : Change) where
   unfolding exactOf
   rhs-on i e = rhs-in (exactOf (applied net c)) i (is-true e)
 
--- ---- a change that is a sound step, whatever constant it adds
+-- ---- sound steps between networks, whatever constant they add
 
-pub record SoundChange (net : Net) (c : Change) (back : Pair → Pair) : Type 0 where
+pub record SoundTo (net net′ : Net) (back : Pair → Pair) : Type 0 where
   pub shift : ℚ
-  pub sound : SoundStep (programOf net) (with-constant (programOf (applied net c)) shift) back
+  pub sound : SoundStep (programOf net) (with-constant (programOf net′) shift) back
+
+-- a change that is one
+abbrev pub SoundChange : Net → Change → (Pair → Pair) → Type 0
+SoundChange net c back = SoundTo net (applied net c) back
+
+pub sound-stay : (net : Net) → SoundTo net net (λ s. s)
+sound-stay net = record { shift = programOf net .constant; sound = stay (programOf net) }
+
+pub sound-then : {a b c : Net} {back back′ : Pair → Pair} → SoundTo a b back → SoundTo b c back′ → SoundTo a c (λ s. back (back′ s))
+sound-then x y = record { shift = _; sound = then (x .sound) (shifted (y .sound) (x .shift)) }
+
+-- no flow after it: none before it
+pub sound-no-flow : {a b : Net} {back : Pair → Pair} → SoundTo a b back → NoFlow (programOf b) → NoFlow (programOf a)
+sound-no-flow {a} {b} x n = no-flow (x .sound) (λ y f. n y (feasible-constant (programOf b) (x .shift) y .1 f))

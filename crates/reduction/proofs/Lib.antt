@@ -14,3 +14,4 @@ pub mod Values
 pub mod Rewiring
 pub mod Merged
 pub mod Crossed
+pub mod Sound

@@ -62,7 +62,7 @@ use Rattle.reduction.proofs.Exactly.{is-true, false-not, arc-in, arc-of
 abbrev pub Sounds : Net → Tried → (Pair → Pair) → Type 0
 Sounds net t back = t .kind ≡ Changes → SoundChange net (t .change) back
 
-passed-sounds : {net : Net} {back : Pair → Pair} → Sounds net passed back
+pub passed-sounds : {net : Net} {back : Pair → Pair} → Sounds net passed back
 passed-sounds e = never cc
 
 refuted-sounds : {net : Net} {back : Pair → Pair} → Sounds net refuted back
