@@ -9,7 +9,3 @@ pub mod Sane
 pub mod Ranks
 pub mod Survivors
 pub mod Bounds
-pub mod Bounds
-pub mod Sane
-pub mod Ranks
-pub mod Survivors
