@@ -1,8 +1,8 @@
 // Restoring: the pair of a reduced network, tested there, goes back over the steps to the original network.
 pub mod back;
+pub mod record;
 pub mod stack;
 pub mod trace;
-pub mod words;
 
 // A restored pair, or the number of the question that is answered by no.
 pub enum Answer {
