@@ -95,7 +95,7 @@ module _ (xs : List ℤ) (n m : ℕ) (h : n ≤ 32) (k : m ≤ 96) where
   no-arc-read j l = rw (net-is xs n m h k) (puts-out (arcIn xs n (figures n m)) (replicate 97 noArc) noArc m j l ∙ getD-all 97 j noArc)
 
 -- a number from 1 to m, and the others
-by-number : (m j : ℕ) → ((j ≡ 0) ⊎ (m < j)) ⊎ ((j - 1 + 1 ≡ j) × (j - 1 < m))
+pub by-number : (m j : ℕ) → ((j ≡ 0) ⊎ (m < j)) ⊎ ((j - 1 + 1 ≡ j) × (j - 1 < m))
 by-number m j = by (ltb j 1) refl (ltb m j) refl
   where
     by : (s : Bool) → ltb j 1 ≡ s → (t : Bool) → ltb m j ≡ t → ((j ≡ 0) ⊎ (m < j)) ⊎ ((j - 1 + 1 ≡ j) × (j - 1 < m))
