@@ -18,7 +18,7 @@ use Rattle.network.proofs.Legal.{read-legal, read-is, read-gapless}
 use Rattle.optimality.specs.declared.Answer.{Answer}
 use Rattle.optimality.specs.declared.Answer.the-variants.{Passed, Refused}
 use Rattle.optimality.specs.Figures.{valueOf}
-use Rattle.optimality.specs.Test.{pairIn, examined, examinedOf, refusalBy, refusalOf, answerOf, twoWords, valuesBy, Least, Tested}
+use Rattle.optimality.specs.Test.{pairIn, examined, refusalBy, refusalOf, answerOf, twoWords, valuesBy, Least, Tested}
 use Rattle.optimality.proofs.Exactly.{exactly-proven, proven-least}
 
 -- none of 1 to 12 is answered by no

@@ -17,9 +17,6 @@ write-words-requires c κs =
     let y = all-yes _ _ _ (sym (asked-is (c .before .before .before .before .before .before)) ∙ c .before .before .before .before .before .if1 .taken) in
     (c .before .before .before .before .before .before .before .before .clear .ensures ∙ ap zeros (sym (c .before .before .before .before .before .before .before .before .clear .kept .0)), rw (c .before .before .before .before .before .before .before .before .clear .kept .0) (leb-true 2 _ (y .roomy)))
 
-same-length : tie.Need-same-length
-same-length c = c .before .write-words .kept .0 ∙ c .before .before .before .before .before .before .before .before .before .before .clear .kept .0
-
 returns : tie.Need-returns
 returns c =
     passed _ _ _ _ (sym (asked-is (c .before .before .before .before .before .before .before .before)) ∙ c .before .before .before .before .before .before .before .if1 .taken)
@@ -39,7 +36,7 @@ test-spec =
     (λ c κs. search needs)
     (λ c κs. search needs)
     write-words-requires
-    same-length
+    (λ c. search needs)
     returns
     (λ c. search needs)
     returns-2)
