@@ -437,10 +437,10 @@ module _ (net : Net) (g : Legal net) where
           → CostlyArc (programOf net) (after j c (value (t .lower))) j k m (t .from) (t .to) (value (t .a)) (value (t .b)) (value (x .a)) (value (y .a)) (value (t .lower))
       arc c r =
           let C =
-              costly-arc (exactOf net) (sane net g) j k m (arc-place net g j used) (arc-in net j used) (arc-place net g k (first .used)) (arc-in net k (first .used)) (arc-place net g m (second .used)) (arc-in net m (second .used)) (value (t .lower))
-              (eqb-false _ _ root) (first .loops) (second .loops) (first .at) (second .at) (first .unbounded) (second .unbounded) (ratio (t .a) (x .a) (tests .0)) (ratio (t .b) (y .a) (tests .1))
-              (under-is _ (t .cost) (legal .cost-proper) (plus-gives (share (x .cost) (t .a) (x .a)) (share (y .cost) (t .b) (y .a))) (λ z q. plus-fits q .is .proper) (tests .2))
-              (bound-is proper) (not-over proper (legal .upper-bound) room) in
+          costly-arc (exactOf net) (sane net g) j k m (arc-place net g j used) (arc-in net j used) (arc-place net g k (first .used)) (arc-in net k (first .used)) (arc-place net g m (second .used)) (arc-in net m (second .used)) (value (t .lower))
+          (eqb-false _ _ root) (first .loops) (second .loops) (first .at) (second .at) (first .unbounded) (second .unbounded) (ratio (t .a) (x .a) (tests .0)) (ratio (t .b) (y .a) (tests .1))
+          (under-is _ (t .cost) (legal .cost-proper) (plus-gives (share (x .cost) (t .a) (x .a)) (share (y .cost) (t .b) (y .a))) (λ z q. plus-fits q .is .proper) (tests .2))
+          (bound-is proper) (not-over proper (legal .upper-bound) room) in
           record { ends = C .ends; root₁ = C .root₁; root₂ = C .root₂; different = C .different; rate₁ = C .rate₁; rate₂ = C .rate₂; costly = C .costly; lower-is = C .lower-is; room = C .room; removed = r }
 
   -- rule 1 comes first: where it does not answer no flow, the bounds do not cross
