@@ -1,12 +1,12 @@
 -- A whole run in exact numbers: a sound step from the first network to the last, and no flow in the first where the last shows none. Assumes nothing.
-use mathlib.Core.Path.{_≡_, refl, sym, ap, _∙_, subst}
+use mathlib.Core.Path.{_≡_, refl, sym, _∙_, subst}
 use mathlib.Core.Bool.{Bool, true, false, cond}
 use Prim.Native.Nat.{ℕ, zero, suc, _+_, _≤_, _<_}
 use native.Mathlib.Numerals.{add-one}
 use native.Mathlib.Omega.{arith}
-use lib.Dec.{eqb, ltb}
+use lib.Dec.{eqb}
 use borrow.Author.Tests.{eqb-true, lt-ltb}
-use Rattle.algebra.specs.Rat.{ℚ, 0ℚ}
+use Rattle.algebra.specs.Rat.{0ℚ}
 use Rattle.presolve.specs.LP.{Pair}
 use Rattle.presolve.specs.LP as LP
 use Rattle.presolve.specs.Closed.{closed-back}
