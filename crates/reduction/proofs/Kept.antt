@@ -120,18 +120,18 @@ module _ (net : Net) (g : Legal net) where
 
 -- ---- the rules of nodes, at a node in use
 
-free-no-root : (t : Arc) → isFree t ≡ true → isRoot t ≡ false
+pub free-no-root : (t : Arc) → isFree t ≡ true → isRoot t ≡ false
 unfolding isFree
 free-no-root t e = not-true _ (and-both (not (isRoot t)) _ e .0)
 
-positive : (n : ℕ) → eqb n 0 ≡ false → 1 ≤ n
+pub positive : (n : ℕ) → eqb n 0 ≡ false → 1 ≤ n
 positive n e = let ne = eqb-false n 0 e in omega arith
 
 module _ (net : Net) (g : Legal net) (i : ℕ) (here : isHere net i ≡ true) where
-  low : 1 ≤ i
+  pub low : 1 ≤ i
   low = here-number g i here .0
 
-  number : Numbered net i
+  pub number : Numbered net i
   number = legal-numbered g low
 
   two-keeps : Keeps net (ruleTwo net i)
@@ -166,13 +166,13 @@ module _ (net : Net) (g : Legal net) (i : ℕ) (here : isHere net i ≡ true) wh
 
   -- ---- the arcs at the node
 
-  legal-at : (j : ℕ) → isTouching (arcAt net j) i ≡ true → LegalArc net (arcAt net j)
+  pub legal-at : (j : ℕ) → isTouching (arcAt net j) i ≡ true → LegalArc net (arcAt net j)
   legal-at j t = g .used j (touching-used g j i low t)
 
-  near-at : (j : ℕ) → isTouching (arcAt net j) i ≡ true → Near (sideOf (arcAt net j) i)
+  pub near-at : (j : ℕ) → isTouching (arcAt net j) i ≡ true → Near (sideOf (arcAt net j) i)
   near-at j t = near (legal-at j t) i t
 
-  far-at : (j : ℕ) → isTouching (arcAt net j) i ≡ true → isRoot (arcAt net j) ≡ false → Far net i (sideOf (arcAt net j) i)
+  pub far-at : (j : ℕ) → isTouching (arcAt net j) i ≡ true → isRoot (arcAt net j) ≡ false → Far net i (sideOf (arcAt net j) i)
   far-at j t n = far (legal-at j t) i t n
 
   may-far : (j : ℕ) → isTouching (arcAt net j) i ≡ true → MayFar net i (sideOf (arcAt net j) i)

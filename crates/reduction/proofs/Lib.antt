@@ -10,4 +10,9 @@ pub mod Done
 pub mod Entry
 pub mod Exactly
 pub mod Removals
+pub mod Values
+pub mod Rewiring
+pub mod Merged
+pub mod Crossed
 pub mod Sound
+pub mod Whole
