@@ -14,3 +14,5 @@ pub mod Values
 pub mod Rewiring
 pub mod Merged
 pub mod Crossed
+pub mod Sound
+pub mod Whole
