@@ -7,7 +7,6 @@ pub mod Kept
 pub mod Order
 pub mod Answers
 pub mod Done
-pub mod Entry
 pub mod Exactly
 pub mod Removals
 pub mod Values
@@ -15,3 +14,5 @@ pub mod Rewiring
 pub mod Merged
 pub mod Crossed
 pub mod Sound
+pub mod Whole
+pub mod Entry

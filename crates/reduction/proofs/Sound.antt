@@ -1,12 +1,12 @@
 -- A whole run in exact numbers: a sound step from the first network to the last, and no flow in the first where the last shows none. Assumes nothing.
-use mathlib.Core.Path.{_≡_, refl, sym, ap, _∙_, subst}
+use mathlib.Core.Path.{_≡_, refl, sym, _∙_, subst}
 use mathlib.Core.Bool.{Bool, true, false, cond}
 use Prim.Native.Nat.{ℕ, zero, suc, _+_, _≤_, _<_}
 use native.Mathlib.Numerals.{add-one}
 use native.Mathlib.Omega.{arith}
-use lib.Dec.{eqb, ltb}
+use lib.Dec.{eqb}
 use borrow.Author.Tests.{eqb-true, lt-ltb}
-use Rattle.algebra.specs.Rat.{ℚ, 0ℚ}
+use Rattle.algebra.specs.Rat.{0ℚ}
 use Rattle.presolve.specs.LP.{Pair}
 use Rattle.presolve.specs.LP as LP
 use Rattle.presolve.specs.Closed.{closed-back}
@@ -28,7 +28,7 @@ use Rattle.reduction.specs.declared.search.Ran.{Ran}
 use Rattle.reduction.proofs.Kept.{next-kept}
 use Rattle.reduction.proofs.Order.{IsFirst, next-first}
 use Rattle.reduction.proofs.Done.{ran-no-flow, ran-legal}
-use Rattle.reduction.proofs.Exactly.{spokeOf, SoundTo, SoundChange, sound-stay, sound-then, sound-no-flow}
+use Rattle.reduction.proofs.Exactly.{spokeOf, SoundTo, SoundChange, sound-stay, sound-then, sound-solved, sound-no-flow}
 use Rattle.reduction.proofs.Removals.{Sounds, passed-sounds, one-sounds, two-sounds, three-sounds, four-sounds, shown-no-flow}
 
 -- ---- one step
@@ -119,6 +119,10 @@ module _ {five six : Net → ℕ → Pair → Pair} (given : NodeSteps five six)
   pub ran-sounds : (net : Net) → Legal net → SoundTo net (ranOf net .net) (backFrom five six 128 net)
   unfolding ranOf
   ran-sounds net g = run-sounds 128 (started net) g (omega arith)
+
+  -- an optimal pair of what is left, brought back, is optimal in the network
+  pub ran-restored : (net : Net) → Legal net → (s : Pair) → LP.Solved (programOf (ranOf net .net)) s → LP.Solved (programOf net) (backFrom five six 128 net s)
+  ran-restored net g = sound-solved (ran-sounds net g)
 
   -- NO FLOW: where a run ends so, the network has none
   pub ran-flowless : (net : Net) → Legal net → ranOf net .last .kind ≡ NoFlow → LP.NoFlow (programOf net)

@@ -1,3 +1,6 @@
 pub mod Words
 pub mod Stacks
 pub mod Asked
+pub mod Figures
+pub mod Undone
+pub mod Whole

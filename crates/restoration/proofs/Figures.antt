@@ -1,0 +1,242 @@
+-- Figures restored to a pair, in exact numbers; the price rule and the larger of two prices there. Assumes nothing.
+use mathlib.Core.Path.{_≡_, refl, sym, ap, ap₂, _∙_, subst, fun-ext}
+use mathlib.Core.Bool.{Bool, true, false, cond, _&&_}
+use mathlib.Core.List.{List}
+use mathlib.Core.Logic.{_⊎_, inl, inr}
+use mathlib.Core.Option.{some}
+use Prim.Native.Nat.{ℕ, _≤_, _<_}
+use native.Mathlib.Omega.{arith}
+use lib.Dec.{eqb}
+use lib.ListN.{length, getD, set, length-set}
+use lib.Seq.{getD-set-same, getD-set-other}
+use borrow.Author.Tests.{le-leb, eqb-true, eqb-false, ne-eqb}
+use Rattle.algebra.specs.Solver.{_:*_, :0, _:=_, ring1}
+use Rattle.algebra.specs.Rat.{ℚ, ℚ-ring, _*ℚ_, -ℚ_, _≤ℚ_, 0ℚ, ≤ℚ-dec, invℚ-zero}
+use Rattle.algebra.specs.Order.{_<_ as _<ℚ_, lt→le}
+use Rattle.algebra.specs.Frac.{frac}
+use Rattle.algebra.specs.Sum.{upd}
+use Rattle.presolve.specs.LP as LP
+use Rattle.presolve.specs.Bounds.{choose}
+use Rattle.presolve.specs.Bounds as Bounds
+use Rattle.presolve.specs.Spoke as Spoke
+use Rattle.presolve.specs.Closed.{closed-back}
+use Rattle.presolve.specs.Bare.{bare-back}
+use Rattle.fraction.specs.declared.Fraction.{Fraction}
+use Rattle.fraction.specs.declared.Worked.{Worked}
+use Rattle.fraction.specs.declared.Worked.the-variants.{Fits, Misfit}
+use Rattle.fraction.specs.Exact.{Operand, Proper, zeroFraction, noFigure, noLower, noUpper, isFinite, isLess, isSame}
+use Rattle.fraction.specs.Formula.{isFit, figureOf, _⊕_, _⊖_, _⊗_, _⊘_, ⊝_}
+use Rattle.fraction.specs.Laws.{and-both, never}
+use Rattle.fraction.specs.Value.{value, value-unique, same-is, is-same}
+use Rattle.fraction.specs.Worked.{Gives, zero-proper, zero-is, lessℚ, overℚ, minus-fits, minus-gives, over-fits, over-gives, negated-fits, negated-gives}
+use Rattle.fraction.specs.Extended.{less-value, not-less}
+use Rattle.network.specs.declared.pair.Pair.{Pair}
+use Rattle.network.specs.Network.{isNumber}
+use Rattle.network.specs.Pair.{priceAt, flowAt, withPrice, withFlow, exactPair}
+use Rattle.network.specs.Legal.{Bound}
+use Rattle.network.specs.Program.{boundOf}
+use Rattle.network.proofs.Bounds.{Number, bound-is, lower-number, upper-number}
+use Rattle.optimality.specs.Figures.{isAt, keepsBy, keepsRule}
+use Rattle.reduction.specs.Rules.{larger}
+use Rattle.restoration.specs.declared.back.Back.{Back}
+use Rattle.restoration.specs.Back.{begun, putFlow, putPrice, needed, largerOf}
+
+-- ---- figures, and pairs of them
+
+-- a fraction in form, or what stands over 0: no figure, or a mark
+abbrev pub Formed : Fraction → Type 0
+Formed f = Proper f ⊎ (f .den ≡ 0)
+
+-- what can be worked on is in form
+pub formed-proper : {f : Fraction} → Formed f → Operand f → Proper f
+formed-proper (inl p) o = p
+formed-proper (inr z) o = absurd (omega (arith, o .den-pos))
+
+pub no-value : value noFigure ≡ 0ℚ
+unfolding value frac
+no-value = ap (λ (q : ℚ). 0ℚ *ℚ q) invℚ-zero ∙ ring1 ℚ-ring 0ℚ (λ p. p :* :0 := :0) refl
+
+-- a pair as long as its arrays are, of such figures
+pub record Sized (pair : Pair) : Type 0 where
+  pub prices-long : length (pair .price) ≡ 33
+  pub flows-long : length (pair .flow) ≡ 97
+  pub price-formed : (i : ℕ) → Formed (priceAt pair i)
+  pub flow-formed : (j : ℕ) → Formed (flowAt pair j)
+
+-- a figure put at a number of a list
+module _ (top : ℕ) (l : List Fraction) (k : ℕ) (f : Fraction) (long : top < length l) (within : (1 ≤ k) × (k ≤ top)) where
+  abbrev put : List Fraction
+  put = cond (isNumber top k) (set l k f) l
+
+  put-is : put ≡ set l k f
+  put-is = rw (le-leb 1 k (within .0), le-leb k top (within .1))
+
+  put-at : getD put k noFigure ≡ f
+  put-at = rw put-is (getD-set-same l k f noFigure (omega (arith, within .1)))
+
+  put-left : (i : ℕ) → (i ≡ k → ⊥) → getD put i noFigure ≡ getD l i noFigure
+  put-left i n = rw put-is (getD-set-other l k i f noFigure n)
+
+  put-long : length put ≡ length l
+  put-long = rw put-is (length-set l k f)
+
+  put-formed : Formed f → ((i : ℕ) → Formed (getD l i noFigure)) → (i : ℕ) → Formed (getD put i noFigure)
+  put-formed h all i = by (eqb i k) refl
+    where
+      by : (b : Bool) → eqb i k ≡ b → Formed (getD put i noFigure)
+      by true e = rw (eqb-true i k e, put-at) h
+      by false e = rw (put-left i (eqb-false i k e)) (all i)
+
+  put-value : (i : ℕ) → value (getD put i noFigure) ≡ upd (λ i. value (getD l i noFigure)) k (value f) i
+  put-value i = by (eqb i k) refl
+    where
+      by : (b : Bool) → eqb i k ≡ b → value (getD put i noFigure) ≡ cond b (value f) (value (getD l i noFigure))
+      by true e = rw (eqb-true i k e, put-at)
+      by false e = rw (put-left i (eqb-false i k e))
+
+-- a pair is known by its figures
+pub pair-is : (x y p q : ℕ → ℚ) → ((j : ℕ) → x j ≡ y j) → ((i : ℕ) → p i ≡ q i) → _≡_ {A = LP.Pair} (record { flow = x; price = p }) (record { flow = y; price = q })
+pair-is x y p q hx hp = λ i. record { flow = fun-ext hx i; price = fun-ext hp i }
+
+-- ---- on the way back
+
+-- the pair on the way back has the figures s, in exact numbers
+pub record Restores (b : Back) (s : LP.Pair) : Type 0 where
+  pub exact : exactPair (b .pair) ≡ s
+  pub sized : Sized (b .pair)
+
+-- w has a figure of value q
+abbrev pub Has : Worked → ℚ → Type 0
+Has w q = Formed (figureOf w) × (value (figureOf w) ≡ q)
+
+pub begun-restores : {pair : Pair} → Sized pair → Restores (begun pair) (exactPair pair)
+begun-restores z = record { exact = refl; sized = z }
+
+pub needed-restores : {b : Back} {s : LP.Pair} (w : Worked) → Restores b s → Restores (needed b w) s
+unfolding needed
+needed-restores w r = record { exact = r .exact; sized = record { prices-long = r .sized .prices-long; flows-long = r .sized .flows-long; price-formed = r .sized .price-formed; flow-formed = r .sized .flow-formed } }
+
+pub flow-restores : {b : Back} {s : LP.Pair} (j : ℕ) (w : Worked) {q : ℚ} → (1 ≤ j) × (j ≤ 96) → Has w q → Restores b s → Restores (putFlow b j w) (closed-back j q s)
+unfolding putFlow withFlow
+flow-restores {b} j w l h r =
+    record {
+      exact = pair-is _ _ _ _ (put-value 96 (b .pair .flow) j (figureOf w) long l) (λ i. refl) ∙ ap₂ (λ q s. closed-back j q s) (h .1) (r .exact);
+      sized = record { prices-long = r .sized .prices-long; flows-long = put-long 96 (b .pair .flow) j (figureOf w) long l ∙ r .sized .flows-long; price-formed = r .sized .price-formed; flow-formed = put-formed 96 (b .pair .flow) j (figureOf w) long l (h .0) (r .sized .flow-formed) };
+    }
+  where
+    long : 96 < length (b .pair .flow)
+    long = omega (arith, r .sized .flows-long)
+
+pub price-restores : {b : Back} {s : LP.Pair} (i : ℕ) (w : Worked) {q : ℚ} → (1 ≤ i) × (i ≤ 32) → Has w q → Restores b s → Restores (putPrice b i w) (bare-back i q s)
+unfolding putPrice withPrice
+price-restores {b} i w l h r =
+    record {
+      exact = pair-is _ _ _ _ (λ j. refl) (put-value 32 (b .pair .price) i (figureOf w) long l) ∙ ap₂ (λ q s. bare-back i q s) (h .1) (r .exact);
+      sized = record { prices-long = put-long 32 (b .pair .price) i (figureOf w) long l ∙ r .sized .prices-long; flows-long = r .sized .flows-long; price-formed = put-formed 32 (b .pair .price) i (figureOf w) long l (h .0) (r .sized .price-formed); flow-formed = r .sized .flow-formed };
+    }
+  where
+    long : 32 < length (b .pair .price)
+    long = omega (arith, r .sized .prices-long)
+
+-- ---- formulas
+
+-- q is the value of w, where w fits, and the result is then in form
+abbrev pub Exactly : Worked → ℚ → Type 0
+Exactly w q = (z : Fraction) → w ≡ Fits z → Proper z × (value z ≡ q)
+
+pub gives : {w : Worked} {q : ℚ} → Exactly w q → Gives w q
+gives k z e = k z e .1
+
+pub fit-is : (w : Worked) → isFit w ≡ true → w ≡ Fits (figureOf w)
+fit-is (Fits x) e = refl
+fit-is Misfit e = never cc
+
+pub has : (w : Worked) {q : ℚ} → Exactly w q → isFit w ≡ true → Has w q
+has w k e = let h = k (figureOf w) (fit-is w e) in (inl (h .0), h .1)
+
+module _ {x y : Worked} {p q : ℚ} (g : Gives x p) (h : Gives y q) where
+  pub minus-exactly : Exactly (x ⊖ y) (lessℚ p q)
+  minus-exactly z e = (minus-fits e .is .proper, minus-gives g h z e)
+
+  pub over-exactly : Exactly (x ⊘ y) (overℚ p q)
+  over-exactly z e = (over-fits e .is .proper, over-gives g h z e)
+
+pub negated-exactly : {x : Worked} {p : ℚ} → Exactly x p → Exactly (⊝ x) (-ℚ p)
+negated-exactly k z e = let o = negated-fits e in (o .is .proper (k _ (o .of-fits) .0), negated-gives (gives k) z e)
+
+-- ---- a choice between two numbers
+
+pub choose-yes : {A : Type 0} (d : Dec A) (u v : ℚ) → A → choose d u v ≡ u
+unfolding choose
+choose-yes (yes a) u v h = refl
+choose-yes (no n) u v h = absurd (n h)
+
+pub choose-no : {A : Type 0} (d : Dec A) (u v : ℚ) → ¬ A → choose d u v ≡ v
+unfolding choose
+choose-no (yes a) u v h = absurd (h a)
+choose-no (no n) u v h = refl
+
+-- the larger of two that fit
+pub larger-exactly : (w v : Worked) {p q : ℚ} → Exactly w p → Exactly v q → Exactly (largerOf w v) (Spoke.larger p q)
+unfolding Spoke.larger
+larger-exactly Misfit v k h z e = never cc
+larger-exactly (Fits x) Misfit k h z e = never cc
+larger-exactly (Fits x) (Fits y) {p} {q} k h z e = rw is (by (isLess x y) refl)
+  where
+    is : z ≡ larger x y
+    is = cc
+
+    a : Proper x × (value x ≡ p)
+    a = k x refl
+
+    b : Proper y × (value y ≡ q)
+    b = h y refl
+
+    by : (t : Bool) → isLess x y ≡ t → Proper (cond t y x) × (value (cond t y x) ≡ choose (≤ℚ-dec q p) p q)
+    by true e = (b .0, b .1 ∙ sym (choose-no (≤ℚ-dec q p) p q (λ l. less-value (a .0) (b .0) e (rw (a .1, b .1) l))))
+    by false e = (a .0, a .1 ∙ sym (choose-yes (≤ℚ-dec q p) p q (rw (← a .1, ← b .1) (not-less (a .0) (b .0) e))))
+
+-- ---- the price rule
+
+is-at : {x : Fraction} → Proper x → isAt x x ≡ true
+unfolding isAt isFinite
+is-at {x} p = rw (ne-eqb (x .den) 0 (λ e. omega (arith, p .operand .den-pos)), is-same x)
+
+at-is : (b : Fraction) {x : Fraction} → Proper x → isAt b x ≡ true → boundOf b ≡ some (value x)
+unfolding isAt
+at-is b {x} p e = ap boundOf (sym (same-is x b (and-both (isFinite b) _ e .1))) ∙ bound-is p
+
+at-not : {b x : Fraction} → Proper x → isAt b x ≡ false → Number b (value x) → ⊥
+at-not {b} {x} p e n = never (let f = sym e ∙ ap (λ (b : Fraction). isAt b x) (sym (value-unique x b p (n .proper) (sym (n .is)))) ∙ is-at p in cc)
+
+module _ {l u x d : Fraction} (lower : Bound noLower l) (upper : Bound noUpper u) (px : Proper x) (pd : Proper d) where
+  above : isLess zeroFraction d ≡ true → 0ℚ <ℚ value d
+  above e = rw (← zero-is) (less-value zero-proper pd e)
+
+  below : isLess d zeroFraction ≡ true → value d <ℚ 0ℚ
+  below e = rw (← zero-is) (less-value pd zero-proper e)
+
+  not-above : isLess zeroFraction d ≡ false → value d ≤ℚ 0ℚ
+  not-above e = rw (← zero-is) (not-less zero-proper pd e)
+
+  not-below : isLess d zeroFraction ≡ false → 0ℚ ≤ℚ value d
+  not-below e = rw (← zero-is) (not-less pd zero-proper e)
+
+  -- the test is the rule
+  pub keeps-fits : keepsRule l u x d ≡ true → Bounds.Fits (boundOf l) (boundOf u) (value x) (value d)
+  unfolding keepsRule
+  keeps-fits = by (isLess zeroFraction d) refl (isLess d zeroFraction) refl
+    where
+      by : (s : Bool) → isLess zeroFraction d ≡ s → (t : Bool) → isLess d zeroFraction ≡ t → keepsBy s t l u x ≡ true → Bounds.Fits (boundOf l) (boundOf u) (value x) (value d)
+      by true a t b e = record { at-lower = λ _. at-is l px e; at-upper = λ n. absurd (n (lt→le (above a))) }
+      by false a true b e = record { at-lower = λ n. absurd (n (not-above a)); at-upper = λ _. at-is u px e }
+      by false a false b e = record { at-lower = λ n. absurd (n (not-above a)); at-upper = λ n. absurd (n (not-below b)) }
+
+  pub breaks-fits : keepsRule l u x d ≡ false → ¬ (Bounds.Fits (boundOf l) (boundOf u) (value x) (value d))
+  unfolding keepsRule
+  breaks-fits = by (isLess zeroFraction d) refl (isLess d zeroFraction) refl
+    where
+      by : (s : Bool) → isLess zeroFraction d ≡ s → (t : Bool) → isLess d zeroFraction ≡ t → keepsBy s t l u x ≡ false → ¬ (Bounds.Fits (boundOf l) (boundOf u) (value x) (value d))
+      by true a t b e f = at-not px e (lower-number lower (f .at-lower (above a)))
+      by false a true b e f = at-not px e (upper-number upper (f .at-upper (below b)))
+      by false a false b e f = never cc
