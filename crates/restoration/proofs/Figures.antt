@@ -6,10 +6,10 @@ use mathlib.Core.Logic.{_⊎_, inl, inr}
 use mathlib.Core.Option.{some}
 use Prim.Native.Nat.{ℕ, _≤_, _<_}
 use native.Mathlib.Omega.{arith}
-use lib.Dec.{eqb}
+use lib.Dec.{eqb, leb}
 use lib.ListN.{length, getD, set, length-set}
 use lib.Seq.{getD-set-same, getD-set-other}
-use borrow.Author.Tests.{le-leb, eqb-true, eqb-false, ne-eqb}
+use borrow.Author.Tests.{le-leb, leb-true, leb-false, eqb-true, eqb-false, ne-eqb}
 use Rattle.algebra.specs.Solver.{_:*_, :0, _:=_, ring1}
 use Rattle.algebra.specs.Rat.{ℚ, ℚ-ring, _*ℚ_, -ℚ_, _≤ℚ_, 0ℚ, ≤ℚ-dec, invℚ-zero}
 use Rattle.algebra.specs.Order.{_<_ as _<ℚ_, lt→le}
@@ -56,12 +56,36 @@ pub no-value : value noFigure ≡ 0ℚ
 unfolding value frac
 no-value = ap (λ (q : ℚ). 0ℚ *ℚ q) invℚ-zero ∙ ring1 ℚ-ring 0ℚ (λ p. p :* :0 := :0) refl
 
--- a pair as long as its arrays are, of such figures
+-- a pair of such figures; and one as long as its arrays are
+pub record AllFormed (pair : Pair) : Type 0 where
+  pub price-formed : (i : ℕ) → Formed (priceAt pair i)
+  pub flow-formed : (j : ℕ) → Formed (flowAt pair j)
+
 pub record Sized (pair : Pair) : Type 0 where
   pub prices-long : length (pair .price) ≡ 33
   pub flows-long : length (pair .flow) ≡ 97
-  pub price-formed : (i : ℕ) → Formed (priceAt pair i)
-  pub flow-formed : (j : ℕ) → Formed (flowAt pair j)
+  pub formed : AllFormed pair
+
+-- so are n prices and m flows in form, with nothing elsewhere
+pub record InForm (n m : ℕ) (pair : Pair) : Type 0 where
+  pub price-proper : (i : ℕ) → 1 ≤ i → i ≤ n → Proper (priceAt pair i)
+  pub no-price : (i : ℕ) → (i ≡ 0) ⊎ (n < i) → priceAt pair i ≡ noFigure
+  pub flow-proper : (j : ℕ) → 1 ≤ j → j ≤ m → Proper (flowAt pair j)
+  pub no-flow : (j : ℕ) → (j ≡ 0) ⊎ (m < j) → flowAt pair j ≡ noFigure
+
+pub all-formed : {n m : ℕ} {pair : Pair} → InForm n m pair → AllFormed pair
+all-formed {n} {m} {pair} h = record { price-formed = at n (priceAt pair) (h .price-proper) (h .no-price); flow-formed = at m (flowAt pair) (h .flow-proper) (h .no-flow) }
+  where
+    at : (n : ℕ) (f : ℕ → Fraction) → ((i : ℕ) → 1 ≤ i → i ≤ n → Proper (f i)) → ((i : ℕ) → (i ≡ 0) ⊎ (n < i) → f i ≡ noFigure) → (i : ℕ) → Formed (f i)
+    at n f p z i = by (leb 1 i) refl (leb i n) refl
+      where
+        none : (i ≡ 0) ⊎ (n < i) → Formed (f i)
+        none o = inr (ap (λ (x : Fraction). x .den) (z i o))
+
+        by : (a : Bool) → leb 1 i ≡ a → (b : Bool) → leb i n ≡ b → Formed (f i)
+        by false a b c = let l = leb-false 1 i a in none (inl (omega arith))
+        by true a false c = none (inr (leb-false i n c))
+        by true a true c = inl (p i (leb-true 1 i a) (leb-true i n c))
 
 -- a figure put at a number of a list
 module _ (top : ℕ) (l : List Fraction) (k : ℕ) (f : Fraction) (long : top < length l) (within : (1 ≤ k) × (k ≤ top)) where
@@ -114,14 +138,14 @@ begun-restores z = record { exact = refl; sized = z }
 
 pub needed-restores : {b : Back} {s : LP.Pair} (w : Worked) → Restores b s → Restores (needed b w) s
 unfolding needed
-needed-restores w r = record { exact = r .exact; sized = record { prices-long = r .sized .prices-long; flows-long = r .sized .flows-long; price-formed = r .sized .price-formed; flow-formed = r .sized .flow-formed } }
+needed-restores w r = record { exact = r .exact; sized = record { prices-long = r .sized .prices-long; flows-long = r .sized .flows-long; formed = record { price-formed = r .sized .formed .price-formed; flow-formed = r .sized .formed .flow-formed } } }
 
 pub flow-restores : {b : Back} {s : LP.Pair} (j : ℕ) (w : Worked) {q : ℚ} → (1 ≤ j) × (j ≤ 96) → Has w q → Restores b s → Restores (putFlow b j w) (closed-back j q s)
 unfolding putFlow withFlow
 flow-restores {b} j w l h r =
     record {
       exact = pair-is _ _ _ _ (put-value 96 (b .pair .flow) j (figureOf w) long l) (λ i. refl) ∙ ap₂ (λ q s. closed-back j q s) (h .1) (r .exact);
-      sized = record { prices-long = r .sized .prices-long; flows-long = put-long 96 (b .pair .flow) j (figureOf w) long l ∙ r .sized .flows-long; price-formed = r .sized .price-formed; flow-formed = put-formed 96 (b .pair .flow) j (figureOf w) long l (h .0) (r .sized .flow-formed) };
+      sized = record { prices-long = r .sized .prices-long; flows-long = put-long 96 (b .pair .flow) j (figureOf w) long l ∙ r .sized .flows-long; formed = record { price-formed = r .sized .formed .price-formed; flow-formed = put-formed 96 (b .pair .flow) j (figureOf w) long l (h .0) (r .sized .formed .flow-formed) } };
     }
   where
     long : 96 < length (b .pair .flow)
@@ -132,7 +156,7 @@ unfolding putPrice withPrice
 price-restores {b} i w l h r =
     record {
       exact = pair-is _ _ _ _ (λ j. refl) (put-value 32 (b .pair .price) i (figureOf w) long l) ∙ ap₂ (λ q s. bare-back i q s) (h .1) (r .exact);
-      sized = record { prices-long = put-long 32 (b .pair .price) i (figureOf w) long l ∙ r .sized .prices-long; flows-long = r .sized .flows-long; price-formed = put-formed 32 (b .pair .price) i (figureOf w) long l (h .0) (r .sized .price-formed); flow-formed = r .sized .flow-formed };
+      sized = record { prices-long = put-long 32 (b .pair .price) i (figureOf w) long l ∙ r .sized .prices-long; flows-long = r .sized .flows-long; formed = record { price-formed = put-formed 32 (b .pair .price) i (figureOf w) long l (h .0) (r .sized .formed .price-formed); flow-formed = r .sized .formed .flow-formed } };
     }
   where
     long : 32 < length (b .pair .price)

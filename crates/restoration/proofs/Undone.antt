@@ -11,9 +11,7 @@ use borrow.Author.Tests.{eqb-true, eqb-false, not-true}
 use Rattle.algebra.specs.Solver.{_:+_, _:*_, _:-_, :0, _:=_, ring2}
 use Rattle.algebra.specs.Rat.{ℚ, ℚ-ring, _+ℚ_ as _+_, _*ℚ_ as _*_, -ℚ_ as -_, 0ℚ, invℚ}
 use Rattle.algebra.specs.Sum.{upd, upd-same, upd-other}
-use Rattle.presolve.specs.LP.{Solved}
 use Rattle.presolve.specs.LP as LP
-use Rattle.presolve.specs.Step.{solved-constant}
 use Rattle.presolve.specs.Bounds.{fits-dec}
 use Rattle.presolve.specs.Bounds as Bounds
 use Rattle.presolve.specs.Spoke.{Spoke, quote}
@@ -32,23 +30,22 @@ use Rattle.fraction.specs.Worked.{given, plus-gives, minus-gives, times-gives, 
 use Rattle.network.specs.declared.Arc.{Arc}
 use Rattle.network.specs.declared.Net.{Net}
 use Rattle.network.specs.declared.Side.{Side}
-use Rattle.network.specs.declared.Kind.the-variants.{NoFlow, Changes}
+use Rattle.network.specs.declared.Kind.the-variants.{Changes}
 use Rattle.network.specs.declared.Tried.{Tried}
 use Rattle.network.specs.declared.pair.Pair.{Pair}
-use Rattle.network.specs.Network.{arcAt, supplyAt, isHere, degreeOf, isTouching, touchingAfter, isRoot, sideOf, applied}
+use Rattle.network.specs.Network.{arcAt, supplyAt, isHere, degreeOf, isTouching, touchingAfter, isRoot, sideOf}
 use Rattle.network.specs.Legal.{Bound, Legal}
 use Rattle.network.specs.Pair.{priceAt, flowAt, exactPair}
 use Rattle.network.specs.Program.{boundOf, programOf}
 use Rattle.network.proofs.Kept.{here-number, touching-used}
 use Rattle.optimality.specs.Figures.{keepsRule}
-use Rattle.reduction.specs.Rules.{keptAt, mergedAt, firstN, secondN, firstP, secondP, firstAt, secondAt, thirdAt, fourthAt, signedAfter, ruleOne, singleWhere, ruleThree, twoWhere, ruleFive, bothBy, bothSigns, signsOf, crossingWhere, ruleSix, whereHere, ofNodes, nodeRule, ruleAt}
+use Rattle.reduction.specs.Rules.{keptAt, mergedAt, firstN, secondN, firstP, secondP, firstAt, secondAt, thirdAt, fourthAt, singleWhere, ruleThree, twoWhere, ruleFive, bothBy, bothSigns, signsOf, crossingWhere, ruleSix, whereHere, ofNodes, nodeRule, ruleAt}
 use Rattle.reduction.proofs.Touch.{At, Two, Four, touches, one-touching, two-touching, signed-first, two-signs}
 use Rattle.reduction.proofs.Kept.{low, number, legal-at, positive}
-use Rattle.reduction.proofs.Exactly.{column-is, rhs-is, spokeOf, SoundChange}
-use Rattle.reduction.proofs.Removals.{Sounds, one-sounds, two-sounds, three-sounds, four-sounds}
-use Rattle.reduction.proofs.Merged.{End, no-end, an-end, end-of, mergedBack, five-sounds}
-use Rattle.reduction.proofs.Crossed.{crossedBack, six-sounds}
-use Rattle.restoration.specs.declared.back.Back.{Back}
+use Rattle.reduction.proofs.Exactly.{column-is, rhs-is, spokeOf}
+use Rattle.reduction.proofs.Merged.{End, no-end, an-end, end-of, mergedBack}
+use Rattle.reduction.proofs.Crossed.{crossedBack}
+use Rattle.reduction.proofs.Sound.{backBy}
 use Rattle.restoration.specs.declared.trace.Trace.{Trace}
 use Rattle.restoration.specs.Trace.{oldArc, traceTwo, crossedTrace, traceOf}
 use Rattle.restoration.specs.Back.{begun, putFlow, putPrice, needed, quoteBy, quoteOf, backRemoved, backBare, backSingle, mergedFlow, firstPrice, costAt, keptCost, priceBy, mergedPrice, backMerged, crossedFlow, largerOf, crossedFlows, backCrossed, backOf}
@@ -201,7 +198,7 @@ module _ (net : Net) (g : Legal net) (pair : Pair) (z : Sized pair) where
           let b = minus-fits (a .left-fits) in
           let c = times-fits (b .right-fits) in
           let q : x ≡ c .right = let f = c .right-fits in cc in
-          formed-proper (z .flow-formed j) (subst Operand (sym q) (c .is .right-operand))
+          formed-proper (z .formed .flow-formed j) (subst Operand (sym q) (c .is .right-operand))
 
       lower-is : boundOf (arcAt net j .lower) ≡ N .col j .lower
       lower-is = sym (ap (λ k. k .lower) (column-is net g j (touching-used g j i (low net g i here) (aj .passes))))
@@ -389,72 +386,46 @@ six-four net g i here = by (eqb (degreeOf net i) 4 && isZero (supplyAt net i)) r
     by false d e = never cc
     by true d e = both (eqb-true _ _ (and-both (eqb (degreeOf net i) 4) _ d .0)) (not (eqb n2 0) && not (eqb p2 0)) refl e
 
--- ---- one step back
-
--- a pair of the network after a step, on the way back over it
-pub record Before (net : Net) (k i : ℕ) (pair : Pair) : Type 0 where
-  pub solved : Solved (programOf net) (exactPair (backOf (traceOf net k i) pair .pair))
-  pub sized : Sized (backOf (traceOf net k i) pair .pair)
-
--- a sound change, undone as its theory says
-sound-before : {net : Net} {k i : ℕ} {pair : Pair} {back : LP.Pair → LP.Pair} → Sounds net (ruleAt net k i) back → Undoes net k i back pair → ruleAt net k i .kind ≡ Changes
-    → Solved (programOf (applied net (ruleAt net k i .change))) (exactPair pair) → Before net k i pair
-sound-before {net} s u e h =
-    let c = s e in
-    record { solved = subst (Solved (programOf net)) (sym (u .exact)) (c .sound .solved _ (solved-constant _ (c .shift) _ .0 h)); sized = u .sized }
+-- ---- any step
 
 -- what holds of the six rules holds of each
 by-rule : (P : ℕ → Type 0) (k : ℕ) → 1 ≤ k → k ≤ 6 → P 1 → P 2 → P 3 → P 4 → P 5 → P 6 → P k
-by-rule P k l h a b c d e f = one (ℕ-discrete k 1) (ℕ-discrete k 2) (ℕ-discrete k 3) (ℕ-discrete k 4) (ℕ-discrete k 5)
+by-rule P k l h a b c d e f = by (ℕ-discrete k 1) (ℕ-discrete k 2) (ℕ-discrete k 3) (ℕ-discrete k 4) (ℕ-discrete k 5)
   where
-    one : Dec (k ≡ 1) → Dec (k ≡ 2) → Dec (k ≡ 3) → Dec (k ≡ 4) → Dec (k ≡ 5) → P k
-    one (yes q) x2 x3 x4 x5 = subst P (sym q) a
-    one (no n1) (yes q) x3 x4 x5 = subst P (sym q) b
-    one (no n1) (no n2) (yes q) x4 x5 = subst P (sym q) c
-    one (no n1) (no n2) (no n3) (yes q) x5 = subst P (sym q) d
-    one (no n1) (no n2) (no n3) (no n4) (yes q) = subst P (sym q) e
-    one (no n1) (no n2) (no n3) (no n4) (no n5) = let q : 6 ≡ k = omega arith in subst P q f
+    by : Dec (k ≡ 1) → Dec (k ≡ 2) → Dec (k ≡ 3) → Dec (k ≡ 4) → Dec (k ≡ 5) → P k
+    by (yes q) x2 x3 x4 x5 = subst P (sym q) a
+    by (no n1) (yes q) x3 x4 x5 = subst P (sym q) b
+    by (no n1) (no n2) (yes q) x4 x5 = subst P (sym q) c
+    by (no n1) (no n2) (no n3) (yes q) x5 = subst P (sym q) d
+    by (no n1) (no n2) (no n3) (no n4) (yes q) = subst P (sym q) e
+    by (no n1) (no n2) (no n3) (no n4) (no n5) = let q : 6 ≡ k = omega arith in subst P q f
 
--- ONE STEP BACK: an optimal pair of the network after a step, restored with every figure fitting, is one of the network before it; rule 4 where rule 1 does not answer no flow
-pub step-before : (net : Net) → Legal net → (k i : ℕ) → (1 ≤ k) × (k ≤ 6) → (1 ≤ i) × (i ≤ 96) → (k ≡ 4 → ruleOne net i .kind ≡ NoFlow → ⊥) → ruleAt net k i .kind ≡ Changes
-    → (pair : Pair) → Sized pair → Solved (programOf (applied net (ruleAt net k i .change))) (exactPair pair) → backOf (traceOf net k i) pair .fits ≡ true → Before net k i pair
-unfolding ruleAt
-step-before net g k i l m n e pair z h f = by-rule Goes k (l .0) (l .1) one two three four five six n e h f
+-- ONE STEP BACK: where a rule changes something at a place and every figure fits, the pair is what the theory brings back
+pub step-undone : (net : Net) → Legal net → (k i : ℕ) → (1 ≤ k) × (k ≤ 6) → (1 ≤ i) × (i ≤ 96) → ruleAt net k i .kind ≡ Changes → (pair : Pair) → Sized pair → backOf (traceOf net k i) pair .fits ≡ true
+    → Undoes net k i (backBy mergedBack crossedBack net k i) pair
+unfolding ruleAt backBy
+step-undone net g k i l m e pair z f = by-rule Goes k (l .0) (l .1) one two three four five six e f
   where
     Goes : ℕ → Type 0
-    Goes k =
-        (k ≡ 4 → ruleOne net i .kind ≡ NoFlow → ⊥) → ruleAt net k i .kind ≡ Changes → Solved (programOf (applied net (ruleAt net k i .change))) (exactPair pair) → backOf (traceOf net k i) pair .fits ≡ true
-        → Before net k i pair
-
-    one : Goes 1
-    one n e h f = sound-before (one-sounds net g i) (one-undone net g pair z i m) e h
-
-    four : Goes 4
-    four n e h f = sound-before (four-sounds net g i (n refl)) (four-undone net g pair z i m) e h
-
-    -- a node's rule
-    at-node : (k : ℕ) {back : LP.Pair → LP.Pair} → (isHere net i ≡ true → Sounds net (ofNodes k net i) back) → isHere net i ≡ true → Sounds net (nodeRule net k i) back
-    at-node k {back} s here = subst (λ t. Sounds net t back) (sym (node-is net k i here)) (s here)
+    Goes k = ruleAt net k i .kind ≡ Changes → backOf (traceOf net k i) pair .fits ≡ true → Undoes net k i (backBy mergedBack crossedBack net k i) pair
 
     kind-at : (k : ℕ) → isHere net i ≡ true → nodeRule net k i .kind ≡ Changes → ofNodes k net i .kind ≡ Changes
     kind-at k here e = subst (λ (t : Tried). t .kind ≡ Changes) (node-is net k i here) e
 
+    one : Goes 1
+    one e f = one-undone net g pair z i m
+
     two : Goes 2
-    two n e h f =
-        let here = node-here net 2 i e in
-        sound-before (at-node 2 (two-sounds net g i) here) (two-undone net g pair z i (here-number g i here)) e h
+    two e f = two-undone net g pair z i (here-number g i (node-here net 2 i e))
 
     three : Goes 3
-    three n e h f =
-        let here = node-here net 3 i e in
-        sound-before (at-node 3 (three-sounds net g i) here) (three-undone net g pair z i here (three-single net i (kind-at 3 here e)) f) e h
+    three e f = let here = node-here net 3 i e in three-undone net g pair z i here (three-single net i (kind-at 3 here e)) f
+
+    four : Goes 4
+    four e f = four-undone net g pair z i m
 
     five : Goes 5
-    five n e h f =
-        let here = node-here net 5 i e in
-        sound-before (at-node 5 (five-sounds net g i) here) (five-undone net g pair z i here (five-two net i (kind-at 5 here e)) f) e h
+    five e f = let here = node-here net 5 i e in five-undone net g pair z i here (five-two net i (kind-at 5 here e)) f
 
     six : Goes 6
-    six n e h f =
-        let here = node-here net 6 i e in
-        sound-before (at-node 6 (six-sounds net g i) here) (six-undone net g pair z i here (six-four net g i here (kind-at 6 here e)) f) e h
+    six e f = let here = node-here net 6 i e in six-undone net g pair z i here (six-four net g i here (kind-at 6 here e)) f

@@ -32,27 +32,32 @@ use Rattle.network.proofs.Survivors.{spread, survivors-solved}
 use Rattle.reduction.specs.declared.search.Step.{Step}
 use Rattle.reduction.specs.declared.search.Taken.{Taken}
 use Rattle.reduction.specs.declared.search.Ran.{Ran}
-use Rattle.reduction.specs.Rules.{ruleOne, ruleAt}
-use Rattle.reduction.specs.Search.{lastPlace, nextOf, started, stepped, ended, moved, moveOf, ranOf}
+use Rattle.reduction.specs.Rules.{ruleAt}
+use Rattle.reduction.specs.Search.{nextOf, started, stepped, ended, moved, moveOf, ranOf}
 use Rattle.reduction.specs.Stack.{takenAt}
 use Rattle.reduction.proofs.RunLaws.{last-place-le}
 use Rattle.reduction.proofs.Kept.{next-kept}
-use Rattle.reduction.proofs.Order.{IsFirst, next-first}
+use Rattle.reduction.proofs.Order.{next-first}
+use Rattle.reduction.proofs.Exactly.{sound-solved}
+use Rattle.reduction.proofs.Sound.{next-sounds}
+use Rattle.reduction.proofs.Whole.{node-steps}
 use Rattle.restoration.specs.declared.back.Back.{Back}
 use Rattle.restoration.specs.Trace.{traceOf}
 use Rattle.restoration.specs.Back.{begun, backOf, undone}
 use Rattle.restoration.specs.Way.{spreadPrice, spreadFlow, spreadOf, after, traceAt, backOver, wayBack}
-use Rattle.restoration.proofs.Figures.{Formed, no-value, Sized, pair-is}
-use Rattle.restoration.proofs.Undone.{Before, step-before}
+use Rattle.restoration.proofs.Figures.{Formed, no-value, AllFormed, Sized, pair-is}
+use Rattle.restoration.proofs.Undone.{step-undone}
 
 -- ---- the steps of a run
 
 -- the step t is the next one of a legal network
+abbrev nextTaken : Net → Taken
+nextTaken net = record { rule = nextOf net .rule; place = nextOf net .place }
+
 pub record IsNext (net : Net) (t : Taken) : Type 0 where
   pub legal : Legal net
   pub changes : nextOf net .kind ≡ Changes
-  pub rule-is : nextOf net .rule ≡ t .rule
-  pub place-is : nextOf net .place ≡ t .place
+  pub is : nextTaken net ≡ t
 
 -- a run from net has come to its network by its steps, and each was the next one
 pub record Traced (net : Net) (at : Ran) : Type 0 where
@@ -83,7 +88,7 @@ stepped-traced {net} at e r = by (ltb (at .steps) 128) refl
     s = nextOf (at .net)
 
     t : Taken
-    t = record { rule = s .rule; place = s .place }
+    t = nextTaken (at .net)
 
     next : Ran
     next = record { net = applied (at .net) (s .change); steps = at .steps + 1; taken = set (at .taken) (at .steps) t; last = at .last }
@@ -100,7 +105,7 @@ stepped-traced {net} at e r = by (ltb (at .steps) 128) refl
     step-at : at .steps < 128 → (k : ℕ) → k < at .steps + 1 → Dec (k ≡ at .steps) → IsNext (after net next k) (takenAt next k)
     step-at h k l (yes q) =
         subst (λ k. IsNext (after net next k) (takenAt next k)) (sym q)
-        (subst (λ m. IsNext m (takenAt next (at .steps))) (sym there) (subst (IsNext (at .net)) (sym (now h)) (record { legal = r .legal; changes = e; rule-is = refl; place-is = refl })))
+        (subst (λ m. IsNext m (takenAt next (at .steps))) (sym there) (subst (IsNext (at .net)) (sym (now h)) (record { legal = r .legal; changes = e; is = refl })))
     step-at h k l (no n) =
         let b : k < at .steps = omega arith in
         subst (λ m. IsNext m (takenAt next k)) (sym (after-same net next at k (λ j m. before j (omega arith)))) (subst (IsNext (after net at k)) (sym (before k b)) (r .each k b))
@@ -143,21 +148,20 @@ ran-traced net g = ended-traced _ _ (runs-keeps (Traced net) moveOf move-traced 
 
 -- ---- back over the steps
 
--- a pair of the network after the next step, brought back over it
-next-before : (net : Net) (t : Taken) → IsNext net t → (pair : Pair) → Sized pair → Solved (programOf (on net t)) (exactPair pair) → backOf (traceOf net (t .rule) (t .place)) pair .fits ≡ true
-    → Before net (t .rule) (t .place) pair
-unfolding ruleAt lastPlace
-next-before net t n pair z h f =
-    step-before net (n .legal) (t .rule) (t .place) (rw (← n .rule-is) (i .rule-low, i .rule-high)) (rw (← n .place-is) (i .place-low, omega (arith, i .place-high, last-place-le (nextOf net .rule)))) first
-    (rw (← n .rule-is, ← n .place-is) (i .kind-is ∙ n .changes)) pair z h f
-  where
-    i : IsFirst net (nextOf net)
-    i = next-first net (λ q. never (let c = sym q ∙ n .changes in cc))
+-- a pair is optimal, and its figures are in form
+abbrev Good : Net → Pair → Type 0
+Good net pair = Solved (programOf net) (exactPair pair) × Sized pair
 
-    first : t .rule ≡ 4 → ruleOne net (t .place) .kind ≡ NoFlow → ⊥
-    first r q =
-        let four : nextOf net .rule ≡ 4 = n .rule-is ∙ r in
-        never (let c = sym q ∙ subst (λ p. ruleOne net p .kind ≡ Passes) (n .place-is) (i .rules-before 1 (omega arith) (omega (arith, four)) (nextOf net .place) (i .place-low) (rw four at (i .place-high))) in cc)
+-- from the network after the next step to the one before it
+next-back : (net : Net) (t : Taken) → IsNext net t → (pair : Pair) → Good (on net t) pair → backOf (traceOf net (t .rule) (t .place)) pair .fits ≡ true → Good net (backOf (traceOf net (t .rule) (t .place)) pair .pair)
+next-back net t n pair = subst (λ (t : Taken). Good (on net t) pair → backOf (traceOf net (t .rule) (t .place)) pair .fits ≡ true → Good net (backOf (traceOf net (t .rule) (t .place)) pair .pair)) (n .is) at-next
+  where
+    at-next : Good (on net (nextTaken net)) pair → backOf (traceOf net (nextOf net .rule) (nextOf net .place)) pair .fits ≡ true → Good net (backOf (traceOf net (nextOf net .rule) (nextOf net .place)) pair .pair)
+    at-next h e =
+        let i = next-first net (λ q. never (let c = sym q ∙ n .changes in cc)) in
+        let u = step-undone net (n .legal) _ _ (i .rule-low, i .rule-high) (i .place-low, omega (arith, i .place-high, last-place-le (nextOf net .rule))) (i .kind-is ∙ n .changes) pair (h .1) e in
+        let s = sound-solved (next-sounds node-steps net (n .legal) (n .changes)) (exactPair pair) (subst (λ c. Solved (programOf (applied net c)) (exactPair pair)) (i .change-is) (h .0)) in
+        (subst (Solved (programOf net)) (sym (u .exact)) s, u .sized)
 
 module _ (net : Net) (ran : Ran) (r : Traced net ran) where
   -- a misfit stays one
@@ -166,13 +170,12 @@ module _ (net : Net) (ran : Ran) (r : Traced net ran) where
   fitted zero b e = e
   fitted (suc k) b e = and-both (b .fits) _ (fitted k (undone (traceAt net ran k) b) e) .0
 
-  back-solved : (k : ℕ) → k ≤ ran .steps → (b : Back) → Sized (b .pair) → Solved (programOf (after net ran k)) (exactPair (b .pair)) → backOver net ran k b .fits ≡ true → Solved (programOf net) (exactPair (backOver net ran k b .pair)) × Sized (backOver net ran k b .pair)
+  back-good : (k : ℕ) → k ≤ ran .steps → (b : Back) → Good (after net ran k) (b .pair) → backOver net ran k b .fits ≡ true → Good net (backOver net ran k b .pair)
   unfolding backOver undone after traceAt
-  back-solved zero l b z h e = (h, z)
-  back-solved (suc k) l b z h e =
+  back-good zero l b h e = h
+  back-good (suc k) l b h e =
       let f = and-both (b .fits) _ (fitted k (undone (traceAt net ran k) b) e) in
-      let s = next-before (after net ran k) (takenAt ran k) (r .each k (omega (arith, add-one k))) (b .pair) z h (f .1) in
-      back-solved k (omega (arith, add-one k)) (undone (traceAt net ran k) b) (s .sized) (s .solved) e
+      back-good k (omega (arith, add-one k)) (undone (traceAt net ran k) b) (next-back (after net ran k) (takenAt ran k) (r .each k (omega (arith, add-one k))) (b .pair) h (f .1)) e
 
 -- ---- the survivors' pair at the original numbers
 
@@ -187,14 +190,16 @@ spread-formed : (b : Bool) {f : Fraction} → Formed f → Formed (cond b f noFi
 spread-formed true h = h
 spread-formed false h = inr refl
 
-spread-sized : (net : Net) {pair : Pair} → Sized pair → Sized (spreadOf net pair)
+spread-sized : (net : Net) {pair : Pair} → AllFormed pair → Sized (spreadOf net pair)
 unfolding spreadOf
 spread-sized net {pair} z =
     record {
       prices-long = length-build 33 (spreadPrice net pair);
       flows-long = length-build 97 (spreadFlow net pair);
-      price-formed = build-formed 33 (spreadPrice net pair) (λ i. spread-formed (isHere net i) (z .price-formed (rankOf net i)));
-      flow-formed = build-formed 97 (spreadFlow net pair) (λ j. spread-formed (isUsed net j) (z .flow-formed (arcRank net j)));
+      formed = record {
+        price-formed = build-formed 33 (spreadPrice net pair) (λ i. spread-formed (isHere net i) (z .price-formed (rankOf net i)));
+        flow-formed = build-formed 97 (spreadFlow net pair) (λ j. spread-formed (isUsed net j) (z .flow-formed (arcRank net j)));
+      };
     }
 
 -- figures of the numbers that pass a test, and 0 elsewhere
@@ -219,13 +224,13 @@ spread-is net g pair =
 
 -- ---- THE WHOLE WAY BACK
 
-module _ (net : Net) (g : Legal net) (pair : Pair) (z : Sized pair) (solved : Solved (programOf (packedOf (ranOf net .net))) (exactPair pair)) (fits : wayBack net (ranOf net) pair .fits ≡ true) where
-  way : Solved (programOf net) (exactPair (wayBack net (ranOf net) pair .pair)) × Sized (wayBack net (ranOf net) pair .pair)
+module _ (net : Net) (g : Legal net) (pair : Pair) (z : AllFormed pair) (solved : Solved (programOf (packedOf (ranOf net .net))) (exactPair pair)) (fits : wayBack net (ranOf net) pair .fits ≡ true) where
+  way : Good net (wayBack net (ranOf net) pair .pair)
   unfolding wayBack
   way =
       let r = ran-traced net g in
-      back-solved net (ranOf net) r (ranOf net .steps) (omega arith) (begun (spreadOf (ranOf net .net) pair)) (spread-sized (ranOf net .net) z)
-      (rw (r .reached, spread-is (ranOf net .net) (r .legal) pair) (survivors-solved (ranOf net .net) (r .legal) (exactPair pair) solved)) fits
+      back-good net (ranOf net) r (ranOf net .steps) (omega arith) (begun (spreadOf (ranOf net .net) pair))
+      (rw (r .reached, spread-is (ranOf net .net) (r .legal) pair) (survivors-solved (ranOf net .net) (r .legal) (exactPair pair) solved), spread-sized (ranOf net .net) z) fits
 
   -- an optimal pair of the reduced network is restored to one of the original
   pub way-solved : Solved (programOf net) (exactPair (wayBack net (ranOf net) pair .pair))
