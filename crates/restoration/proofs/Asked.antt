@@ -1,70 +1,36 @@
 -- The questions of the parts of a call are those of the whole. Assumes nothing.
 use mathlib.Core.Path.{_≡_, refl, sym, ap, _∙_}
-use mathlib.Core.Bool.{Bool, true, false, cond, _&&_}
+use mathlib.Core.Bool.{Bool, true, false}
 use mathlib.Core.List.{List}
-use Prim.Native.Nat.{ℕ, zero, suc, _+_, _*_, _≤_}
-use native.Mathlib.Numerals.{add-one}
+use Prim.Native.Nat.{ℕ, zero, suc, _≤_}
 use native.Mathlib.Omega.{arith}
-use lib.Dec.{eqb, leb}
+use lib.Dec.{leb}
 use lib.IntN.{ℤ}
-use lib.ListN.{length}
 use borrow.Author.Tests.{leb-true}
-use Rattle.loops.specs.Loops.{all, zeros}
-use Rattle.fraction.specs.Laws.{never, and-both}
+use Rattle.loops.specs.Loops.{zeros}
+use Rattle.fraction.specs.Laws.{and-both}
 use Rattle.network.specs.declared.Net.{Net}
 use Rattle.network.specs.declared.Kind.{Kind}
 use Rattle.network.specs.declared.Kind.the-variants.{Passes, NoFlow, Changes}
-use Rattle.network.specs.declared.record.Size.{Size}
-use Rattle.network.specs.declared.record.Size.the-variants.{Is, Off}
-use Rattle.network.specs.declared.record.Asked.{Asked}
 use Rattle.network.specs.declared.record.Asked.the-variants.{Go, No}
-use Rattle.network.specs.Record.{word, figures, sizeOf, sized, sizesOf, isInForm, hasEnds, isWeightedAt, byFigures, figuresAsked, onSizes, askedOf, readOf}
+use Rattle.network.specs.Record.{askedOf, readOf}
+use Rattle.network.specs.Legal.{Legal}
+use Rattle.network.proofs.Questions.{asked-no}
 use Rattle.network.proofs.Legal.{read-legal, read-is}
 use Rattle.reduction.specs.declared.search.Ran.{Ran}
 use Rattle.reduction.specs.Search.{ranOf}
-use Rattle.reduction.proofs.Done.{read-few, read-steps}
-use Rattle.optimality.specs.Test.{examined}
-use Rattle.restoration.specs.declared.Answer.the-variants.{Refused}
-use Rattle.restoration.specs.Restore.{isStack, reducedNet, backFrom, isBack, backAsked, pairAsked, stackAsked, ranAsked, ranRefusal, askedBy, roomAsked, isRoomy, refusalOf}
+use Rattle.restoration.specs.declared.Answer.the-variants.{Restored, Refused}
+use Rattle.restoration.specs.declared.back.Back.{Back}
+use Rattle.restoration.specs.Restore.{isStack, reducedValue, originalValue, backFrom, isBack, backAsked, pairAsked, stackAsked, ranAsked, ranRefusal, isRoomy, refusalOf, pairWords, fourWords}
 use Rattle.restoration.specs.Entry.{afterStack, afterRun, earlier, Ready, Answered}
-
--- ---- 2 to 5 have numbers above 0
-
-sizes-some : (xs : List ℤ) (q : ℕ) → sizesOf xs ≡ No q → 1 ≤ q
-unfolding sizesOf
-sizes-some xs q e = by (sizeOf (word xs 0) 32) (sizeOf (word xs 1) 96) e
-  where
-    two : No 2 ≡ No q → 1 ≤ q
-    two e = let z : 2 ≡ q = cc in omega arith
-
-    on : (n m : ℕ) (b : Bool) → cond b (Go n m) (No 2) ≡ No q → 1 ≤ q
-    on n m true e = never cc
-    on n m false e = two e
-
-    by : (s t : Size) → sized (length xs) s t ≡ No q → 1 ≤ q
-    by (Is n) (Is m) e = on n m (eqb (length xs) (2 + 2 * figures n m)) e
-    by (Is n) Off e = two e
-    by Off t e = two e
-
-figures-some : (xs : List ℤ) (n m q : ℕ) → figuresAsked xs n m ≡ No q → 1 ≤ q
-unfolding figuresAsked
-figures-some xs n m q e = by (all (isInForm xs n (figures n m)) (figures n m)) (all (hasEnds xs n (figures n m)) m) (all (isWeightedAt xs n (figures n m)) m) e
-  where
-    by : (a b c : Bool) → byFigures a b c n m ≡ No q → 1 ≤ q
-    by false b c e = let z : 3 ≡ q = cc in omega arith
-    by true false c e = let z : 4 ≡ q = cc in omega arith
-    by true true false e = let z : 5 ≡ q = cc in omega arith
-    by true true true e = never cc
-
-pub asked-some : (xs : List ℤ) (q : ℕ) → askedOf xs ≡ No q → 1 ≤ q
-unfolding askedOf
-asked-some xs q e = by (sizesOf xs) refl e
-  where
-    by : (s : Asked) → sizesOf xs ≡ s → onSizes xs s ≡ No q → 1 ≤ q
-    by (No p) f e = sizes-some xs q (f ∙ e)
-    by (Go n m) f e = figures-some xs n m q e
+use Rattle.restoration.proofs.Replay.{ran-replayed}
 
 -- ---- 6 to 12, then 13
+
+-- by the answer that ended the run
+pub asked-by : (k : Kind) (ran : Ran) (zs ys : List ℤ) → ran .last .kind ≡ k → afterRun k ran zs ys ≡ earlier ran zs ys
+unfolding earlier
+asked-by k ran zs ys e = ap (λ (t : Kind). afterRun t ran zs ys) (sym e)
 
 module _ (net : Net) (ran : Ran) (zs ys : List ℤ) where
   pub run-asked : ranRefusal net ran zs ys ≡ pairAsked (earlier ran zs ys) net ran ys
@@ -87,35 +53,47 @@ module _ (net : Net) (ran : Ran) (zs ys : List ℤ) where
   run-refused zero e n = absurd (n refl)
   run-refused (suc q) e n = run-asked ∙ rw e refl
 
--- a refusal writes nothing
-pub refused : {net : Net} {ran : Ran} {ys out values : List ℤ} {o v : ℕ} (p q : ℕ) → p ≡ q → 1 ≤ q → out ≡ zeros o → values ≡ zeros v → Answered p net ran ys o v (Refused q) out values
-refused p zero e h a b = absurd (omega arith)
-refused p (suc q) e h a b = rw e (record { result = refl; out-is = a; values-is = b })
+-- ---- what is written: nothing on a refusal
+
+module _ {net : Net} {ran : Ran} {ys out values : List ℤ} {o v : ℕ} where
+  pub refused : (p q : ℕ) → p ≡ q → (q ≡ 0 → ⊥) → out ≡ zeros o → values ≡ zeros v → Answered p net ran ys o v (Refused q) out values
+  refused p zero e h a c = absurd (h refl)
+  refused p (suc q) e h a c = rw e (record { result = refl; out-is = a; values-is = c })
+
+  -- 13, where b is what the way back gives
+  pub refused-back : (b : Back) → b ≡ backFrom net ran ys → isBack net b ≡ false → out ≡ zeros o → values ≡ zeros v → Answered (backAsked (isBack net (backFrom net ran ys))) net ran ys o v (Refused 13) out values
+  refused-back b e f a c = rw (← e, f) (record { result = refl; out-is = a; values-is = c })
+
+  pub restored-back : (b : Back) → b ≡ backFrom net ran ys → isBack net b ≡ true → out ≡ pairWords (net .n) (net .m) (b .pair) o → values ≡ fourWords (reducedValue ran ys) (originalValue net b) v → Answered (backAsked (isBack net (backFrom net ran ys))) net ran ys o v Restored out values
+  restored-back b e f a c = rw (← e, f) (record { result = refl; out-is = rw (← e) a; values-is = rw (← e) c })
 
 -- ---- 1, then 2 to 5, then the rest
 
-module _ (xs zs ys : List ℤ) (o v w : ℕ) where
-  pub no-room : isRoomy o v w ≡ false → refusalOf xs zs ys o v w ≡ 1
-  unfolding refusalOf
-  no-room e = rw e refl
-
-  pub asked-no : {q : ℕ} → isRoomy o v w ≡ true → askedOf xs ≡ No q → refusalOf xs zs ys o v w ≡ q
-  unfolding refusalOf
-  asked-no e f = rw (e, f) refl
-
-  pub asked-go : {n m : ℕ} → isRoomy o v w ≡ true → askedOf xs ≡ Go n m → refusalOf xs zs ys o v w ≡ ranRefusal (readOf xs) (ranOf (readOf xs)) zs ys
-  unfolding refusalOf
-  asked-go e f = rw (e, f) refl
-
+module _ (xs : List ℤ) (o v w : ℕ) where
   pub ready : {n m : ℕ} → isRoomy o v w ≡ true → askedOf xs ≡ Go n m → Ready (readOf xs) (ranOf (readOf xs)) o v w
   unfolding isRoomy
   ready {n} {m} e f =
       let a = and-both (leb 258 o) _ e in
       let b = and-both (leb 4 v) _ (a .1) in
+      let g : Legal (readOf xs) = rw (read-is xs n m f) (read-legal xs n m f) in
       record {
-        legal = rw (read-is xs n m f) (read-legal xs n m f);
-        few = rw (read-is xs n m f) (omega (arith, read-steps xs n m f, read-few xs n m f));
+        legal = g;
+        replayed = ran-replayed (readOf xs) g;
         out-room = leb-true _ _ (a .0);
         values-room = leb-true _ _ (b .0);
         scratch-room = leb-true _ _ (b .1);
       }
+
+module _ (xs zs ys : List ℤ) (o v w : ℕ) where
+  pub go-on : {n m : ℕ} → isRoomy o v w ≡ true → askedOf xs ≡ Go n m → refusalOf xs zs ys o v w ≡ ranRefusal (readOf xs) (ranOf (readOf xs)) zs ys
+  unfolding refusalOf
+  go-on e f = rw (e, f) refl
+
+  module _ {net : Net} {ran : Ran} {out values : List ℤ} where
+    pub refused-room : isRoomy o v w ≡ false → out ≡ zeros o → values ≡ zeros v → Answered (refusalOf xs zs ys o v w) net ran ys o v (Refused 1) out values
+    unfolding refusalOf
+    refused-room e a c = refused _ 1 (rw e refl) (λ (z : 1 ≡ 0). omega arith) a c
+
+    pub refused-asked : (q : ℕ) → isRoomy o v w ≡ true → askedOf xs ≡ No q → out ≡ zeros o → values ≡ zeros v → Answered (refusalOf xs zs ys o v w) net ran ys o v (Refused q) out values
+    unfolding refusalOf
+    refused-asked q e f a c = refused _ q (rw (e, f) refl) (λ (z : q ≡ 0). omega (arith, asked-no xs q f)) a c

@@ -4,3 +4,4 @@ pub mod Asked
 pub mod Figures
 pub mod Undone
 pub mod Whole
+pub mod Optimum

@@ -1,7 +1,6 @@
 -- The pair and the values read back from the words written are those written. Assumes nothing.
-use mathlib.Core.Path.{_≡_, refl, sym, ap, _∙_}
+use mathlib.Core.Path.{_≡_, refl, ap, _∙_}
 use mathlib.Core.List.{List, _∷_, _++_}
-use mathlib.Core.Logic.{_⊎_}
 use Prim.Native.Nat.{ℕ, zero, suc, _+_, _-_, _≤_, _<_}
 use native.Mathlib.Numerals.{add-one}
 use native.Mathlib.Omega.{arith}
@@ -12,12 +11,13 @@ use borrow.Author.Tests.{le-leb, lt-leb}
 use Rattle.loops.specs.Loops.{build, zeros}
 use Rattle.loops.proofs.Laws.{length-build, getD-build}
 use Rattle.fraction.specs.declared.Fraction.{Fraction}
-use Rattle.fraction.specs.Exact.{most, noFigure, fromWords, denWord}
+use Rattle.fraction.specs.Exact.{most, fromWords, denWord}
 use Rattle.network.specs.declared.pair.Pair.{Pair}
 use Rattle.network.specs.Record.{word, figureAt}
 use Rattle.network.specs.Output.{arraysOf}
 use Rattle.network.specs.Pair.{priceAt, flowAt, pairOf}
 use Rattle.network.proofs.Arrays.{arrays-fit}
+use Rattle.network.proofs.Paired.{price-read, flow-read}
 use Rattle.restoration.specs.Restore.{pairFigure, pairNum, pairDen, pairWords, fourWords}
 
 -- a figure's two words
@@ -63,6 +63,15 @@ module _ (n m : ℕ) (pair : Pair) (room : ℕ) (h : n ≤ 32) (k : m ≤ 96) (l
   unfolding pairFigure
   flow-figure j = let e : n + j - n + 1 ≡ j + 1 = omega arith in rw (lt-leb (n + j + 1) n (omega arith), e)
 
+  pub price-written : (i : ℕ) → i < n → priceAt pair (i + 1) .den ≤ most → priceAt (pairOf (pairWords n m pair room) n m) (i + 1) ≡ priceAt pair (i + 1)
+  price-written i b d =
+      let e = price-figure i b in
+      price-read (pairWords n m pair room) n m h k i b ∙ figure-read i (omega arith) (rw e d) ∙ e
+
+  pub flow-written : (j : ℕ) → j < m → flowAt pair (j + 1) .den ≤ most → flowAt (pairOf (pairWords n m pair room) n m) (j + 1) ≡ flowAt pair (j + 1)
+  flow-written j b d =
+      let e = flow-figure j in
+      flow-read (pairWords n m pair room) n m h k j b ∙ figure-read (n + j) (omega arith) (rw e d) ∙ e
 
 -- ---- four words over the first of a slice of zeros, and the second figure read back
 

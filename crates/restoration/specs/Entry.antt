@@ -13,6 +13,7 @@ use Rattle.network.specs.Legal.{Legal}
 use Rattle.reduction.specs.declared.search.Ran.{Ran}
 use Rattle.optimality.specs.Test.{examined}
 use Rattle.restoration.specs.declared.Answer.{Answer}
+use Rattle.restoration.specs.Log.{Replayed}
 use Rattle.restoration.specs.Restore.{isStack, reducedNet, backFrom, answerOf, outBy, valuesBy}
 
 -- 7 to 12; 6 to 12: the first that is answered by no; 0 where none is
@@ -33,10 +34,10 @@ pub record Empty (out values : List ℤ) : Type 0 where
   pub no-pair : out ≡ zeros (length out)
   pub no-values : values ≡ zeros (length values)
 
--- what the way back and the words need: few steps of a legal network, and room
+-- what the way back and the words need: steps that a legal network can take again, and room
 pub record Ready (net : Net) (ran : Ran) (o v w : ℕ) : Type 0 where
   pub legal : Legal net
-  pub few : ran .steps ≤ 128
+  pub replayed : Replayed net ran
   pub out-room : 258 ≤ o
   pub values-room : 4 ≤ v
   pub scratch-room : 10240 ≤ w

@@ -33,7 +33,7 @@ fn figure_words(n: usize, pair: Pair) -> Arrays
 }
 
 // A pair's record, and zeros behind it.
-pub fn write_pair(n: usize, m: usize, pair: Pair, out: &mut [i32])
+pub(crate) fn write_pair(n: usize, m: usize, pair: Pair, out: &mut [i32])
     requires { ⌜ (n ≤ 32) × (m ≤ 96) × (258 ≤ length (now out)) ⌝ }
     ensures { λ _. ⌜ now (out .exit) ≡ pairWords n m pair (length (now (out .entry))) ⌝ }
 {
@@ -44,7 +44,7 @@ pub fn write_pair(n: usize, m: usize, pair: Pair, out: &mut [i32])
 }
 
 // Two figures as four words, into a slice of zeros.
-pub fn write_values(x: Fraction, y: Fraction, values: &mut [i32])
+pub(crate) fn write_values(x: Fraction, y: Fraction, values: &mut [i32])
     requires { ⌜ (now values ≡ zeros (length (now values))) × (4 ≤ length (now values)) ⌝ }
     ensures { λ _. ⌜ now (values .exit) ≡ fourWords x y (length (now (values .entry))) ⌝ }
 {
