@@ -1,4 +1,5 @@
 pub mod Trace
 pub mod Back
 pub mod Way
+pub mod Log
 pub mod Restore

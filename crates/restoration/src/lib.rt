@@ -1,5 +1,6 @@
 // Restoring: the pair of a reduced network, tested there, goes back over the steps to the original network.
 pub mod back;
+mod log;
 pub mod trace;
 
 // A restored pair, or the number of the question that is answered by no.
