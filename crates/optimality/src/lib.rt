@@ -43,10 +43,10 @@ fn ask(network: &[i32], pair: &[i32], room: usize) -> usize
 // A fraction's two words, into a slice of zeros.
 fn write_words(f: Fraction, values: &mut [i32])
     requires { ⌜ (now values ≡ zeros (length (now values))) × (2 ≤ length (now values)) ⌝ }
-    ensures { ⌜ now (values .exit) ≡ twoWords f (length (now (values .entry))) ⌝ }
+    ensures { λ _. ⌜ now (values .exit) ≡ twoWords f (length (now (values .entry))) ⌝ }
 {
-    values[0] = f.num;
-    values[1] = f.den_word();
+    loops::put(values, 0, f.num);
+    loops::put(values, 1, f.den_word());
 }
 
 // Tests a pair on a network: where it is passed its value goes into `values`. Every other word there is zero afterwards, on a refusal every word.
