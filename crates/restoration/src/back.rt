@@ -206,7 +206,7 @@ fn back_crossed(t: Trace, pair: Pair) -> Back
 }
 
 // The way back over a step, from a pair of the network after it.
-pub fn back(t: Trace, pair: Pair) -> Back
+pub fn step_back(t: Trace, pair: Pair) -> Back
     ensures { λ r. ⌜ r ≡ backOf t pair ⌝ }
 {
     let rule = t.rule;
@@ -225,7 +225,7 @@ pub fn undo(t: Trace, b: Back) -> Back
     ensures { λ r. ⌜ r ≡ undone t b ⌝ }
 {
     let p = b.pair;
-    let before = back(t, p);
+    let before = step_back(t, p);
     let pair = before.pair;
     let fits = both(b.fits, before.fits);
     Back { fits, pair }

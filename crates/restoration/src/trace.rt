@@ -145,7 +145,7 @@ fn crossed_trace(net: Net, i: usize) -> Trace
 }
 
 // What the way back needs of a step, from the network before it.
-pub fn trace(net: Net, rule: usize, place: usize) -> Trace
+pub fn trace_step(net: Net, rule: usize, place: usize) -> Trace
     ensures { λ r. ⌜ r ≡ traceOf net rule place ⌝ }
 {
     match rule {
