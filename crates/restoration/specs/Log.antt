@@ -6,11 +6,12 @@ use Prim.Native.Nat.{ℕ, zero, suc, _+_, _-_, _*_, _/_, _%_, _≤_, _<_}
 use lib.Dec.{eqb, ltb}
 use lib.IntN.{ℤ}
 use lib.ListN.{length, set}
-use Rattle.loops.specs.Loops.{upto}
+use Rattle.loops.specs.Loops.{build, upto}
 use Rattle.fraction.specs.declared.Fraction.{Fraction}
 use Rattle.fraction.specs.Exact.{fromWords, denWord}
 use Rattle.network.specs.declared.Net.{Net}
 use Rattle.network.specs.declared.Put.{Put}
+use Rattle.network.specs.declared.pair.Pair.{Pair}
 use Rattle.network.specs.declared.Kind.the-variants.{Changes}
 use Rattle.network.specs.Network.{applied}
 use Rattle.network.specs.Record.{word, endOf}
@@ -23,7 +24,21 @@ use Rattle.restoration.specs.declared.trace.Trace.{Trace}
 use Rattle.restoration.specs.declared.back.Back.{Back}
 use Rattle.restoration.specs.Trace.{numbers, traceOf}
 use Rattle.restoration.specs.Back.{undone}
-use Rattle.restoration.specs.Way.{after}
+use Rattle.restoration.specs.Way.{spreadPrice, spreadFlow, after, traceAt}
+
+-- ---- a pair with all its prices, or all its flows, spread over the original numbers
+
+abbrev pub setPrice : Pair → ℕ → Fraction → Pair
+setPrice pair i f = record { price = set (pair .price) i f; flow = pair .flow }
+
+abbrev pub setFlow : Pair → ℕ → Fraction → Pair
+setFlow pair j f = record { price = pair .price; flow = set (pair .flow) j f }
+
+unfoldable pub withPrices : Net → Pair → Pair → Pair
+withPrices net pair to = record { price = build 33 (spreadPrice net pair); flow = to .flow }
+
+unfoldable pub withFlows : Net → Pair → Pair → Pair
+withFlows net pair to = record { price = to .price; flow = build 97 (spreadFlow net pair) }
 
 -- ---- a trace's figures: eight for each of the four arcs, then the others
 
@@ -103,7 +118,20 @@ unfoldable pub backIn : List ℤ → ℕ → Back → Back
 backIn zs zero b = b
 backIn zs (suc k) b = backIn zs k (undone (traceIn zs (80 * k)) b)
 
--- ---- a run that can be taken again, step by step
+-- ---- the steps taken again
+
+-- the network after step k of a run, on the network before it, and what is logged of the step
+unfoldable pub nextNet : Net → Ran → ℕ → Net
+nextNet net ran k = applied net (ruleAt net (takenAt ran k .rule) (takenAt ran k .place) .change)
+
+abbrev pub nextTrace : Net → Ran → ℕ → Trace
+nextTrace net ran k = traceOf net (takenAt ran k .rule) (takenAt ran k .place)
+
+-- the first k steps are in the log
+abbrev pub Logged : Net → Ran → ℕ → List ℤ → Type 0
+Logged net ran k zs = (i : ℕ) → i < k → traceIn zs (80 * i) ≡ traceAt net ran i
+
+-- a run that can be taken again
 
 abbrev pub isTaken : Net → Ran → ℕ → Type 0
 isTaken net ran k = (ruleAt (after net ran k) (takenAt ran k .rule) (takenAt ran k .place) .kind ≡ Changes) × (takenAt ran k .place ≤ 96)

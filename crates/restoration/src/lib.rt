@@ -2,6 +2,7 @@
 pub mod back;
 mod log;
 pub mod trace;
+pub mod way;
 
 // A restored pair, or the number of the question that is answered by no.
 pub enum Answer {

@@ -1,0 +1,3 @@
+pub mod Log
+pub mod Small
+pub mod Replay
