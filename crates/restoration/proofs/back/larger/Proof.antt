@@ -1,16 +1,12 @@
 -- `restoration::back::larger` meets its contract. Assumes nothing.
+use Rattle.fraction.specs.declared.Worked.the-variants.{Fits}
 use borrow.Author.Needs.{needs}
+use mathlib.Core.Path.{ap}
 use Rattle.restoration.proofs.back.larger.Statement.{statement}
 use Rattle.restoration.proofs.back.larger.Tie as tie
 
 returns : tie.Need-returns
-returns c = rw (c .before .before .before .before .before .x .given .1, c .before .before .y .given .1, c .larger .ensures)
-
-returns-2 : tie.Need-returns-2
-returns-2 c = rw (c .before .before .before .x .given .1, c .enum-told .given .1)
-
-returns-3 : tie.Need-returns-3
-returns-3 c = rw (c .enum-told2 .given .1)
+returns c = rw (c .before .before .before .before .before .x .given .1, c .before .before .y .given .1) (ap Fits (search needs))
 
 pub larger-spec : {M : Type 1} → statement M
 larger-spec =
@@ -22,5 +18,5 @@ larger-spec =
     (λ c. search needs)
     (λ c. search needs)
     returns
-    returns-2
-    returns-3)
+    (λ c. search needs)
+    (λ c. search needs))
