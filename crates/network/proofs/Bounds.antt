@@ -1,6 +1,6 @@
 -- Bounds in exact numbers: which of them are numbers, and how they compare. Assumes nothing.
 use mathlib.Core.Path.{_≡_, refl, sym, ap, _∙_, subst}
-use mathlib.Core.Bool.{Bool, true, false, cond}
+use mathlib.Core.Bool.{true, false}
 use mathlib.Core.Logic.{inl, inr}
 use mathlib.Core.Option.{some, none}
 use native.Mathlib.Omega.{arith}

@@ -32,7 +32,7 @@ module _ {A : Type 0} (d v : A) (l : List A) (j : ℕ) where
   either true i = ⊎-elim (λ e. inl e) (λ (w : (i ≡ j) × (getD (set l j v) i d ≡ v)). inr (refl, w .0, w .1)) (set-at-either i)
   either false i = inl refl
 
-  long : (b : Bool) → length (cond b (set l j v) l) ≡ length l
+  pub long : (b : Bool) → length (cond b (set l j v) l) ≡ length l
   long true = length-set l j v
   long false = refl
 
@@ -77,15 +77,15 @@ moved h f g =
 number-low : (top j : ℕ) → isNumber top j ≡ true → 1 ≤ j
 number-low top j e = leb-true 1 j (and-both (leb 1 j) _ e .0)
 
-arc-either : (net : Net) (j : ℕ) (t : Arc) (i : ℕ) → (arcAt (withArc net j t) i ≡ arcAt net i) ⊎ ((1 ≤ j) × (i ≡ j) × (arcAt (withArc net j t) i ≡ t))
+pub arc-either : (net : Net) (j : ℕ) (t : Arc) (i : ℕ) → (arcAt (withArc net j t) i ≡ arcAt net i) ⊎ ((1 ≤ j) × (i ≡ j) × (arcAt (withArc net j t) i ≡ t))
 unfolding withArc
 arc-either net j t i = ⊎-elim (λ e. inl e) (λ w. inr (number-low 96 j (w .0), w .1, w .2)) (either noArc t (net .arcs) j (isNumber 96 j) i)
 
-supply-either : (net : Net) (j : ℕ) (r : Fraction) (i : ℕ) → (supplyAt (withSupply net j r) i ≡ supplyAt net i) ⊎ ((1 ≤ j) × (i ≡ j) × (supplyAt (withSupply net j r) i ≡ r))
+pub supply-either : (net : Net) (j : ℕ) (r : Fraction) (i : ℕ) → (supplyAt (withSupply net j r) i ≡ supplyAt net i) ⊎ ((1 ≤ j) × (i ≡ j) × (supplyAt (withSupply net j r) i ≡ r))
 unfolding withSupply
 supply-either net j r i = ⊎-elim (λ e. inl e) (λ w. inr (number-low 32 j (w .0), w .1, w .2)) (either noFigure r (net .supply) j (isNumber 32 j) i)
 
-here-either : (net : Net) (j i : ℕ) → (isHere (without net j) i ≡ isHere net i) ⊎ ((1 ≤ j) × (i ≡ j) × (isHere (without net j) i ≡ false))
+pub here-either : (net : Net) (j i : ℕ) → (isHere (without net j) i ≡ isHere net i) ⊎ ((1 ≤ j) × (i ≡ j) × (isHere (without net j) i ≡ false))
 unfolding without
 here-either net j i = ⊎-elim (λ e. inl e) (λ w. inr (number-low 32 j (w .0), w .1, w .2)) (either false false (net .here) j (isNumber 32 j) i)
 

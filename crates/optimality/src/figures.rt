@@ -1,4 +1,5 @@
-// The figures of the test: balances, reduced costs and the value; and its questions 9 to 12.
+// The figures of the test: balances, reduced costs and the value; and its questions 9 to 12. The loops read an arc in place,
+// so that no network is copied for one; beyond the last number there is none.
 ghost use mathlib.Core.Path.{_≡_};
 ghost use Rattle.loops.specs.Loops.{all};
 ghost use Rattle.fraction.specs.Formula.{_⊕_, _⊗_};

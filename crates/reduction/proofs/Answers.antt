@@ -32,6 +32,7 @@ use Rattle.network.proofs.Kept.{here-number, used-number, touching-used}
 use Rattle.reduction.specs.declared.figures.Made.{Made}
 use Rattle.reduction.specs.declared.crossing.Four.{Four}
 use Rattle.reduction.specs.Rules.{droppedOf, atFlow, closedBy, closedArc, ruleOne, bareBy, bareNode, ruleTwo, singleIn, singleBy, singleArc, singleWhere, ruleThree, isCandidate, costlyWith, costlyBy, hasPair, ruleFour, farSupply, keptOf, mergedBy, twoArcs, apartBy, keepFirst, keepBy, keepOne, twoWhere, ruleFive, putOf, signedAfter, allFree, allApart, fourOf, fourFit, crossingWith, crossingAt, withThree, withTwo, withOne, crossingBy, crossingOf, bothBy, bothSigns, signsOf, crossingWhere, ruleSix, noRule, whereHere, nodeRule, ruleAt}
+use Rattle.reduction.proofs.Frame.{arc-one, node-gone}
 use Rattle.reduction.proofs.Touch.{unlike, First, touches, touching-first}
 
 -- ---- the nodes and arcs that are left
@@ -92,9 +93,6 @@ module _ {A : Type 0} (d : A) (l : List A) (j : ℕ) where
 number-low : (top k : ℕ) → isNumber top k ≡ true → 1 ≤ k
 number-low top k e = leb-true 1 k (and-both (leb 1 k) _ e .0)
 
-is-number : (top k : ℕ) → 1 ≤ k → k ≤ top → isNumber top k ≡ true
-is-number top k h l = rw (le-leb 1 k h, le-leb k top l)
-
 -- what is put is no arc, or stands at a number in use
 abbrev Tame : Net → Put → Type 0
 Tame net p = (p .arc ≡ noArc) ⊎ (1 ≤ p .number → 1 ≤ arcAt net (p .number) .from)
@@ -132,14 +130,10 @@ module _ {net : Net} (g : Legal net) where
   unfolding applied withArc withSupply without
   nodes-under c = put-under false (net .here) (c .gone) (λ (t : Bool). t) refl (λ i. isHere net i ≡ true) (λ i h. h) (isNumber 32 (c .gone)) false (inl refl)
 
-  node-gone : (c : Change) → isHere net (c .gone) ≡ true → isHere (applied net c) (c .gone) ≡ false
-  unfolding applied withArc withSupply without
-  node-gone c e = let n = here-number g _ e in rw (is-number 32 _ (n .0) (n .1)) (gone-at false (net .here) (c .gone))
-
   fewer : (c : Change) → Tamed net c → Lost net c → Fewer net c
   fewer c w (inl e) =
       let a = count-under (hasArc net) (hasArc (applied net c)) (change-under c w) 97 in
-      let b = count-fewer (isHere net) (isHere (applied net c)) (nodes-under c) 33 (c .gone) (omega (arith, here-number g _ e .1)) e (node-gone c e) in
+      let b = count-fewer (isHere net) (isHere (applied net c)) (nodes-under c) 33 (c .gone) (omega (arith, here-number g _ e .1)) e (node-gone net c g (here-number g _ e)) in
       omega arith
   fewer c w (inr s) =
       let a = count-fewer (hasArc net) (hasArc (applied net c)) (change-under c w) 97 (s .number) (omega (arith, used-number g _ (s .used) .1)) (le-leb 1 _ (s .used)) (rw (s .dropped)) in
@@ -199,8 +193,7 @@ module _ {net : Net} (g : Legal net) where
   tamed-one p l r i e = record { one = inl e; two = inl refl; three = inl refl; four = inl refl }
 
   arc-gone : (j : ℕ) → 1 ≤ arcAt net j .from → (l r : Level) (i : ℕ) → arcAt (applied net (changeOne (putOf j noArc) l r i)) j ≡ noArc
-  unfolding applied withArc withSupply without
-  arc-gone j u l r i = let n = used-number g j u in rw (is-number 96 j (n .0) (n .1)) (gone-at noArc (net .arcs) j)
+  arc-gone j u l r i = arc-one net _ g (used-number g j u) (λ k. absurd (omega arith)) (λ k. absurd (omega arith)) (λ k. absurd (omega arith))
 
   -- an arc at a known flow is dropped
   dropped-told : {X : Type 0} (p q : Worked) (j a b i : ℕ) → (1 ≤ arcAt net j .from) ⊎ (isHere net i ≡ true) → Told net X (droppedOf p q j a b i)

@@ -10,6 +10,8 @@ use Rattle.network.specs.declared.record.Asked.{Asked}
 use Rattle.network.specs.declared.record.Asked.the-variants.{Go, No}
 use Rattle.network.specs.Record.{askedOf, readOf}
 use Rattle.network.specs.Legal.{Legal}
+use Rattle.network.specs.Program.{programOf}
+use Rattle.presolve.specs.LP as LP
 use Rattle.fraction.specs.Laws.{never}
 use Rattle.network.proofs.Legal.{read-legal, read-is}
 use Rattle.reduction.specs.declared.Answer.{Answer}
@@ -19,6 +21,8 @@ use Rattle.reduction.specs.Reduce.{roomBy, isRoomy, questions, answerBy,
 use Rattle.reduction.proofs.Order.{NoneApplies}
 use Rattle.reduction.proofs.Answers.{Shown}
 use Rattle.reduction.proofs.Done.{ran-none, ran-shown, read-steps}
+use Rattle.reduction.proofs.Sound.{ran-flowless}
+use Rattle.reduction.proofs.Whole.{node-steps}
 
 module _ (xs : List ℤ) (o s w : ℕ) where
   asked : {n m : ℕ} → questions xs o s w ≡ Go n m → askedOf xs ≡ Go n m
@@ -41,21 +45,31 @@ module _ (xs : List ℤ) (o s w : ℕ) where
       by (Go n m) f e =
           ran-none (readOf xs) (legal f) (λ z. never (let c : NoFlow (ranOf (readOf xs) .last .rule) (ranOf (readOf xs) .last .place) ≡ Reduced = rw z at e in cc))
 
-  -- no flow: the figures of that rule at that place show it
-  pub no-flow-named : (k i : ℕ) → answerOf xs (questions xs o s w) ≡ NoFlow k i → Shown (ranOf (readOf xs) .net) k i
-  no-flow-named k i e = by (questions xs o s w) refl e
+  -- no flow: the run ends in it, at that rule and place
+  record Ends (k i : ℕ) : Type 0 where
+    is-legal : Legal (readOf xs)
+    kind-is : ranOf (readOf xs) .last .kind ≡ NoFlow·kind
+    rule-is : ranOf (readOf xs) .last .rule ≡ k
+    place-is : ranOf (readOf xs) .last .place ≡ i
+
+  ends : (k i : ℕ) → answerOf xs (questions xs o s w) ≡ NoFlow k i → Ends k i
+  ends k i e = by (questions xs o s w) refl e
     where
-      on : (t : Kind) {n m : ℕ} → questions xs o s w ≡ Go n m → ranOf (readOf xs) .last .kind ≡ t → answerBy t (ranOf (readOf xs)) ≡ NoFlow k i → Shown (ranOf (readOf xs) .net) k i
+      on : (t : Kind) {n m : ℕ} → questions xs o s w ≡ Go n m → ranOf (readOf xs) .last .kind ≡ t → answerBy t (ranOf (readOf xs)) ≡ NoFlow k i → Ends k i
       on Passes f z e = never cc
       on Changes f z e = never cc
-      on NoFlow·kind f z e =
-          let a : ranOf (readOf xs) .last .rule ≡ k = cc in
-          let b : ranOf (readOf xs) .last .place ≡ i = cc in
-          rw (a, b) at (ran-shown (readOf xs) (legal f) z)
+      on NoFlow·kind f z e = record { is-legal = legal f; kind-is = z; rule-is = cc; place-is = cc }
 
-      by : (q : Asked) → questions xs o s w ≡ q → answerOf xs q ≡ NoFlow k i → Shown (ranOf (readOf xs) .net) k i
+      by : (q : Asked) → questions xs o s w ≡ q → answerOf xs q ≡ NoFlow k i → Ends k i
       by (No q) f e = never cc
       by (Go n m) f e = on (ranOf (readOf xs) .last .kind) f refl e
+
+  -- the figures of that rule at that place show it, and the network given has no feasible flow
+  pub no-flow-named : (k i : ℕ) → answerOf xs (questions xs o s w) ≡ NoFlow k i → Shown (ranOf (readOf xs) .net) k i
+  no-flow-named k i e = let h = ends k i e in rw (h .rule-is, h .place-is) at (ran-shown (readOf xs) (h .is-legal) (h .kind-is))
+
+  pub no-flow-given : (k i : ℕ) → answerOf xs (questions xs o s w) ≡ NoFlow k i → LP.NoFlow (programOf (readOf xs))
+  no-flow-given k i e = let h = ends k i e in ran-flowless node-steps (readOf xs) (h .is-legal) (h .kind-is)
 
   -- "there are at most n + m steps"
   pub few-steps : (n m : ℕ) → questions xs o s w ≡ Go n m → ranOf (readOf xs) .steps ≤ n + m

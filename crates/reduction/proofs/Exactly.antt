@@ -1,19 +1,18 @@
 -- A legal network in exact numbers: its arcs as they are seen from their nodes, and what a sound change is. Assumes nothing.
 use mathlib.Core.Path.{_≡_, refl, sym, ap, ap₂, _∙_, subst}
 use mathlib.Core.Bool.{Bool, true, false, cond, not, _||_}
-use mathlib.Core.List.{List·Memᴰ}
-use mathlib.Core.Logic.{inl, inr, ⊎-elim}
 use Prim.Native.Nat.{ℕ, _≤_, _<_}
 use native.Mathlib.Omega.{arith}
 use lib.Dec.{T, eqb}
-use borrow.Author.Tests.{eqb-true, eqb-false, ne-eqb, eq-eqb, not-true}
-use Rattle.algebra.specs.Rat.{ℚ, 0ℚ, _+ℚ_}
-use Rattle.algebra.specs.Sum.{Once, only, range, range-once}
-use Rattle.presolve.specs.LP.{LP, Pair}
-use Rattle.presolve.specs.Step.{SoundStep, with-constant}
+use borrow.Author.Tests.{eqb-false, ne-eqb, eq-eqb, not-true}
+use Rattle.algebra.specs.Solver.{_:-_, :0, _:=_, ring1}
+use Rattle.algebra.specs.Rat.{ℚ, ℚ-ring, 0ℚ, _+ℚ_}
+use Rattle.algebra.specs.Sum.{Once, only, range-once}
+use Rattle.presolve.specs.LP.{LP, Pair, Solved, NoFlow, total}
+use Rattle.presolve.specs.Step.{SoundStep, with-constant, feasible-constant, solved-constant, total-constant, total-shift, stay, then, shifted, no-flow}
 use Rattle.presolve.specs.Price.{root, only-zero}
 use Rattle.presolve.specs.Spoke.{Spoke, SpokeAt}
-use Rattle.presolve.specs.Net.{Sane, columnAt, rhsAt, tail-of, head-of, column-in, column-out, column-same, touch-off, rhs-in, rhs-out}
+use Rattle.presolve.specs.Net.{Sane, columnAt, tail-of, head-of, column-in, column-out, column-same, touch-off, rhs-in, rhs-out}
 use Rattle.presolve.specs.Net as Exact
 use Rattle.fraction.specs.declared.Fraction.{Fraction}
 use Rattle.fraction.specs.Exact.{zeroFraction, isZero}
@@ -25,11 +24,11 @@ use Rattle.network.specs.declared.Net.{Net}
 use Rattle.network.specs.declared.Change.{Change}
 use Rattle.network.specs.Network.{noArc, arcAt, supplyAt, isHere, isTouching, isRoot, farEnd, sideOf, applied}
 use Rattle.network.specs.Legal.{LegalArc, Legal}
-use Rattle.network.specs.Program.{boundOf, exactArc, exactOf, programOf}
+use Rattle.network.specs.Program.{exactArc, exactOf, programOf}
 use Rattle.network.proofs.Sane.{sane}
 use Rattle.network.proofs.Kept.{here-number, used-number, touching-used}
 use Rattle.reduction.proofs.Frame.{Unnamed, arc-same}
-use Rattle.reduction.proofs.Sides.{Seen, at-from, at-to, seen, fromSide, toSide}
+use Rattle.reduction.proofs.Sides.{Seen, at-from, at-to, seen}
 
 -- ---- what is in
 
@@ -167,8 +166,30 @@ module _ (net : Net) (c : Change) where
   unfolding exactOf
   rhs-on i e = rhs-in (exactOf (applied net c)) i (is-true e)
 
--- ---- a change that is a sound step, whatever constant it adds
+-- ---- sound steps between networks, whatever constant they add
 
-pub record SoundChange (net : Net) (c : Change) (back : Pair → Pair) : Type 0 where
+pub record SoundTo (net net′ : Net) (back : Pair → Pair) : Type 0 where
   pub shift : ℚ
-  pub sound : SoundStep (programOf net) (with-constant (programOf (applied net c)) shift) back
+  pub sound : SoundStep (programOf net) (with-constant (programOf net′) shift) back
+
+-- a change that is one
+abbrev pub SoundChange : Net → Change → (Pair → Pair) → Type 0
+SoundChange net c back = SoundTo net (applied net c) back
+
+pub sound-stay : (net : Net) → SoundTo net net (λ s. s)
+sound-stay net = record { shift = programOf net .constant; sound = stay (programOf net) }
+
+pub sound-then : {a b c : Net} {back back′ : Pair → Pair} → SoundTo a b back → SoundTo b c back′ → SoundTo a c (λ s. back (back′ s))
+sound-then x y = record { shift = _; sound = then (x .sound) (shifted (y .sound) (x .shift)) }
+
+-- an optimal pair after it, brought back, is optimal before it; its cost differs by the shift
+pub sound-solved : {a b : Net} {back : Pair → Pair} → SoundTo a b back → (s : Pair) → Solved (programOf b) s → Solved (programOf a) (back s)
+sound-solved {b = b} x s h = x .sound .solved s (solved-constant (programOf b) (x .shift) s .0 h)
+
+pub sound-total : {a b : Net} {back : Pair → Pair} (x : SoundTo a b back) (s : Pair) → total (programOf a) (back s .flow) ≡ total (programOf b) (s .flow) +ℚ x .shift
+unfolding exactOf
+sound-total {b = b} x s = total-shift (x .sound) s ∙ ap₂ _+ℚ_ (total-constant (programOf b) (x .shift) (s .flow)) (ring1 ℚ-ring (x .shift) (λ k. k :- :0 := k) refl)
+
+-- no flow after it: none before it
+pub sound-no-flow : {a b : Net} {back : Pair → Pair} → SoundTo a b back → NoFlow (programOf b) → NoFlow (programOf a)
+sound-no-flow {a} {b} x n = no-flow (x .sound) (λ y f. n y (feasible-constant (programOf b) (x .shift) y .1 f))

@@ -1,14 +1,12 @@
 -- What a change does to a legal network, for every rule. Assumes nothing.
 use mathlib.Core.Path.{_≡_, refl, sym, ap, _∙_}
-use mathlib.Core.Bool.{Bool, true, false, cond}
-use mathlib.Core.List.{List}
+use mathlib.Core.Bool.{Bool, true, false}
 use mathlib.Core.Logic.{_⊎_, inl, inr, ⊎-elim}
 use Prim.Native.Nat.{ℕ, _≤_}
 use native.Mathlib.Omega.{arith}
-use lib.ListN.{length, length-set, getD, set}
-use lib.Seq.{getD-set-same, getD-set-other}
-use lib.Dec.{leb}
-use borrow.Author.Tests.{le-leb, leb-true}
+use lib.ListN.{length}
+use lib.Seq.{getD-set-same}
+use borrow.Author.Tests.{le-leb}
 use Rattle.fraction.specs.declared.Fraction.{Fraction}
 use Rattle.fraction.specs.Exact.{Proper, noFigure}
 use Rattle.network.specs.declared.Arc.{Arc}
@@ -16,10 +14,10 @@ use Rattle.network.specs.declared.Net.{Net}
 use Rattle.network.specs.declared.Put.{Put}
 use Rattle.network.specs.declared.Level.{Level}
 use Rattle.network.specs.declared.Change.{Change}
-use Rattle.network.specs.Network.{noArc, arcAt, supplyAt, isHere, isNumber, isTouching, withArc, withSupply, without, withPut, withLevel, applied}
+use Rattle.network.specs.Network.{noArc, arcAt, supplyAt, isHere, isNumber, isTouching, withArc, withSupply, without, withPut, withPuts, withLevel, applied}
 use Rattle.network.specs.Legal.{Legal, MayPut}
-use Rattle.network.proofs.Kept.{used-number, touching-used, moved, arc-kept, supply-kept, node-kept}
-use Rattle.fraction.specs.Laws.{and-both, never}
+use Rattle.network.proofs.Kept.{long, used-number, touching-used, moved, arc-either, supply-either, here-either, arc-kept, supply-kept, node-kept}
+use Rattle.fraction.specs.Laws.{never}
 
 -- what may be put at a number where node `gone` is dropped: no arc, or a legal one that does not touch it
 pub record Puts (net : Net) (gone : ℕ) (p : Put) : Type 0 where
@@ -40,14 +38,6 @@ pub record Framed (net : Net) (c : Change) : Type 0 where
   pub right : Levels (c .right)
   pub only : (j : ℕ) → 1 ≤ c .gone → isTouching (arcAt net j) (c .gone) ≡ true → (j ≡ c .one .number) ⊎ ((j ≡ c .two .number) ⊎ ((j ≡ c .three .number) ⊎ (j ≡ c .four .number)))
 
--- an element replaced, where k is a number: those at other numbers
-replaced-left : {A : Type 0} (d : A) (top : ℕ) (l : List A) (k : ℕ) (v : A) (j : ℕ) → (1 ≤ k → j ≡ k → ⊥) → getD (cond (isNumber top k) (set l k v) l) j d ≡ getD l j d
-replaced-left d top l k v j ne = by (isNumber top k) refl
-  where
-    by : (b : Bool) → isNumber top k ≡ b → getD (cond b (set l k v) l) j d ≡ getD l j d
-    by true e = getD-set-other l k j v d (ne (leb-true 1 k (and-both (leb 1 k) _ e .0)))
-    by false e = refl
-
 -- arc k replaced by t: what stands at k, and at the other numbers
 module _ (net : Net) (k : ℕ) (t : Arc) where
   pub arc-put : length (net .arcs) ≡ 97 → (1 ≤ k) × (k ≤ 96) → arcAt (withArc net k t) k ≡ t
@@ -55,8 +45,7 @@ module _ (net : Net) (k : ℕ) (t : Arc) where
   arc-put h l = rw (le-leb 1 k (l .0), le-leb k 96 (l .1)) (getD-set-same (net .arcs) k t noArc (omega arith))
 
   pub arc-left : (j : ℕ) → (1 ≤ k → j ≡ k → ⊥) → arcAt (withArc net k t) j ≡ arcAt net j
-  unfolding withArc
-  arc-left j ne = replaced-left noArc 96 (net .arcs) k t j ne
+  arc-left j ne = ⊎-elim (λ e. e) (λ w. absurd (ne (w .0) (w .1))) (arc-either net k t j)
 
   -- an arc that still touches a node, where one is put that does not: its number is another, and it touched before
   still : (i j : ℕ) → length (net .arcs) ≡ 97 → isTouching t i ≡ false → (1 ≤ j) × (j ≤ 96) → isTouching (arcAt (withArc net k t) j) i ≡ true → (j ≡ k → ⊥) × (isTouching (arcAt net j) i ≡ true)
@@ -125,25 +114,16 @@ module _ (net : Net) (k : ℕ) where
   supply-put r h l = rw (le-leb 1 k (l .0), le-leb k 32 (l .1)) (getD-set-same (net .supply) k r noFigure (omega arith))
 
   pub supply-left : (r : Fraction) (i : ℕ) → (1 ≤ k → i ≡ k → ⊥) → supplyAt (withSupply net k r) i ≡ supplyAt net i
-  unfolding withSupply
-  supply-left r i ne = replaced-left noFigure 32 (net .supply) k r i ne
+  supply-left r i ne = ⊎-elim (λ e. e) (λ w. absurd (ne (w .0) (w .1))) (supply-either net k r i)
 
 -- an array stays as long
-long-put : (p : Net) (k : ℕ) (t : Arc) → length (p .arcs) ≡ 97 → length (withArc p k t .arcs) ≡ 97
+long-put : (net : Net) (k : ℕ) (t : Arc) → length (net .arcs) ≡ 97 → length (withArc net k t .arcs) ≡ 97
 unfolding withArc
-long-put p k t h = by (isNumber 96 k)
-  where
-    by : (b : Bool) → length (cond b (set (p .arcs) k t) (p .arcs)) ≡ 97
-    by true = length-set (p .arcs) k t ∙ h
-    by false = h
+long-put net k t h = long noArc t (net .arcs) k (isNumber 96 k) ∙ h
 
-pub long-supply : (p : Net) (k : ℕ) (r : Fraction) → length (p .supply) ≡ 33 → length (withSupply p k r .supply) ≡ 33
+pub long-supply : (net : Net) (k : ℕ) (r : Fraction) → length (net .supply) ≡ 33 → length (withSupply net k r .supply) ≡ 33
 unfolding withSupply
-long-supply p k r h = by (isNumber 32 k)
-  where
-    by : (b : Bool) → length (cond b (set (p .supply) k r) (p .supply)) ≡ 33
-    by true = length-set (p .supply) k r ∙ h
-    by false = h
+long-supply net k r h = long noFigure r (net .supply) k (isNumber 32 k) ∙ h
 
 -- the numbers that a change names: j is none of them. Number 0 names nothing.
 pub record Unnamed (c : Change) (j : ℕ) : Type 0 where
@@ -163,7 +143,7 @@ module _ (net : Net) (c : Change) where
 
   pub here-same : (i : ℕ) → (1 ≤ c .gone → i ≡ c .gone → ⊥) → isHere (applied net c) i ≡ isHere net i
   unfolding applied withArc withSupply without
-  here-same i n = replaced-left false 32 (net .here) (c .gone) false i n
+  here-same i n = ⊎-elim (λ e. e) (λ w. absurd (n (w .0) (w .1))) (here-either (withLevel (withLevel (withPuts net c) (c .left)) (c .right)) (c .gone) i)
 
   module _ (g : Legal net) where
     pub arc-one : (1 ≤ c .one .number) × (c .one .number ≤ 96) → (1 ≤ c .two .number → c .one .number ≡ c .two .number → ⊥) → (1 ≤ c .three .number → c .one .number ≡ c .three .number → ⊥) → (1 ≤ c .four .number → c .one .number ≡ c .four .number → ⊥) → arcAt (applied net c) (c .one .number) ≡ c .one .arc

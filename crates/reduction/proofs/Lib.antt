@@ -7,10 +7,12 @@ pub mod Kept
 pub mod Order
 pub mod Answers
 pub mod Done
-pub mod Entry
 pub mod Exactly
 pub mod Removals
 pub mod Values
 pub mod Rewiring
 pub mod Merged
 pub mod Crossed
+pub mod Sound
+pub mod Whole
+pub mod Entry

@@ -1,20 +1,19 @@
 -- Rules 1 to 4 in exact numbers: their changes are sound steps, and where they answer no flow there is none. Assumes nothing.
 use mathlib.Core.Path.{_≡_, refl, sym, ap, ap₂, _∙_, subst}
 use mathlib.Core.Bool.{Bool, true, false, cond, not, _&&_}
-use mathlib.Core.List.{List·Memᴰ}
-use mathlib.Core.Logic.{_⊎_, inl, inr, ⊎-elim}
-use mathlib.Core.Option.{some, none}
+use mathlib.Core.Logic.{_⊎_, inl, inr}
+use mathlib.Core.Option.{none}
 use Prim.Native.Nat.{ℕ, _≤_}
 use native.Mathlib.Omega.{arith}
 use native.Mathlib.Decide.{ℕ-discrete}
-use lib.Dec.{T, eqb}
+use lib.Dec.{eqb}
 use lib.ListN.{length}
 use borrow.Author.Tests.{eqb-true, eqb-false, ne-eqb, eq-eqb, not-true}
 use Rattle.algebra.specs.Ring.{combo}
 use Rattle.algebra.specs.Solver.{_:+_, _:*_, _:-_, :0, :1, _:=_, ring1, ring2, ring3, ring4}
 use Rattle.algebra.specs.Rat.{ℚ, ℚ-ring, _+ℚ_ as _+_, _*ℚ_ as _*_, -ℚ_ as -_, _≤ℚ_, 0ℚ, invℚ, mulℚ-inv}
 use Rattle.algebra.specs.Order.{_<_}
-use Rattle.algebra.specs.Sum.{only, only-same, only-other, range-mem}
+use Rattle.algebra.specs.Sum.{only, only-same, only-other}
 use Rattle.presolve.specs.LP.{LP, Pair, InBounds}
 use Rattle.presolve.specs.LP as LP
 use Rattle.presolve.specs.Step.{SoundStep, with-constant}
@@ -23,17 +22,17 @@ use Rattle.presolve.specs.Removed.{Removed}
 use Rattle.presolve.specs.Closed.{closed-back, closed-sound, closed-no-flow}
 use Rattle.presolve.specs.Bare.{Untouched, bare-back, bare-sound, bare-no-flow}
 use Rattle.presolve.specs.Single.{SingleAt, forced, single-back, single-sound, single-no-flow}
-use Rattle.presolve.specs.Spoke.{Spoke, SpokeAt, spoke-e}
+use Rattle.presolve.specs.Spoke.{SpokeAt, spoke-e}
 use Rattle.presolve.specs.Costly.{CostlyArc, costly-sound}
 use Rattle.presolve.specs.TakeOut.{costly-arc}
 use Rattle.presolve.specs.Net.{gone-out, row-out, rhs-out}
 use Rattle.fraction.specs.declared.Fraction.{Fraction}
 use Rattle.fraction.specs.declared.Worked.{Worked}
 use Rattle.fraction.specs.declared.Worked.the-variants.{Fits, Misfit}
-use Rattle.fraction.specs.Exact.{Proper, zeroFraction, noFigure, noUpper, isFinite, isZero, isLess, isSame}
+use Rattle.fraction.specs.Exact.{Proper, noFigure, isFinite, isZero, isLess, isSame}
 use Rattle.fraction.specs.Value.{value, same-is}
 use Rattle.fraction.specs.Extended.{less-value}
-use Rattle.fraction.specs.Formula.{_⊕_, _⊖_, _⊗_, _⊘_}
+use Rattle.fraction.specs.Formula.{_⊕_, _⊗_, _⊘_}
 use Rattle.fraction.specs.Worked.{Gives, given, minus-gives, times-gives, over-gives, plus-gives, over-fits, plus-fits, zero-proper, zero-is, nonzero-value}
 use Rattle.fraction.specs.Laws.{and-both, never}
 use Rattle.loops.specs.Loops.{any}
@@ -47,22 +46,21 @@ use Rattle.network.specs.declared.Kind.the-variants.{NoFlow, Changes}
 use Rattle.network.specs.declared.Tried.{Tried}
 use Rattle.network.specs.Network.{noArc, noPut, noLevel, arcAt, supplyAt, isHere, degreeOf, isTouching, touchingAfter, isRoot, farEnd, sideOf, withArc, withSupply, without, passed, refuted, changeOne, applied}
 use Rattle.network.specs.Legal.{LegalArc, Legal}
-use Rattle.network.specs.Program.{boundOf, exactArc, exactOf, programOf}
+use Rattle.network.specs.Program.{boundOf, exactOf, programOf}
+use Rattle.network.proofs.Sane.{sane}
 use Rattle.network.proofs.Kept.{here-number, used-number, touching-used}
 use Rattle.network.proofs.Bounds.{bound-is, no-upper, finite-proper, both-proper, not-under, not-over, under, over, crossing}
 use Rattle.reduction.specs.Rules.{isPositive, isUnder, supplyLess, droppedOf, atFlow, closedBy, closedArc, ruleOne, bareBy, bareNode, ruleTwo, singleIn, singleBy, singleArc, singleWhere, ruleThree, isOpenRoot, isCostlier, partnerBy, isPartner, hasPartnerBy, hasPartner, hasPair, isCandidate, costlyWith, costlyBy, ruleFour, ruleAt}
-use Rattle.reduction.proofs.Frame.{Unnamed, arc-one, supply-put, supply-left, long-supply, supply-same, here-same, node-gone}
-use Rattle.reduction.proofs.Sides.{fromSide}
-use Rattle.reduction.proofs.Touch.{unlike, touches, One, Numbered, legal-numbered, none-touching, one-touching}
-use Rattle.reduction.proofs.Answers.{ClosedShows, BareShows, SingleShows, Shown, nodes-under, rootless-used, no-flow-shown}
-use Rattle.network.proofs.Sane.{sane}
-use Rattle.reduction.proofs.Exactly.{is-true, false-not, arc-in, arc-off, zero-figure, arc-place, listed-arc, listed-node, column-is, rhs-is, spokeOf, spoke-at, unseen, alone, column-kept, rhs-off, rhs-on, SoundChange}
+use Rattle.reduction.proofs.Frame.{arc-one, supply-put, supply-left, long-supply, supply-same, here-same, node-gone}
+use Rattle.reduction.proofs.Touch.{unlike, touches, One, legal-numbered, none-touching, one-touching}
+use Rattle.reduction.proofs.Answers.{Shown, nodes-under, rootless-used, no-flow-shown}
+use Rattle.reduction.proofs.Exactly.{false-not, arc-in, arc-off, zero-figure, arc-place, listed-arc, listed-node, column-is, rhs-is, spokeOf, spoke-at, unseen, alone, column-kept, rhs-off, rhs-on, SoundChange}
 
 -- the change of an answer is a sound step
 abbrev pub Sounds : Net → Tried → (Pair → Pair) → Type 0
 Sounds net t back = t .kind ≡ Changes → SoundChange net (t .change) back
 
-passed-sounds : {net : Net} {back : Pair → Pair} → Sounds net passed back
+pub passed-sounds : {net : Net} {back : Pair → Pair} → Sounds net passed back
 passed-sounds e = never cc
 
 refuted-sounds : {net : Net} {back : Pair → Pair} → Sounds net refuted back

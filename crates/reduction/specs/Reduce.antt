@@ -6,12 +6,14 @@ use Prim.Native.Nat.{ℕ}
 use lib.Dec.{leb}
 use lib.IntN.{ℤ}
 use Rattle.loops.specs.Loops.{zeros}
+use Rattle.presolve.specs.LP as LP
 use Rattle.network.specs.declared.Kind.{Kind}
 use Rattle.network.specs.declared.Kind.the-variants.{Passes, NoFlow as NoFlow·kind, Changes}
 use Rattle.network.specs.declared.record.Asked.{Asked}
 use Rattle.network.specs.declared.record.Asked.the-variants.{Go, No}
 use Rattle.network.specs.Record.{askedOf, readOf}
 use Rattle.network.specs.Output.{packedOf, networkOf}
+use Rattle.network.specs.Program.{programOf}
 use Rattle.reduction.specs.declared.Answer.{Answer}
 use Rattle.reduction.specs.declared.Answer.the-variants.{Reduced, NoFlow, Refused}
 use Rattle.reduction.specs.declared.search.Ran.{Ran}
@@ -68,6 +70,8 @@ pub record Reduction (xs : List ℤ) (o s w : ℕ) (r : Answer) (out stack scrat
   pub out-is : out ≡ outputOf xs o (questions xs o s w)
   pub stack-is : stack ≡ stackWords xs s (questions xs o s w)
   pub scratch-is : scratch ≡ zeros w
+  -- no flow: the network given has no feasible flow, in fractions of any width
+  pub flowless : (rule place : ℕ) → r ≡ NoFlow rule place → LP.NoFlow (programOf (readOf xs))
 
 -- the paper's number of an answer, 0 where nothing is refused, and its values, the rule and the place of no flow
 abbrev pub numberOf : Answer → ℕ

@@ -130,14 +130,14 @@ fn kept_cost(t: Trace, pair: Pair, first: Worked) -> Worked
 fn merged_price(t: Trace, pair: Pair, first: Worked, d: Worked) -> Worked
     ensures { λ r. ⌜ r ≡ mergedPrice t pair first d ⌝ }
 {
-    let arc = t.one.arc;
-    let l = arc.lower;
-    let u = arc.upper;
+    let old = t.one.arc;
+    let l = old.lower;
+    let u = old.upper;
     let x = network::pair::flow_at(pair, t.one.number);
     if optimality::figures::keeps_rule(l, u, x, d.figure()) {
         return first;
     }
-    quote(arc, t.place, pair)
+    quote(old, t.place, pair)
 }
 
 // Rule 5.

@@ -1,32 +1,18 @@
+-- `optimality::examine` meets its contract. Assumes nothing.
+use Rattle.optimality.specs.Test.{examined}
 use borrow.Author.Needs.{needs}
+use mathlib.Core.Path.{refl}
 use Rattle.optimality.proofs.examine.Statement.{statement}
 use Rattle.optimality.proofs.examine.Tie as tie
-use Rattle.optimality.proofs.examine.Reads as reads
-use Rattle.optimality.proofs.examine.Lts as lts
-use Rattle.network.proofs.pair.is_pair.Reads as is-pair-reads
-use Rattle.network.proofs.pair.read_pair.Reads as read-pair-reads
-use Rattle.optimality.proofs.figures.verdict.Reads as verdict-reads
 
--- src/lib.rt:24:8
-is-pair-requires : tie.Need-is-pair-requires
-is-pair-requires c κs = search needs
-
--- src/lib.rt:25:45
-read-pair-requires : tie.Need-read-pair-requires
-read-pair-requires c κs = search needs
-
--- src/lib.rt:25:9
-verdict-requires : tie.Need-verdict-requires
-verdict-requires c κs = search needs
-
--- src/lib.rt:25:9
 returns : tie.Need-returns
-returns c = search needs
+unfolding examined
+returns c = rw (← c .before .before .before .is-pair .ensures, c .before .before .if1 .taken) (rw (c .before .read-pair .ensures) at (c .verdict .ensures))
 
--- src/lib.rt:21:1
 returns-2 : tie.Need-returns-2
-returns-2 c = search needs
+unfolding examined
+returns-2 c = rw (← c .before .is-pair .ensures, c .if1 .left) refl
 
 pub examine-spec : {M : Type 1} → statement M
 examine-spec =
-    tie.close (tie.spec is-pair-requires read-pair-requires verdict-requires returns returns-2)
+    tie.close (tie.spec (λ c κs. search needs) (λ c κs. search needs) (λ c κs. search needs) returns returns-2)

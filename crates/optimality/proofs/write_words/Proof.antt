@@ -1,31 +1,14 @@
+-- `optimality::write_words` meets its contract. Assumes nothing.
+use Rattle.integer.specs.Machine.{back32}
+use Rattle.optimality.proofs.Laws.{two-words}
 use borrow.Author.Needs.{needs}
+use mathlib.Core.Path.{_∙_}
 use Rattle.optimality.proofs.write_words.Statement.{statement}
 use Rattle.optimality.proofs.write_words.Tie as tie
-use Rattle.optimality.proofs.write_words.Reads as reads
-use Rattle.optimality.proofs.write_words.Lts as lts
-use Rattle.fraction.proofs.Fraction.den_word.Reads as den-word-reads
-use Rattle.loops.proofs.put.Reads as put-reads
 
--- src/lib.rt:48:5
-put-requires : tie.Need-put-requires
-put-requires c κs = search needs
-
--- src/lib.rt:49:27
-den-word-requires : tie.Need-den-word-requires
-den-word-requires c κs = search needs
-
--- src/lib.rt:49:5
-put-requires-2 : tie.Need-put-requires-2
-put-requires-2 c κs = search needs
-
--- src/lib.rt:44:1
-same-length : tie.Need-same-length
-same-length c = search needs
-
--- src/lib.rt:44:1
 returns : tie.Need-returns
-returns c = search needs
+returns c = rw (back32 (c .before .before .den-word .result) (search needs), c .before .before .den-word .ensures, c .before .before .before .before .before .put .ensures, back32 (c .before .before .before .before .before .before .before .before .args .f .num) (search needs)) at (c .before .put2 .ensures) ∙ two-words _ _ (c .before .before .before .before .before .before .before .before .args .values .now) (c .before .before .before .before .before .before .before .before .pre .0) (c .before .before .before .before .before .before .before .before .pre .1)
 
 pub write-words-spec : {M : Type 1} → statement M
 write-words-spec =
-    tie.close (tie.spec put-requires den-word-requires put-requires-2 same-length returns)
+    tie.close (tie.spec (λ c κs. search needs) (λ c κs. search needs) (λ c κs. search needs) (λ c. search needs) returns)

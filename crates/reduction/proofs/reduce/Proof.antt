@@ -1,7 +1,9 @@
 -- `reduction::reduce` meets its contract. Assumes nothing.
 use Rattle.algebra.specs.Solver.{at}
 use Rattle.loops.specs.Loops.{zeros}
+use Rattle.fraction.specs.Laws.{never}
 use Rattle.reduction.specs.Reduce.{questions}
+use Rattle.reduction.proofs.Entry.{no-flow-given}
 use borrow.Author.Needs.{needs}
 use lib.ListN.{length}
 use mathlib.Core.Path.{_∙_, _≡_, ap, sym}
@@ -15,7 +17,7 @@ finish-requires : tie.Need-finish-requires
 finish-requires c κs = c .before .before .before .before .before .before .before .before .before .before .before .before .before .before .clear .ensures ∙ ap zeros (sym (c .before .before .before .before .before .before .before .before .before .before .before .before .before .before .clear .kept .0))
 
 returns : tie.Need-returns
-returns c = let e = sym (asked-is (c .before .before .before)) ∙ c .before .q .given .1 in record { result = rw e; out-is = rw e (c .before .before .before .before .before .before .before .before .before .before .before .clear .ensures); stack-is = rw e (c .before .before .before .before .before .before .before .before .clear2 .ensures); scratch-is = c .before .before .before .before .before .clear3 .ensures }
+returns c = let e = sym (asked-is (c .before .before .before)) ∙ c .before .q .given .1 in record { result = rw e; out-is = rw e (c .before .before .before .before .before .before .before .before .before .before .before .clear .ensures); stack-is = rw e (c .before .before .before .before .before .before .before .before .clear2 .ensures); scratch-is = c .before .before .before .before .before .clear3 .ensures; flowless = λ k i f. never cc }
 
 same-length-4 : tie.Need-same-length-4
 same-length-4 c = c .before .before .finish .kept .1 .0 ∙ c .before .before .before .before .before .before .before .before .before .before .before .before .before .before .before .before .before .clear .kept .0
@@ -24,7 +26,7 @@ same-length-5 : tie.Need-same-length-5
 same-length-5 c = c .before .before .finish .kept .1 .1 .0 ∙ c .before .before .before .before .before .before .before .before .before .before .before .before .before .before .clear2 .kept .0
 
 returns-2 : tie.Need-returns-2
-returns-2 c = let e = sym (asked-is (c .before .before .before .before .before .before .before .before .before)) ∙ c .before .before .before .before .before .before .before .enum-told .given .1 in let f = rw (c .before .before .before .before .before .run .ensures, c .before .before .before .before .before .before .read .ensures) at (c .before .before .finish .ensures) in record { result = rw e (f .result); out-is = rw e (rw (c .before .before .before .before .before .before .before .before .before .before .before .before .before .before .before .before .before .clear .kept .0) at (f .out-is)); stack-is = rw e (rw (c .before .before .before .before .before .before .before .before .before .before .before .before .before .before .clear2 .kept .0) at (f .stack-is)); scratch-is = c .before .before .before .before .before .before .before .before .before .before .before .clear3 .ensures }
+returns-2 c = let A = c .before .before .before .before .before .before .before .before .before .before .before .before .before .before .before .before .before .before .before .args in let e = sym (asked-is (c .before .before .before .before .before .before .before .before .before)) ∙ c .before .before .before .before .before .before .before .enum-told .given .1 in let f = rw (c .before .before .before .before .before .run .ensures, c .before .before .before .before .before .before .read .ensures) at (c .before .before .finish .ensures) in record { result = rw e (f .result); out-is = rw e (rw (c .before .before .before .before .before .before .before .before .before .before .before .before .before .before .before .before .before .clear .kept .0) at (f .out-is)); stack-is = rw e (rw (c .before .before .before .before .before .before .before .before .before .before .before .before .before .before .clear2 .kept .0) at (f .stack-is)); scratch-is = c .before .before .before .before .before .before .before .before .before .before .before .clear3 .ensures; flowless = λ k i g. no-flow-given (A .network .now) (length (A .out .now)) (length (A .stack .now)) (length (A .scratch .now)) k i (rw e (sym (f .result) ∙ g)) }
 
 pub reduce-spec : {M : Type 1} → statement M
 reduce-spec =

@@ -1,76 +1,31 @@
+-- `restoration::back::quote` meets its contract. Assumes nothing.
+use Rattle.restoration.specs.Back.{quoteOf}
 use borrow.Author.Needs.{needs}
+use borrow.Author.Tests.{eq-eqb, ne-eqb}
 use Rattle.restoration.proofs.back.quote.Statement.{statement}
 use Rattle.restoration.proofs.back.quote.Tie as tie
-use Rattle.restoration.proofs.back.quote.Reads as reads
-use Rattle.restoration.proofs.back.quote.Lts as lts
-use Rattle.fraction.proofs.Fraction.fit.Reads as fit-reads
-use Rattle.fraction.proofs.Worked.minus.Reads as minus-reads
-use Rattle.fraction.proofs.Worked.over.Reads as over-reads
-use Rattle.fraction.proofs.Worked.times.Reads as times-reads
-use Rattle.network.proofs.pair.price_at.Reads as price-at-reads
-use Rattle.network.proofs.side_at.Reads as side-at-reads
 
--- src/back.rt:63:9
-side-at-requires : tie.Need-side-at-requires
-side-at-requires c κs = search needs
-
--- src/back.rt:64:9
-fit-requires : tie.Need-fit-requires
-fit-requires c κs = search needs
-
--- src/back.rt:65:9
-fit-requires-2 : tie.Need-fit-requires-2
-fit-requires-2 c κs = search needs
-
--- src/back.rt:67:9
-over-requires : tie.Need-over-requires
-over-requires c κs = search needs
-
--- src/back.rt:67:9
 returns : tie.Need-returns
-returns c = search needs
+unfolding quoteOf
+returns c = rw (← c .before .before .before .before .before .side-at .ensures, eq-eqb _ _ (c .before .if1 .taken), c .over .ensures, c .before .before .before .fit2 .ensures, c .before .before .before .before .fit .ensures)
 
--- src/back.rt:69:9
-fit-requires-3 : tie.Need-fit-requires-3
-fit-requires-3 c κs = search needs
-
--- src/back.rt:70:9
-price-at-requires : tie.Need-price-at-requires
-price-at-requires c κs = search needs
-
--- src/back.rt:71:21
-fit-requires-4 : tie.Need-fit-requires-4
-fit-requires-4 c κs = search needs
-
--- src/back.rt:71:13
-times-requires : tie.Need-times-requires
-times-requires c κs = search needs
-
--- src/back.rt:71:5
-minus-requires : tie.Need-minus-requires
-minus-requires c κs = search needs
-
--- src/back.rt:71:5
-over-requires-2 : tie.Need-over-requires-2
-over-requires-2 c κs = search needs
-
--- src/back.rt:60:1
 returns-2 : tie.Need-returns-2
-returns-2 c = search needs
+unfolding quoteOf
+returns-2 c = rw (← c .before .before .before .before .before .before .before .before .before .before .side-at .ensures, ne-eqb _ _ (c .before .before .before .before .before .before .if1 .left), c .over2 .ensures, c .before .minus .ensures, c .before .before .times .ensures, c .before .before .before .fit4 .ensures, c .before .before .before .before .price-at .ensures, c .before .before .before .before .before .fit3 .ensures, c .before .before .before .before .before .before .before .before .fit2 .ensures, c .before .before .before .before .before .before .before .before .before .fit .ensures)
 
 pub quote-spec : {M : Type 1} → statement M
 quote-spec =
     tie.close
     (tie.spec
-    side-at-requires
-    fit-requires
-    fit-requires-2
-    over-requires
+    (λ c κs. search needs)
+    (λ c κs. search needs)
+    (λ c κs. search needs)
+    (λ c κs. search needs)
     returns
-    fit-requires-3
-    price-at-requires
-    fit-requires-4
-    times-requires
-    minus-requires
-    over-requires-2
+    (λ c κs. search needs)
+    (λ c κs. search needs)
+    (λ c κs. search needs)
+    (λ c κs. search needs)
+    (λ c κs. search needs)
+    (λ c κs. search needs)
     returns-2)

@@ -1,72 +1,46 @@
+-- `restoration::back::step_back` meets its contract. Assumes nothing.
+use Rattle.restoration.specs.Back.{backOf}
 use borrow.Author.Needs.{needs}
+use borrow.Author.Tests.{eq-eqb, ne-eqb}
+use lib.Dec.{eqb}
+use mathlib.Core.Path.{ap}
 use Rattle.restoration.proofs.back.step_back.Statement.{statement}
 use Rattle.restoration.proofs.back.step_back.Tie as tie
-use Rattle.restoration.proofs.back.step_back.Reads as reads
-use Rattle.restoration.proofs.back.step_back.Lts as lts
-use Rattle.restoration.proofs.back.back_bare.Reads as back-bare-reads
-use Rattle.restoration.proofs.back.back_crossed.Reads as back-crossed-reads
-use Rattle.restoration.proofs.back.back_merged.Reads as back-merged-reads
-use Rattle.restoration.proofs.back.back_removed.Reads as back-removed-reads
-use Rattle.restoration.proofs.back.back_single.Reads as back-single-reads
 
--- src/back.rt:214:14
-back-removed-requires : tie.Need-back-removed-requires
-back-removed-requires c κs = search needs
-
--- src/back.rt:215:14
-back-removed-requires-2 : tie.Need-back-removed-requires-2
-back-removed-requires-2 c κs = search needs
-
--- src/back.rt:216:14
-back-single-requires : tie.Need-back-single-requires
-back-single-requires c κs = search needs
-
--- src/back.rt:217:14
-back-merged-requires : tie.Need-back-merged-requires
-back-merged-requires c κs = search needs
-
--- src/back.rt:218:14
-back-crossed-requires : tie.Need-back-crossed-requires
-back-crossed-requires c κs = search needs
-
--- src/back.rt:219:14
-back-bare-requires : tie.Need-back-bare-requires
-back-bare-requires c κs = search needs
-
--- src/back.rt:209:1
 returns : tie.Need-returns
-returns c = search needs
+unfolding backOf
+returns c = rw (eq-eqb _ _ (c .before .match .keys1)) (c .back-removed .ensures)
 
--- src/back.rt:209:1
 returns-2 : tie.Need-returns-2
-returns-2 c = search needs
+unfolding backOf
+returns-2 c = rw (ap (λ k. eqb k 1) (c .before .match .keys2), eq-eqb _ _ (c .before .match .keys2)) (c .back-removed2 .ensures)
 
--- src/back.rt:209:1
 returns-3 : tie.Need-returns-3
-returns-3 c = search needs
+unfolding backOf
+returns-3 c = rw (ap (λ k. eqb k 1) (c .before .match .keys3), ap (λ k. eqb k 4) (c .before .match .keys3), eq-eqb _ _ (c .before .match .keys3)) (c .back-single .ensures)
 
--- src/back.rt:209:1
 returns-4 : tie.Need-returns-4
-returns-4 c = search needs
+unfolding backOf
+returns-4 c = rw (ap (λ k. eqb k 1) (c .before .match .keys4), ap (λ k. eqb k 4) (c .before .match .keys4), ap (λ k. eqb k 3) (c .before .match .keys4), eq-eqb _ _ (c .before .match .keys4)) (c .back-merged .ensures)
 
--- src/back.rt:209:1
 returns-5 : tie.Need-returns-5
-returns-5 c = search needs
+unfolding backOf
+returns-5 c = rw (ap (λ k. eqb k 1) (c .before .match .keys5), ap (λ k. eqb k 4) (c .before .match .keys5), ap (λ k. eqb k 3) (c .before .match .keys5), ap (λ k. eqb k 5) (c .before .match .keys5), eq-eqb _ _ (c .before .match .keys5)) (c .back-crossed .ensures)
 
--- src/back.rt:209:1
 returns-6 : tie.Need-returns-6
-returns-6 c = search needs
+unfolding backOf
+returns-6 c = rw (ne-eqb _ _ (c .before .match .rest .0 .0 .0 .0 .1), ne-eqb _ _ (c .before .match .rest .0 .0 .0 .1), ne-eqb _ _ (c .before .match .rest .0 .0 .1), ne-eqb _ _ (c .before .match .rest .0 .1), ne-eqb _ _ (c .before .match .rest .1)) (c .back-bare .ensures)
 
 pub step-back-spec : {M : Type 1} → statement M
 step-back-spec =
     tie.close
     (tie.spec
-    back-removed-requires
-    back-removed-requires-2
-    back-single-requires
-    back-merged-requires
-    back-crossed-requires
-    back-bare-requires
+    (λ c κs. search needs)
+    (λ c κs. search needs)
+    (λ c κs. search needs)
+    (λ c κs. search needs)
+    (λ c κs. search needs)
+    (λ c κs. search needs)
     returns
     returns-2
     returns-3
