@@ -1,3 +1,3 @@
-pub mod Log
+pub mod Logs
 pub mod Small
 pub mod Replay

@@ -17,7 +17,7 @@ use Rattle.network.proofs.Kept.{here-number}
 use Rattle.reduction.specs.Rules.{whereHere, ofNodes, nodeRule, ruleOne, ruleFour, ruleAt, keptAt, mergedAt}
 use Rattle.reduction.proofs.Touch.{touching-first, signed-first}
 use Rattle.restoration.specs.Trace.{oldArc, arcTrace, bareTrace, singleTrace, mergedTrace, crossedTrace, traceOf}
-use Rattle.restoration.proofs.Log.{SmallArc, SmallPut, Small}
+use Rattle.restoration.proofs.Logs.{SmallArc, SmallPut, Small}
 
 proper-small : {f : Fraction} → Proper f → f .den ≤ most
 proper-small p = p .operand .den-in
@@ -39,12 +39,12 @@ module _ {net : Net} (g : Legal net) where
   arc-small j = by (ltb (arcAt net j .from) 1) refl
     where
       by : (s : Bool) → ltb (arcAt net j .from) 1 ≡ s → SmallArc (arcAt net j)
-      by true e = rw (g .unused j (omega (arith, ltb-true _ _ e))) no-arc-small
+      by true e = rw (g .unused j (omega (arith, ltb-true (arcAt net j .from) 1 e))) no-arc-small
       by false e =
-          let w = g .used j (ltb-false _ _ e) in
+          let w = g .used j (ltb-false (arcAt net j .from) 1 e) in
           record {
-            from = omega (arith, here-number g _ (w .from-here) .1);
-            to = omega (arith, here-number g _ (w .to-here) .1);
+            from = omega (arith, here-number g (arcAt net j .from) (w .from-here) .1);
+            to = omega (arith, here-number g (arcAt net j .to) (w .to-here) .1);
             cost = proper-small (w .cost-proper);
             lower = lower-small (w .lower-bound);
             upper = upper-small (w .upper-bound);

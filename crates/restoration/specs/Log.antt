@@ -6,12 +6,11 @@ use Prim.Native.Nat.{ℕ, zero, suc, _+_, _-_, _*_, _/_, _%_, _≤_, _<_}
 use lib.Dec.{eqb, ltb}
 use lib.IntN.{ℤ}
 use lib.ListN.{length, set}
-use Rattle.loops.specs.Loops.{build, upto}
+use Rattle.loops.specs.Loops.{upto}
 use Rattle.fraction.specs.declared.Fraction.{Fraction}
 use Rattle.fraction.specs.Exact.{fromWords, denWord}
 use Rattle.network.specs.declared.Net.{Net}
 use Rattle.network.specs.declared.Put.{Put}
-use Rattle.network.specs.declared.pair.Pair.{Pair}
 use Rattle.network.specs.declared.Kind.the-variants.{Changes}
 use Rattle.network.specs.Network.{applied}
 use Rattle.network.specs.Record.{word, endOf}
@@ -24,21 +23,7 @@ use Rattle.restoration.specs.declared.trace.Trace.{Trace}
 use Rattle.restoration.specs.declared.back.Back.{Back}
 use Rattle.restoration.specs.Trace.{numbers, traceOf}
 use Rattle.restoration.specs.Back.{undone}
-use Rattle.restoration.specs.Way.{spreadPrice, spreadFlow, after, traceAt}
-
--- ---- a pair with all its prices, or all its flows, spread over the original numbers
-
-abbrev pub setPrice : Pair → ℕ → Fraction → Pair
-setPrice pair i f = record { price = set (pair .price) i f; flow = pair .flow }
-
-abbrev pub setFlow : Pair → ℕ → Fraction → Pair
-setFlow pair j f = record { price = pair .price; flow = set (pair .flow) j f }
-
-unfoldable pub withPrices : Net → Pair → Pair → Pair
-withPrices net pair to = record { price = build 33 (spreadPrice net pair); flow = to .flow }
-
-unfoldable pub withFlows : Net → Pair → Pair → Pair
-withFlows net pair to = record { price = to .price; flow = build 97 (spreadFlow net pair) }
+use Rattle.restoration.specs.Way.{after, traceAt}
 
 -- ---- a trace's figures: eight for each of the four arcs, then the others
 

@@ -1,10 +1,11 @@
 // The whole way back: the steps are logged on the way there, and undone from the log, the last first.
 ghost use mathlib.Core.Path.{_≡_};
 ghost use Prim.Native.Nat.{_≤_, _<_, _*_};
-ghost use lib.ListN.{length};
+ghost use lib.ListN.{length, set};
+ghost use Rattle.loops.specs.Loops.{build};
 ghost use Rattle.network.specs.Legal.{Legal};
 ghost use Rattle.restoration.specs.Way.{spreadPrice, spreadFlow, spreadOf, wayBack};
-ghost use Rattle.restoration.specs.Log.{setPrice, setFlow, withPrices, withFlows, nextNet, nextTrace, withTrace, Replayed, Logged, backIn};
+ghost use Rattle.restoration.specs.Log.{nextNet, nextTrace, withTrace, Replayed, Logged, backIn};
 use crate::back::Back;
 use fraction::Fraction;
 use network::Net;
@@ -33,7 +34,7 @@ fn spread_flow(net: Net, pair: Pair, j: usize) -> Fraction
 }
 
 fn set_price(mut pair: Pair, i: usize, f: Fraction) -> Pair
-    ensures { λ r. ⌜ r ≡ setPrice pair i f ⌝ }
+    ensures { λ r. ⌜ r .price ≡ set (pair .price) i f ⌝ }
 {
     if i < 33 {
         pair.price[i] = f;
@@ -42,7 +43,7 @@ fn set_price(mut pair: Pair, i: usize, f: Fraction) -> Pair
 }
 
 fn set_flow(mut pair: Pair, j: usize, f: Fraction) -> Pair
-    ensures { λ r. ⌜ r ≡ setFlow pair j f ⌝ }
+    ensures { λ r. ⌜ r .flow ≡ set (pair .flow) j f ⌝ }
 {
     if j < 97 {
         pair.flow[j] = f;
@@ -50,10 +51,10 @@ fn set_flow(mut pair: Pair, j: usize, f: Fraction) -> Pair
     pair
 }
 
-fn spread_prices(net: Net, pair: Pair, to: Pair) -> Pair
-    ensures { λ r. ⌜ r ≡ withPrices net pair to ⌝ }
+fn spread_prices(net: Net, pair: Pair) -> Pair
+    ensures { λ r. ⌜ r .price ≡ build 33 (spreadPrice net pair) ⌝ }
 {
-    let mut at = to;
+    let mut at = network::pair::no_pair();
     for i in 0..33 {
         let f = spread_price(net, pair, i);
         at = set_price(at, i, f);
@@ -61,10 +62,10 @@ fn spread_prices(net: Net, pair: Pair, to: Pair) -> Pair
     at
 }
 
-fn spread_flows(net: Net, pair: Pair, to: Pair) -> Pair
-    ensures { λ r. ⌜ r ≡ withFlows net pair to ⌝ }
+fn spread_flows(net: Net, pair: Pair) -> Pair
+    ensures { λ r. ⌜ r .flow ≡ build 97 (spreadFlow net pair) ⌝ }
 {
-    let mut at = to;
+    let mut at = network::pair::no_pair();
     for j in 0..97 {
         let f = spread_flow(net, pair, j);
         at = set_flow(at, j, f);
@@ -76,7 +77,11 @@ fn spread_flows(net: Net, pair: Pair, to: Pair) -> Pair
 pub fn spread(net: Net, pair: Pair) -> Pair
     ensures { λ r. ⌜ r ≡ spreadOf net pair ⌝ }
 {
-    spread_flows(net, pair, spread_prices(net, pair, network::pair::no_pair()))
+    let p = spread_prices(net, pair);
+    let f = spread_flows(net, pair);
+    let price = p.price;
+    let flow = f.flow;
+    Pair { price, flow }
 }
 
 // Step k logged, and taken.
@@ -127,9 +132,10 @@ pub(crate) fn way_back(net: Net, ran: Ran, pair: Pair, scratch: &mut [i32]) -> B
     let steps = ran.steps;
     let to = ran.net;
     log_steps(net, ran, scratch);
+    let p = spread(to, pair);
     let from = Back {
         fits: true,
-        pair: spread(to, pair),
+        pair: p,
     };
     undo_steps(scratch, steps, from)
 }

@@ -2,7 +2,7 @@
 use mathlib.Core.Path.{_≡_, refl, sym, ap, _∙_}
 use mathlib.Core.List.{List}
 use mathlib.Core.Logic.{⊎-elim}
-use Prim.Native.Nat.{ℕ, zero, suc, _+_, _*_, _≤_, _<_}
+use Prim.Native.Nat.{ℕ, zero, suc, _+_, _-_, _*_, _≤_, _<_}
 use native.Mathlib.Nat.{not-suc-le-zero, eq-or-lt-of-le, le-of-suc-le-suc}
 use native.Mathlib.Numerals.{add-one}
 use native.Mathlib.Omega.{arith}
@@ -41,7 +41,7 @@ figure-other zs at p f h =
 
 figure-long : (zs : List ℤ) (at : ℕ) (f : Fraction) → length (withFigure zs at f) ≡ length zs
 unfolding withFigure
-figure-long zs at f = length-set _ _ _ ∙ length-set _ _ _
+figure-long zs at f = length-set (set zs at (f .num)) (at + 1) (denWord (f .den)) ∙ length-set zs at (f .num)
 
 -- ---- the figures of a trace
 
@@ -52,20 +52,20 @@ module _ (t : Trace) (at : ℕ) (zs : List ℤ) where
   turns-long : (n : ℕ) → length (turns n) ≡ length zs
   unfolding upto turns
   turns-long zero = refl
-  turns-long (suc n) = figure-long _ _ _ ∙ turns-long n
+  turns-long (suc n) = figure-long (turns n) (at + 2 * n) (traceFigure t n) ∙ turns-long n
 
   turns-below : (n p : ℕ) → p + 1 < at → figureIn (turns n) p ≡ figureIn zs p
   unfolding upto turns
   turns-below zero p h = refl
-  turns-below (suc n) p h = figure-other _ _ p _ (omega arith) ∙ turns-below n p h
+  turns-below (suc n) p h = figure-other (turns n) (at + 2 * n) p (traceFigure t n) (omega arith) ∙ turns-below n p h
 
   turns-at : (n r : ℕ) → r < n → at + 2 * n ≤ length zs → traceFigure t r .den ≤ most → figureIn (turns n) (at + 2 * r) ≡ traceFigure t r
   unfolding upto turns
   turns-at zero r h l s = absurd (not-suc-le-zero h)
   turns-at (suc n) r h l s =
       ⊎-elim
-      (λ (e : r ≡ n). rw e (figure-back (turns n) (at + 2 * n) _ (omega (arith, add-one n, turns-long n)) (rw e at s)))
-      (λ (m : r < n). figure-other (turns n) (at + 2 * n) (at + 2 * r) _ (omega arith) ∙ turns-at n r m (omega (arith, add-one n)) s)
+      (λ (e : r ≡ n). rw e (figure-back (turns n) (at + 2 * n) (traceFigure t n) (omega (arith, add-one n, turns-long n)) (rw e at s)))
+      (λ (m : r < n). figure-other (turns n) (at + 2 * n) (at + 2 * r) (traceFigure t n) (omega arith) ∙ turns-at n r m (omega (arith, add-one n)) s)
       (eq-or-lt-of-le (le-of-suc-le-suc h))
 
   pub trace-long : length (withTrace zs at t) ≡ length zs
@@ -232,8 +232,8 @@ module _ (zs ys : List ℤ) (top : ℕ) (same : (p : ℕ) → p + 1 < top → fi
 -- ---- the log
 
 -- one more step in it
-pub logged-more : (net : Net) (ran : Ran) {k : ℕ} {zs : List ℤ} → Logged net ran k zs → 80 * k + 80 ≤ length zs → Small (traceAt net ran k) → Logged net ran (k + 1) (withTrace zs (80 * k) (traceAt net ran k))
-logged-more net ran {k} {zs} g l s i h =
+pub logged-more : (net : Net) (ran : Ran) (k : ℕ) (zs : List ℤ) → Logged net ran k zs → 80 * k + 80 ≤ length zs → Small (traceAt net ran k) → Logged net ran (k + 1) (withTrace zs (80 * k) (traceAt net ran k))
+logged-more net ran k zs g l s i h =
     ⊎-elim
     (λ (e : i ≡ k). rw e (trace-back (traceAt net ran k) (80 * k) zs (omega arith) s))
     (λ (m : i < k). trace-same zs _ (80 * k) (trace-below (traceAt net ran k) (80 * k) zs) (80 * i) (omega arith) ∙ g i m)
@@ -244,3 +244,21 @@ pub back-logged : (net : Net) (ran : Ran) (zs : List ℤ) (k : ℕ) (b : Back) �
 unfolding backIn backOver
 back-logged net ran zs zero b g = refl
 back-logged net ran zs (suc k) b g = rw (g k (omega (arith, add-one k))) (back-logged net ran zs k _ (λ i h. g i (omega (arith, add-one k))))
+
+-- a loop that undoes the n steps of a log, the last first: at its head, with k left
+pub record Undoing (zs : List ℤ) (n : ℕ) (b : Back) (k : ℕ) (at : Back) : Type 0 where
+  pub few : k ≤ n
+  pub is : backIn zs k at ≡ backIn zs n b
+
+pub undoing-none : (zs : List ℤ) (n : ℕ) (b : Back) → Undoing zs n b n b
+undoing-none zs n b = record { few = omega arith; is = refl }
+
+pub undoing-more : {zs : List ℤ} {n : ℕ} {b : Back} {k : ℕ} {at t : Back} → Undoing zs n b k at → 0 < k → t ≡ undone (traceIn zs (80 * (k - 1))) at → Undoing zs n b (k - 1) t
+unfolding backIn
+undoing-more {zs} {n} {b} {k} {at} {t} h l e =
+    let q : k ≡ suc (k - 1) = omega (arith, add-one (k - 1)) in
+    record { few = omega arith; is = ap (backIn zs (k - 1)) e ∙ sym (ap (λ (j : ℕ). backIn zs j at) q) ∙ h .is }
+
+pub undoing-all : {zs : List ℤ} {n : ℕ} {b : Back} {k : ℕ} {at : Back} → Undoing zs n b k at → k ≤ 0 → at ≡ backIn zs n b
+unfolding backIn
+undoing-all {k = k} h l = let q : k ≡ 0 = omega arith in rw q at (h .is)
