@@ -54,11 +54,12 @@ fn reduced(t: Arc, p: Fraction, q: Fraction) -> Worked
     let cost = t.cost;
     let a = t.a;
     let b = t.b;
-    let d = cost.fit().minus(a.fit().times(p.fit()));
+    let first = cost.fit().minus(a.fit().times(p.fit()));
+    let both = first.minus(b.fit().times(q.fit()));
     if network::is_root(t) {
-        return d;
+        return first;
     }
-    d.minus(b.fit().times(q.fit()))
+    both
 }
 
 // An arc's reduced cost.
