@@ -2,11 +2,10 @@
 ghost use mathlib.Core.Path.{_≡_};
 ghost use Prim.Native.Nat.{_≤_};
 ghost use lib.ListN.{length};
-ghost use Rattle.network.specs.Legal.{Legal};
 ghost use Rattle.network.specs.Record.{readOf};
 ghost use Rattle.reduction.specs.Search.{ranOf};
 ghost use Rattle.optimality.specs.Test.{pairIn};
-ghost use Rattle.restoration.specs.Restore.{isRoomy, isStack, reducedNet, reducedValue, originalValue, backFrom, isBack, backAsked, ranRefusal, refusalOf, pairWords, fourWords, Restoration};
+ghost use Rattle.restoration.specs.Restore.{isRoomy, isStack, reducedNet, reducedValue, backFrom, isBack, backAsked, ranRefusal, refusalOf, pairWords, fourWords, Restoration};
 ghost use Rattle.restoration.specs.Entry.{afterStack, earlier, Empty, Ready, Answered};
 use fraction::Fraction;
 use network::Kind;
@@ -16,7 +15,8 @@ use network::record::Asked;
 use reduction::search::Ran;
 
 pub mod back;
-pub mod record;
+mod log;
+mod record;
 pub mod stack;
 pub mod trace;
 pub mod way;
