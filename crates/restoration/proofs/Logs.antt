@@ -19,13 +19,11 @@ use Rattle.network.specs.declared.Net.{Net}
 use Rattle.network.specs.declared.Put.{Put}
 use Rattle.network.specs.Output.{wordOf, wholeOf, roleFigure}
 use Rattle.reduction.specs.declared.search.Ran.{Ran}
-use Rattle.restoration.specs.declared.trace.Numbers.{Numbers}
 use Rattle.restoration.specs.declared.trace.Trace.{Trace}
 use Rattle.restoration.specs.declared.back.Back.{Back}
-use Rattle.restoration.specs.Trace.{traceOf}
 use Rattle.restoration.specs.Back.{undone}
-use Rattle.restoration.specs.Way.{after, traceAt, backOver}
-use Rattle.restoration.specs.Log.{putFigure, putAt, restFigure, traceFigure, withFigure, figureTurn, withTrace, figureIn, numberIn, putIn, numbersIn, traceIn, backIn, nextTrace, Logged}
+use Rattle.restoration.specs.Way.{traceAt, backOver}
+use Rattle.restoration.specs.Log.{putFigure, putAt, restFigure, traceFigure, withFigure, figureTurn, withTrace, figureIn, numberIn, putIn, numbersIn, traceIn, backIn, Logged}
 
 -- ---- one figure
 

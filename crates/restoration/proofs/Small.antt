@@ -12,7 +12,7 @@ use Rattle.fraction.specs.Laws.{never}
 use Rattle.network.specs.declared.Net.{Net}
 use Rattle.network.specs.declared.Kind.the-variants.{Changes}
 use Rattle.network.specs.Network.{noArc, arcAt, supplyAt, isHere, isRoot, touchingAfter, noPut}
-use Rattle.network.specs.Legal.{Bound, LegalArc, Legal}
+use Rattle.network.specs.Legal.{Bound, Legal}
 use Rattle.network.proofs.Kept.{here-number}
 use Rattle.reduction.specs.Rules.{whereHere, ofNodes, nodeRule, ruleOne, ruleFour, ruleAt, keptAt, mergedAt}
 use Rattle.reduction.proofs.Touch.{touching-first, signed-first}
