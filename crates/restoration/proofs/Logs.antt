@@ -2,15 +2,15 @@
 use mathlib.Core.Path.{_≡_, refl, sym, ap, _∙_}
 use mathlib.Core.List.{List}
 use mathlib.Core.Logic.{⊎-elim}
-use Prim.Native.Nat.{ℕ, zero, suc, _+_, _-_, _*_, _≤_, _<_}
-use native.Mathlib.Nat.{not-suc-le-zero, eq-or-lt-of-le, le-of-suc-le-suc}
+use Prim.Native.Nat.{ℕ, zero, suc, _+_, _-_, _*_, _/_, _≤_, _<_}
+use native.Mathlib.Nat.{not-suc-le-zero, eq-or-lt-of-le, le-of-suc-le-suc, mul-add-div, div-eq-of-lt, mul-add-mod-self-left, mod-eq-of-lt}
 use native.Mathlib.Numerals.{add-one}
 use native.Mathlib.Omega.{arith}
-use lib.Dec.{lit≤}
+use lib.Dec.{lit<, lit≤}
 use lib.IntN.{ℤ, pos}
 use lib.ListN.{length, set, length-set}
 use lib.Seq.{getD-set-same, getD-set-other}
-use borrow.Author.Tests.{le-leb}
+use borrow.Author.Tests.{le-leb, lt-ltb}
 use Rattle.loops.specs.Loops.{upto}
 use Rattle.fraction.specs.declared.Fraction.{Fraction}
 use Rattle.fraction.specs.Exact.{most, fromWords, denWord}
@@ -19,13 +19,11 @@ use Rattle.network.specs.declared.Net.{Net}
 use Rattle.network.specs.declared.Put.{Put}
 use Rattle.network.specs.Output.{wordOf, wholeOf, roleFigure}
 use Rattle.reduction.specs.declared.search.Ran.{Ran}
-use Rattle.restoration.specs.declared.trace.Numbers.{Numbers}
 use Rattle.restoration.specs.declared.trace.Trace.{Trace}
 use Rattle.restoration.specs.declared.back.Back.{Back}
-use Rattle.restoration.specs.Trace.{traceOf}
 use Rattle.restoration.specs.Back.{undone}
-use Rattle.restoration.specs.Way.{after, traceAt, backOver}
-use Rattle.restoration.specs.Log.{putFigure, putAt, restFigure, traceFigure, withFigure, figureTurn, withTrace, figureIn, numberIn, putIn, numbersIn, traceIn, backIn, nextTrace, Logged}
+use Rattle.restoration.specs.Way.{traceAt, backOver}
+use Rattle.restoration.specs.Log.{putFigure, putAt, restFigure, traceFigure, withFigure, figureTurn, withTrace, figureIn, numberIn, putIn, numbersIn, traceIn, backIn, Logged}
 
 -- ---- one figure
 
@@ -133,61 +131,32 @@ module _ (t : Trace) (at : ℕ) (zs : List ℤ) (l : at + 78 ≤ length zs) (s :
   one : 1 ≤ most
   one = lit≤ tt
 
-  stands-one : Stands (withTrace zs at t) at (t .one)
-  unfolding traceFigure putFigure putAt roleFigure
-  stands-one =
+  -- figure r of old arc q
+  eighth : (q r : ℕ) → q < 4 → r < 8 → traceFigure t (8 * q + r) ≡ putFigure (putAt t q) r
+  unfolding traceFigure
+  eighth q r h k =
+      let e : (8 * q + r) / 8 ≡ q = mul-add-div (lit< tt) q r ∙ (let z = div-eq-of-lt k in omega arith) in
+      rw (lt-ltb (8 * q + r) 32 (omega arith), e, mul-add-mod-self-left 8 q r, mod-eq-of-lt k)
+
+  put-figure : (q r p : ℕ) → q < 4 → r < 8 → p ≡ at + 16 * q + 2 * r → putFigure (putAt t q) r .den ≤ most → figureIn (withTrace zs at t) p ≡ putFigure (putAt t q) r
+  put-figure q r p h k e d = let f = eighth q r h k in figure-of t at zs l p (8 * q + r) (omega arith) (omega arith) (rw f d) ∙ f
+
+  stands : (q p : ℕ) → q < 4 → p ≡ at + 16 * q → SmallPut (putAt t q) → Stands (withTrace zs at t) p (putAt t q)
+  unfolding putFigure roleFigure
+  stands q p h e w =
       record {
-        number = figure-of t at zs l at 0 (omega arith) (omega arith) one;
-        from = figure-of t at zs l _ 1 (omega arith) (omega arith) one;
-        to = figure-of t at zs l _ 2 (omega arith) (omega arith) one;
-        cost = figure-of t at zs l _ 3 (omega arith) (omega arith) (s .one .arc .cost);
-        lower = figure-of t at zs l _ 4 (omega arith) (omega arith) (s .one .arc .lower);
-        upper = figure-of t at zs l _ 5 (omega arith) (omega arith) (s .one .arc .upper);
-        a = figure-of t at zs l _ 6 (omega arith) (omega arith) (s .one .arc .a);
-        b = figure-of t at zs l _ 7 (omega arith) (omega arith) (s .one .arc .b);
+        number = put-figure q 0 p h (omega arith) (omega arith) one;
+        from = put-figure q 1 (p + 2) h (omega arith) (omega arith) one;
+        to = put-figure q 2 (p + 4) h (omega arith) (omega arith) one;
+        cost = put-figure q 3 (p + 6) h (omega arith) (omega arith) (w .arc .cost);
+        lower = put-figure q 4 (p + 8) h (omega arith) (omega arith) (w .arc .lower);
+        upper = put-figure q 5 (p + 10) h (omega arith) (omega arith) (w .arc .upper);
+        a = put-figure q 6 (p + 12) h (omega arith) (omega arith) (w .arc .a);
+        b = put-figure q 7 (p + 14) h (omega arith) (omega arith) (w .arc .b);
       }
 
-  stands-two : Stands (withTrace zs at t) (at + 16) (t .two)
-  unfolding traceFigure putFigure putAt roleFigure
-  stands-two =
-      record {
-        number = figure-of t at zs l _ 8 (omega arith) (omega arith) one;
-        from = figure-of t at zs l _ 9 (omega arith) (omega arith) one;
-        to = figure-of t at zs l _ 10 (omega arith) (omega arith) one;
-        cost = figure-of t at zs l _ 11 (omega arith) (omega arith) (s .two .arc .cost);
-        lower = figure-of t at zs l _ 12 (omega arith) (omega arith) (s .two .arc .lower);
-        upper = figure-of t at zs l _ 13 (omega arith) (omega arith) (s .two .arc .upper);
-        a = figure-of t at zs l _ 14 (omega arith) (omega arith) (s .two .arc .a);
-        b = figure-of t at zs l _ 15 (omega arith) (omega arith) (s .two .arc .b);
-      }
-
-  stands-three : Stands (withTrace zs at t) (at + 32) (t .three)
-  unfolding traceFigure putFigure putAt roleFigure
-  stands-three =
-      record {
-        number = figure-of t at zs l _ 16 (omega arith) (omega arith) one;
-        from = figure-of t at zs l _ 17 (omega arith) (omega arith) one;
-        to = figure-of t at zs l _ 18 (omega arith) (omega arith) one;
-        cost = figure-of t at zs l _ 19 (omega arith) (omega arith) (s .three .arc .cost);
-        lower = figure-of t at zs l _ 20 (omega arith) (omega arith) (s .three .arc .lower);
-        upper = figure-of t at zs l _ 21 (omega arith) (omega arith) (s .three .arc .upper);
-        a = figure-of t at zs l _ 22 (omega arith) (omega arith) (s .three .arc .a);
-        b = figure-of t at zs l _ 23 (omega arith) (omega arith) (s .three .arc .b);
-      }
-
-  stands-four : Stands (withTrace zs at t) (at + 48) (t .four)
-  unfolding traceFigure putFigure putAt roleFigure
-  stands-four =
-      record {
-        number = figure-of t at zs l _ 24 (omega arith) (omega arith) one;
-        from = figure-of t at zs l _ 25 (omega arith) (omega arith) one;
-        to = figure-of t at zs l _ 26 (omega arith) (omega arith) one;
-        cost = figure-of t at zs l _ 27 (omega arith) (omega arith) (s .four .arc .cost);
-        lower = figure-of t at zs l _ 28 (omega arith) (omega arith) (s .four .arc .lower);
-        upper = figure-of t at zs l _ 29 (omega arith) (omega arith) (s .four .arc .upper);
-        a = figure-of t at zs l _ 30 (omega arith) (omega arith) (s .four .arc .a);
-        b = figure-of t at zs l _ 31 (omega arith) (omega arith) (s .four .arc .b);
-      }
+  put-back : (q p : ℕ) → q < 4 → p ≡ at + 16 * q → SmallPut (putAt t q) → putIn (withTrace zs at t) p ≡ putAt t q
+  put-back q p h e w = put-is (withTrace zs at t) p (putAt t q) w (stands q p h e w)
 
   numbers-is : numbersIn (withTrace zs at t) (at + 70) ≡ t .new
   unfolding numbersIn traceFigure restFigure
@@ -208,9 +177,9 @@ module _ (t : Trace) (at : ℕ) (zs : List ℤ) (l : at + 78 ≤ length zs) (s :
 
   -- what was written is read
   pub trace-back : traceIn (withTrace zs at t) at ≡ t
-  unfolding traceIn
+  unfolding traceIn putAt
   trace-back =
-      rw (rule-is, place-is, supply-is, put-is _ _ _ (s .one) stands-one, put-is _ _ _ (s .two) stands-two, put-is _ _ _ (s .three) stands-three, put-is _ _ _ (s .four) stands-four, numbers-is)
+      rw (rule-is, place-is, supply-is, put-back 0 at (omega arith) (omega arith) (s .one), put-back 1 (at + 16) (omega arith) (omega arith) (s .two), put-back 2 (at + 32) (omega arith) (omega arith) (s .three), put-back 3 (at + 48) (omega arith) (omega arith) (s .four), numbers-is)
 
 -- ---- the same words below a place, the same traces there
 

@@ -10,7 +10,7 @@ use native.Mathlib.Omega.{arith}
 use lib.IntN.{ℤ}
 use lib.ListN.{length, set, length-set}
 use lib.Seq.{getD-set-same, getD-set-other}
-use borrow.Author.Tests.{lt-ltb, ltb-true, ltb-false}
+use borrow.Author.Tests.{lt-ltb, ltb-true}
 use mathlib.Core.Bool.{Bool, true, false}
 use lib.Dec.{ltb}
 use Rattle.loops.specs.Loops.{runs}
@@ -24,7 +24,6 @@ use Rattle.network.specs.Legal.{Legal}
 use Rattle.reduction.specs.declared.search.Taken.{Taken}
 use Rattle.reduction.specs.declared.search.Step.{Step}
 use Rattle.reduction.specs.declared.search.Ran.{Ran}
-use Rattle.reduction.specs.Rules.{ruleAt}
 use Rattle.reduction.specs.Search.{nextOf, started, stepped, moved, moveOf, ranOf}
 use Rattle.reduction.specs.Stack.{takenAt}
 use Rattle.reduction.proofs.Kept.{kept, next-kept}

@@ -7,16 +7,17 @@ use native.Mathlib.Omega.{arith}
 use lib.Dec.{eqb, ltb, lit≤}
 use borrow.Author.Tests.{ltb-true, ltb-false}
 use Rattle.fraction.specs.declared.Fraction.{Fraction}
-use Rattle.fraction.specs.Exact.{Proper, most, noLower, noUpper}
+use Rattle.fraction.specs.Exact.{Proper, most, noFigure, noLower, noUpper}
 use Rattle.fraction.specs.Laws.{never}
 use Rattle.network.specs.declared.Net.{Net}
+use Rattle.network.specs.declared.Put.{Put}
 use Rattle.network.specs.declared.Kind.the-variants.{Changes}
 use Rattle.network.specs.Network.{noArc, arcAt, supplyAt, isHere, isRoot, touchingAfter, noPut}
-use Rattle.network.specs.Legal.{Bound, LegalArc, Legal}
+use Rattle.network.specs.Legal.{Bound, Legal}
 use Rattle.network.proofs.Kept.{here-number}
 use Rattle.reduction.specs.Rules.{whereHere, ofNodes, nodeRule, ruleOne, ruleFour, ruleAt, keptAt, mergedAt}
 use Rattle.reduction.proofs.Touch.{touching-first, signed-first}
-use Rattle.restoration.specs.Trace.{oldArc, arcTrace, bareTrace, singleTrace, mergedTrace, crossedTrace, traceOf}
+use Rattle.restoration.specs.Trace.{oldArc, traceTwo, arcTrace, bareTrace, singleTrace, mergedTrace, crossedTrace, traceOf}
 use Rattle.restoration.proofs.Logs.{SmallArc, SmallPut, Small}
 
 proper-small : {f : Fraction} → Proper f → f .den ≤ most
@@ -33,6 +34,23 @@ no-arc-small = record { from = lit≤ tt; to = lit≤ tt; cost = lit≤ tt; lowe
 
 no-put-small : SmallPut noPut
 no-put-small = record { number = lit≤ tt; arc = no-arc-small }
+
+-- a trace of one arc, or two
+two-small : (k i : ℕ) (r : Fraction) (one two : Put) → k ≤ 6 → i ≤ 96 → r .den ≤ most → SmallPut one → SmallPut two → Small (traceTwo k i r one two)
+two-small k i r one two l h d p q =
+    record {
+      rule = omega arith;
+      place = omega arith;
+      supply = d;
+      one = p;
+      two = q;
+      three = no-put-small;
+      four = no-put-small;
+      first = lit≤ tt;
+      second = lit≤ tt;
+      third = lit≤ tt;
+      fourth = lit≤ tt;
+    }
 
 module _ {net : Net} (g : Legal net) where
   arc-small : (j : ℕ) → SmallArc (arcAt net j)
@@ -56,63 +74,21 @@ module _ {net : Net} (g : Legal net) where
   unfolding oldArc
   put-small j h = record { number = omega arith; arc = arc-small j }
 
-  arc-trace-small : (k j : ℕ) → k ≤ 6 → j ≤ 96 → Small (arcTrace k net j)
-  arc-trace-small k j l h =
-      record {
-        rule = omega arith;
-        place = omega arith;
-        supply = lit≤ tt;
-        one = put-small j h;
-        two = no-put-small;
-        three = no-put-small;
-        four = no-put-small;
-        first = lit≤ tt;
-        second = lit≤ tt;
-        third = lit≤ tt;
-        fourth = lit≤ tt;
-      }
-
   module _ (i : ℕ) (here : isHere net i ≡ true) where
     supply-small : supplyAt net i .den ≤ most
     supply-small = proper-small (g .supply-proper i here)
 
-    place-small : i ≤ most
+    place-small : i ≤ 96
     place-small = omega (arith, here-number g i here .1)
 
     touching-small : (k : ℕ) → touchingAfter net i k ≤ 96
     touching-small k = touching-first net i k .within
 
     bare-small : Small (bareTrace net i)
-    bare-small =
-        record {
-          rule = lit≤ tt;
-          place = place-small;
-          supply = supply-small;
-          one = no-put-small;
-          two = no-put-small;
-          three = no-put-small;
-          four = no-put-small;
-          first = lit≤ tt;
-          second = lit≤ tt;
-          third = lit≤ tt;
-          fourth = lit≤ tt;
-        }
+    bare-small = two-small 2 i (supplyAt net i) noPut noPut (lit≤ tt) place-small supply-small no-put-small no-put-small
 
     single-small : Small (singleTrace net i)
-    single-small =
-        record {
-          rule = lit≤ tt;
-          place = place-small;
-          supply = supply-small;
-          one = put-small _ (touching-small 0);
-          two = no-put-small;
-          three = no-put-small;
-          four = no-put-small;
-          first = lit≤ tt;
-          second = lit≤ tt;
-          third = lit≤ tt;
-          fourth = lit≤ tt;
-        }
+    single-small = two-small 3 i (supplyAt net i) (oldArc net (touchingAfter net i 0)) noPut (lit≤ tt) place-small supply-small (put-small _ (touching-small 0)) no-put-small
 
     either-small : (b : Bool) (x y : ℕ) → x ≤ 96 → y ≤ 96 → cond b x y ≤ 96
     either-small true x y h k = h
@@ -120,26 +96,17 @@ module _ {net : Net} (g : Legal net) where
 
     merged-small : Small (mergedTrace net i)
     merged-small =
-        record {
-          rule = lit≤ tt;
-          place = place-small;
-          supply = supply-small;
-          one = put-small (keptAt net i) (either-small (isRoot (arcAt net (touchingAfter net i 0))) _ _ (touching-small _) (touching-small 0));
-          two = put-small (mergedAt net i) (either-small (isRoot (arcAt net (touchingAfter net i 0))) _ _ (touching-small 0) (touching-small _));
-          three = no-put-small;
-          four = no-put-small;
-          first = lit≤ tt;
-          second = lit≤ tt;
-          third = lit≤ tt;
-          fourth = lit≤ tt;
-        }
+        let r = isRoot (arcAt net (touchingAfter net i 0)) in
+        two-small 5 i (supplyAt net i) (oldArc net (keptAt net i)) (oldArc net (mergedAt net i)) (lit≤ tt) place-small supply-small
+        (put-small (keptAt net i) (either-small r _ _ (touching-small _) (touching-small 0)))
+        (put-small (mergedAt net i) (either-small r _ _ (touching-small 0) (touching-small _)))
 
     crossed-small : Small (crossedTrace net i)
     unfolding crossedTrace
     crossed-small =
         record {
           rule = lit≤ tt;
-          place = place-small;
+          place = omega (arith, place-small);
           supply = supply-small;
           one = put-small _ (signed-first net i true _ .within);
           two = put-small _ (signed-first net i true _ .within);
@@ -165,8 +132,8 @@ module _ {net : Net} (g : Legal net) where
   trace-small k i e h = by (eqb k 1) (eqb k 4) (eqb k 3) (eqb k 5) (eqb k 6) e
     where
       by : (a b c d f : Bool) → cond a ruleOne (cond b ruleFour (λ m j. nodeRule m k j)) net i .kind ≡ Changes → Small (cond a (arcTrace 1) (cond b (arcTrace 4) (cond c singleTrace (cond d mergedTrace (cond f crossedTrace bareTrace)))) net i)
-      by true b c d f e = arc-trace-small 1 i (lit≤ tt) h
-      by false true c d f e = arc-trace-small 4 i (lit≤ tt) h
+      by true b c d f e = two-small 1 i noFigure (oldArc net i) noPut (lit≤ tt) h (lit≤ tt) (put-small i h) no-put-small
+      by false true c d f e = two-small 4 i noFigure (oldArc net i) noPut (lit≤ tt) h (lit≤ tt) (put-small i h) no-put-small
       by false false true d f e = single-small i (at-node k i e)
       by false false false true f e = merged-small i (at-node k i e)
       by false false false false true e = crossed-small i (at-node k i e)

@@ -100,7 +100,7 @@ fn log_step(net: Net, ran: Ran, words: &mut [i32], k: usize) -> Net
 // Every step logged.
 fn log_steps(net: Net, ran: Ran, words: &mut [i32])
     requires { ⌜ Legal net × Replayed net ran × (10240 ≤ length (now words)) ⌝ }
-    ensures { λ _. ⌜ (length (now (words .exit)) ≡ length (now (words .entry))) × Logged net ran (ran .steps) (now (words .exit)) ⌝ }
+    ensures { λ _. ⌜ Logged net ran (ran .steps) (now (words .exit)) ⌝ }
 {
     let steps = ran.steps;
     let mut at = net;
@@ -127,7 +127,7 @@ fn undo_steps(words: &[i32], steps: usize, b: Back) -> Back
 // From a pair of the reduced network to one of the original, over a run that can be taken again.
 pub(crate) fn way_back(net: Net, ran: Ran, pair: Pair, scratch: &mut [i32]) -> Back
     requires { ⌜ Legal net × Replayed net ran × (10240 ≤ length (now scratch)) ⌝ }
-    ensures { λ r. ⌜ (r ≡ wayBack net ran pair) × (length (now (scratch .exit)) ≡ length (now (scratch .entry))) ⌝ }
+    ensures { λ r. ⌜ r ≡ wayBack net ran pair ⌝ }
 {
     let steps = ran.steps;
     let to = ran.net;

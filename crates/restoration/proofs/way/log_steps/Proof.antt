@@ -26,7 +26,7 @@ same-length : tie.Need-same-length Inv-loop μ-loop
 same-length c = c .before .loop .inv .long
 
 returns : tie.Need-returns Inv-loop μ-loop
-returns c = (c .before .loop .inv .long, λ i h. c .before .loop .inv .log i (omega arith))
+returns c = λ i h. c .before .loop .inv .log i (omega arith)
 
 pub log-steps-spec : {M : Type 1} → statement M
 log-steps-spec =

@@ -10,7 +10,7 @@ returns : tie.Need-returns
 unfolding wayBack
 returns c =
     let a = c .before .before .before .before .before .before .before .args in
-    (c .undo-steps .ensures ∙ back-logged (a .net) (a .ran) _ (a .ran .steps) _ (c .before .before .before .before .log-steps .ensures .1) ∙ rw (c .before .before .spread .ensures), c .before .before .before .before .log-steps .ensures .0)
+    c .undo-steps .ensures ∙ back-logged (a .net) (a .ran) _ (a .ran .steps) _ (c .before .before .before .before .log-steps .ensures) ∙ rw (c .before .before .spread .ensures)
 
 pub way-back-spec : {M : Type 1} → statement M
 way-back-spec =
