@@ -13,7 +13,6 @@ use Rattle.algebra.specs.Rat.{ℚ, _+ℚ_, _*ℚ_, _≤ℚ_, 0ℚ, ≤ℚ-antis
 use Rattle.algebra.specs.Sum.{sum-congr}
 use Rattle.presolve.specs.LP.{Column, LP, Optimal, InBounds, brings, total}
 use Rattle.presolve.specs.LP as LP
-use Rattle.presolve.specs.Net.{columnAt}
 use Rattle.fraction.specs.declared.Fraction.{Fraction}
 use Rattle.fraction.specs.declared.Worked.{Worked}
 use Rattle.fraction.specs.declared.Worked.the-variants.{Fits, Misfit}
@@ -45,9 +44,8 @@ use Rattle.optimality.specs.Test.{pairIn, examined, Proven}
 use Rattle.optimality.proofs.Values.{value-exactly, column-unused}
 use Rattle.optimality.proofs.Exactly.{exactly-proven}
 use Rattle.restoration.specs.declared.Answer.{Answer}
-use Rattle.restoration.specs.declared.Answer.the-variants.{Restored, Refused}
+use Rattle.restoration.specs.declared.Answer.the-variants.{Restored}
 use Rattle.restoration.specs.declared.back.Back.{Back}
-use Rattle.restoration.specs.Way.{wayBack}
 use Rattle.restoration.specs.Restore.{isStack, reducedNet, backFrom, originalValue, reducedValue, isBack, backAsked, pairAsked, ranRefusal, roomAsked, isRoomy, refusalOf, answerOf, pairWords, fourWords, writtenPair, Optimum}
 use Rattle.restoration.specs.Entry.{afterStack, afterRun, earlier, Answered}
 use Rattle.restoration.proofs.Figures.{no-value, InForm, all-formed}

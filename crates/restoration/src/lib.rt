@@ -77,7 +77,14 @@ fn reduced_value(ran: Ran, pair: &[i32]) -> Fraction
 }
 
 // The words of a restored pair and of the two values.
-fn write(net: Net, pair: Pair, reduced: Fraction, original: Fraction, out: &mut [i32], values: &mut [i32])
+fn write(
+    net: Net,
+    pair: Pair,
+    reduced: Fraction,
+    original: Fraction,
+    out: &mut [i32],
+    values: &mut [i32],
+)
     requires { ⌜ Empty (now out) (now values) × (net .n ≤ 32) × (net .m ≤ 96) × (258 ≤ length (now out)) × (4 ≤ length (now values)) ⌝ }
     ensures { λ _. ⌜ (now (out .exit) ≡ pairWords (net .n) (net .m) pair (length (now (out .entry)))) × (now (values .exit) ≡ fourWords reduced original (length (now (values .entry)))) ⌝ }
 {
@@ -86,7 +93,14 @@ fn write(net: Net, pair: Pair, reduced: Fraction, original: Fraction, out: &mut 
 }
 
 // The way back, question 13, and the words of what is restored.
-fn go_back(net: Net, ran: Ran, pair: &[i32], out: &mut [i32], values: &mut [i32], scratch: &mut [i32]) -> Answer
+fn go_back(
+    net: Net,
+    ran: Ran,
+    pair: &[i32],
+    out: &mut [i32],
+    values: &mut [i32],
+    scratch: &mut [i32],
+) -> Answer
     requires { ⌜ Empty (now out) (now values) × Ready net ran (length (now out)) (length (now values)) (length (now scratch)) ⌝ }
     ensures { λ r. ⌜ Answered (backAsked (isBack net (backFrom net ran (now (pair .entry))))) net ran (now (pair .entry)) (length (now (out .entry))) (length (now (values .entry))) r (now (out .exit)) (now (values .exit)) ⌝ }
 {
@@ -104,7 +118,15 @@ fn go_back(net: Net, ran: Ran, pair: &[i32], out: &mut [i32], values: &mut [i32]
 }
 
 // Questions 6 to 13 of a run.
-fn finish(net: Net, ran: Ran, stack: &[i32], pair: &[i32], out: &mut [i32], values: &mut [i32], scratch: &mut [i32]) -> Answer
+fn finish(
+    net: Net,
+    ran: Ran,
+    stack: &[i32],
+    pair: &[i32],
+    out: &mut [i32],
+    values: &mut [i32],
+    scratch: &mut [i32],
+) -> Answer
     requires { ⌜ Empty (now out) (now values) × Ready net ran (length (now out)) (length (now values)) (length (now scratch)) ⌝ }
     ensures { λ r. ⌜ Answered (ranRefusal net ran (now (stack .entry)) (now (pair .entry))) net ran (now (pair .entry)) (length (now (out .entry))) (length (now (values .entry))) r (now (out .exit)) (now (values .exit)) ⌝ }
 {
@@ -116,7 +138,14 @@ fn finish(net: Net, ran: Ran, stack: &[i32], pair: &[i32], out: &mut [i32], valu
 }
 
 // All questions, into slices of zeros.
-fn ask_all(network: &[i32], stack: &[i32], pair: &[i32], out: &mut [i32], values: &mut [i32], scratch: &mut [i32]) -> Answer
+fn ask_all(
+    network: &[i32],
+    stack: &[i32],
+    pair: &[i32],
+    out: &mut [i32],
+    values: &mut [i32],
+    scratch: &mut [i32],
+) -> Answer
     requires { ⌜ Empty (now out) (now values) ⌝ }
     ensures { λ r. ⌜ Answered (refusalOf (now (network .entry)) (now (stack .entry)) (now (pair .entry)) (length (now (out .entry))) (length (now (values .entry))) (length (now (scratch .entry)))) (readOf (now (network .entry))) (ranOf (readOf (now (network .entry)))) (now (pair .entry)) (length (now (out .entry))) (length (now (values .entry))) r (now (out .exit)) (now (values .exit)) ⌝ }
 {
@@ -125,7 +154,15 @@ fn ask_all(network: &[i32], stack: &[i32], pair: &[i32], out: &mut [i32], values
             Asked::No(q) => Answer::Refused(q),
             Asked::Go(_, _) => {
                 let net = network::record::read(network);
-                finish(net, reduction::search::run(net), stack, pair, out, values, scratch)
+                finish(
+                    net,
+                    reduction::search::run(net),
+                    stack,
+                    pair,
+                    out,
+                    values,
+                    scratch,
+                )
             },
         };
     }
@@ -135,7 +172,14 @@ fn ask_all(network: &[i32], stack: &[i32], pair: &[i32], out: &mut [i32], values
 // Restores the pair of a reduced network to the network given, where `stack` has the steps of its reduction and the pair passes
 // the test on the reduced network: the restored pair into `out`, the reduced value and the original's into `values`. Every other
 // word of the lent slices is zero afterwards, on a refusal every word of them.
-pub fn restore(network: &[i32], stack: &[i32], pair: &[i32], out: &mut [i32], values: &mut [i32], scratch: &mut [i32]) -> Answer
+pub fn restore(
+    network: &[i32],
+    stack: &[i32],
+    pair: &[i32],
+    out: &mut [i32],
+    values: &mut [i32],
+    scratch: &mut [i32],
+) -> Answer
     ensures { λ r. ⌜ Restoration (now (network .entry)) (now (stack .entry)) (now (pair .entry)) (length (now (out .entry))) (length (now (values .entry))) (length (now (scratch .entry))) r (now (out .exit)) (now (values .exit)) (now (scratch .exit)) ⌝ }
 {
     loops::clear(out);
