@@ -43,7 +43,7 @@ module _ (net : Net) (k : ℕ) (t : Arc) where
   unfolding withArc
   arc-put h l = rw (le-leb 1 k (l .0), le-leb k 96 (l .1)) (getD-set-same (net .arcs) k t noArc (omega arith))
 
-  arc-left : (j : ℕ) → (j ≡ k → ⊥) → arcAt (withArc net k t) j ≡ arcAt net j
+  pub arc-left : (j : ℕ) → (j ≡ k → ⊥) → arcAt (withArc net k t) j ≡ arcAt net j
   unfolding withArc
   arc-left j ne = by (isNumber 96 k)
     where
