@@ -195,8 +195,8 @@ pub known-nothing : (net : Net) → Known net 0 nothingSeen
 known-nothing net =
     record {
       past = λ j. zeros 97 j;
-      long = length-replicate 97 0;
-      vain = λ j x y l m e f. absurd (omega (arith, ltb-true _ _ e, zeros 97 j));
+      long = length-replicate {A = ℕ} 97 0;
+      vain = λ j x y l m e f. absurd (omega (arith, ltb-true (getD (replicate 97 0) x 0) (getD (replicate 97 0) j 0) e, zeros 97 j));
     }
 
 pub known-later : {net : Net} {now later : ℕ} {seen : Seen} → Known net now seen → now ≤ later → Known net later seen
@@ -219,6 +219,11 @@ known-sought {net} {now} {seen} k j e = by (ltb j 97)
     by false = k
     by true = record { past = λ i. set-le (seen .sought) j i now now (k .past i) (omega arith); long = k .long; vain = λ i. vain i (eqb i j) refl }
 
+-- an arc of no number is not put
+put-out : (net : Net) (k : ℕ) (a : Arc) (j : ℕ) → 97 ≤ k → arcAt (withArc net k a) j ≡ arcAt net j
+unfolding withArc
+put-out net k a j g = rw (lt-leb k 96 (omega arith), and-false)
+
 -- arc k is put
 known-put : {net : Net} {now : ℕ} {seen : Seen} → Known net now seen → (k : ℕ) (a : Arc) → Known (withArc net k a) now (marked seen k now)
 unfolding marked
@@ -234,20 +239,18 @@ known-put {net} {now} {seen} h k a = by (ltb k 97) refl
         ne : x ≡ k → ⊥
         ne q =
             let s : getD (set (seen .put) k now) x 0 ≡ now = rw q (getD-set-same (seen .put) k now 0 (omega (arith, h .long))) in
-            omega (arith, ltb-true _ _ e, s)
+            omega (arith, ltb-true (getD (set (seen .put) k now) x 0) w e, s)
 
     vain : k < 97 → (j : ℕ) (b : Bool) → eqb j k ≡ b → Searched (withArc net k a) after (getD (after .sought) j 0) (arcAt (withArc net k a) j)
-    vain l j true f x y lx ly p q = absurd (omega (arith, ltb-true _ _ (rw (eqb-true j k f) at p), set-zero (seen .sought) k))
+    vain l j true f x y lx ly p q =
+        let p′ : isOld after (getD (set (seen .sought) k 0) k 0) x ≡ true = rw (eqb-true j k f) at p in
+        absurd (omega (arith, ltb-true (getD (set (seen .put) k now) x 0) (getD (set (seen .sought) k 0) k 0) p′, set-zero (seen .sought) k))
     vain l j false f x y lx ly p q =
         let ne = eqb-false j k f in
         let o : getD (set (seen .sought) k 0) j 0 ≡ getD (seen .sought) j 0 = getD-set-other (seen .sought) k j 0 0 ne in
         let u = old l _ x (h .past j) (rw o at p) in
         let v = old l _ y (h .past j) (rw o at q) in
         rw (arc-left net k a j ne, arc-left net k a x (u .0), arc-left net k a y (v .0)) (h .vain j x y lx ly (u .1) (v .1))
-
-    out : 97 ≤ k → (j : ℕ) → arcAt (withArc net k a) j ≡ arcAt net j
-    unfolding withArc
-    out g j = rw (lt-leb k 96 (omega arith), and-false)
 
     by : (b : Bool) → ltb k 97 ≡ b → Known (withArc net k a) now (cond b after seen)
     by true e =
@@ -259,7 +262,7 @@ known-put {net} {now} {seen} h k a = by (ltb k 97) refl
         }
     by false e =
         let g : 97 ≤ k = ltb-false k 97 e in
-        record { past = h .past; long = h .long; vain = λ j x y l m p q. rw (out g j, out g x, out g y) (h .vain j x y l m p q) }
+        record { past = h .past; long = h .long; vain = λ j x y l m p q. rw (put-out net k a j g, put-out net k a x g, put-out net k a y g) (h .vain j x y l m p q) }
 
 -- a change is made
 pub known-after : {net : Net} {now : ℕ} {seen : Seen} → Known net now seen → (c : Change) → Known (applied net c) now (markedAll seen c now)
@@ -271,13 +274,12 @@ known-after h c =
 -- ---- an arc that can't be dropped anyway
 
 pub barred : (b p : Bool) (net : Net) (j : ℕ) (t : Arc) → barredBy b net j t ≡ true → passed ≡ costlyWith p net j t
-unfolding atFlow
+unfolding atFlow droppedOf
 barred false p net j t e = never (let f = e in cc)
 barred true false net j t e = refl
 barred true true net j t e = by (supplyLess (t .from) (supplyAt net (t .from)) (t .a) (t .lower)) (supplyLess (farEnd t) (supplyAt net (t .to)) (t .b) (t .lower)) e
   where
     by : (p q : Worked) → isPassed (droppedOf p q j (t .from) (farEnd t) 0) ≡ true → passed ≡ droppedOf p q j (t .from) (farEnd t) 0
-    unfolding droppedOf
     by (Fits x) (Fits y) e = never (let f = e in cc)
     by (Fits x) Misfit e = refl
     by Misfit q e = refl

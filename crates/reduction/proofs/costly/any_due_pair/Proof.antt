@@ -24,7 +24,7 @@ returns : tie.Need-returns Inv-loop μ-loop
 returns c = missed-found (c .before .before .before .before .before .before .before .before .loop .inv) (omega arith) (rw (← c .before .before .bar .ensures, ← c .before .any-due-under .ensures, c .if2 .taken))
 
 loop-again : tie.Need-loop-again Inv-loop μ-loop
-loop-again c = missed-more (c .before .before .before .before .loop .inv) (omega arith) (⊎-elim (λ w. rw (← w .2 .ensures, ← w .3 .ensures, w .4 .left)) (λ w. none-from _ _ _ _ _ (sym (c .before .is-finite .ensures) ∙ w .left)) (c .if1 .came))
+loop-again c = missed-more (c .before .before .before .before .loop .inv) (omega arith) (⊎-elim (λ w. rw (← w .2 .ensures, ← w .3 .ensures, w .4 .left)) (λ w. none-from (c .before .before .before .before .before .args .t1) _ _ (c .before .before .before .before .before .args .to .at) (c .before .before .before .before .before .args .c) (sym (c .before .is-finite .ensures) ∙ w .left)) (c .if1 .came))
 
 returns-2 : tie.Need-returns-2 Inv-loop μ-loop
 returns-2 c = missed-all (c .before .loop .inv) (omega arith)
