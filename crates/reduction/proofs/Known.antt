@@ -3,7 +3,7 @@ use mathlib.Core.Path.{_≡_, refl, sym, ap, ap₂, _∙_}
 use mathlib.Core.List.{List, [], _∷_}
 use mathlib.Core.Bool.{Bool, true, false, cond, _&&_, _||_, not, and-false}
 use mathlib.Core.Logic.{⊎-elim}
-use Prim.Native.Nat.{ℕ, zero, suc, _≤_, _<_}
+use Prim.Native.Nat.{ℕ, zero, suc, _+_, _≤_, _<_}
 use native.Mathlib.Nat.{not-suc-le-zero, eq-or-lt-of-le, le-of-suc-le-suc}
 use native.Mathlib.Numerals.{add-one}
 use native.Mathlib.Omega.{arith}
@@ -23,7 +23,11 @@ use Rattle.network.specs.declared.Arc.{Arc}
 use Rattle.network.specs.declared.Net.{Net}
 use Rattle.network.specs.declared.Change.{Change}
 use Rattle.network.specs.Network.{arcAt, supplyAt, farEnd, passed, withArc, withPut, withLevel, withSupply, without, applied}
-use Rattle.reduction.specs.Rules.{isUnder, isPositive, isOpenRoot, isCostlier, partnerBy, hasPartnerBy, isPartner, hasPartner, hasPair, supplyLess, droppedOf, atFlow, costlyWith}
+use Rattle.reduction.specs.Rules.{isUnder, isPositive, isOpenRoot, isCostlier, partnerBy, hasPartnerBy, isPartner, hasPartner, hasPair, supplyLess, droppedOf, atFlow, costlyWith, ruleFour, ruleAt}
+use Rattle.network.specs.declared.Tried.{Tried}
+use Rattle.reduction.specs.declared.search.Step.{Step}
+use Rattle.reduction.specs.declared.search.Ran.{Ran}
+use Rattle.reduction.specs.Search.{answered, stepAt, stepped}
 use Rattle.reduction.specs.declared.costly.Seen.{Seen}
 use Rattle.reduction.specs.Seen.{wayBy, wayOf, wayAt, waysOf, isOld, dueBy, isDueUnder, barOf, isDueFrom, isEnd, isDueEnd, isPair, Searched, Known, nothingSeen, marked, markedAll, soughtAt, isPassed, barredBy}
 use Rattle.reduction.proofs.Frame.{arc-left}
@@ -224,10 +228,10 @@ put-out : (net : Net) (k : ℕ) (a : Arc) (j : ℕ) → 97 ≤ k → arcAt (with
 unfolding withArc
 put-out net k a j g = rw (lt-leb k 96 (omega arith), and-false)
 
--- arc k is put
-known-put : {net : Net} {now : ℕ} {seen : Seen} → Known net now seen → (k : ℕ) (a : Arc) → Known (withArc net k a) now (marked seen k now)
+-- arc k is put: the others are as they were, and where there is no such arc all are
+known-mark : {net : Net} {now : ℕ} {seen : Seen} → Known net now seen → (k : ℕ) (to : Net) → ((j : ℕ) → (j ≡ k → ⊥) → arcAt to j ≡ arcAt net j) → ((j : ℕ) → 97 ≤ k → arcAt to j ≡ arcAt net j) → Known to now (marked seen k now)
 unfolding marked
-known-put {net} {now} {seen} h k a = by (ltb k 97) refl
+known-mark {net} {now} {seen} h k to others none = by (ltb k 97) refl
   where
     after : Seen
     after = record { put = set (seen .put) k now; sought = set (seen .sought) k 0 }
@@ -241,7 +245,7 @@ known-put {net} {now} {seen} h k a = by (ltb k 97) refl
             let s : getD (set (seen .put) k now) x 0 ≡ now = rw q (getD-set-same (seen .put) k now 0 (omega (arith, h .long))) in
             omega (arith, ltb-true (getD (set (seen .put) k now) x 0) w e, s)
 
-    vain : k < 97 → (j : ℕ) (b : Bool) → eqb j k ≡ b → Searched (withArc net k a) after (getD (after .sought) j 0) (arcAt (withArc net k a) j)
+    vain : k < 97 → (j : ℕ) (b : Bool) → eqb j k ≡ b → Searched to after (getD (after .sought) j 0) (arcAt to j)
     vain l j true f x y lx ly p q =
         let p′ : isOld after (getD (set (seen .sought) k 0) k 0) x ≡ true = rw (eqb-true j k f) at p in
         absurd (omega (arith, ltb-true (getD (set (seen .put) k now) x 0) (getD (set (seen .sought) k 0) k 0) p′, set-zero (seen .sought) k))
@@ -250,9 +254,9 @@ known-put {net} {now} {seen} h k a = by (ltb k 97) refl
         let o : getD (set (seen .sought) k 0) j 0 ≡ getD (seen .sought) j 0 = getD-set-other (seen .sought) k j 0 0 ne in
         let u = old l _ x (h .past j) (rw o at p) in
         let v = old l _ y (h .past j) (rw o at q) in
-        rw (arc-left net k a j ne, arc-left net k a x (u .0), arc-left net k a y (v .0)) (h .vain j x y lx ly (u .1) (v .1))
+        rw (others j ne, others x (u .0), others y (v .0)) (h .vain j x y lx ly (u .1) (v .1))
 
-    by : (b : Bool) → ltb k 97 ≡ b → Known (withArc net k a) now (cond b after seen)
+    by : (b : Bool) → ltb k 97 ≡ b → Known to now (cond b after seen)
     by true e =
         let l : k < 97 = ltb-true k 97 e in
         record {
@@ -262,14 +266,37 @@ known-put {net} {now} {seen} h k a = by (ltb k 97) refl
         }
     by false e =
         let g : 97 ≤ k = ltb-false k 97 e in
-        record { past = h .past; long = h .long; vain = λ j x y l m p q. rw (put-out net k a j g, put-out net k a x g, put-out net k a y g) (h .vain j x y l m p q) }
+        record { past = h .past; long = h .long; vain = λ j x y l m p q. rw (none j g, none x g, none y g) (h .vain j x y l m p q) }
+
+known-put : {net : Net} {now : ℕ} {seen : Seen} → Known net now seen → (k : ℕ) (a : Arc) → Known (withArc net k a) now (marked seen k now)
+known-put {net} h k a = known-mark h k (withArc net k a) (arc-left net k a) (put-out net k a)
+
+known-stay : {net : Net} {now : ℕ} {seen : Seen} → Known net now seen → (k : ℕ) → Known net now (marked seen k now)
+known-stay {net} h k = known-mark h k net (λ j n. refl) (λ j g. refl)
 
 -- a change is made
-pub known-after : {net : Net} {now : ℕ} {seen : Seen} → Known net now seen → (c : Change) → Known (applied net c) now (markedAll seen c now)
+known-after : {net : Net} {now : ℕ} {seen : Seen} → Known net now seen → (c : Change) → Known (applied net c) now (markedAll seen c now)
 unfolding applied without withSupply
 known-after h c =
     let k = known-put (known-put (known-put (known-put h (c .one .number) (c .one .arc)) (c .two .number) (c .two .arc)) (c .three .number) (c .three .arc)) (c .four .number) (c .four .arc) in
     record { past = k .past; long = k .long; vain = k .vain }
+
+-- a step is taken
+pub known-stepped : {now : ℕ} {seen : Seen} (at : Ran) (s : Step) → Known (at .net) now seen → Known (stepped at s .net) now (markedAll seen (s .change) now)
+unfolding stepped
+known-stepped {now} {seen} at s h = by (ltb (at .steps) 128)
+  where
+    c : Change
+    c = s .change
+
+    by : (b : Bool) → Known (cond b (record { net = applied (at .net) (s .change); steps = at .steps + 1; taken = set (at .taken) (at .steps) (record { rule = s .rule; place = s .place }); last = at .last }) at .net) now (markedAll seen c now)
+    by true = known-after h c
+    by false = known-stay (known-stay (known-stay (known-stay h (c .one .number)) (c .two .number)) (c .three .number)) (c .four .number)
+
+-- what rule 4 answers, as a step
+pub four-at : (net : Net) (i : ℕ) (t : Tried) → t ≡ ruleFour net i → answered 4 i t ≡ stepAt net 4 i
+unfolding stepAt ruleAt
+four-at net i t e = ap (answered 4 i) e
 
 -- ---- an arc that can't be dropped anyway
 
