@@ -11,7 +11,7 @@ use borrow.Author.Tests.{le-ltb, lt-leb, ltb-true, ltb-false, eqb-true, eqb-fals
 use lib.Dec.{ltb, eqb}
 use lib.ListN.{getD, set, replicate, length-set, length-replicate}
 use lib.Seq.{getD-set-same, getD-set-other}
-use Rattle.loops.specs.Loops.{any, build}
+use Rattle.loops.specs.Loops.{any}
 use Rattle.loops.proofs.Laws.{getD-build}
 use Rattle.fraction.specs.declared.Fraction.{Fraction}
 use Rattle.fraction.specs.declared.Worked.{Worked}
@@ -22,8 +22,8 @@ use Rattle.fraction.specs.Laws.{never}
 use Rattle.network.specs.declared.Arc.{Arc}
 use Rattle.network.specs.declared.Net.{Net}
 use Rattle.network.specs.declared.Change.{Change}
-use Rattle.network.specs.Network.{arcAt, supplyAt, farEnd, passed, withArc, withPut, withLevel, withSupply, without, applied}
-use Rattle.reduction.specs.Rules.{isUnder, isPositive, isOpenRoot, isCostlier, partnerBy, hasPartnerBy, isPartner, hasPartner, hasPair, supplyLess, droppedOf, atFlow, costlyWith, ruleFour, ruleAt}
+use Rattle.network.specs.Network.{arcAt, supplyAt, farEnd, passed, withArc, withSupply, without, applied}
+use Rattle.reduction.specs.Rules.{isUnder, isPositive, isOpenRoot, isCostlier, partnerBy, hasPartnerBy, hasPartner, hasPair, supplyLess, droppedOf, atFlow, costlyWith, ruleFour, ruleAt}
 use Rattle.network.specs.declared.Tried.{Tried}
 use Rattle.reduction.specs.declared.search.Step.{Step}
 use Rattle.reduction.specs.declared.search.Ran.{Ran}

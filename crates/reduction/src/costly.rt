@@ -6,7 +6,7 @@ ghost use lib.Dec.{ltb, eqb};
 ghost use lib.ListN.{getD};
 ghost use Rattle.network.specs.Network.{arcAt};
 ghost use Rattle.reduction.specs.Rules.{isOpenRoot, isCandidate, hasPair, costlyWith, ruleFour};
-ghost use Rattle.reduction.specs.Seen.{wayOf, waysOf, barOf, isOld, isDueUnder, isDueFrom, isEnd, isDueEnd, isPassed, barredBy, Known, Searched, nothingSeen, marked, markedAll, soughtAt};
+ghost use Rattle.reduction.specs.Seen.{wayOf, waysOf, barOf, isDueUnder, isDueFrom, isEnd, isDueEnd, isPassed, barredBy, Known, Searched, nothingSeen, marked, markedAll, soughtAt};
 use crate::figures::at_flow;
 use crate::figures::figure;
 use crate::figures::is_finite;

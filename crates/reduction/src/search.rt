@@ -181,14 +181,8 @@ fn next_known(net: Net, seen: Seen, now: u8) -> Found
 pub fn next(net: Net) -> Step
     ensures { λ r. ⌜ r ≡ nextOf net ⌝ }
 {
-    for k in 1..7 {
-        let s = scan_rule(net, k);
-        let kind = s.kind;
-        if let Kind::Passes = kind {} else {
-            return s;
-        }
-    }
-    no_step()
+    let f = next_known(net, crate::costly::unseen(), 0);
+    f.step
 }
 
 fn take(at: Ran, s: Step) -> Ran
