@@ -2,13 +2,13 @@
 use mathlib.Core.Path.{_≡_, refl, sym, ap, ap₂, _∙_, fun-ext}
 use mathlib.Core.Bool.{Bool, true, false, cond}
 use mathlib.Core.List.{List}
-use mathlib.Core.Logic.{_⊎_, inl, inr}
-use Prim.Native.Nat.{ℕ, _≤_, _<_}
+use mathlib.Core.Logic.{_⊎_, inl, inr, ⊎-elim}
+use Prim.Native.Nat.{ℕ, _+_, _-_, _≤_, _<_}
 use native.Mathlib.Omega.{arith}
-use lib.Dec.{eqb, leb}
+use lib.Dec.{eqb}
 use lib.ListN.{length, getD, set, length-set}
 use lib.Seq.{getD-set-same, getD-set-other}
-use borrow.Author.Tests.{le-leb, leb-true, leb-false, eqb-true, eqb-false}
+use borrow.Author.Tests.{le-leb, eqb-true, eqb-false}
 use Rattle.algebra.specs.Solver.{_:*_, :0, _:=_, ring1}
 use Rattle.algebra.specs.Rat.{ℚ, ℚ-ring, _*ℚ_, -ℚ_, 0ℚ, ≤ℚ-dec, invℚ-zero}
 use Rattle.algebra.specs.Frac.{frac}
@@ -30,6 +30,7 @@ use Rattle.fraction.specs.Extended.{less-value, not-less}
 use Rattle.network.specs.declared.pair.Pair.{Pair}
 use Rattle.network.specs.Network.{isNumber}
 use Rattle.network.specs.Pair.{priceAt, flowAt, withPrice, withFlow, exactPair}
+use Rattle.network.proofs.Legal.{by-number}
 use Rattle.optimality.proofs.Values.{Exactly, gives}
 use Rattle.optimality.proofs.Exactly.{fit-is}
 use Rattle.reduction.specs.Rules.{larger}
@@ -61,7 +62,7 @@ pub record Sized (pair : Pair) : Type 0 where
   pub flows-long : length (pair .flow) ≡ 97
   pub formed : AllFormed pair
 
--- so are n prices and m flows in form, with nothing elsewhere
+-- n prices and m flows in form, and nothing elsewhere; all of these are such figures
 pub record InForm (n m : ℕ) (pair : Pair) : Type 0 where
   pub price-proper : (i : ℕ) → 1 ≤ i → i ≤ n → Proper (priceAt pair i)
   pub no-price : (i : ℕ) → (i ≡ 0) ⊎ (n < i) → priceAt pair i ≡ noFigure
@@ -72,15 +73,7 @@ pub all-formed : {n m : ℕ} {pair : Pair} → InForm n m pair → AllFormed pai
 all-formed {n} {m} {pair} h = record { price-formed = at n (priceAt pair) (h .price-proper) (h .no-price); flow-formed = at m (flowAt pair) (h .flow-proper) (h .no-flow) }
   where
     at : (n : ℕ) (f : ℕ → Fraction) → ((i : ℕ) → 1 ≤ i → i ≤ n → Proper (f i)) → ((i : ℕ) → (i ≡ 0) ⊎ (n < i) → f i ≡ noFigure) → (i : ℕ) → Formed (f i)
-    at n f p z i = by (leb 1 i) refl (leb i n) refl
-      where
-        none : (i ≡ 0) ⊎ (n < i) → Formed (f i)
-        none o = inr (ap (λ (x : Fraction). x .den) (z i o))
-
-        by : (a : Bool) → leb 1 i ≡ a → (b : Bool) → leb i n ≡ b → Formed (f i)
-        by false a b c = let l = leb-false 1 i a in none (inl (omega arith))
-        by true a false c = none (inr (leb-false i n c))
-        by true a true c = inl (p i (leb-true 1 i a) (leb-true i n c))
+    at n f p z i = ⊎-elim (λ o. inr (ap (λ (x : Fraction). x .den) (z i o))) (λ (k : (i - 1 + 1 ≡ i) × (i - 1 < n)). inl (p i (omega (arith, k .0)) (omega (arith, k .0, k .1)))) (by-number n i)
 
 -- a figure put at a number of a list
 module _ (top : ℕ) (l : List Fraction) (k : ℕ) (f : Fraction) (long : top < length l) (within : (1 ≤ k) × (k ≤ top)) where

@@ -50,10 +50,11 @@ use Rattle.restoration.proofs.Undone.{step-undone}
 
 -- ---- the steps of a run
 
--- the step t is the next one of a legal network
-abbrev nextTaken : Net → Taken
+-- the rule and the place of the next step
+abbrev pub nextTaken : Net → Taken
 nextTaken net = record { rule = nextOf net .rule; place = nextOf net .place }
 
+-- the step t is the next one of a legal network
 pub record IsNext (net : Net) (t : Taken) : Type 0 where
   pub legal : Legal net
   pub changes : nextOf net .kind ≡ Changes
