@@ -1,13 +1,13 @@
 // What is left of a network, numbered from 1, and its record; two parallel arrays, as every record has them.
 ghost use mathlib.Core.Path.{_≡_};
-ghost use mathlib.Core.Bool.{_&&_};
+ghost use mathlib.Core.Bool.{_&&_, not};
 ghost use mathlib.Core.List.{_∷_, _++_};
 ghost use Prim.Native.Nat.{_+_, _-_, _≤_};
-ghost use lib.Dec.{leb};
+ghost use lib.Dec.{eqb, leb};
 ghost use lib.ListN.{length};
 ghost use Rattle.loops.specs.Loops.{build, written, upto, zeros};
 ghost use Rattle.network.specs.Record.{figures};
-ghost use Rattle.network.specs.Output.{rankOf, renumbered, withSizes, packNode, packArc, packedOf, arraysOf, twoAt, noWords, withWords, wordsOf, wordOf, wholeOf, roleFigure, figureOf, numAt, denAt, hasRoom, networkOf};
+ghost use Rattle.network.specs.Output.{rankOf, arcRank, renumbered, withSizes, packNode, packArc, packedOf, arraysOf, twoAt, noWords, withWords, wordsOf, wordOf, wholeOf, roleFigure, figureOf, numAt, denAt, hasRoom, networkOf};
 use crate::Arc;
 use crate::Net;
 use fraction::Fraction;
@@ -37,6 +37,30 @@ pub fn rank(net: Net, i: usize) -> usize
     for k in 0..33 {
         let h = net.here[k];
         if counts(h, k, i) {
+            d += 1;
+        }
+    }
+    d
+}
+
+// Whether arc k, t, is in use and its number is up to j.
+fn counts_arc(t: Arc, k: usize, j: usize) -> bool
+    ensures { λ r. ⌜ r ≡ (not (eqb (t .from) 0) && leb k j) ⌝ }
+{
+    if t.from == 0 {
+        return false;
+    }
+    k <= j
+}
+
+// The new number of arc j: how many arcs up to it are left.
+pub fn arc_rank(net: Net, j: usize) -> usize
+    ensures { λ r. ⌜ r ≡ arcRank net j ⌝ }
+{
+    let mut d: usize = 0;
+    for k in 0..97 {
+        let t = net.arcs[k];
+        if counts_arc(t, k, j) {
             d += 1;
         }
     }
@@ -216,7 +240,7 @@ pub fn word_of(k: usize) -> i32
 }
 
 // A number as a fraction.
-fn whole(k: usize) -> Fraction
+pub fn whole(k: usize) -> Fraction
     ensures { λ r. ⌜ r ≡ wholeOf k ⌝ }
 {
     let num = word_of(k);
@@ -224,7 +248,7 @@ fn whole(k: usize) -> Fraction
 }
 
 // An arc's seven figures, in their order.
-fn role_figure(t: Arc, role: usize) -> Fraction
+pub fn role_figure(t: Arc, role: usize) -> Fraction
     ensures { λ r. ⌜ r ≡ roleFigure t role ⌝ }
 {
     match role {

@@ -75,7 +75,7 @@ pub fn put_flow(mut pair: Pair, j: usize, f: Fraction) -> Pair
 }
 
 // Whether the word at a place is this number.
-fn is_size(pair: &[i32], at: usize, n: usize) -> bool
+pub fn is_size(pair: &[i32], at: usize, n: usize) -> bool
     ensures { λ r. ⌜ r ≡ eqZ (word (now (pair .entry)) at) (pos n) ⌝ }
 {
     match crate::record::size_at(pair, at, n) {

@@ -112,7 +112,7 @@ fn all_in_form(xs: &[i32], n: usize, t: usize) -> bool
 }
 
 // The number of an end; 0 below zero.
-fn end_of(f: Fraction) -> usize
+pub fn end_of(f: Fraction) -> usize
     ensures { λ r. ⌜ r ≡ endOf (f .num) ⌝ }
 {
     if f.num < 0 {

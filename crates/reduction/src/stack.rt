@@ -10,7 +10,7 @@ use crate::search::Taken;
 use network::output::Arrays;
 
 // Step k, from 0; zeros where there is none.
-fn taken_at(ran: Ran, k: usize) -> Taken
+pub fn taken_at(ran: Ran, k: usize) -> Taken
     ensures { λ r. ⌜ r ≡ takenAt ran k ⌝ }
 {
     if k < 128 {

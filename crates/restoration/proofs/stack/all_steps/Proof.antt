@@ -1,0 +1,41 @@
+-- `restoration::stack::all_steps` meets its contract. Assumes nothing.
+use Prim.Native.Nat.{_-_}
+use Rattle.loops.proofs.Laws.{Passed, passed-all, passed-fails, passed-more, passed-none}
+use Rattle.restoration.specs.Restore.{isStep}
+use borrow.Author.Needs.{needs}
+use mathlib.Core.Path.{_∙_, sym}
+use native.Mathlib.Omega.{arith}
+use Rattle.restoration.proofs.stack.all_steps.Statement.{statement}
+use Rattle.restoration.proofs.stack.all_steps.Tie as tie
+
+abbrev Inv-loop : tie.InvT-loop
+Inv-loop ran stack k₀ k-end k = Passed (isStep ran stack) k-end k
+
+abbrev μ-loop : tie.MeasureT-loop
+μ-loop ran stack k₀ k-end k = k-end - k
+
+loop-holds : tie.Need-loop-holds Inv-loop μ-loop
+loop-holds c = passed-none _ _
+
+returns : tie.Need-returns Inv-loop μ-loop
+returns c = passed-fails (c .before .before .before .loop .inv) (omega arith) (sym (c .before .is-step .ensures) ∙ c .if1 .left)
+
+loop-again : tie.Need-loop-again Inv-loop μ-loop
+loop-again c = passed-more (c .before .before .before .loop .inv) (omega arith) (sym (c .before .is-step .ensures) ∙ c .if1 .taken)
+
+returns-2 : tie.Need-returns-2 Inv-loop μ-loop
+returns-2 c = passed-all (c .before .loop .inv) (omega arith)
+
+pub all-steps-spec : {M : Type 1} → statement M
+all-steps-spec =
+    tie.close
+    (tie.spec
+    Inv-loop
+    μ-loop
+    loop-holds
+    (λ c κs. search needs)
+    returns
+    (λ c. search needs)
+    (λ c. search needs)
+    loop-again
+    returns-2)

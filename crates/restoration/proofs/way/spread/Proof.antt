@@ -1,0 +1,12 @@
+-- `restoration::way::spread` meets its contract. Assumes nothing.
+use Rattle.restoration.specs.Way.{spreadOf}
+use borrow.Author.Needs.{needs}
+use Rattle.restoration.proofs.way.spread.Statement.{statement}
+use Rattle.restoration.proofs.way.spread.Tie as tie
+
+returns : tie.Need-returns
+unfolding spreadOf
+returns c = rw (c .before .before .spread-flows .ensures, c .before .before .before .spread-prices .ensures)
+
+pub spread-spec : {M : Type 1} → statement M
+spread-spec = tie.close (tie.spec (λ c κs. search needs) (λ c κs. search needs) returns)
