@@ -1,42 +1,38 @@
--- Figures restored to a pair, in exact numbers; the price rule and the larger of two prices there. Assumes nothing.
-use mathlib.Core.Path.{_≡_, refl, sym, ap, ap₂, _∙_, subst, fun-ext}
-use mathlib.Core.Bool.{Bool, true, false, cond, _&&_}
+-- Figures restored to a pair, in exact numbers, and the larger of two prices there. Assumes nothing.
+use mathlib.Core.Path.{_≡_, refl, sym, ap, ap₂, _∙_, fun-ext}
+use mathlib.Core.Bool.{Bool, true, false, cond}
 use mathlib.Core.List.{List}
-use mathlib.Core.Logic.{_⊎_, inl, inr}
-use mathlib.Core.Option.{some}
-use Prim.Native.Nat.{ℕ, _≤_, _<_}
+use mathlib.Core.Logic.{_⊎_, inl, inr, ⊎-elim}
+use Prim.Native.Nat.{ℕ, _+_, _-_, _≤_, _<_}
 use native.Mathlib.Omega.{arith}
-use lib.Dec.{eqb, leb}
+use lib.Dec.{eqb}
 use lib.ListN.{length, getD, set, length-set}
 use lib.Seq.{getD-set-same, getD-set-other}
-use borrow.Author.Tests.{le-leb, leb-true, leb-false, eqb-true, eqb-false, ne-eqb}
+use borrow.Author.Tests.{le-leb, eqb-true, eqb-false}
 use Rattle.algebra.specs.Solver.{_:*_, :0, _:=_, ring1}
-use Rattle.algebra.specs.Rat.{ℚ, ℚ-ring, _*ℚ_, -ℚ_, _≤ℚ_, 0ℚ, ≤ℚ-dec, invℚ-zero}
-use Rattle.algebra.specs.Order.{_<_ as _<ℚ_, lt→le}
+use Rattle.algebra.specs.Rat.{ℚ, ℚ-ring, _*ℚ_, -ℚ_, 0ℚ, ≤ℚ-dec, invℚ-zero}
 use Rattle.algebra.specs.Frac.{frac}
 use Rattle.algebra.specs.Sum.{upd}
 use Rattle.presolve.specs.LP as LP
 use Rattle.presolve.specs.Bounds.{choose}
-use Rattle.presolve.specs.Bounds as Bounds
 use Rattle.presolve.specs.Spoke as Spoke
 use Rattle.presolve.specs.Closed.{closed-back}
 use Rattle.presolve.specs.Bare.{bare-back}
 use Rattle.fraction.specs.declared.Fraction.{Fraction}
 use Rattle.fraction.specs.declared.Worked.{Worked}
 use Rattle.fraction.specs.declared.Worked.the-variants.{Fits, Misfit}
-use Rattle.fraction.specs.Exact.{Operand, Proper, zeroFraction, noFigure, noLower, noUpper, isFinite, isLess, isSame}
-use Rattle.fraction.specs.Formula.{isFit, figureOf, _⊕_, _⊖_, _⊗_, _⊘_, ⊝_}
-use Rattle.fraction.specs.Laws.{and-both, never}
-use Rattle.fraction.specs.Value.{value, value-unique, same-is, is-same}
-use Rattle.fraction.specs.Worked.{Gives, zero-proper, zero-is, lessℚ, overℚ, minus-fits, minus-gives, over-fits, over-gives, negated-fits, negated-gives}
+use Rattle.fraction.specs.Exact.{Operand, Proper, noFigure, isLess}
+use Rattle.fraction.specs.Formula.{isFit, figureOf, _⊘_, ⊝_}
+use Rattle.fraction.specs.Laws.{never}
+use Rattle.fraction.specs.Value.{value}
+use Rattle.fraction.specs.Worked.{Gives, overℚ, over-fits, over-gives, negated-fits, negated-gives}
 use Rattle.fraction.specs.Extended.{less-value, not-less}
 use Rattle.network.specs.declared.pair.Pair.{Pair}
 use Rattle.network.specs.Network.{isNumber}
 use Rattle.network.specs.Pair.{priceAt, flowAt, withPrice, withFlow, exactPair}
-use Rattle.network.specs.Legal.{Bound}
-use Rattle.network.specs.Program.{boundOf}
-use Rattle.network.proofs.Bounds.{Number, bound-is, lower-number, upper-number}
-use Rattle.optimality.specs.Figures.{isAt, keepsBy, keepsRule}
+use Rattle.network.proofs.Legal.{by-number}
+use Rattle.optimality.proofs.Values.{Exactly, gives}
+use Rattle.optimality.proofs.Exactly.{fit-is}
 use Rattle.reduction.specs.Rules.{larger}
 use Rattle.restoration.specs.declared.back.Back.{Back}
 use Rattle.restoration.specs.Back.{begun, putFlow, putPrice, needed, largerOf}
@@ -66,7 +62,7 @@ pub record Sized (pair : Pair) : Type 0 where
   pub flows-long : length (pair .flow) ≡ 97
   pub formed : AllFormed pair
 
--- so are n prices and m flows in form, with nothing elsewhere
+-- n prices and m flows in form, and nothing elsewhere; all of these are such figures
 pub record InForm (n m : ℕ) (pair : Pair) : Type 0 where
   pub price-proper : (i : ℕ) → 1 ≤ i → i ≤ n → Proper (priceAt pair i)
   pub no-price : (i : ℕ) → (i ≡ 0) ⊎ (n < i) → priceAt pair i ≡ noFigure
@@ -77,15 +73,7 @@ pub all-formed : {n m : ℕ} {pair : Pair} → InForm n m pair → AllFormed pai
 all-formed {n} {m} {pair} h = record { price-formed = at n (priceAt pair) (h .price-proper) (h .no-price); flow-formed = at m (flowAt pair) (h .flow-proper) (h .no-flow) }
   where
     at : (n : ℕ) (f : ℕ → Fraction) → ((i : ℕ) → 1 ≤ i → i ≤ n → Proper (f i)) → ((i : ℕ) → (i ≡ 0) ⊎ (n < i) → f i ≡ noFigure) → (i : ℕ) → Formed (f i)
-    at n f p z i = by (leb 1 i) refl (leb i n) refl
-      where
-        none : (i ≡ 0) ⊎ (n < i) → Formed (f i)
-        none o = inr (ap (λ (x : Fraction). x .den) (z i o))
-
-        by : (a : Bool) → leb 1 i ≡ a → (b : Bool) → leb i n ≡ b → Formed (f i)
-        by false a b c = let l = leb-false 1 i a in none (inl (omega arith))
-        by true a false c = none (inr (leb-false i n c))
-        by true a true c = inl (p i (leb-true 1 i a) (leb-true i n c))
+    at n f p z i = ⊎-elim (λ o. inr (ap (λ (x : Fraction). x .den) (z i o))) (λ (k : (i - 1 + 1 ≡ i) × (i - 1 < n)). inl (p i (omega (arith, k .0)) (omega (arith, k .0, k .1)))) (by-number n i)
 
 -- a figure put at a number of a list
 module _ (top : ℕ) (l : List Fraction) (k : ℕ) (f : Fraction) (long : top < length l) (within : (1 ≤ k) × (k ≤ top)) where
@@ -164,26 +152,15 @@ price-restores {b} i w l h r =
 
 -- ---- formulas
 
--- q is the value of w, where w fits, and the result is then in form
-abbrev pub Exactly : Worked → ℚ → Type 0
-Exactly w q = (z : Fraction) → w ≡ Fits z → Proper z × (value z ≡ q)
-
-pub gives : {w : Worked} {q : ℚ} → Exactly w q → Gives w q
-gives k z e = k z e .1
-
-pub fit-is : (w : Worked) → isFit w ≡ true → w ≡ Fits (figureOf w)
-fit-is (Fits x) e = refl
-fit-is Misfit e = never cc
+pub fits-figure : (w : Worked) → isFit w ≡ true → w ≡ Fits (figureOf w)
+fits-figure (Fits x) e = refl
+fits-figure Misfit e = never cc
 
 pub has : (w : Worked) {q : ℚ} → Exactly w q → isFit w ≡ true → Has w q
-has w k e = let h = k (figureOf w) (fit-is w e) in (inl (h .0), h .1)
+has w k e = let h = fit-is w k e in (inl (h .0), h .1)
 
-module _ {x y : Worked} {p q : ℚ} (g : Gives x p) (h : Gives y q) where
-  pub minus-exactly : Exactly (x ⊖ y) (lessℚ p q)
-  minus-exactly z e = (minus-fits e .is .proper, minus-gives g h z e)
-
-  pub over-exactly : Exactly (x ⊘ y) (overℚ p q)
-  over-exactly z e = (over-fits e .is .proper, over-gives g h z e)
+pub over-exactly : {x y : Worked} {p q : ℚ} → Gives x p → Gives y q → Exactly (x ⊘ y) (overℚ p q)
+over-exactly g h z e = (over-fits e .is .proper, over-gives g h z e)
 
 pub negated-exactly : {x : Worked} {p : ℚ} → Exactly x p → Exactly (⊝ x) (-ℚ p)
 negated-exactly k z e = let o = negated-fits e in (o .is .proper (k _ (o .of-fits) .0), negated-gives (gives k) z e)
@@ -219,48 +196,3 @@ larger-exactly (Fits x) (Fits y) {p} {q} k h z e = rw is (by (isLess x y) refl)
     by : (t : Bool) → isLess x y ≡ t → Proper (cond t y x) × (value (cond t y x) ≡ choose (≤ℚ-dec q p) p q)
     by true e = (b .0, b .1 ∙ sym (choose-no (≤ℚ-dec q p) p q (λ l. less-value (a .0) (b .0) e (rw (a .1, b .1) l))))
     by false e = (a .0, a .1 ∙ sym (choose-yes (≤ℚ-dec q p) p q (rw (← a .1, ← b .1) (not-less (a .0) (b .0) e))))
-
--- ---- the price rule
-
-is-at : {x : Fraction} → Proper x → isAt x x ≡ true
-unfolding isAt isFinite
-is-at {x} p = rw (ne-eqb (x .den) 0 (λ e. omega (arith, p .operand .den-pos)), is-same x)
-
-at-is : (b : Fraction) {x : Fraction} → Proper x → isAt b x ≡ true → boundOf b ≡ some (value x)
-unfolding isAt
-at-is b {x} p e = ap boundOf (sym (same-is x b (and-both (isFinite b) _ e .1))) ∙ bound-is p
-
-at-not : {b x : Fraction} → Proper x → isAt b x ≡ false → Number b (value x) → ⊥
-at-not {b} {x} p e n = never (let f = sym e ∙ ap (λ (b : Fraction). isAt b x) (sym (value-unique x b p (n .proper) (sym (n .is)))) ∙ is-at p in cc)
-
-module _ {l u x d : Fraction} (lower : Bound noLower l) (upper : Bound noUpper u) (px : Proper x) (pd : Proper d) where
-  above : isLess zeroFraction d ≡ true → 0ℚ <ℚ value d
-  above e = rw (← zero-is) (less-value zero-proper pd e)
-
-  below : isLess d zeroFraction ≡ true → value d <ℚ 0ℚ
-  below e = rw (← zero-is) (less-value pd zero-proper e)
-
-  not-above : isLess zeroFraction d ≡ false → value d ≤ℚ 0ℚ
-  not-above e = rw (← zero-is) (not-less zero-proper pd e)
-
-  not-below : isLess d zeroFraction ≡ false → 0ℚ ≤ℚ value d
-  not-below e = rw (← zero-is) (not-less pd zero-proper e)
-
-  -- the test is the rule
-  pub keeps-fits : keepsRule l u x d ≡ true → Bounds.Fits (boundOf l) (boundOf u) (value x) (value d)
-  unfolding keepsRule
-  keeps-fits = by (isLess zeroFraction d) refl (isLess d zeroFraction) refl
-    where
-      by : (s : Bool) → isLess zeroFraction d ≡ s → (t : Bool) → isLess d zeroFraction ≡ t → keepsBy s t l u x ≡ true → Bounds.Fits (boundOf l) (boundOf u) (value x) (value d)
-      by true a t b e = record { at-lower = λ _. at-is l px e; at-upper = λ n. absurd (n (lt→le (above a))) }
-      by false a true b e = record { at-lower = λ n. absurd (n (not-above a)); at-upper = λ _. at-is u px e }
-      by false a false b e = record { at-lower = λ n. absurd (n (not-above a)); at-upper = λ n. absurd (n (not-below b)) }
-
-  pub breaks-fits : keepsRule l u x d ≡ false → ¬ (Bounds.Fits (boundOf l) (boundOf u) (value x) (value d))
-  unfolding keepsRule
-  breaks-fits = by (isLess zeroFraction d) refl (isLess d zeroFraction) refl
-    where
-      by : (s : Bool) → isLess zeroFraction d ≡ s → (t : Bool) → isLess d zeroFraction ≡ t → keepsBy s t l u x ≡ false → ¬ (Bounds.Fits (boundOf l) (boundOf u) (value x) (value d))
-      by true a t b e f = at-not px e (lower-number lower (f .at-lower (above a)))
-      by false a true b e f = at-not px e (upper-number upper (f .at-upper (below b)))
-      by false a false b e f = never cc

@@ -1,5 +1,5 @@
 -- One step undone: where its figures fit, the pair is what the rule's theory brings back, in exact numbers. Assumes nothing.
-use mathlib.Core.Path.{_≡_, refl, sym, ap, ap₂, _∙_, subst, fun-ext}
+use mathlib.Core.Path.{_≡_, refl, sym, ap, _∙_, subst, fun-ext}
 use mathlib.Core.Bool.{Bool, true, false, cond, _&&_, not}
 use mathlib.Core.Logic.{inl, inr}
 use mathlib.Core.Option.{Option}
@@ -8,13 +8,13 @@ use native.Mathlib.Omega.{arith}
 use native.Mathlib.Decide.{ℕ-discrete}
 use lib.Dec.{eqb}
 use borrow.Author.Tests.{eqb-true, eqb-false, not-true}
-use Rattle.algebra.specs.Solver.{_:+_, _:*_, _:-_, :0, _:=_, ring2}
+use Rattle.algebra.specs.Solver.{_:*_, _:-_, :0, _:=_, ring2}
 use Rattle.algebra.specs.Rat.{ℚ, ℚ-ring, _+ℚ_ as _+_, _*ℚ_ as _*_, -ℚ_ as -_, 0ℚ, invℚ}
-use Rattle.algebra.specs.Sum.{upd, upd-same, upd-other}
+use Rattle.algebra.specs.Sum.{upd}
 use Rattle.presolve.specs.LP as LP
 use Rattle.presolve.specs.Bounds.{fits-dec}
 use Rattle.presolve.specs.Bounds as Bounds
-use Rattle.presolve.specs.Spoke.{Spoke, quote}
+use Rattle.presolve.specs.Spoke.{quote}
 use Rattle.presolve.specs.Closed.{closed-back}
 use Rattle.presolve.specs.Bare.{bare-back}
 use Rattle.presolve.specs.Single.{single-back}
@@ -23,7 +23,7 @@ use Rattle.fraction.specs.declared.Fraction.{Fraction}
 use Rattle.fraction.specs.declared.Worked.{Worked}
 use Rattle.fraction.specs.declared.Worked.the-variants.{Fits}
 use Rattle.fraction.specs.Exact.{Operand, Proper, zeroFraction, noLower, isZero}
-use Rattle.fraction.specs.Formula.{isFit, figureOf, _⊖_, _⊗_, _⊘_, ⊝_}
+use Rattle.fraction.specs.Formula.{isFit, figureOf, _⊘_, ⊝_}
 use Rattle.fraction.specs.Laws.{and-both, never}
 use Rattle.fraction.specs.Value.{value}
 use Rattle.fraction.specs.Worked.{given, plus-gives, minus-gives, times-gives, minus-fits, times-fits, over-fits, zero-proper, zero-is}
@@ -39,6 +39,8 @@ use Rattle.network.specs.Pair.{priceAt, flowAt, exactPair}
 use Rattle.network.specs.Program.{boundOf, programOf}
 use Rattle.network.proofs.Kept.{here-number, touching-used}
 use Rattle.optimality.specs.Figures.{keepsRule}
+use Rattle.optimality.proofs.Values.{Exactly, gives, same, minus-exactly}
+use Rattle.optimality.proofs.Exactly.{fit-is, rule-is, is-rule}
 use Rattle.reduction.specs.Rules.{keptAt, mergedAt, firstN, secondN, firstP, secondP, firstAt, secondAt, thirdAt, fourthAt, singleWhere, ruleThree, twoWhere, ruleFive, bothBy, bothSigns, signsOf, crossingWhere, ruleSix, whereHere, ofNodes, nodeRule, ruleAt}
 use Rattle.reduction.proofs.Touch.{At, Two, Four, touches, one-touching, two-touching, signed-first, two-signs}
 use Rattle.reduction.proofs.Kept.{low, number, legal-at, positive}
@@ -48,15 +50,12 @@ use Rattle.reduction.proofs.Crossed.{crossedBack}
 use Rattle.reduction.proofs.Sound.{backBy}
 use Rattle.restoration.specs.declared.trace.Trace.{Trace}
 use Rattle.restoration.specs.Trace.{oldArc, traceTwo, crossedTrace, traceOf}
-use Rattle.restoration.specs.Back.{begun, putFlow, putPrice, needed, quoteBy, quoteOf, backRemoved, backBare, backSingle, mergedFlow, firstPrice, costAt, keptCost, priceBy, mergedPrice, backMerged, crossedFlow, largerOf, crossedFlows, backCrossed, backOf}
-use Rattle.restoration.proofs.Figures.{Formed, formed-proper, Sized, pair-is, Restores, Has, begun-restores, needed-restores, flow-restores, price-restores, Exactly, gives, fit-is, has, minus-exactly, over-exactly, negated-exactly, choose-yes, choose-no, larger-exactly, keeps-fits, breaks-fits}
+use Rattle.restoration.specs.Back.{putFlow, putPrice, needed, quoteBy, quoteOf, backRemoved, backBare, backSingle, mergedFlow, keptCost, priceBy, mergedPrice, backMerged, crossedFlow, largerOf, crossedFlows, backCrossed, backOf}
+use Rattle.restoration.proofs.Figures.{Formed, formed-proper, Sized, Restores, Has, begun-restores, needed-restores, flow-restores, price-restores, fits-figure, has, over-exactly, negated-exactly, choose-yes, choose-no, larger-exactly}
 
 -- the way back over the step of rule k at place i restores what `back` says
 abbrev pub Undoes : Net → ℕ → ℕ → (LP.Pair → LP.Pair) → Pair → Type 0
 Undoes net k i back pair = Restores (backOf (traceOf net k i) pair) (back (exactPair pair))
-
-same : {w : Worked} {p q : ℚ} → p ≡ q → Exactly w p → Exactly w q
-same {w} e k = subst (Exactly w) e k
 
 fits-same : {l l′ u u′ : Option ℚ} {x d d′ : ℚ} → l ≡ l′ → u ≡ u′ → d ≡ d′ → Bounds.Fits l u x d → Bounds.Fits l′ u′ x d′
 fits-same {l} {l′} {u} {u′} {x} {d} {d′} a b c f = subst (λ l. Bounds.Fits l u′ x d′) a (subst (λ u. Bounds.Fits l u x d′) b (subst (λ d. Bounds.Fits l u x d) c f))
@@ -194,7 +193,7 @@ module _ (net : Net) (g : Legal net) (pair : Pair) (z : Sized pair) where
       flow-proper : isFit (mergedFlow trace pair) ≡ true → Proper x
       unfolding mergedFlow oldArc
       flow-proper e =
-          let a = over-fits (fit-is _ e) in
+          let a = over-fits (fits-figure _ e) in
           let b = minus-fits (a .left-fits) in
           let c = times-fits (b .right-fits) in
           let q : x ≡ c .right = let f = c .right-fits in cc in
@@ -216,7 +215,7 @@ module _ (net : Net) (g : Legal net) (pair : Pair) (z : Sized pair) where
           px = flow-proper e
 
           d : Proper (figureOf cost) × (value (figureOf cost) ≡ kept)
-          d = cost-exactly (figureOf cost) (fit-is cost f)
+          d = fit-is cost cost-exactly f
 
           Rule : Type 0
           Rule = Bounds.Fits (N .col j .lower) (N .col j .upper) (value x) kept
@@ -225,10 +224,10 @@ module _ (net : Net) (g : Legal net) (pair : Pair) (z : Sized pair) where
           decided = fits-dec (N .col j .lower) (N .col j .upper) (value x) kept
 
           keeps : keepsRule (arcAt net j .lower) (arcAt net j .upper) x (figureOf cost) ≡ true → Rule
-          keeps b = let t = legal-at net g i here j (aj .passes) in fits-same lower-is upper-is (d .1) (keeps-fits (t .lower-bound) (t .upper-bound) px (d .0) b)
+          keeps b = let t = legal-at net g i here j (aj .passes) in fits-same lower-is upper-is (d .1) (rule-is px (t .lower-bound) (t .upper-bound) (d .0) b)
 
           breaks : keepsRule (arcAt net j .lower) (arcAt net j .upper) x (figureOf cost) ≡ false → ¬ Rule
-          breaks b r = let t = legal-at net g i here j (aj .passes) in breaks-fits (t .lower-bound) (t .upper-bound) px (d .0) b (fits-same (sym lower-is) (sym upper-is) (sym (d .1)) r)
+          breaks b r = let t = legal-at net g i here j (aj .passes) in never (let c = sym b ∙ is-rule px (t .lower-bound) (t .upper-bound) (d .0) (fits-same (sym lower-is) (sym upper-is) (sym (d .1)) r) in cc)
 
           by : (b : Bool) → keepsRule (arcAt net j .lower) (arcAt net j .upper) x (figureOf cost) ≡ b → isFit (priceBy b trace pair (quoteOf (arcAt net k) i pair)) ≡ true
               → Has (priceBy b trace pair (quoteOf (arcAt net k) i pair)) (Bounds.choose decided (quote N (spokeOf net i k) p) (quote N (spokeOf net i j) p))

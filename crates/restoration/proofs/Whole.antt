@@ -1,7 +1,7 @@
 -- The whole way back: an optimal pair of the reduced network, restored with every figure fitting, is an optimal pair of the original. Assumes nothing.
 use mathlib.Core.Path.{_≡_, refl, sym, ap, ap₂, _∙_, subst}
 use mathlib.Core.Bool.{Bool, true, false, cond}
-use mathlib.Core.Logic.{inl, inr}
+use mathlib.Core.Logic.{inr}
 use mathlib.Core.Option.{some}
 use Prim.Native.Nat.{ℕ, zero, suc, _+_, _≤_, _<_}
 use native.Mathlib.Numerals.{add-one}
@@ -11,9 +11,9 @@ use lib.Dec.{ltb}
 use lib.ListN.{List·getD-eq-default, length, getD, set, length-set}
 use lib.Seq.{getD-set-same, getD-set-other}
 use borrow.Author.Tests.{ltb-true, ltb-false}
-use Rattle.loops.specs.Loops.{build, runs}
+use Rattle.loops.specs.Loops.{build}
 use Rattle.loops.proofs.Laws.{length-build, getD-build, runs-keeps}
-use Rattle.algebra.specs.Rat.{ℚ, 0ℚ}
+use Rattle.algebra.specs.Rat.{0ℚ}
 use Rattle.presolve.specs.LP.{Solved, Optimal, weak-duality}
 use Rattle.fraction.specs.declared.Fraction.{Fraction}
 use Rattle.fraction.specs.Exact.{noFigure}
@@ -23,7 +23,7 @@ use Rattle.network.specs.declared.Net.{Net}
 use Rattle.network.specs.declared.Kind.{Kind}
 use Rattle.network.specs.declared.Kind.the-variants.{Passes, NoFlow, Changes}
 use Rattle.network.specs.declared.pair.Pair.{Pair}
-use Rattle.network.specs.Network.{noArc, arcAt, isHere, applied}
+use Rattle.network.specs.Network.{noArc, isHere, applied}
 use Rattle.network.specs.Output.{isUsed, rankOf, arcRank, packedOf}
 use Rattle.network.specs.Legal.{Legal}
 use Rattle.network.specs.Pair.{priceAt, flowAt, exactPair}
@@ -50,10 +50,11 @@ use Rattle.restoration.proofs.Undone.{step-undone}
 
 -- ---- the steps of a run
 
--- the step t is the next one of a legal network
-abbrev nextTaken : Net → Taken
+-- the rule and the place of the next step
+abbrev pub nextTaken : Net → Taken
 nextTaken net = record { rule = nextOf net .rule; place = nextOf net .place }
 
+-- the step t is the next one of a legal network
 pub record IsNext (net : Net) (t : Taken) : Type 0 where
   pub legal : Legal net
   pub changes : nextOf net .kind ≡ Changes
