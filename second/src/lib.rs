@@ -7,6 +7,7 @@ pub mod exact;
 pub mod fraction;
 pub mod network;
 pub mod optimality;
+pub mod pairs;
 pub mod programs;
 pub mod reduce;
 pub mod restore;

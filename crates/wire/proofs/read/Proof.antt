@@ -1,17 +1,17 @@
--- `rule_at::read_words` meets its contract. Assumes nothing.
+-- `wire::read` meets its contract. Assumes nothing.
 use Prim.Native.Nat.{_-_, _≤_}
 use borrow.Author.Needs.{needs}
 use lib.ListN.{length}
 use mathlib.Core.Path.{_≡_}
 use native.Mathlib.Omega.{arith}
-use Rattle.rule_at.proofs.read_words.Statement.{statement}
-use Rattle.rule_at.proofs.read_words.Tie as tie
+use Rattle.wire.proofs.read.Statement.{statement}
+use Rattle.wire.proofs.read.Tie as tie
 
 abbrev Inv-loop : tie.InvT-loop
-Inv-loop input at words₀ i₀ words i = (i ≤ 160) × (length words ≡ length words₀)
+Inv-loop b at words₀ count i₀ words i = (i ≤ count) × (length words ≡ length words₀)
 
 abbrev μ-loop : tie.MeasureT-loop
-μ-loop input at words₀ i₀ words i = 160 - i
+μ-loop b at words₀ count i₀ words i = count - i
 
 loop-again : tie.Need-loop-again Inv-loop μ-loop
 loop-again c = (omega arith, omega (arith, c .before .put .kept .0))
@@ -19,8 +19,8 @@ loop-again c = (omega arith, omega (arith, c .before .put .kept .0))
 same-length : tie.Need-same-length Inv-loop μ-loop
 same-length c = c .before .loop .inv .1
 
-pub read-words-spec : {M : Type 1} → statement M
-read-words-spec =
+pub read-spec : {M : Type 1} → statement M
+read-spec =
     tie.close
     (tie.spec
     Inv-loop
