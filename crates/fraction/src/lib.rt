@@ -7,7 +7,7 @@ ghost use Prim.Native.Nat.{_*_};
 ghost use lib.IntN.{pos, natAbs, _+ℤ_, _*ℤ_};
 ghost use lib.Signed.{ltZ};
 ghost use Rattle.fraction.specs.Exact.{noLower, noUpper, Operand, isOperand, isProper, isSame, isZero, isLess, reduceOf, sumOf, differenceOf, productOf, quotientOf, negationOf, reciprocalOf, fromWords, denWord};
-ghost use Rattle.fraction.specs.Formula.{pairOf, _⊕_, _⊖_, _⊗_, _⊘_, ⊝_};
+ghost use Rattle.fraction.specs.Formula.{pairOf, isFit, figureOf, _⊕_, _⊖_, _⊗_, _⊘_, ⊝_};
 
 // A figure: a numerator over a denominator, or a mark, which is written over 0.
 pub struct Fraction {
@@ -318,6 +318,25 @@ impl Worked {
         match self {
             Worked::Fits(a) => a.negation(),
             Worked::Misfit => Worked::Misfit,
+        }
+    }
+
+    pub fn is_fit(self) -> bool
+        ensures { λ r. ⌜ r ≡ isFit self ⌝ }
+    {
+        match self {
+            Worked::Fits(_) => true,
+            Worked::Misfit => false,
+        }
+    }
+
+    // The figure; none where it doesn't fit.
+    pub fn figure(self) -> Fraction
+        ensures { λ r. ⌜ r ≡ figureOf self ⌝ }
+    {
+        match self {
+            Worked::Fits(x) => x,
+            Worked::Misfit => Fraction { num: 0, den: 0 },
         }
     }
 }

@@ -22,29 +22,29 @@ use Rattle.network.specs.declared.Arc.{Arc}
 use Rattle.network.specs.declared.Net.{Net}
 use Rattle.network.specs.Network.{noArc, emptyNet, arcAt, supplyAt, isHere, isNumber, isRoot, withArc, withSupply, withNode}
 use Rattle.network.specs.Record.{figureAt, figures, roleOf, isPermitted, isInForm, endOf, isEnd, hasEnds, arcIn, isWeighted, isWeightedAt, askedOf, nodeTurn, arcTurn, netOf, readOf}
-use Rattle.network.specs.Legal.{Bound, LegalArc, Legal}
+use Rattle.network.specs.Legal.{Bound, LegalArc, Legal, Gapless}
 use Rattle.network.specs.declared.record.Asked.the-variants.{Go}
 use Rattle.network.proofs.Questions.{Sized, Formed, sizes-go, asked-go}
 
 -- ---- f 0, f 1, .., f (m - 1) at the numbers 1 to m of a list
 
 module _ {A : Type 0} (f : ℕ → A) (l : List A) where
-  puts : ℕ → List A
+  unfoldable pub puts : ℕ → List A
   puts m = upto (λ k t. set t (k + 1) (f k)) m l
 
-  puts-long : (m : ℕ) → length (puts m) ≡ length l
+  pub puts-long : (m : ℕ) → length (puts m) ≡ length l
   unfolding puts upto
   puts-long zero = refl
   puts-long (suc m) = length-set (puts m) (m + 1) (f m) ∙ puts-long m
 
-  puts-out : (d : A) (m j : ℕ) → (j ≡ 0) ⊎ (m < j) → getD (puts m) j d ≡ getD l j d
+  pub puts-out : (d : A) (m j : ℕ) → (j ≡ 0) ⊎ (m < j) → getD (puts m) j d ≡ getD l j d
   unfolding puts upto
   puts-out d zero j h = refl
   puts-out d (suc m) j h =
       getD-set-other (puts m) (m + 1) j (f m) d (λ e. ⊎-elim (λ (z : j ≡ 0). omega arith) (λ (k : suc m < j). omega (arith, add-one m)) h)
       ∙ puts-out d m j (⊎-elim (λ (z : j ≡ 0). inl z) (λ (k : suc m < j). inr (omega (arith, add-one m))) h)
 
-  puts-in : (d : A) (m j : ℕ) → j < m → m < length l → getD (puts m) (j + 1) d ≡ f j
+  pub puts-in : (d : A) (m j : ℕ) → j < m → m < length l → getD (puts m) (j + 1) d ≡ f j
   unfolding puts upto
   puts-in d zero j h k = absurd (omega arith)
   puts-in d (suc m) j h k =
@@ -95,7 +95,7 @@ module _ (xs : List ℤ) (n m : ℕ) (h : n ≤ 32) (k : m ≤ 96) where
   no-arc-read j l = rw (net-is xs n m h k) (puts-out (arcIn xs n (figures n m)) (replicate 97 noArc) noArc m j l ∙ getD-all 97 j noArc)
 
 -- a number from 1 to m, and the others
-by-number : (m j : ℕ) → ((j ≡ 0) ⊎ (m < j)) ⊎ ((j - 1 + 1 ≡ j) × (j - 1 < m))
+pub by-number : (m j : ℕ) → ((j ≡ 0) ⊎ (m < j)) ⊎ ((j - 1 + 1 ≡ j) × (j - 1 < m))
 by-number m j = by (ltb j 1) refl (ltb m j) refl
   where
     by : (s : Bool) → ltb j 1 ≡ s → (t : Bool) → ltb m j ≡ t → ((j ≡ 0) ⊎ (m < j)) ⊎ ((j - 1 + 1 ≡ j) × (j - 1 < m))
@@ -230,6 +230,21 @@ module _ (xs : List ℤ) (n m : ℕ) (s : Sized xs n m) (g : Formed xs n m) wher
         used = λ j l. ⊎-elim (λ z. absurd (omega (arith, ap (λ (t : Arc). t .from) z))) (λ w. w .1) (arc-at j);
       }
 
+  -- its sizes are n and m, and its numbers have no gaps
+  formed-gapless : Gapless (netOf xs n m)
+  formed-gapless =
+      let nodes : netOf xs n m .n ≡ n = ap (λ (t : Net). t .n) (net-is xs n m (s .few-nodes) (s .few-arcs)) in
+      let arcs : netOf xs n m .m ≡ m = ap (λ (t : Net). t .m) (net-is xs n m (s .few-nodes) (s .few-arcs)) in
+      record {
+        node-in = λ i a b. node-here i a (omega arith);
+        node-out = λ i l. not-here xs n m (s .few-nodes) (s .few-arcs) i (inr (omega arith));
+        arc-in = λ j a b.
+            let e : j - 1 + 1 ≡ j = omega arith in
+            let q : arcAt (netOf xs n m) j ≡ arcIn xs n (figures n m) (j - 1) = rw e at (arc-read xs n m (s .few-nodes) (s .few-arcs) (j - 1) (omega arith)) in
+            rw q (arc-legal (j - 1) (omega arith) .0);
+        arc-out = λ j l. ap (λ (t : Arc). t .from) (no-arc-read xs n m (s .few-nodes) (s .few-arcs) j (inr (omega arith)));
+      }
+
 pub read-legal : (xs : List ℤ) (n m : ℕ) → askedOf xs ≡ Go n m → Legal (netOf xs n m)
 read-legal xs n m e = let a = asked-go xs n m e in formed-legal xs n m (sizes-go xs n m (a .0)) (a .1)
 
@@ -237,3 +252,6 @@ read-legal xs n m e = let a = asked-go xs n m e in formed-legal xs n m (sizes-go
 pub read-is : (xs : List ℤ) (n m : ℕ) → askedOf xs ≡ Go n m → readOf xs ≡ netOf xs n m
 unfolding readOf
 read-is xs n m e = rw (asked-go xs n m e .0)
+
+pub read-gapless : (xs : List ℤ) (n m : ℕ) → askedOf xs ≡ Go n m → Gapless (readOf xs)
+read-gapless xs n m e = let a = asked-go xs n m e in rw (read-is xs n m e) (formed-gapless xs n m (sizes-go xs n m (a .0)) (a .1))

@@ -9,3 +9,4 @@ pub mod Sane
 pub mod Ranks
 pub mod Survivors
 pub mod Bounds
+pub mod Paired

@@ -8,7 +8,7 @@ use native.Mathlib.Numerals.{add-one}
 use native.Mathlib.Omega.{arith}
 use lib.Dec.{T, ltb}
 use lib.ListN.{set, replicate}
-use borrow.Author.Tests.{lt-ltb, ltb-true, ltb-false, eq-eqb, ne-eqb}
+use borrow.Author.Tests.{lt-ltb, ltb-true, ltb-false, eq-eqb, ne-eqb, eqb-true, not-false}
 use Rattle.loops.specs.Loops.{upto, tally, count}
 use Rattle.loops.proofs.Laws.{count-le, count-shift}
 use Rattle.algebra.specs.Solver.{_:+_, _:-_, :0, _:=_, ring1}
@@ -27,7 +27,7 @@ use Rattle.network.specs.declared.Arc.{Arc}
 use Rattle.network.specs.declared.Net.{Net}
 use Rattle.network.specs.Network.{noArc, emptyNet, arcAt, supplyAt, isHere, withArc, withSupply, withNode}
 use Rattle.network.specs.Output.{rankOf, isUsed, arcRank, renumbered, behindNodes, behindArcs, packNode, packArc, packedOf}
-use Rattle.network.specs.Legal.{Legal}
+use Rattle.network.specs.Legal.{Legal, Gapless}
 use Rattle.network.specs.Program.{exactArc, exactOf, programOf}
 use Rattle.network.proofs.Legal.{number, getD-all}
 use Rattle.network.proofs.Kept.{here-number, used-number}
@@ -172,6 +172,15 @@ module _ {net : Net} (g : Legal net) where
   arc-beyond k l =
       let e = count-shift (isUsed net) 96 unused-0 in
       rw (packed-is net, packs-out (isUsed net) (λ k. renumbered net (arcAt net k)) (replicate 97 noArc) noArc 96 k (inr (omega (arith, arcs-left))), getD-all 97 k noArc)
+
+  pub packed-gapless : Gapless (packedOf net)
+  packed-gapless =
+      record {
+        node-in = node-within;
+        node-out = node-beyond;
+        arc-in = λ k a b. used-from (packed-legal g) k (arc-within k a b);
+        arc-out = λ k l. eqb-true _ _ (not-false _ (arc-beyond k l));
+      }
 
   pub node-up : (k : ℕ) → isHere (packedOf net) k ≡ true → (1 ≤ k) × (k ≤ packedOf net .n)
   node-up k e = by (ltb (packedOf net .n) k) refl

@@ -2,7 +2,7 @@
 use mathlib.Core.Path.{_≡_}
 use mathlib.Core.Bool.{true, false}
 use mathlib.Core.Logic.{_⊎_}
-use Prim.Native.Nat.{ℕ, _≤_}
+use Prim.Native.Nat.{ℕ, _≤_, _<_}
 use lib.ListN.{length}
 use Rattle.fraction.specs.declared.Fraction.{Fraction}
 use Rattle.fraction.specs.Exact.{Proper, noLower, noUpper, isZero}
@@ -44,3 +44,10 @@ pub record Legal (net : Net) : Type 0 where
 -- an arc that may be put at a number: none, or one in use
 abbrev pub MayPut : Net → Arc → Type 0
 MayPut net t = (t ≡ noArc) ⊎ LegalArc net t
+
+-- the numbers have no gaps: the nodes in use are exactly 1 to n, and the arcs in use exactly 1 to m
+pub record Gapless (net : Net) : Type 0 where
+  pub node-in : (i : ℕ) → 1 ≤ i → i ≤ net .n → isHere net i ≡ true
+  pub node-out : (i : ℕ) → net .n < i → isHere net i ≡ false
+  pub arc-in : (j : ℕ) → 1 ≤ j → j ≤ net .m → 1 ≤ arcAt net j .from
+  pub arc-out : (j : ℕ) → net .m < j → arcAt net j .from ≡ 0

@@ -1,0 +1,66 @@
+-- `optimality::figures::all_within` meets its contract. Assumes nothing.
+use Prim.Native.Nat.{_+_, _-_}
+use Rattle.fraction.specs.Exact.{noFigure}
+use Rattle.loops.proofs.Laws.{Passed, passed-all, passed-fails, passed-more, passed-none}
+use Rattle.network.proofs.Laws.{length-mapped}
+use Rattle.network.specs.Network.{arcAt, noArc}
+use Rattle.network.specs.Pair.{flowAt}
+use Rattle.optimality.proofs.Laws.{past}
+use Rattle.optimality.specs.Figures.{isWithinAt}
+use borrow.Author.Needs.{needs}
+use lib.ListN.{length}
+use mathlib.Core.Logic.{⊎-elim}
+use mathlib.Core.Path.{_∙_, _≡_, sym}
+use native.Mathlib.Omega.{arith}
+use Rattle.optimality.proofs.figures.all_within.Statement.{statement}
+use Rattle.optimality.proofs.figures.all_within.Tie as tie
+
+abbrev Inv-loop : tie.InvT-loop
+Inv-loop net pair j₀ j-end j = Passed (isWithinAt net pair) j-end j
+
+abbrev μ-loop : tie.MeasureT-loop
+μ-loop net pair j₀ j-end j = j-end - j
+
+t-is : (c : tie.Joined1 Inv-loop μ-loop) → c .if1 .t ≡ arcAt (c .before .before .before .before .before .args .t1) (c .before .before .before .before .loop .j + 1)
+t-is c =
+    let long : length (c .before .before .before .before .before .args .t1 .arcs) ≡ 97 = search (length-mapped, needs) in
+    ⊎-elim (λ w. w .3) (λ w. w .1 ∙ c .before .before .no-arc .ensures ∙ past (c .before .before .before .before .before .args .t1 .arcs) noArc _ long (w .0 .left)) (c .if1 .came)
+
+x-is : (c : tie.Joined1 Inv-loop μ-loop) → c .if1 .x ≡ flowAt (c .before .before .before .before .before .args .t2) (c .before .before .before .before .loop .j + 1)
+x-is c =
+    let long : length (c .before .before .before .before .before .args .t2 .flow) ≡ 97 = search (length-mapped, needs) in
+    ⊎-elim (λ w. w .4) (λ w. w .2 ∙ c .before .no-figure .ensures ∙ past (c .before .before .before .before .before .args .t2 .flow) noFigure _ long (w .0 .left)) (c .if1 .came)
+
+loop-holds : tie.Need-loop-holds Inv-loop μ-loop
+loop-holds c = passed-none _ _
+
+returns : tie.Need-returns Inv-loop μ-loop
+returns c = passed-fails (c .before .before .before .before .before .before .loop .inv) (omega arith) (sym (rw (t-is (c .before .before), x-is (c .before .before)) at (c .before .is-within .ensures)) ∙ c .if2 .left)
+
+loop-again : tie.Need-loop-again Inv-loop μ-loop
+loop-again c = passed-more (c .before .before .before .before .before .before .loop .inv) (omega arith) (sym (rw (t-is (c .before .before), x-is (c .before .before)) at (c .before .is-within .ensures)) ∙ c .if2 .taken)
+
+returns-2 : tie.Need-returns-2 Inv-loop μ-loop
+returns-2 c = passed-all (c .before .loop .inv) (omega arith)
+
+pub all-within-spec : {M : Type 1} → statement M
+all-within-spec =
+    tie.close
+    (tie.spec
+    Inv-loop
+    μ-loop
+    loop-holds
+    (λ c κs. search needs)
+    (λ c κs. search needs)
+    (λ c. search needs)
+    (λ c. search needs)
+    (λ c. search needs)
+    (λ c. search needs)
+    (λ c. search needs)
+    (λ c. search needs)
+    (λ c κs. search needs)
+    returns
+    (λ c. search needs)
+    (λ c. search needs)
+    loop-again
+    returns-2)
