@@ -73,9 +73,9 @@ pub fn count_differences<const N: usize, const M: usize>(
     differ
 }
 
-/// The first words of a part of a question that holds a record; none where their number can't be.
+/// The first words of a part of a question that holds a record; a number below zero counts as 0. None: too many.
 pub fn record_in(room: &[i32], length: i32) -> Option<&[i32]> {
-    room.get(..usize::try_from(length).ok()?)
+    room.get(..length.max(0) as usize)
 }
 
 /// A program of this package, beside the one running.

@@ -16,5 +16,6 @@ pub mod sample_texts;
 pub mod samples;
 pub mod scenes;
 pub mod solve;
+pub mod step_pairs;
 pub mod text;
 pub mod trips;

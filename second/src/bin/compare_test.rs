@@ -19,7 +19,7 @@ const PAIR_ROOM: usize = 40;
 const LENT: usize = 4;
 /// The lengths of the records, how many words are lent for the value, the records with zeros behind them.
 const ASKED: usize = 3 + NETWORK_ROOM + PAIR_ROOM;
-/// The number of the answer, 0 where the pair is passed, -1 where a length can't be; then the words for the value,
+/// The number of the answer, 0 where the pair is passed, -1 where a length is too large; then the words for the value,
 /// of which those not lent stay as they were.
 const TOLD: usize = 1 + LENT;
 const AS_BEFORE: i32 = 7;
@@ -36,7 +36,7 @@ fn question(network: &[i32], pair: &[i32], lent: i32) -> Question {
     question
 }
 
-/// A pair with its network; now and then records that are none, or lengths that can't be.
+/// A pair with its network; now and then records that are none, or other lengths.
 fn drawn(draw: &mut Draw) -> Question {
     let case = case(draw);
     let (mut network, mut pair) = (case.network.record().words(), case.pair.record().words());
@@ -74,11 +74,11 @@ fn instances() -> Vec<(Question, Answer)> {
     ]
 }
 
-/// The words asked about; none where some length can't be.
+/// The words asked about and how many are lent; none where a length is too large.
 fn asked(question: &Question) -> Option<(&[i32], &[i32], usize)> {
     let (network_room, pair_room) = question[3..].split_at(NETWORK_ROOM);
     let (network, pair) = (record_in(network_room, question[0])?, record_in(pair_room, question[1])?);
-    let lent = usize::try_from(question[2]).ok().filter(|&lent| lent <= LENT)?;
+    let lent = Some(question[2].max(0) as usize).filter(|&lent| lent <= LENT)?;
     Some((network, pair, lent))
 }
 
