@@ -23,6 +23,13 @@ fn with_sign_of(figure: &Exact, number: Exact) -> Exact {
     }
 }
 
+/// A factor times a whole number, just beyond the width where the factor is above 1 in size.
+fn beyond(draw: &mut Draw, factor: &Exact) -> Exact {
+    let factor = factor.fraction().expect("a figure of a network");
+    let times = WIDEST * factor.denominator() as i64 / (factor.numerator() as i64).abs() + draw.within(0, 1);
+    &exact(factor) * &Exact::whole(times)
+}
+
 /// An arc's figures at a node, exactly: c, e, and o with the other end, if it has one.
 struct Side {
     c: Exact,
@@ -63,9 +70,10 @@ impl Side {
     /// Brings o × other price, c less that, or the price at the node to the width, the first and last with c's sign.
     fn aim(&self, draw: &mut Draw, pair: &mut Pair) {
         let width = at_the_width(draw);
-        let rest = match draw.below(3) {
+        let rest = match draw.below(4) {
             0 => &self.c - &with_sign_of(&self.c, width),
-            1 => width,
+            1 => &self.c - &with_sign_of(&self.c, self.other.as_ref().map_or(width, |(_, o)| beyond(draw, o))),
+            2 => width,
             _ => with_sign_of(&self.c, &width * &self.e),
         };
         self.set_rest(pair, &rest);
@@ -122,13 +130,14 @@ fn aim_two_arcs(draw: &mut Draw, change: &Change, pair: &mut Pair) {
         pair.flows.insert(kept.0, flow);
     }
     let (width, supply) = (at_the_width(draw), exact(*supply));
-    match draw.below(12) {
-        0 => k.aim(draw, pair),
+    match draw.below(14) {
+        12 | 0 => k.aim(draw, pair),
         1 => j.aim(draw, pair),
         // ej × price, and the reduced cost
-        2 => {
-            k.set_rest(pair, &(&(&width / &j.e) * &k.e));
-            j.set_rest(pair, &with_sign_of(&width, at_the_width(draw)));
+        2 | 13 => {
+            let product = if draw.chance(50) { width } else { beyond(draw, &j.e) };
+            k.set_rest(pair, &(&(&product / &j.e) * &k.e));
+            j.set_rest(pair, &with_sign_of(&product, at_the_width(draw)));
         }
         3 => j.set_rest(pair, &(&width + &(&j.e * &k.price(pair)))),
         // A reduced cost of 0, or one on either side of it.
