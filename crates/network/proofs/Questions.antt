@@ -134,3 +134,27 @@ asked-go xs n m e = by (sizesOf xs) refl e
         let i : n ≡ p = sym (h .1 .0) in
         let j : m ≡ r = sym (h .1 .1) in
         rw (i, j) (f, h .0)
+
+-- a question that is answered by no has a number, from 2 on
+sizes-no : (len : ℕ) (s t : Size) (q : ℕ) → sized len s t ≡ No q → 2 ≤ q
+sizes-no len (Is n) (Is m) q e = by (eqb len (2 + 2 * figures n m)) e
+  where
+    by : (b : Bool) → cond b (Go n m) (No 2) ≡ No q → 2 ≤ q
+    by true e = never cc
+    by false e = let k : 2 ≡ q = cc in omega arith
+sizes-no len (Is n) Off q e = let k : 2 ≡ q = cc in omega arith
+sizes-no len Off t q e = let k : 2 ≡ q = cc in omega arith
+
+figures-no : (a b c : Bool) (n m q : ℕ) → byFigures a b c n m ≡ No q → 2 ≤ q
+figures-no false b c n m q e = let k : 3 ≡ q = cc in omega arith
+figures-no true false c n m q e = let k : 4 ≡ q = cc in omega arith
+figures-no true true false n m q e = let k : 5 ≡ q = cc in omega arith
+figures-no true true true n m q e = never cc
+
+pub asked-no : (xs : List ℤ) (q : ℕ) → askedOf xs ≡ No q → 2 ≤ q
+unfolding askedOf sizesOf figuresAsked
+asked-no xs q e = by (sizesOf xs) refl e
+  where
+    by : (s : Asked) → sizesOf xs ≡ s → onSizes xs s ≡ No q → 2 ≤ q
+    by (No p) f e = sizes-no (length xs) (sizeOf (word xs 0) 32) (sizeOf (word xs 1) 96) q (f ∙ e)
+    by (Go n m) f e = figures-no (all (isInForm xs n (figures n m)) (figures n m)) (all (hasEnds xs n (figures n m)) m) (all (isWeightedAt xs n (figures n m)) m) n m q e

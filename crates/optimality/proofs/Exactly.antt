@@ -237,10 +237,11 @@ module _ {net : Net} (g : Legal net) (h : Gapless net) (pair : Pair) (form : (j 
 
   solved-tests : Solved N (exactPair pair) → (all (isBalanced net pair) (net .n) ≡ true) × (all (isWithinAt net pair) (net .m) ≡ true) × (all (keepsRuleAt net pair) (net .m) ≡ true)
   unfolding exactOf
-  solved-tests s =
-      (each-all (isBalanced net pair) (net .n) (λ i l. is-balanced i l (s .feasible .balance (i + 1) (once-mem (range-once (i + 1) 33 (omega (arith, g .few-nodes))))))
-      , each-all (isWithinAt net pair) (net .m) (λ j l. is-bounded j l (s .feasible .within (j + 1) (column-mem j l)))
-      , each-all (keepsRuleAt net pair) (net .m) (λ j l. is-kept j l (s .priced (j + 1) (column-mem j l))))
+  solved-tests s = (
+    each-all (isBalanced net pair) (net .n) (λ i l. is-balanced i l (s .feasible .balance (i + 1) (once-mem (range-once (i + 1) 33 (omega (arith, g .few-nodes)))))),
+    each-all (isWithinAt net pair) (net .m) (λ j l. is-bounded j l (s .feasible .within (j + 1) (column-mem j l))),
+    each-all (keepsRuleAt net pair) (net .m) (λ j l. is-kept j l (s .priced (j + 1) (column-mem j l))),
+  )
     where
       column-mem : (j : ℕ) → j < net .m → List·Memᴰ (j + 1) (range 97)
       column-mem j l = once-mem (range-once (j + 1) 97 (omega (arith, g .few-arcs)))

@@ -10,7 +10,7 @@ use lib.Dec.{T, eqb}
 use borrow.Author.Tests.{eq-eqb, ne-eqb, eqb-true, eqb-false}
 use Rattle.loops.specs.Loops.{upto}
 use Rattle.algebra.specs.Solver.{_:+_, _:*_, _:-_, :0, _:=_, ring1, ring3}
-use Rattle.algebra.specs.Rat.{ℚ, ℚ-ring, _+ℚ_, _*ℚ_, -ℚ_, 0ℚ, addℚ-zero, addℚ-comm}
+use Rattle.algebra.specs.Rat.{ℚ, ℚ-ring, _+ℚ_, _*ℚ_, 0ℚ, addℚ-zero, addℚ-comm}
 use Rattle.algebra.specs.Sum.{sum, range, only, only-same, only-other}
 use Rattle.presolve.specs.LP.{reduced, brings, total}
 use Rattle.presolve.specs.Price.{only-zero}

@@ -4,7 +4,7 @@ use Prim.Native.Nat.{ℕ, _+_}
 use Rattle.loops.specs.Loops.{all, upto}
 use Rattle.fraction.specs.declared.Fraction.{Fraction}
 use Rattle.fraction.specs.declared.Worked.{Worked}
-use Rattle.fraction.specs.declared.Worked.the-variants.{Fits, Misfit}
+use Rattle.fraction.specs.declared.Worked.the-variants.{Fits}
 use Rattle.fraction.specs.Exact.{zeroFraction, isFinite, isLess, isSame}
 use Rattle.fraction.specs.Formula.{isFit, figureOf, _⊕_, _⊖_, _⊗_}
 use Rattle.network.specs.declared.Arc.{Arc}

@@ -1,4 +1,5 @@
-// The figures of the test: balances, reduced costs and the value; and its questions 9 to 12.
+// The figures of the test: balances, reduced costs and the value; and its questions 9 to 12. The loops read an arc in place,
+// so that no network is copied for one; beyond the last number there is none.
 ghost use mathlib.Core.Path.{_≡_};
 ghost use Rattle.loops.specs.Loops.{all};
 ghost use Rattle.fraction.specs.Formula.{_⊕_, _⊗_};
@@ -53,11 +54,12 @@ fn reduced(t: Arc, p: Fraction, q: Fraction) -> Worked
     let cost = t.cost;
     let a = t.a;
     let b = t.b;
-    let d = cost.fit().minus(a.fit().times(p.fit()));
+    let first = cost.fit().minus(a.fit().times(p.fit()));
+    let both = first.minus(b.fit().times(q.fit()));
     if network::is_root(t) {
-        return d;
+        return first;
     }
-    d.minus(b.fit().times(q.fit()))
+    both
 }
 
 // An arc's reduced cost.

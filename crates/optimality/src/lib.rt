@@ -1,7 +1,6 @@
 // The optimality test (01, "The optimality test"): a pair of prices and flows is passed exactly when it proves itself optimal.
 ghost use mathlib.Core.Path.{_≡_};
-ghost use mathlib.Core.List.{_∷_};
-ghost use Prim.Native.Nat.{_≤_, _-_};
+ghost use Prim.Native.Nat.{_≤_};
 ghost use lib.ListN.{length};
 ghost use Rattle.loops.specs.Loops.{zeros};
 ghost use Rattle.optimality.specs.Test.{examined, refusalOf, twoWords, Tested};

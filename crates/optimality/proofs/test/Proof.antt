@@ -1,72 +1,42 @@
+-- `optimality::test` meets its contract. Assumes nothing.
+use Rattle.loops.specs.Loops.{zeros}
+use Rattle.optimality.proofs.Entry.{all-yes, passed, refused}
+use Rattle.optimality.specs.Test.{refusalOf}
 use borrow.Author.Needs.{needs}
+use borrow.Author.Tests.{leb-true}
+use lib.ListN.{length}
+use mathlib.Core.Path.{_∙_, _≡_, ap, sym}
 use Rattle.optimality.proofs.test.Statement.{statement}
 use Rattle.optimality.proofs.test.Tie as tie
-use Rattle.optimality.proofs.test.Reads as reads
-use Rattle.optimality.proofs.test.Lts as lts
-use Rattle.fraction.proofs.Worked.figure.Reads as figure-reads
-use Rattle.loops.proofs.clear.Reads as clear-reads
-use Rattle.network.proofs.pair.read_pair.Reads as read-pair-reads
-use Rattle.network.proofs.record.read.Reads as read-reads
-use Rattle.optimality.proofs.ask.Reads as ask-reads
-use Rattle.optimality.proofs.figures.value.Reads as value-reads
-use Rattle.optimality.proofs.write_words.Reads as write-words-reads
 
--- src/lib.rt:56:5
-clear-requires : tie.Need-clear-requires
-clear-requires c κs = search needs
+asked-is : (c : tie.After-ask) → c .ask .result ≡ refusalOf (c .before .before .before .before .args .network .now) (c .before .before .before .before .args .pair .now) (length (c .before .before .before .before .args .values .now))
+asked-is c = rw (c .before .before .clear .kept .0) at (c .ask .ensures)
 
--- src/lib.rt:57:9
-ask-requires : tie.Need-ask-requires
-ask-requires c κs = search needs
-
--- src/lib.rt:59:13
-read-requires : tie.Need-read-requires
-read-requires c κs = search needs
-
--- src/lib.rt:60:13
-read-pair-requires : tie.Need-read-pair-requires
-read-pair-requires c κs = search needs
-
--- src/lib.rt:61:21
-value-requires : tie.Need-value-requires
-value-requires c κs = search needs
-
--- src/lib.rt:61:21
-figure-requires : tie.Need-figure-requires
-figure-requires c κs = search needs
-
--- src/lib.rt:61:9
 write-words-requires : tie.Need-write-words-requires
-write-words-requires c κs = search needs
+write-words-requires c κs =
+    let y = all-yes _ _ _ (sym (asked-is (c .before .before .before .before .before .before)) ∙ c .before .before .before .before .before .if1 .taken) in
+    (c .before .before .before .before .before .before .before .before .clear .ensures ∙ ap zeros (sym (c .before .before .before .before .before .before .before .before .clear .kept .0)), rw (c .before .before .before .before .before .before .before .before .clear .kept .0) (leb-true 2 _ (y .roomy)))
 
--- src/lib.rt:62:9
-same-length : tie.Need-same-length
-same-length c = search needs
-
--- src/lib.rt:62:9
 returns : tie.Need-returns
-returns c = search needs
+returns c =
+    passed _ _ _ _ (sym (asked-is (c .before .before .before .before .before .before .before .before)) ∙ c .before .before .before .before .before .before .before .if1 .taken)
+    (rw (c .before .before .before .figure .ensures, c .before .before .before .before .value .ensures, c .before .before .before .before .before .read-pair .ensures, c .before .before .before .before .before .before .read .ensures, c .before .before .before .before .before .before .before .before .before .before .clear .kept .0) at (c .before .write-words .ensures))
 
--- src/lib.rt:53:1
-same-length-2 : tie.Need-same-length-2
-same-length-2 c = search needs
-
--- src/lib.rt:53:1
 returns-2 : tie.Need-returns-2
-returns-2 c = search needs
+returns-2 c = refused _ _ _ _ _ (asked-is (c .before)) (c .if1 .left) (c .before .before .before .clear .ensures)
 
 pub test-spec : {M : Type 1} → statement M
 test-spec =
     tie.close
     (tie.spec
-    clear-requires
-    ask-requires
-    read-requires
-    read-pair-requires
-    value-requires
-    figure-requires
+    (λ c κs. search needs)
+    (λ c κs. search needs)
+    (λ c κs. search needs)
+    (λ c κs. search needs)
+    (λ c κs. search needs)
+    (λ c κs. search needs)
     write-words-requires
-    same-length
+    (λ c. search needs)
     returns
-    same-length-2
+    (λ c. search needs)
     returns-2)
