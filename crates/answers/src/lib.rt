@@ -9,6 +9,8 @@ ghost use Rattle.answers.specs.Answers.{noFlowBytes, refusedBytes, sizeA
 use reduction::Answer;
 use text::Reading;
 
+pub mod restoring;
+
 // The size that word k of a record says; 0 where there is none.
 fn size_at(words: &[i32], k: usize) -> usize
     ensures { λ r. ⌜ (r ≡ sizeAt (now (words .entry)) k) × (r ≤ 2147483647) ⌝ }

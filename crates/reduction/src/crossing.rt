@@ -39,7 +39,7 @@ fn has_sign(t: Arc, i: usize, below: bool) -> bool
 }
 
 // The first arc after number k with that sign at node i; 0 where there is none.
-fn signed_after(net: Net, i: usize, below: bool, k: usize) -> usize
+pub fn signed_after(net: Net, i: usize, below: bool, k: usize) -> usize
     ensures { λ r. ⌜ r ≡ signedAfter net i below k ⌝ }
 {
     if 96 <= k {

@@ -1,0 +1,87 @@
+// From the bytes of a restoring text to the bytes of the answer.
+ghost use mathlib.Core.Path.{_≡_};
+ghost use mathlib.Core.List.{_++_};
+ghost use Prim.Native.Nat.{_+_, _*_, _≤_};
+ghost use lib.ListN.{length};
+ghost use Rattle.answers.specs.Answers.{partLine, Printed, mostOf};
+ghost use Rattle.answers.specs.Restoring.{stackSplit, splitSized, splitOf, pairLines, valueLines, restoredLines, mostRestored};
+use network::record::Size;
+use restoration::Answer;
+
+// Where the network and where the stack ends in the words of a text, or the number of the refusal.
+pub enum Split {
+    Parts(usize, usize),
+    No(usize),
+}
+
+// The stack behind a network that ends at a place.
+fn split_stack(words: &[i32], end: usize) -> Split
+    requires { ⌜ end ≤ 100000 ⌝ }
+    ensures { λ r. ⌜ r ≡ stackSplit (now (words .entry)) end ⌝ }
+{
+    match network::record::size_at(words, end, 128) {
+        Size::Off => Split::No(7),
+        Size::Is(s) => if end + 1 + 2 * s <= words.len() {
+            Split::Parts(end, end + 1 + 2 * s)
+        } else {
+            Split::No(7)
+        },
+    }
+}
+
+fn split_sized(words: &[i32], n: usize, m: usize) -> Split
+    requires { ⌜ (n ≤ 32) × (m ≤ 96) ⌝ }
+    ensures { λ r. ⌜ r ≡ splitSized (now (words .entry)) n m ⌝ }
+{
+    let end = 2 + 2 * (n + 7 * m);
+    if end <= words.len() {
+        return split_stack(words, end);
+    }
+    Split::No(2)
+}
+
+// The words of a text, split by their sizes.
+fn split_words(words: &[i32]) -> Split
+    ensures { λ r. ⌜ r ≡ splitOf (now (words .entry)) ⌝ }
+{
+    match network::record::size_at(words, 0, 32) {
+        Size::Off => Split::No(2),
+        Size::Is(n) => match network::record::size_at(words, 1, 96) {
+            Size::Off => Split::No(2),
+            Size::Is(m) => split_sized(words, n, m),
+        },
+    }
+}
+
+fn put_pair(out: &mut [u8], at: usize, words: &[i32]) -> usize
+    ensures { λ r. ⌜ Printed (now (out .entry)) at (pairLines (now (words .entry))) (mostOf (length (now (words .entry)))) r (now (out .exit)) ⌝ }
+{
+    let n = crate::size_at(words, 0);
+    let m = crate::size_at(words, 1);
+    crate::put_record(out, at, words, 2, n + m)
+}
+
+fn put_values(out: &mut [u8], at: usize, words: &[i32]) -> usize
+    ensures { λ r. ⌜ Printed (now (out .entry)) at (valueLines (now (words .entry))) (mostOf (length (now (words .entry)))) r (now (out .exit)) ⌝ }
+{
+    let a = crate::put_part(out, at, words, 0, 2);
+    crate::put_part(out, a, words, 2, 2)
+}
+
+fn put_restored(out: &mut [u8], at: usize, pair: &[i32], values: &[i32]) -> usize
+    ensures { λ r. ⌜ Printed (now (out .entry)) at (restoredLines Answer.Restored (now (pair .entry)) (now (values .entry))) (mostRestored (length (now (pair .entry))) (length (now (values .entry)))) r (now (out .exit)) ⌝ }
+{
+    let a = text::put_bytes(out, at, b"restored\n");
+    let b = put_pair(out, a, pair);
+    put_values(out, b, values)
+}
+
+// An answer, with the words of the restored pair and of the values.
+fn put_answer(out: &mut [u8], at: usize, answer: Answer, pair: &[i32], values: &[i32]) -> usize
+    ensures { λ r. ⌜ Printed (now (out .entry)) at (restoredLines answer (now (pair .entry)) (now (values .entry))) (mostRestored (length (now (pair .entry))) (length (now (values .entry)))) r (now (out .exit)) ⌝ }
+{
+    match answer {
+        Answer::Restored => put_restored(out, at, pair, values),
+        Answer::Refused(q) => crate::put_refusal(out, at, q),
+    }
+}
