@@ -7,14 +7,13 @@
 ghost use Prim.Native.Nat.{_≤_, _<_};
 use optimality::Answer;
 
-fn put_words(out: &mut [u8], at: usize, words: &[i32])
+fn put_values(out: &mut [u8], at: usize, values: [i32; 4])
     requires { ⌜ at < 50000 ⌝ }
 {
-    for i in 0..4 {
-        if i < words.len() {
-            wire::put(out, at + 4 * i, words[i]);
-        }
-    }
+    wire::put(out, at, values[0]);
+    wire::put(out, at + 4, values[1]);
+    wire::put(out, at + 8, values[2]);
+    wire::put(out, at + 12, values[3]);
 }
 
 fn number_of(a: Answer) -> usize {
@@ -24,21 +23,45 @@ fn number_of(a: Answer) -> usize {
     }
 }
 
+fn refuse(out: &mut [u8], at: usize)
+    requires { ⌜ at < 40000 ⌝ }
+{
+    wire::put(out, at, -1);
+    put_values(out, at + 4, [7i32; 4]);
+}
+
 fn answer(network: &[i32], pair: &[i32], lent: usize, out: &mut [u8], at: usize)
-    requires { ⌜ (at < 50000) × (lent ≤ 4) ⌝ }
+    requires { ⌜ (at < 40000) × (lent ≤ 4) ⌝ }
 {
     let mut values = [7i32; 4];
     let a = optimality::test(network, pair, &mut values[..lent]);
     wire::put_number(out, at, number_of(a));
-    put_words(out, at + 4, &values);
+    put_values(out, at + 4, values);
 }
 
-fn refuse(out: &mut [u8], at: usize)
-    requires { ⌜ at < 50000 ⌝ }
+fn answer_lent(network: &[i32], pair: &[i32], lent: usize, out: &mut [u8], at: usize)
+    requires { ⌜ at < 40000 ⌝ }
 {
-    let values = [7i32; 4];
-    wire::put(out, at, -1);
-    put_words(out, at + 4, &values);
+    if lent <= 4 {
+        answer(network, pair, lent, out, at);
+    } else {
+        refuse(out, at);
+    }
+}
+
+// The answer to the record in `input` from place `at`, its network being read already.
+fn answer_pair(network: &[i32], input: &[u8], at: usize, out: &mut [u8], n: usize)
+    requires { ⌜ (at < 40000) × (n < 32) ⌝ }
+{
+    let length = wire::number(wire::word(input, at + 4));
+    let lent = wire::number(wire::word(input, at + 8));
+    let mut words = [0i32; 40];
+    wire::read(input, at + 652, &mut words, 40);
+    if length <= 40 {
+        answer_lent(network, &words[..length], lent, out, n * 20);
+    } else {
+        refuse(out, n * 20);
+    }
 }
 
 fn answer_one(input: &[u8], out: &mut [u8], n: usize)
@@ -46,14 +69,10 @@ fn answer_one(input: &[u8], out: &mut [u8], n: usize)
 {
     let at = n * 812;
     let length = wire::number(wire::word(input, at));
-    let pair_length = wire::number(wire::word(input, at + 4));
-    let lent = wire::number(wire::word(input, at + 8));
     let mut words = [0i32; 160];
     wire::read(input, at + 12, &mut words, 160);
-    let mut pair_words = [0i32; 40];
-    wire::read(input, at + 652, &mut pair_words, 40);
-    if length <= 160 && pair_length <= 40 && lent <= 4 {
-        answer(&words[..length], &pair_words[..pair_length], lent, out, n * 20);
+    if length <= 160 {
+        answer_pair(&words[..length], input, at, out, n);
     } else {
         refuse(out, n * 20);
     }
