@@ -19,13 +19,22 @@ use Rattle.network.specs.declared.Kind.the-variants.{Passes, Changes}
 use Rattle.network.specs.declared.record.Asked.{Asked}
 use Rattle.network.specs.Network.{emptyNet, withArc, withSupply, withNode, without, applied, isTouching, degreeOf, touchingAfter, isRoot, farEnd, sideOf}
 use Rattle.network.specs.Record.{figureAt, sizesOf, roleOf, isPermitted, isEnd, hasEnds, arcIn, isWeighted, figuresAsked, askedOf, netOf, readOf}
-use Rattle.network.specs.Output.{rankOf, packNode, packArc, packedOf, arraysOf, wordOf, roleFigure, figureOf, hasRoom, networkOf}
+use Rattle.network.specs.Pair.{withPrice, withFlow, hasSizes, isPair, pairOf as pairRead}
+use Rattle.network.specs.Output.{arcRank, rankOf, packNode, packArc, packedOf, arraysOf, wordOf, roleFigure, figureOf, hasRoom, networkOf}
 use Rattle.reduction.specs.declared.Answer.{Answer}
 use Rattle.reduction.specs.declared.Answer.the-variants.{Reduced, NoFlow}
 use Rattle.reduction.specs.Rules.{supplyLess, droppedOf, atFlow, closedArc, ruleOne, bareNode, ruleTwo, singleArc, ruleThree, isOpenRoot, isCostlier, hasPartner, hasPair, isCandidate, ruleFour, sameSign, farMultiplier, farSupply, keptCost, boundFrom, keptLower, keptUpper, keptOf, twoArcs, keepFirst, keepOne, ruleFive, hasSignAt, signedAfter, isFree, isApart, crossedOf, fourOf, crossingAt, withThree, withTwo, withOne, crossingOf, bothSigns, signsOf, ruleSix, nodeRule, ruleAt}
 use Rattle.reduction.specs.Search.{stepAt, lastPlace, ranked, nextOf, stepped, ranOf}
 use Rattle.reduction.specs.Stack.{stackOf}
 use Rattle.reduction.specs.Reduce.{isRoomy, questions, answerOf, outputOf, stackWords}
+use Rattle.optimality.specs.Figures.{balanceOf, reducedCost, valueOf, allFit, isWithin, isAt, keepsRule, verdictOf}
+use Rattle.optimality.specs.Test.{examined}
+use Rattle.restoration.specs.declared.Answer.{Answer as AnswerBack}
+use Rattle.restoration.specs.declared.Answer.the-variants.{Restored, Refused as RefusedBack}
+use Rattle.restoration.specs.Trace.{oldArc, crossedTrace, traceOf}
+use Rattle.restoration.specs.Back.{putFlow, putPrice, needed, quoteOf, backRemoved, backBare, backSingle, mergedFlow, keptCost as costBack, mergedPrice, backMerged, crossedFlow, crossedFlows, backCrossed, backOf, undone}
+use Rattle.restoration.specs.Way.{spreadOf, after, traceAt, backOver, wayBack}
+use Rattle.restoration.specs.Restore.{isStack, backFrom, ranRefusal, isRoomy as isRoomyBack, refusalOf, answerOf as answerBack, outBy, valuesBy, pairFigure, pairWords}
 
 pub record Row : Type 1 where
   pub Compared : Type 0
@@ -76,8 +85,39 @@ left =
     ++ (pos 4 ∷ neg 4 ∷ pos 1 ∷ pos 2 ∷ pos 1 ∷ pos 0 ∷ pos 3 ∷ pos 1 ∷ neg 1 ∷ pos 1 ∷ pos 2 ∷ pos 2 ∷ pos 0 ∷ pos 1 ∷ pos 1 ∷ neg 1 ∷ [])
     ++ (pos 1 ∷ pos 1 ∷ pos 1 ∷ pos 1 ∷ pos 1 ∷ pos 1 ∷ pos 1 ∷ pos 1 ∷ pos 1 ∷ pos 1 ∷ pos 1 ∷ pos 1 ∷ pos 1 ∷ pos 0 ∷ pos 1 ∷ pos 1 ∷ [])
 
+abbrev stack : List ℤ
+stack = pos 1 ∷ pos 3 ∷ pos 3 ∷ []
+
 abbrev A : Row
-A = row Outcome (reducing given) (outcome Reduced left (pos 1 ∷ pos 3 ∷ pos 3 ∷ []))
+A = row Outcome (reducing given) (outcome Reduced left stack)
+
+-- A and B: restoring, with the least that may be lent: 258 words for the pair, 4 for the values, 10240 of scratch
+
+-- the answer, all words of the pair and all words of the values
+abbrev Return : Type 0
+Return = AnswerBack × (List ℤ × List ℤ)
+
+abbrev returnBy : ℕ → List ℤ → List ℤ → Return
+returnBy q xs ys =
+    (answerBack q, (outBy q (readOf xs) (backFrom (readOf xs) (ranOf (readOf xs)) ys) 258, valuesBy q (readOf xs) (ranOf (readOf xs)) ys (backFrom (readOf xs) (ranOf (readOf xs)) ys) 4))
+
+abbrev restoring : List ℤ → List ℤ → List ℤ → Return
+restoring xs zs ys = returnBy (refusalOf xs zs ys 258 4 10240) xs ys
+
+-- A, its restoring half: prices 2 and 0, flows 3 and 1
+abbrev offered : ℕ → ℕ → List ℤ
+offered x y = (pos 2 ∷ pos 2 ∷ []) ++ (pos 2 ∷ pos 0 ∷ pos x ∷ pos y ∷ []) ++ (pos 1 ∷ pos 1 ∷ pos 1 ∷ pos 1 ∷ [])
+
+abbrev back : List ℤ
+back = (pos 3 ∷ pos 3 ∷ []) ++ (pos 2 ∷ pos 0 ∷ pos 7 ∷ pos 3 ∷ pos 1 ∷ pos 2 ∷ []) ++ (pos 1 ∷ pos 1 ∷ pos 1 ∷ pos 1 ∷ pos 1 ∷ pos 1 ∷ [])
+
+-- reduced value 5, value 19
+abbrev A-back : Row
+A-back = row Return (restoring given stack (offered 3 1)) (Restored, (filled 258 back, pos 5 ∷ pos 1 ∷ pos 19 ∷ pos 1 ∷ []))
+
+-- B. A's pair with flows 2 and 2, prices unchanged: refusal 12
+abbrev B : Row
+B = row Return (restoring given stack (offered 2 2)) (RefusedBack 12, (zeros 258, zeros 4))
 
 -- E. n = 0, m = 0: reduced, no steps
 abbrev nothing : List ℤ
@@ -164,8 +204,8 @@ J = row (Worked × Worked) (sumOf (over (pos 2147483647) 1) (over (pos 1) 1), su
 -- ---- the table
 
 abbrev pub table : List Row
-table = A ∷ E ∷ F ∷ G ∷ H ∷ I ∷ J ∷ []
+table = A ∷ A-back ∷ B ∷ E ∷ F ∷ G ∷ H ∷ I ∷ J ∷ []
 
 pub marked : All table
-unfolding gcd gcdBy build upto count all any scan runs isOperand isProper fitted reduceOf sumOf productOf differenceOf quotientOf negationOf reciprocalOf isLess isSame isZero fromWords denWord pairOf _⊕_ _⊖_ _⊗_ _⊘_ ⊝_ withArc withSupply withNode without applied isTouching degreeOf touchingAfter isRoot farEnd sideOf figureAt sizesOf roleOf isPermitted isEnd hasEnds arcIn isWeighted figuresAsked askedOf netOf readOf rankOf packNode packArc packedOf arraysOf wordOf roleFigure figureOf hasRoom networkOf isFinite supplyLess droppedOf atFlow closedArc ruleOne bareNode ruleTwo singleArc ruleThree isOpenRoot isCostlier hasPartner hasPair isCandidate ruleFour sameSign farMultiplier farSupply keptCost boundFrom keptLower keptUpper keptOf twoArcs keepFirst keepOne ruleFive hasSignAt signedAfter isFree isApart crossedOf fourOf crossingAt withThree withTwo withOne crossingOf bothSigns signsOf ruleSix nodeRule ruleAt stepAt lastPlace ranked nextOf stepped ranOf stackOf isRoomy questions
-marked = (refl, (refl, (refl, (refl, (refl, (refl, (refl, tt)))))))
+unfolding gcd gcdBy build upto count all any scan runs isOperand isProper fitted reduceOf sumOf productOf differenceOf quotientOf negationOf reciprocalOf isLess isSame isZero fromWords denWord pairOf _⊕_ _⊖_ _⊗_ _⊘_ ⊝_ withArc withSupply withNode without applied isTouching degreeOf touchingAfter isRoot farEnd sideOf figureAt sizesOf roleOf isPermitted isEnd hasEnds arcIn isWeighted figuresAsked askedOf netOf readOf rankOf packNode packArc packedOf arraysOf wordOf roleFigure figureOf hasRoom networkOf isFinite supplyLess droppedOf atFlow closedArc ruleOne bareNode ruleTwo singleArc ruleThree isOpenRoot isCostlier hasPartner hasPair isCandidate ruleFour sameSign farMultiplier farSupply keptCost boundFrom keptLower keptUpper keptOf twoArcs keepFirst keepOne ruleFive hasSignAt signedAfter isFree isApart crossedOf fourOf crossingAt withThree withTwo withOne crossingOf bothSigns signsOf ruleSix nodeRule ruleAt stepAt lastPlace ranked nextOf stepped ranOf stackOf isRoomy questions withPrice withFlow hasSizes isPair pairRead balanceOf reducedCost valueOf allFit isWithin isAt keepsRule verdictOf examined oldArc crossedTrace traceOf putFlow putPrice needed quoteOf backRemoved backBare backSingle mergedFlow costBack mergedPrice backMerged crossedFlow crossedFlows backCrossed backOf undone arcRank spreadOf after traceAt backOver wayBack isStack backFrom ranRefusal isRoomyBack refusalOf pairFigure pairWords
+marked = (refl, (refl, (refl, (refl, (refl, (refl, (refl, (refl, (refl, tt)))))))))

@@ -5,8 +5,8 @@ pub mod Arrays
 pub mod Legal
 pub mod Kept
 pub mod Packed
+pub mod Bounds
 pub mod Sane
 pub mod Ranks
 pub mod Survivors
-pub mod Bounds
 pub mod Paired

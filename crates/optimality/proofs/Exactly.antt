@@ -48,7 +48,7 @@ use Rattle.optimality.proofs.Laws.{each-all}
 use Rattle.optimality.proofs.Values.{Exactly, balance-exactly, value-exactly, cost-exactly, column-used, column-unused}
 
 -- what fits is in form and exact
-fit-is : (w : Worked) {q : ℚ} → Exactly w q → isFit w ≡ true → Proper (figureOf w) × (value (figureOf w) ≡ q)
+pub fit-is : (w : Worked) {q : ℚ} → Exactly w q → isFit w ≡ true → Proper (figureOf w) × (value (figureOf w) ≡ q)
 fit-is (Fits z) k e = k z refl
 fit-is Misfit k e = never cc
 
@@ -99,7 +99,7 @@ module _ {x : Fraction} (p : Proper x) where
     is-negative : value d <ℚ 0ℚ → isLess d zeroFraction ≡ true
     is-negative n = value-less q zero-proper (rw zero-is n)
 
-    rule-is : keepsRule l u x d ≡ true → Bounds.Fits (boundOf l) (boundOf u) (value x) (value d)
+    pub rule-is : keepsRule l u x d ≡ true → Bounds.Fits (boundOf l) (boundOf u) (value x) (value d)
     unfolding keepsRule
     rule-is e = by (isLess zeroFraction d) refl (isLess d zeroFraction) refl e
       where
@@ -108,7 +108,7 @@ module _ {x : Fraction} (p : Proper x) where
         by false f true k e = record { at-lower = λ n. never (let z = sym f ∙ is-positive n in cc); at-upper = λ _. at-is u e }
         by false f false k e = record { at-lower = λ n. never (let z = sym f ∙ is-positive n in cc); at-upper = λ n. never (let z = sym k ∙ is-negative n in cc) }
 
-    is-rule : Bounds.Fits (boundOf l) (boundOf u) (value x) (value d) → keepsRule l u x d ≡ true
+    pub is-rule : Bounds.Fits (boundOf l) (boundOf u) (value x) (value d) → keepsRule l u x d ≡ true
     unfolding keepsRule
     is-rule h = by (isLess zeroFraction d) refl (isLess d zeroFraction) refl
       where

@@ -38,17 +38,17 @@ use Rattle.optimality.specs.Figures.{balanceBy, balanceTurn, balanceOf, 
 abbrev pub Exactly : Worked → ℚ → Type 0
 Exactly w q = (z : Fraction) → w ≡ Fits z → Proper z × (value z ≡ q)
 
-gives : {w : Worked} {q : ℚ} → Exactly w q → Gives w q
+pub gives : {w : Worked} {q : ℚ} → Exactly w q → Gives w q
 gives k z e = k z e .1
 
-same : {w : Worked} {p q : ℚ} → p ≡ q → Exactly w p → Exactly w q
+pub same : {w : Worked} {p q : ℚ} → p ≡ q → Exactly w p → Exactly w q
 same {w} e k = subst (Exactly w) e k
 
 module _ {x y : Worked} {p q : ℚ} (g : Gives x p) (h : Gives y q) where
   plus-exactly : Exactly (x ⊕ y) (p +ℚ q)
   plus-exactly z e = (plus-fits e .is .proper, plus-gives g h z e)
 
-  minus-exactly : Exactly (x ⊖ y) (lessℚ p q)
+  pub minus-exactly : Exactly (x ⊖ y) (lessℚ p q)
   minus-exactly z e = (minus-fits e .is .proper, minus-gives g h z e)
 
 -- one term more

@@ -1,6 +1,7 @@
 pub mod RunLaws
 pub mod Touch
 pub mod Frame
+pub mod Known
 pub mod Sides
 pub mod Arcs
 pub mod Kept

@@ -54,11 +54,11 @@ Merges net i j k t = Sounds net t (two-back (programOf net) i (spokeOf net i j) 
 
 module _ (net : Net) (g : Legal net) (i : ℕ) (here : isHere net i ≡ true) where
   -- the far end of an arc: none, and the multiplier 0, for a root arc
-  data End (w : Side) : Type 0 where
+  pub data End (w : Side) : Type 0 where
     no-end : w .other ≡ 0 → value (w .o) ≡ 𝟘 → End w
     an-end : Far net i w → End w
 
-  end-of : (k : ℕ) → isTouching (arcAt net k) i ≡ true → End (sideOf (arcAt net k) i)
+  pub end-of : (k : ℕ) → isTouching (arcAt net k) i ≡ true → End (sideOf (arcAt net k) i)
   unfolding isRoot
   end-of k t = by (isRoot (arcAt net k)) refl
     where

@@ -1,4 +1,5 @@
 pub mod Rules
+pub mod Seen
 pub mod Search
 pub mod Stack
 pub mod Reduce

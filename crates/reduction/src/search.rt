@@ -1,7 +1,9 @@
 // The search for the next step, and steps until there is none.
 ghost use mathlib.Core.Path.{_≡_};
 ghost use Rattle.reduction.specs.Rules.{nodeRule, ruleAt};
-ghost use Rattle.reduction.specs.Search.{noStep, stepAt, lastPlace, ranked, nextOf, started, stepped, ended, ranOf};
+ghost use Rattle.reduction.specs.Seen.{Known};
+ghost use Rattle.reduction.specs.Search.{noStep, answered, stepAt, lastPlace, ranked, nextOf, started, stepped, ended, ranOf};
+use crate::costly::Seen;
 use network::Change;
 use network::Kind;
 use network::Net;
@@ -68,10 +70,9 @@ fn no_step() -> Step
     }
 }
 
-fn step_at(net: Net, k: usize, i: usize) -> Step
-    ensures { λ r. ⌜ r ≡ stepAt net k i ⌝ }
+fn answer(k: usize, i: usize, t: Tried) -> Step
+    ensures { λ r. ⌜ r ≡ answered k i t ⌝ }
 {
-    let t = try_rule(net, k, i);
     let kind = t.kind;
     let change = t.change;
     Step {
@@ -80,6 +81,12 @@ fn step_at(net: Net, k: usize, i: usize) -> Step
         place: i,
         change,
     }
+}
+
+fn step_at(net: Net, k: usize, i: usize) -> Step
+    ensures { λ r. ⌜ r ≡ stepAt net k i ⌝ }
+{
+    answer(k, i, try_rule(net, k, i))
 }
 
 fn last_place(k: usize) -> usize
@@ -108,18 +115,74 @@ fn scan_rule(net: Net, k: usize) -> Step
     no_step()
 }
 
+// A step, and what is known then.
+struct Found {
+    step: Step,
+    seen: Seen,
+}
+
+// Rule 4 at its places upward, by what is known.
+fn scan_four(net: Net, seen: Seen, now: u8) -> Found
+    requires { ⌜ Known net now seen ⌝ }
+    ensures { λ r. ⌜ (r .step ≡ ranked net 4) × Known net now (r .seen) ⌝ }
+{
+    let mut known = seen;
+    let mut i = 1;
+    while i <= 96 {
+        let s = crate::costly::seek(net, known, i, now);
+        known = s.seen;
+        let t = s.tried;
+        let kind = t.kind;
+        if let Kind::Passes = kind {} else {
+            return Found {
+                step: answer(4, i, t),
+                seen: known,
+            };
+        }
+        i += 1;
+    }
+    Found {
+        step: no_step(),
+        seen: known,
+    }
+}
+
+fn scan_known(net: Net, seen: Seen, k: usize, now: u8) -> Found
+    requires { ⌜ Known net now seen ⌝ }
+    ensures { λ r. ⌜ (r .step ≡ ranked net k) × Known net now (r .seen) ⌝ }
+{
+    if k == 4 {
+        return scan_four(net, seen, now);
+    }
+    let step = scan_rule(net, k);
+    Found { step, seen }
+}
+
+// The next step, by what is known.
+fn next_known(net: Net, seen: Seen, now: u8) -> Found
+    requires { ⌜ Known net now seen ⌝ }
+    ensures { λ r. ⌜ (r .step ≡ nextOf net) × Known net now (r .seen) ⌝ }
+{
+    let mut known = seen;
+    for k in 1..7 {
+        let f = scan_known(net, known, k, now);
+        known = f.seen;
+        let s = f.step;
+        let kind = s.kind;
+        if let Kind::Passes = kind {} else {
+            return f;
+        }
+    }
+    let step = no_step();
+    Found { step, seen: known }
+}
+
 // The next step: the first that applies, by the rules in order and the places upward.
 pub fn next(net: Net) -> Step
     ensures { λ r. ⌜ r ≡ nextOf net ⌝ }
 {
-    for k in 1..7 {
-        let s = scan_rule(net, k);
-        let kind = s.kind;
-        if let Kind::Passes = kind {} else {
-            return s;
-        }
-    }
-    no_step()
+    let f = next_known(net, crate::costly::unseen(), 0);
+    f.step
 }
 
 fn take(at: Ran, s: Step) -> Ran
@@ -176,10 +239,14 @@ pub fn run(net: Net) -> Ran
     ensures { λ r. ⌜ r ≡ ranOf net ⌝ }
 {
     let mut at = start(net);
+    let mut seen = crate::costly::unseen();
     let mut f: usize = 0;
     while f < 128 {
         let now = at.net;
-        let s = next(now);
+        let time = (f + 1) as u8;
+        let found = next_known(now, seen, time);
+        let s = found.step;
+        let known = found.seen;
         let kind = s.kind;
         match kind {
             Kind::Passes => {
@@ -189,6 +256,8 @@ pub fn run(net: Net) -> Ran
                 return end(at, s);
             },
             Kind::Changes => {
+                let change = s.change;
+                seen = crate::costly::mark_all(known, change, time);
                 at = take(at, s);
             },
         }

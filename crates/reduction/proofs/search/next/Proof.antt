@@ -1,45 +1,14 @@
 -- `reduction::search::next` meets its contract. Assumes nothing.
-use Prim.Native.Nat.{_-_}
-use Rattle.loops.proofs.Laws.{Scanned, scanned-all, scanned-found, scanned-more, scanned-none}
-use Rattle.reduction.proofs.RunLaws.{step-stays}
-use Rattle.reduction.specs.Search.{nextOf, noStep, orElse, ranked}
+use Rattle.reduction.proofs.Known.{known-nothing}
 use borrow.Author.Needs.{needs}
-use native.Mathlib.Omega.{arith}
 use Rattle.reduction.proofs.search.next.Statement.{statement}
 use Rattle.reduction.proofs.search.next.Tie as tie
 
-abbrev Inv-loop : tie.InvT-loop
-Inv-loop net k₀ k = Scanned orElse noStep (ranked net) 6 1 k
+next-known-requires : tie.Need-next-known-requires
+next-known-requires c κs = rw (c .unseen .ensures) (known-nothing _)
 
-abbrev μ-loop : tie.MeasureT-loop
-μ-loop net k₀ k = 7 - k
-
-loop-holds : tie.Need-loop-holds Inv-loop μ-loop
-loop-holds c = scanned-none _ _ _ _ _
-
-returns : tie.Need-returns Inv-loop μ-loop
-unfolding nextOf
-returns c = scanned-found _ _ (c .before .before .before .loop .inv) (omega arith) (c .before .scan-rule .ensures) (step-stays (c .before .scan-rule .result .kind) (c .match .keys2) _)
-
-loop-again : tie.Need-loop-again Inv-loop μ-loop
-loop-again c = scanned-more _ _ (c .before .before .before .before .loop .inv) (omega arith) (c .before .before .scan-rule .ensures) (λ g j. rw (c .enum-told .given .1))
-
-returns-2 : tie.Need-returns-2 Inv-loop μ-loop
-unfolding nextOf
-returns-2 c = rw (c .no-step .ensures) (scanned-all _ _ (c .before .before .loop .inv) (omega arith))
+returns : tie.Need-returns
+returns c = c .before .next-known .ensures .0
 
 pub next-spec : {M : Type 1} → statement M
-next-spec =
-    tie.close
-    (tie.spec
-    Inv-loop
-    μ-loop
-    loop-holds
-    (λ c κs. search needs)
-    (λ c. search needs)
-    returns
-    (λ c. search needs)
-    (λ c. search needs)
-    loop-again
-    (λ c κs. search needs)
-    returns-2)
+next-spec = tie.close (tie.spec (λ c κs. search needs) next-known-requires returns)

@@ -6,7 +6,7 @@ use Rattle.reduction.proofs.search.step_at.Tie as tie
 
 returns : tie.Need-returns
 unfolding stepAt
-returns c = rw (c .before .try-rule .ensures)
+returns c = rw (← c .before .try-rule .ensures) (c .answer .ensures)
 
 pub step-at-spec : {M : Type 1} → statement M
-step-at-spec = tie.close (tie.spec (λ c κs. search needs) returns)
+step-at-spec = tie.close (tie.spec (λ c κs. search needs) (λ c κs. search needs) returns)

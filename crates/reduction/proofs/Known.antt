@@ -1,0 +1,312 @@
+-- What is known of rule 4, and that trying what is due alone gives its answer. Assumes nothing.
+use mathlib.Core.Path.{_≡_, refl, sym, ap, ap₂, _∙_}
+use mathlib.Core.List.{List, [], _∷_}
+use mathlib.Core.Bool.{Bool, true, false, cond, _&&_, _||_, not, and-false}
+use mathlib.Core.Logic.{⊎-elim}
+use Prim.Native.Nat.{ℕ, zero, suc, _+_, _≤_, _<_}
+use native.Mathlib.Nat.{not-suc-le-zero, eq-or-lt-of-le, le-of-suc-le-suc}
+use native.Mathlib.Numerals.{add-one}
+use native.Mathlib.Omega.{arith}
+use borrow.Author.Tests.{le-ltb, lt-leb, ltb-true, ltb-false, eqb-true, eqb-false}
+use lib.Dec.{ltb, eqb}
+use lib.ListN.{getD, set, replicate, length-set, length-replicate}
+use lib.Seq.{getD-set-same, getD-set-other}
+use Rattle.loops.specs.Loops.{any}
+use Rattle.loops.proofs.Laws.{getD-build}
+use Rattle.fraction.specs.declared.Fraction.{Fraction}
+use Rattle.fraction.specs.declared.Worked.{Worked}
+use Rattle.fraction.specs.declared.Worked.the-variants.{Fits, Misfit}
+use Rattle.fraction.specs.Exact.{noFigure, isFinite, isOperand, sumOf}
+use Rattle.fraction.specs.Formula.{figureOf, pairOf, _⊕_, _⊗_, _⊘_}
+use Rattle.fraction.specs.Laws.{never}
+use Rattle.network.specs.declared.Arc.{Arc}
+use Rattle.network.specs.declared.Net.{Net}
+use Rattle.network.specs.declared.Change.{Change}
+use Rattle.network.specs.Network.{arcAt, supplyAt, farEnd, passed, withArc, withSupply, without, applied}
+use Rattle.reduction.specs.Rules.{isUnder, isPositive, isOpenRoot, isCostlier, partnerBy, hasPartnerBy, hasPartner, hasPair, supplyLess, droppedOf, atFlow, costlyWith, ruleFour, ruleAt}
+use Rattle.network.specs.declared.Tried.{Tried}
+use Rattle.reduction.specs.declared.search.Step.{Step}
+use Rattle.reduction.specs.declared.search.Ran.{Ran}
+use Rattle.reduction.specs.Search.{answered, stepAt, stepped}
+use Rattle.reduction.specs.declared.costly.Seen.{Seen}
+use Rattle.reduction.specs.Seen.{wayBy, wayOf, wayAt, waysOf, isOld, dueBy, isDueUnder, barOf, isDueFrom, isEnd, isDueEnd, isPair, Searched, Known, nothingSeen, marked, markedAll, soughtAt, isPassed, barredBy}
+use Rattle.reduction.proofs.Frame.{arc-left}
+
+-- ---- tests that agree
+
+any-same : (p q : ℕ → Bool) (n : ℕ) → ((i : ℕ) → i < n → p i ≡ q i) → any p n ≡ any q n
+unfolding any
+any-same p q zero h = refl
+any-same p q (suc n) h = rw (h n (omega (arith, add-one n)), any-same p q n (λ i l. h i (omega (arith, add-one n))))
+
+any-none : (p : ℕ → Bool) (n : ℕ) → ((i : ℕ) → i < n → p i ≡ false) → any p n ≡ false
+unfolding any
+any-none p zero h = refl
+any-none p (suc n) h = rw (any-none p n (λ i l. h i (omega (arith, add-one n)))) (h n (omega (arith, add-one n)))
+
+or-neither : (s t : Bool) → (s || t) ≡ false → (s ≡ false) × (t ≡ false)
+or-neither true t e = never (let f = sym e in cc)
+or-neither false t e = (refl, e)
+
+none-any : (p : ℕ → Bool) (n : ℕ) → any p n ≡ false → (i : ℕ) → i < n → p i ≡ false
+unfolding any
+none-any p zero e i h = absurd (not-suc-le-zero h)
+none-any p (suc n) e i h =
+    let b = or-neither (any p n) (p n) e in
+    ⊎-elim (λ (q : i ≡ n). rw q (b .1)) (λ (l : i < n). none-any p n (b .0) i l) (eq-or-lt-of-le (le-of-suc-le-suc h))
+
+-- ---- by way of root arcs
+
+-- the sum of two figures is that of the formulas, where none stands for a misfit
+sum-way : (u v : Worked) (c : Fraction) → isUnder (sumOf (figureOf u) (figureOf v)) c ≡ isUnder (u ⊕ v) c
+unfolding sumOf isOperand _⊕_ pairOf
+sum-way (Fits x) (Fits y) c = refl
+sum-way (Fits x) Misfit c = rw and-false
+sum-way Misfit v c = refl
+
+-- there is no sum with none
+none-left : (y c : Fraction) (q : Fraction) → q .den ≡ 0 → isUnder (sumOf q y) c ≡ false
+unfolding sumOf isOperand
+none-left y c q e = rw (e, and-false)
+
+-- nor with a way that is none
+pub none-from : (seen : Seen) (w : ℕ) (q : Fraction) (to : List Fraction) (c : Fraction) → isFinite q ≡ false → any (isDueUnder seen w q to c) 97 ≡ false
+unfolding isFinite
+none-from seen w q to c e = any-none _ 97 (λ k l. by (isOld seen w k) _ (none-left _ c q (zero (eqb (q .den) 0) refl e)))
+  where
+    by : (b s : Bool) → s ≡ false → dueBy b s ≡ false
+    by true s f = refl
+    by false s f = f
+
+    zero : (b : Bool) → eqb (q .den) 0 ≡ b → not b ≡ false → q .den ≡ 0
+    zero true f g = eqb-true _ _ f
+    zero false f g = never (let h = sym g in cc)
+
+none-right : (x c : Fraction) → isUnder (sumOf x noFigure) c ≡ false
+unfolding sumOf isOperand
+none-right x c = rw and-false
+
+pair-way : (t x y : Arc) → isUnder (sumOf (wayOf x (t .from) (t .a)) (wayOf y (t .to) (t .b))) (t .cost) ≡ isPair t x y
+unfolding wayOf isPair isCostlier
+pair-way t x y =
+    by (isOpenRoot x (t .from)) (isPositive (Fits (t .a) ⊘ Fits (x .a))) (isOpenRoot y (t .to)) (isPositive (Fits (t .b) ⊘ Fits (y .a)))
+  where
+    p : Worked
+    p = Fits (x .cost) ⊗ Fits (t .a) ⊘ Fits (x .a)
+
+    q : Worked
+    q = Fits (y .cost) ⊗ Fits (t .b) ⊘ Fits (y .a)
+
+    by : (r s u v : Bool) → isUnder (sumOf (wayBy (r && s) x (t .a)) (wayBy (u && v) y (t .b))) (t .cost) ≡ (r && (u && (s && (v && isUnder (p ⊕ q) (t .cost)))))
+    by true true true true = sum-way p q (t .cost)
+    by true true true false = none-right _ _
+    by true true false v = none-right _ _
+    by true false true v = none-left _ _ noFigure refl
+    by true false false v = none-left _ _ noFigure refl
+    by false s u v = none-left _ _ noFigure refl
+
+-- ---- pairs
+
+-- a pair by its arcs' numbers
+abbrev pairAt : Net → Arc → ℕ → ℕ → Bool
+pairAt net t x y = isPair t (arcAt net x) (arcAt net y)
+
+partner-is : (net : Net) (t : Arc) (x : ℕ) → hasPartner net t x ≡ any (pairAt net t x) 97
+unfolding hasPartner isPair
+partner-is net t x = by (isOpenRoot (arcAt net x) (t .from))
+  where
+    one : (b : Bool) (y : ℕ) → partnerBy b t (arcAt net x) (arcAt net y) ≡ (b && isCostlier t (arcAt net x) (arcAt net y))
+    one true y = refl
+    one false y = refl
+
+    by : (b : Bool) → hasPartnerBy b net t (arcAt net x) ≡ any (λ y. b && (isOpenRoot (arcAt net y) (t .to) && isCostlier t (arcAt net x) (arcAt net y))) 97
+    by true = any-same _ _ 97 (λ y l. one (isOpenRoot (arcAt net y) (t .to)) y)
+    by false = sym (any-none _ 97 (λ y l. refl))
+
+pair-is : (net : Net) (t : Arc) → hasPair net t ≡ any (λ x. any (pairAt net t x) 97) 97
+unfolding hasPair
+pair-is net t = any-same _ _ 97 (λ x l. partner-is net t x)
+
+pub no-pair : (net : Net) (t : Arc) → ((x y : ℕ) → x < 97 → y < 97 → pairAt net t x y ≡ false) → hasPair net t ≡ false
+no-pair net t h = pair-is net t ∙ any-none _ 97 (λ x l. any-none _ 97 (λ y m. h x y l m))
+
+pub each-pair : (net : Net) (t : Arc) → hasPair net t ≡ false → (x y : ℕ) → x < 97 → y < 97 → pairAt net t x y ≡ false
+each-pair net t e x y l m = none-any _ 97 (none-any _ 97 (sym (pair-is net t) ∙ e) x l) y m
+
+-- ---- what is due is enough
+
+module _ (net : Net) (seen : Seen) (w : ℕ) (t : Arc) (h : Searched net seen w t) where
+  due-one : (x y : ℕ) → x < 97 → y < 97 → (b : Bool) → isOld seen w x ≡ b → dueBy (isOld seen (barOf b w) y) (pairAt net t x y) ≡ pairAt net t x y
+  due-one x y l m true e = by (isOld seen w y) refl
+    where
+      by : (b : Bool) → isOld seen w y ≡ b → dueBy b (pairAt net t x y) ≡ pairAt net t x y
+      by true f = sym (h x y l m e f)
+      by false f = refl
+  due-one x y l m false e = rw (le-ltb (getD (seen .put) y 0) 0 (omega arith))
+
+  way-at : (i : ℕ) (e : Fraction) (k : ℕ) → k < 97 → getD (waysOf net i e) k noFigure ≡ wayAt net i e k
+  unfolding waysOf
+  way-at i e k l = getD-build 97 (wayAt net i e) noFigure k l
+
+  due-under : (x y : ℕ) → x < 97 → y < 97 → isDueUnder seen (barOf (isOld seen w x) w) (getD (waysOf net (t .from) (t .a)) x noFigure) (waysOf net (t .to) (t .b)) (t .cost) y ≡ pairAt net t x y
+  due-under x y l m =
+      rw (way-at (t .from) (t .a) x l, way-at (t .to) (t .b) y m, pair-way t (arcAt net x) (arcAt net y)) (due-one x y l m (isOld seen w x) refl)
+
+  pub due-is : any (isDueFrom seen w (waysOf net (t .from) (t .a)) (waysOf net (t .to) (t .b)) (t .cost)) 97 ≡ hasPair net t
+  due-is = any-same _ _ 97 (λ x l. any-same _ _ 97 (λ y m. due-under x y l m)) ∙ sym (pair-is net t)
+
+  -- where no root arc at an end is due
+  pub due-none : any (isDueEnd net seen w t) 97 ≡ false → hasPair net t ≡ false
+  unfolding isPair
+  due-none e = no-pair net t (λ x y l m. by x y l m (isOpenRoot (arcAt net x) (t .from)) refl (isOpenRoot (arcAt net y) (t .to)) refl)
+    where
+      old : (k : ℕ) → k < 97 → isEnd t (arcAt net k) ≡ true → isOld seen w k ≡ true
+      old k l f = off (isOld seen w k) refl
+        where
+          off : (b : Bool) → isOld seen w k ≡ b → isOld seen w k ≡ true
+          off true g = g
+          off false g = never (let z = sym (none-any (isDueEnd net seen w t) 97 e k l) ∙ ap₂ dueBy g f in let u = sym z in cc)
+
+      by : (x y : ℕ) → x < 97 → y < 97 → (r : Bool) → isOpenRoot (arcAt net x) (t .from) ≡ r → (s : Bool) → isOpenRoot (arcAt net y) (t .to) ≡ s → pairAt net t x y ≡ false
+      by x y l m true f true g = h x y l m (old x l (rw f)) (old y m (rw g (ends (isOpenRoot (arcAt net y) (t .from)))))
+        where
+          ends : (b : Bool) → (b || true) ≡ true
+          ends true = refl
+          ends false = refl
+      by x y l m true f false g = rw (f, g)
+      by x y l m false f s g = rw f
+
+-- ---- what is known, kept
+
+set-le : (s : List ℕ) (j i v n : ℕ) → getD s i 0 ≤ n → v ≤ n → getD (set s j v) i 0 ≤ n
+set-le [] j i v n h k = h
+set-le (x ∷ s) zero zero v n h k = k
+set-le (x ∷ s) zero (suc i) v n h k = h
+set-le (x ∷ s) (suc j) zero v n h k = h
+set-le (x ∷ s) (suc j) (suc i) v n h k = set-le s j i v n h k
+
+set-zero : (s : List ℕ) (k : ℕ) → getD (set s k 0) k 0 ≤ 0
+set-zero [] k = omega arith
+set-zero (x ∷ s) zero = omega arith
+set-zero (x ∷ s) (suc k) = set-zero s k
+
+zeros : (n j : ℕ) → getD (replicate n 0) j 0 ≤ 0
+zeros zero j = omega arith
+zeros (suc n) zero = omega arith
+zeros (suc n) (suc j) = zeros n j
+
+pub known-nothing : (net : Net) → Known net 0 nothingSeen
+known-nothing net =
+    record {
+      past = λ j. zeros 97 j;
+      long = length-replicate {A = ℕ} 97 0;
+      vain = λ j x y l m e f. absurd (omega (arith, ltb-true (getD (replicate 97 0) x 0) (getD (replicate 97 0) j 0) e, zeros 97 j));
+    }
+
+pub known-later : {net : Net} {now later : ℕ} {seen : Seen} → Known net now seen → now ≤ later → Known net later seen
+known-later k h = record { past = λ j. omega (arith, k .past j); long = k .long; vain = k .vain }
+
+pub known-sought : {net : Net} {now : ℕ} {seen : Seen} → Known net now seen → (j : ℕ) → hasPair net (arcAt net j) ≡ false → Known net now (soughtAt seen j now)
+unfolding soughtAt
+known-sought {net} {now} {seen} k j e = by (ltb j 97)
+  where
+    after : Seen
+    after = record { put = seen .put; sought = set (seen .sought) j now }
+
+    vain : (i : ℕ) (b : Bool) → eqb i j ≡ b → Searched net after (getD (after .sought) i 0) (arcAt net i)
+    vain i true f x y l m p q = rw (eqb-true i j f) (each-pair net (arcAt net j) e x y l m)
+    vain i false f x y l m p q =
+        let o : getD (set (seen .sought) j now) i 0 ≡ getD (seen .sought) i 0 = getD-set-other (seen .sought) j i now 0 (eqb-false i j f) in
+        k .vain i x y l m (rw o at p) (rw o at q)
+
+    by : (b : Bool) → Known net now (cond b after seen)
+    by false = k
+    by true = record { past = λ i. set-le (seen .sought) j i now now (k .past i) (omega arith); long = k .long; vain = λ i. vain i (eqb i j) refl }
+
+-- an arc of no number is not put
+put-out : (net : Net) (k : ℕ) (a : Arc) (j : ℕ) → 97 ≤ k → arcAt (withArc net k a) j ≡ arcAt net j
+unfolding withArc
+put-out net k a j g = rw (lt-leb k 96 (omega arith), and-false)
+
+-- arc k is put: the others are as they were, and where there is no such arc all are
+known-mark : {net : Net} {now : ℕ} {seen : Seen} → Known net now seen → (k : ℕ) (to : Net) → ((j : ℕ) → (j ≡ k → ⊥) → arcAt to j ≡ arcAt net j) → ((j : ℕ) → 97 ≤ k → arcAt to j ≡ arcAt net j) → Known to now (marked seen k now)
+unfolding marked
+known-mark {net} {now} {seen} h k to others none = by (ltb k 97) refl
+  where
+    after : Seen
+    after = record { put = set (seen .put) k now; sought = set (seen .sought) k 0 }
+
+    -- what is old still is no arc that was put, and was old
+    old : k < 97 → (w x : ℕ) → w ≤ now → isOld after w x ≡ true → (x ≡ k → ⊥) × (isOld seen w x ≡ true)
+    old l w x p e = (ne, rw (getD-set-other (seen .put) k x now 0 ne) at e)
+      where
+        ne : x ≡ k → ⊥
+        ne q =
+            let s : getD (set (seen .put) k now) x 0 ≡ now = rw q (getD-set-same (seen .put) k now 0 (omega (arith, h .long))) in
+            omega (arith, ltb-true (getD (set (seen .put) k now) x 0) w e, s)
+
+    vain : k < 97 → (j : ℕ) (b : Bool) → eqb j k ≡ b → Searched to after (getD (after .sought) j 0) (arcAt to j)
+    vain l j true f x y lx ly p q =
+        let p′ : isOld after (getD (set (seen .sought) k 0) k 0) x ≡ true = rw (eqb-true j k f) at p in
+        absurd (omega (arith, ltb-true (getD (set (seen .put) k now) x 0) (getD (set (seen .sought) k 0) k 0) p′, set-zero (seen .sought) k))
+    vain l j false f x y lx ly p q =
+        let ne = eqb-false j k f in
+        let o : getD (set (seen .sought) k 0) j 0 ≡ getD (seen .sought) j 0 = getD-set-other (seen .sought) k j 0 0 ne in
+        let u = old l _ x (h .past j) (rw o at p) in
+        let v = old l _ y (h .past j) (rw o at q) in
+        rw (others j ne, others x (u .0), others y (v .0)) (h .vain j x y lx ly (u .1) (v .1))
+
+    by : (b : Bool) → ltb k 97 ≡ b → Known to now (cond b after seen)
+    by true e =
+        let l : k < 97 = ltb-true k 97 e in
+        record {
+          past = λ j. set-le (seen .sought) k j 0 now (h .past j) (omega arith);
+          long = length-set (seen .put) k now ∙ h .long;
+          vain = λ j. vain l j (eqb j k) refl;
+        }
+    by false e =
+        let g : 97 ≤ k = ltb-false k 97 e in
+        record { past = h .past; long = h .long; vain = λ j x y l m p q. rw (none j g, none x g, none y g) (h .vain j x y l m p q) }
+
+known-put : {net : Net} {now : ℕ} {seen : Seen} → Known net now seen → (k : ℕ) (a : Arc) → Known (withArc net k a) now (marked seen k now)
+known-put {net} h k a = known-mark h k (withArc net k a) (λ j ne. arc-left net k a j (λ _. ne)) (put-out net k a)
+
+known-stay : {net : Net} {now : ℕ} {seen : Seen} → Known net now seen → (k : ℕ) → Known net now (marked seen k now)
+known-stay {net} h k = known-mark h k net (λ j n. refl) (λ j g. refl)
+
+-- a change is made
+known-after : {net : Net} {now : ℕ} {seen : Seen} → Known net now seen → (c : Change) → Known (applied net c) now (markedAll seen c now)
+unfolding applied without withSupply
+known-after h c =
+    let k = known-put (known-put (known-put (known-put h (c .one .number) (c .one .arc)) (c .two .number) (c .two .arc)) (c .three .number) (c .three .arc)) (c .four .number) (c .four .arc) in
+    record { past = k .past; long = k .long; vain = k .vain }
+
+-- a step is taken
+pub known-stepped : {now : ℕ} {seen : Seen} (at : Ran) (s : Step) → Known (at .net) now seen → Known (stepped at s .net) now (markedAll seen (s .change) now)
+unfolding stepped
+known-stepped {now} {seen} at s h = by (ltb (at .steps) 128)
+  where
+    c : Change
+    c = s .change
+
+    by : (b : Bool) → Known (cond b (record { net = applied (at .net) (s .change); steps = at .steps + 1; taken = set (at .taken) (at .steps) (record { rule = s .rule; place = s .place }); last = at .last }) at .net) now (markedAll seen c now)
+    by true = known-after h c
+    by false = known-stay (known-stay (known-stay (known-stay h (c .one .number)) (c .two .number)) (c .three .number)) (c .four .number)
+
+-- what rule 4 answers, as a step
+pub four-at : (net : Net) (i : ℕ) (t : Tried) → t ≡ ruleFour net i → answered 4 i t ≡ stepAt net 4 i
+unfolding stepAt ruleAt
+four-at net i t e = ap (answered 4 i) e
+
+-- ---- an arc that can't be dropped anyway
+
+pub barred : (b p : Bool) (net : Net) (j : ℕ) (t : Arc) → barredBy b net j t ≡ true → passed ≡ costlyWith p net j t
+unfolding atFlow droppedOf
+barred false p net j t e = never (let f = e in cc)
+barred true false net j t e = refl
+barred true true net j t e = by (supplyLess (t .from) (supplyAt net (t .from)) (t .a) (t .lower)) (supplyLess (farEnd t) (supplyAt net (t .to)) (t .b) (t .lower)) e
+  where
+    by : (p q : Worked) → isPassed (droppedOf p q j (t .from) (farEnd t) 0) ≡ true → passed ≡ droppedOf p q j (t .from) (farEnd t) 0
+    by (Fits x) (Fits y) e = never (let f = e in cc)
+    by (Fits x) Misfit e = refl
+    by Misfit q e = refl

@@ -1,0 +1,3 @@
+pub mod Figures
+pub mod Undone
+pub mod Whole
