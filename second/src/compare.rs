@@ -1,4 +1,4 @@
-//! Running two programs on the same text and telling where they differ.
+//! Running two programs on the same text, or one on many questions, and telling where they differ.
 
 use std::collections::BTreeMap;
 use std::io::{Read, Write};
@@ -25,16 +25,16 @@ fn output(child: Child) -> Vec<u8> {
 }
 
 /// Records of words as bytes, the lowest byte of each word first.
-pub fn bytes_of<const N: usize>(records: &[[i32; N]]) -> Vec<u8> {
+fn bytes_of<const N: usize>(records: &[[i32; N]]) -> Vec<u8> {
     records.iter().flatten().flat_map(|word| word.to_le_bytes()).collect()
 }
 
-pub fn words_of(bytes: &[u8]) -> Vec<i32> {
+fn words_of(bytes: &[u8]) -> Vec<i32> {
     bytes.chunks_exact(4).map(|four| i32::from_le_bytes(four.try_into().expect("four"))).collect()
 }
 
 /// A program's whole output for an input of any length.
-pub fn output_of(program: &Path, input: Vec<u8>) -> std::io::Result<Vec<u8>> {
+fn output_of(program: &Path, input: Vec<u8>) -> std::io::Result<Vec<u8>> {
     let mut child = start(program);
     let mut stdin = child.stdin.take().expect("piped");
     let writer = std::thread::spawn(move || {
@@ -45,6 +45,37 @@ pub fn output_of(program: &Path, input: Vec<u8>) -> std::io::Result<Vec<u8>> {
     let _ = writer.join();
     child.wait()?;
     Ok(output)
+}
+
+/// Asks the program all questions, prints the first answers that aren't as expected, and counts them all.
+pub fn count_differences<const N: usize, const M: usize>(
+    program: &Path,
+    questions: &[[i32; N]],
+    expected: &[[i32; M]],
+    describe: impl Fn(&[i32; N]) -> String,
+) -> usize {
+    let output = output_of(program, bytes_of(questions)).expect("the program runs");
+    let mut differ = 0;
+    for (number, (asked, told)) in questions.iter().zip(expected).enumerate() {
+        let found = output.get(4 * M * number..4 * M * (number + 1)).map(words_of);
+        if found.as_deref() != Some(&told[..]) {
+            differ += 1;
+            if differ <= 5 {
+                println!("question {number}: {}\nhere {told:?}\nthere {found:?}", describe(asked));
+            }
+        }
+    }
+    let length = 4 * M * questions.len();
+    if output.len() != length {
+        println!("output has {} bytes, not {length}", output.len());
+        differ += 1;
+    }
+    differ
+}
+
+/// The first words of a part of a question that holds a record; a number below zero counts as 0. None: too many.
+pub fn record_in(room: &[i32], length: i32) -> Option<&[i32]> {
+    room.get(..length.max(0) as usize)
 }
 
 /// A program of this package, beside the one running.

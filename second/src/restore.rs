@@ -34,7 +34,7 @@ pub fn restore(network: &[i32], stack: &[i32], pair: &[i32]) -> Result<Restored,
 }
 
 /// Undoes one step in the pair. None: some figure doesn't fit.
-fn go_back(back: &Back, pair: &mut Pair) -> Option<()> {
+pub fn go_back(back: &Back, pair: &mut Pair) -> Option<()> {
     match back {
         Back::FixedFlow { arc, flow } => {
             pair.flows.insert(*arc, *flow);

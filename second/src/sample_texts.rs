@@ -96,7 +96,7 @@ pub fn damage_network(draw: &mut Draw, words: &mut [i32]) {
     }
 }
 
-fn damage_length(draw: &mut Draw, words: &mut Vec<i32>) {
+pub fn damage_length(draw: &mut Draw, words: &mut Vec<i32>) {
     match draw.below(5) {
         0 => {
             words.pop();

@@ -18,7 +18,7 @@ pub const NODES: usize = 6;
 pub const ARCS: usize = 9;
 
 const OPEN: Bound = Bound::AbsentUpper;
-const WIDEST: i64 = 2147483647;
+pub const WIDEST: i64 = 2147483647;
 
 /// A scene for the rule, mostly one in which its conditions hold, apart from the width.
 pub fn scene(draw: &mut Draw, rule: u8) -> Scene {
@@ -40,7 +40,7 @@ pub fn scene(draw: &mut Draw, rule: u8) -> Scene {
 
 /// Where the wide figures of a network come from.
 #[derive(Clone, Copy)]
-enum Source {
+pub enum Source {
     /// Near the width by themselves.
     Edge,
     /// Two numbers whose product lies at the width.
@@ -92,7 +92,7 @@ struct Taste {
 }
 
 /// Top over bottom; one where that doesn't fit.
-fn over(top: i64, bottom: i64) -> Fraction {
+pub fn over(top: i64, bottom: i64) -> Fraction {
     Fraction::fitted(top as i128, bottom as i128).unwrap_or(Fraction::ONE)
 }
 
@@ -102,33 +102,20 @@ fn some_bits(draw: &mut Draw) -> i64 {
     draw.within(1, (1 << bits) - 1)
 }
 
-impl Taste {
-    fn new(draw: &mut Draw) -> Taste {
+impl Source {
+    pub fn new(draw: &mut Draw) -> Source {
         let factor = draw.within(1 << 15, 1 << 16);
-        let source = match draw.below(6) {
+        match draw.below(6) {
             0 => Source::Edge,
             1 | 2 => Source::Factors(factor, WIDEST / factor + draw.within(-1, 1)),
             3 | 4 => Source::Common(draw.of(&[6, 210, 30030, 32768, 46340, 46341, 65536, 65537, 9699690])),
             _ => Source::Any,
-        };
-        if draw.chance(30) {
-            return Taste {
-                roles: &[Supply, Far, Cost, Limit, Here, There, Root],
-                share: draw.of(&[0, 10, 20, 40, 80]),
-                plain: 0,
-                source,
-            };
         }
-        Taste { roles: draw.of(&MEETING), share: draw.of(&[70, 100]), plain: draw.of(&[30, 80]), source }
     }
 
-    fn is_wide(&self, draw: &mut Draw, role: Role) -> bool {
-        self.roles.contains(&role) && draw.chance(self.share)
-    }
-
-    fn wide(&self, draw: &mut Draw) -> Fraction {
+    pub fn figure(self, draw: &mut Draw) -> Fraction {
         let (s, t) = (draw.within(1, 3) * draw.sign(), draw.within(1, 3));
-        match self.source {
+        match self {
             Source::Edge => wide(draw),
             Source::Factors(g, h) => {
                 let (x, y) = draw.of(&[(g, 1), (h, 1), (1, g), (1, h), (g, h), (h, g), (g * s.abs(), t), (t, h)]);
@@ -146,10 +133,29 @@ impl Taste {
             }
         }
     }
+}
+
+impl Taste {
+    fn new(draw: &mut Draw) -> Taste {
+        let source = Source::new(draw);
+        if draw.chance(30) {
+            return Taste {
+                roles: &[Supply, Far, Cost, Limit, Here, There, Root],
+                share: draw.of(&[0, 10, 20, 40, 80]),
+                plain: 0,
+                source,
+            };
+        }
+        Taste { roles: draw.of(&MEETING), share: draw.of(&[70, 100]), plain: draw.of(&[30, 80]), source }
+    }
+
+    fn is_wide(&self, draw: &mut Draw, role: Role) -> bool {
+        self.roles.contains(&role) && draw.chance(self.share)
+    }
 
     fn figure(&self, draw: &mut Draw, role: Role) -> Fraction {
         if self.is_wide(draw, role) {
-            self.wide(draw)
+            self.source.figure(draw)
         } else if draw.chance(self.plain) {
             Fraction::ZERO
         } else {
@@ -160,7 +166,7 @@ impl Taste {
     /// A multiplier, positive.
     fn size(&self, draw: &mut Draw, role: Role) -> Fraction {
         if self.is_wide(draw, role) {
-            return absolute(self.wide(draw));
+            return absolute(self.source.figure(draw));
         }
         if draw.chance(self.plain) {
             return Fraction::ONE;
@@ -202,7 +208,7 @@ impl Taste {
 }
 
 /// A number that just fits, or just doesn't.
-fn at_the_width(draw: &mut Draw) -> Exact {
+pub fn at_the_width(draw: &mut Draw) -> Exact {
     let top = Exact::whole((WIDEST + draw.within(-3, 2)) * draw.sign());
     let bottom = Exact::whole(draw.of(&[1, 1, 1, 2, 3, 65537]));
     if draw.chance(15) {
@@ -394,7 +400,7 @@ impl Draft {
         if draw.chance(50) {
             arc.cost = (&instead + &step).fraction().unwrap_or(arc.cost);
         } else if draw.chance(70) {
-            arc.cost = absolute(self.taste.wide(draw));
+            arc.cost = absolute(self.taste.source.figure(draw));
         }
         self.arcs.extend([arc, first, second]);
         for (node, multiplier) in [(1, a), (2, b)] {

@@ -41,12 +41,25 @@ pub struct Sample {
     pub whole: bool,
 }
 
+/// An optimal pair of a network, if there is one that fits: a vertex or the middle of two.
+pub fn optimal_pair(draw: &mut Draw, network: &Network) -> Option<Pair> {
+    let Solution::Optimal(first) = solve(network, false) else {
+        return None;
+    };
+    let optimum = match (draw.below(3), solve(network, true)) {
+        (1, Solution::Optimal(second)) => second,
+        (2, Solution::Optimal(second)) => first.middle(&second),
+        _ => first,
+    };
+    optimum.pair(network)
+}
+
 impl Trip {
     fn new(draw: &mut Draw, shape: Shape) -> Trip {
         let original = network(draw, shape);
         let reduction = reduce(&original);
         let mut trip = Trip { original, reduction, pair: None };
-        trip.pair = trip.optimal_pair(draw);
+        trip.pair = trip.reduced().and_then(|reduced| optimal_pair(draw, reduced));
         trip
     }
 
@@ -71,20 +84,6 @@ impl Trip {
 
     fn is_bare(&self) -> bool {
         self.reduced().is_some_and(|network| network.arcs.is_empty())
-    }
-
-    /// An optimal pair of the reduced network: a vertex or the middle of two.
-    fn optimal_pair(&self, draw: &mut Draw) -> Option<Pair> {
-        let reduced = self.reduced()?;
-        let Solution::Optimal(first) = solve(reduced, false) else {
-            return None;
-        };
-        let optimum = match (draw.below(3), solve(reduced, true)) {
-            (1, Solution::Optimal(second)) => second,
-            (2, Solution::Optimal(second)) => first.middle(&second),
-            _ => first,
-        };
-        optimum.pair(reduced)
     }
 
     /// The words; without a pair they have one of zeros.
@@ -187,23 +186,22 @@ fn nearly_right_pair(draw: &mut Draw, trip: &Trip) -> Option<Pair> {
 }
 
 /// Changes one price or flow a little, or to something near the width.
-fn change_pair_figure(draw: &mut Draw, words: &mut Words, widely: bool) {
-    let count = words.pair.len().saturating_sub(2) / 2;
+pub fn change_pair_figure(draw: &mut Draw, pair: &mut [i32], widely: bool) {
+    let count = pair.len().saturating_sub(2) / 2;
     if count == 0 {
         return;
     }
     let position = draw.below(count);
-    let now = Fraction::read(words.pair[2 + position], words.pair[2 + count + position]);
+    let now = Fraction::read(pair[2 + position], pair[2 + count + position]);
     let little = Fraction::fitted(draw.sign() as i128, draw.of(&[1, 2, 2147483647])).expect("fits");
     let figure = match now {
         Some(figure) if !widely => figure.plus(little).unwrap_or(little),
         _ => wide(draw),
     };
-    put(&mut words.pair, position, figure.words());
+    put(pair, position, figure.words());
 }
 
-fn damage_pair_record(draw: &mut Draw, words: &mut Words) {
-    let pair = &mut words.pair;
+pub fn damage_pair_record(draw: &mut Draw, pair: &mut Vec<i32>) {
     let count = pair.len().saturating_sub(2) / 2;
     match draw.below(8) {
         0 => pair.push(draw.within(0, 1) as i32),
@@ -268,9 +266,9 @@ fn damage_any(draw: &mut Draw, words: &mut Words) {
     match draw.below(5) {
         0 => damage_original(draw, words),
         1 => damage_stack(draw, words),
-        2 => damage_pair_record(draw, words),
-        3 => change_pair_figure(draw, words, false),
-        _ => change_pair_figure(draw, words, true),
+        2 => damage_pair_record(draw, &mut words.pair),
+        3 => change_pair_figure(draw, &mut words.pair, false),
+        _ => change_pair_figure(draw, &mut words.pair, true),
     }
 }
 
@@ -340,10 +338,10 @@ pub fn sample(draw: &mut Draw, number: usize) -> Sample {
         1 => cut(draw),
         2 => damaged(draw, damage_original),
         3 => damaged(draw, damage_stack),
-        4 => damaged(draw, damage_pair_record),
-        5 => damaged(draw, |draw, words| change_pair_figure(draw, words, false)),
+        4 => damaged(draw, |draw, words| damage_pair_record(draw, &mut words.pair)),
+        5 => damaged(draw, |draw, words| change_pair_figure(draw, &mut words.pair, false)),
         6 | 7 => nearly_right(draw),
-        8 => damaged(draw, |draw, words| change_pair_figure(draw, words, true)),
+        8 => damaged(draw, |draw, words| change_pair_figure(draw, &mut words.pair, true)),
         9 => damaged(draw, |draw, words| {
             damage_any(draw, words);
             damage_any(draw, words);

@@ -106,8 +106,8 @@ fn answer_one(input: &[u8], out: &mut [u8], i: usize)
 {
     let at = i * 20;
     let kind = wire::word(input, at);
-    let x = Fraction::from_words(wire::word(input, at + 4), wire::word(input, at + 8));
-    let y = Fraction::from_words(wire::word(input, at + 12), wire::word(input, at + 16));
+    let x = wire::figure(input, at + 4);
+    let y = wire::figure(input, at + 12);
     put_answer(out, i * 12, answered(kind, x, y));
 }
 

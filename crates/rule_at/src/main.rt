@@ -5,7 +5,6 @@
 // four arcs (a number and seven figures, the ends as one word each), two supplies (a node and a figure) and the node
 // dropped. All of an arc or a supply is 0 where nothing is put, and the figures of an arc dropped are 0.
 ghost use Prim.Native.Nat.{_≤_, _<_};
-use fraction::Fraction;
 use network::Arc;
 use network::Change;
 use network::Kind;
@@ -14,50 +13,21 @@ use network::Put;
 use network::Tried;
 use network::record::Asked;
 
-// A word as a number; 0 below zero.
-fn number(v: i32) -> usize {
-    if v < 0 {
-        return 0;
-    }
-    v as usize
-}
-
-// A number as a word; -1 where it is too large.
-fn word_of(v: usize) -> i32 {
-    if v <= 2147483647 {
-        return v as i32;
-    }
-    -1
-}
-
-fn put_number(out: &mut [u8], at: usize, v: usize)
-    requires { ⌜ at < 100000 ⌝ }
-{
-    wire::put(out, at, word_of(v));
-}
-
-fn put_figure(out: &mut [u8], at: usize, f: Fraction)
-    requires { ⌜ at < 90000 ⌝ }
-{
-    wire::put(out, at, f.num);
-    wire::put(out, at + 4, f.den_word());
-}
-
 fn put_ends(out: &mut [u8], at: usize, t: Arc)
     requires { ⌜ at < 90000 ⌝ }
 {
-    put_number(out, at, t.from);
-    put_number(out, at + 4, t.to);
+    wire::put_number(out, at, t.from);
+    wire::put_number(out, at + 4, t.to);
 }
 
 fn put_figures(out: &mut [u8], at: usize, t: Arc)
     requires { ⌜ at < 80000 ⌝ }
 {
-    put_figure(out, at, t.cost);
-    put_figure(out, at + 8, t.lower);
-    put_figure(out, at + 16, t.upper);
-    put_figure(out, at + 24, t.a);
-    put_figure(out, at + 32, t.b);
+    wire::put_figure(out, at, t.cost);
+    wire::put_figure(out, at + 8, t.lower);
+    wire::put_figure(out, at + 16, t.upper);
+    wire::put_figure(out, at + 24, t.a);
+    wire::put_figure(out, at + 32, t.b);
 }
 
 fn put_arc(out: &mut [u8], at: usize, p: Put)
@@ -67,7 +37,7 @@ fn put_arc(out: &mut [u8], at: usize, p: Put)
         return;
     }
     let t = p.arc;
-    put_number(out, at, p.number);
+    wire::put_number(out, at, p.number);
     put_ends(out, at + 4, t);
     put_figures(out, at + 12, t);
 }
@@ -78,8 +48,8 @@ fn put_supply(out: &mut [u8], at: usize, l: Level)
     if l.node == 0 {
         return;
     }
-    put_number(out, at, l.node);
-    put_figure(out, at + 4, l.supply);
+    wire::put_number(out, at, l.node);
+    wire::put_figure(out, at + 4, l.supply);
 }
 
 fn put_change(out: &mut [u8], at: usize, c: Change)
@@ -91,7 +61,7 @@ fn put_change(out: &mut [u8], at: usize, c: Change)
     put_arc(out, at + 156, c.four);
     put_supply(out, at + 208, c.left);
     put_supply(out, at + 220, c.right);
-    put_number(out, at + 232, c.gone);
+    wire::put_number(out, at + 232, c.gone);
 }
 
 fn put_tried(out: &mut [u8], at: usize, t: Tried)
@@ -121,23 +91,15 @@ fn answer(xs: &[i32], k: usize, i: usize, out: &mut [u8], at: usize)
     }
 }
 
-fn read_words(input: &[u8], at: usize, words: &mut [i32])
-    requires { ⌜ at < 50000 ⌝ }
-{
-    for i in 0..160 {
-        loops::put(words, i, wire::word(input, at + 4 * i));
-    }
-}
-
 fn answer_one(input: &[u8], out: &mut [u8], n: usize)
     requires { ⌜ n < 32 ⌝ }
 {
     let at = n * 652;
-    let k = number(wire::word(input, at));
-    let i = number(wire::word(input, at + 4));
-    let length = number(wire::word(input, at + 8));
+    let k = wire::number(wire::word(input, at));
+    let i = wire::number(wire::word(input, at + 4));
+    let length = wire::number(wire::word(input, at + 8));
     let mut words = [0i32; 160];
-    read_words(input, at + 12, &mut words);
+    wire::read(input, at + 12, &mut words, 160);
     if length <= 160 {
         answer(&words[..length], k, i, out, n * 240);
     } else {

@@ -1,5 +1,6 @@
 // Signed words of 32 bits in bytes, the lowest byte first, for the programs that are compared with another implementation.
-ghost use Prim.Native.Nat.{_<_};
+ghost use Prim.Native.Nat.{_≤_, _<_};
+use fraction::Fraction;
 
 fn wide(x: u8) -> u64
     ensures { λ r. ⌜ r < 256 ⌝ }
@@ -64,4 +65,49 @@ pub fn put(out: &mut [u8], at: usize, v: i32) {
     put_byte(out, at + 1, (u / 256 % 256) as u8);
     put_byte(out, at + 2, (u / 65536 % 256) as u8);
     put_byte(out, at + 3, (u / 16777216 % 256) as u8);
+}
+
+// A word as a number; 0 below zero.
+pub fn number(v: i32) -> usize {
+    if v < 0 {
+        return 0;
+    }
+    integer::size(v as i64) as usize
+}
+
+// A number as a word; -1 where it is too large.
+fn word_of(v: usize) -> i32 {
+    if v <= 2147483647 {
+        return v as i32;
+    }
+    -1
+}
+
+// The number v as a word.
+pub fn put_number(out: &mut [u8], at: usize, v: usize) {
+    put(out, at, word_of(v));
+}
+
+// A figure's two words.
+pub fn put_figure(out: &mut [u8], at: usize, f: Fraction)
+    requires { ⌜ at < 100000 ⌝ }
+{
+    put(out, at, f.num);
+    put(out, at + 4, f.den_word());
+}
+
+// The figure whose words stand in b from place `at`.
+pub fn figure(b: &[u8], at: usize) -> Fraction
+    requires { ⌜ at < 100000 ⌝ }
+{
+    Fraction::from_words(word(b, at), word(b, at + 4))
+}
+
+// The first `count` words of `words` from the bytes in b from place `at`.
+pub fn read(b: &[u8], at: usize, words: &mut [i32], count: usize)
+    requires { ⌜ (at < 100000) × (count ≤ 10000) ⌝ }
+{
+    for i in 0..count {
+        loops::put(words, i, word(b, at + 4 * i));
+    }
 }

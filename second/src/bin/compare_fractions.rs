@@ -1,7 +1,7 @@
 //! Compares another program's fraction operations with this implementation's.
 //! Argument 1: the program; argument 2: how many operations (200000 if absent).
 
-use second::compare::{arguments, bytes_of, output_of, words_of};
+use second::compare::{arguments, count_differences};
 use second::draw::Draw;
 use second::fraction::{Bound, Fraction};
 use std::process::exit;
@@ -239,33 +239,13 @@ fn print_tally(questions: &[Question], expected: &[Answer]) {
     }
 }
 
-/// Prints the first differences and counts them all.
-fn count_differences(questions: &[Question], expected: &[Answer], output: &[u8]) -> usize {
-    let mut differ = 0;
-    for (number, (asked, told)) in questions.iter().zip(expected).enumerate() {
-        let found = output.get(12 * number..12 * number + 12).map(words_of);
-        if found.as_deref() != Some(&told[..]) {
-            differ += 1;
-            if differ <= 10 {
-                println!("operation {number}: {asked:?} here {told:?} there {found:?}");
-            }
-        }
-    }
-    if output.len() != 12 * questions.len() {
-        println!("output has {} bytes, not {}", output.len(), 12 * questions.len());
-        differ += 1;
-    }
-    differ
-}
-
 fn main() {
     let (program, count, _) = arguments("compare_fractions", 200000);
     let mut draw = Draw::new(0x5EC0_4D01);
     let questions: Vec<Question> = (0..count).map(|_| question(&mut draw)).collect();
     let expected: Vec<Answer> = questions.iter().map(|&asked| answer(asked)).collect();
-    let output = output_of(&program, bytes_of(&questions)).expect("the program runs");
     print_tally(&questions, &expected);
-    let differ = count_differences(&questions, &expected, &output);
+    let differ = count_differences(&program, &questions, &expected, |asked| format!("{asked:?}"));
     println!("fractions: {count} operations, {differ} differ");
     exit((differ > 0) as i32);
 }

@@ -1,7 +1,7 @@
 //! Compares another program's answers for one rule at one place of a network with this implementation's.
 //! Argument 1: the program; argument 2: how many networks (30000 if absent).
 
-use second::compare::{arguments, bytes_of, output_of, words_of};
+use second::compare::{arguments, count_differences, record_in};
 use second::draw::Draw;
 use second::exact::Exact;
 use second::fraction::{Bound, Fraction};
@@ -60,9 +60,8 @@ fn drawn(draw: &mut Draw) -> Question {
     question
 }
 
-/// The record asked about; none where its length can't be.
 fn record_of(question: &Question) -> Option<&[i32]> {
-    question[3..].get(..usize::try_from(question[2]).ok()?)
+    record_in(&question[3..], question[2])
 }
 
 /// The network asked about, the rule and the place; 0 for a rule or place that there can't be.
@@ -190,35 +189,15 @@ fn print_tally(questions: &[Question], expected: &[Answer]) {
     }
 }
 
-/// Prints the first differences and counts them all.
-fn count_differences(questions: &[Question], expected: &[Answer], output: &[u8]) -> usize {
-    let mut differ = 0;
-    for (number, (asked, told)) in questions.iter().zip(expected).enumerate() {
-        let found = output.get(4 * TOLD * number..4 * TOLD * (number + 1)).map(words_of);
-        if found.as_deref() != Some(&told[..]) {
-            differ += 1;
-            if differ <= 5 {
-                println!("network {number}, rule {}, place {}: {:?}", asked[0], asked[1], record_of(asked));
-                println!("here {told:?}\nthere {found:?}");
-            }
-        }
-    }
-    let length = 4 * TOLD * questions.len();
-    if output.len() != length {
-        println!("output has {} bytes, not {length}", output.len());
-        differ += 1;
-    }
-    differ
-}
-
 fn main() {
     let (program, count, _) = arguments("compare_rules", 30000);
     let mut draw = Draw::new(0x5EC0_4D04);
     let questions: Vec<Question> = (0..count).map(|_| drawn(&mut draw)).collect();
     let expected: Vec<Answer> = questions.iter().map(answer).collect();
-    let output = output_of(&program, bytes_of(&questions)).expect("the program runs");
     print_tally(&questions, &expected);
-    let differ = count_differences(&questions, &expected, &output);
+    let differ = count_differences(&program, &questions, &expected, |asked| {
+        format!("rule {}, place {}: {:?}", asked[0], asked[1], record_of(asked))
+    });
     println!("rules: {count} networks, {differ} differ");
     exit((differ > 0) as i32);
 }

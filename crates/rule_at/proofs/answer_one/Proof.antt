@@ -6,7 +6,7 @@ use Rattle.rule_at.proofs.answer_one.Statement.{statement}
 use Rattle.rule_at.proofs.answer_one.Tie as tie
 
 slice-aggregate-answer : tie.Need-slice-aggregate-answer
-slice-aggregate-answer c = sym (length-take-le (c .before .before .before .before .before .number3 .result) (c .before .before .before .read-words .last .1 .1 .0) (search needs))
+slice-aggregate-answer c = sym (length-take-le (c .before .before .before .before .before .number3 .result) (c .before .before .before .read .last .1 .1 .0) (search needs))
 
 pub answer-one-spec : {M : Type 1} → statement M
 answer-one-spec =

@@ -1,0 +1,38 @@
+-- `back_at::put_prices` meets its contract. Assumes nothing.
+use Prim.Native.Nat.{_-_, _≤_}
+use borrow.Author.Needs.{needs}
+use lib.ListN.{length}
+use mathlib.Core.Path.{_≡_}
+use native.Mathlib.Omega.{arith}
+use Rattle.back_at.proofs.put_prices.Statement.{statement}
+use Rattle.back_at.proofs.put_prices.Tie as tie
+
+abbrev Inv-loop : tie.InvT-loop
+Inv-loop out₀ at pair i₀ out i = (i ≤ 6) × (length out ≡ length out₀)
+
+abbrev μ-loop : tie.MeasureT-loop
+μ-loop out₀ at pair i₀ out i = 6 - i
+
+loop-again : tie.Need-loop-again Inv-loop μ-loop
+loop-again c = (omega arith, omega (arith, c .before .before .put-figure .kept .0))
+
+same-length : tie.Need-same-length Inv-loop μ-loop
+same-length c = c .before .loop .inv .1
+
+pub put-prices-spec : {M : Type 1} → statement M
+put-prices-spec =
+    tie.close
+    (tie.spec
+    Inv-loop
+    μ-loop
+    (λ c. search needs)
+    (λ c. search needs)
+    (λ c. search needs)
+    (λ c. search needs)
+    (λ c κs. search needs)
+    (λ c κs. search needs)
+    (λ c. search needs)
+    (λ c. search needs)
+    loop-again
+    same-length
+    (λ c. search needs))
