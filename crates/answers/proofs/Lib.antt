@@ -1,3 +1,4 @@
 pub mod Sizes
 pub mod Reading
 pub mod Printing
+pub mod Splitting

@@ -3,10 +3,11 @@ ghost use mathlib.Core.Path.{_≡_};
 ghost use mathlib.Core.List.{_++_};
 ghost use Prim.Native.Nat.{_+_, _*_, _≤_};
 ghost use lib.ListN.{length};
-ghost use Rattle.answers.specs.Answers.{partLine, Printed, mostOf};
-ghost use Rattle.answers.specs.Restoring.{stackSplit, splitSized, splitOf, pairLines, valueLines, restoredLines, mostRestored};
+ghost use Rattle.answers.specs.Answers.{noBytes, Printed, mostOf};
+ghost use Rattle.answers.specs.Restoring.{stackSplit, splitSized, splitOf, pairLines, valueLines, restoredLines, restoredText, onSplit, restoreText, mostRestored};
 use network::record::Size;
 use restoration::Answer;
+use text::Reading;
 
 // Where the network and where the stack ends in the words of a text, or the number of the refusal.
 pub enum Split {
@@ -83,5 +84,51 @@ fn put_answer(out: &mut [u8], at: usize, answer: Answer, pair: &[i32], values: &
     match answer {
         Answer::Restored => put_restored(out, at, pair, values),
         Answer::Refused(q) => crate::put_refusal(out, at, q),
+    }
+}
+
+// The parts of a text, restored; the answer's bytes.
+fn restore_parts(network: &[i32], stack: &[i32], pair: &[i32], out: &mut [u8]) -> usize
+    ensures { λ r. ⌜ Printed (now (out .entry)) 0 (restoredText (now (network .entry)) (now (stack .entry)) (now (pair .entry))) (mostRestored 258 4) r (now (out .exit)) ⌝ }
+{
+    let mut back = [0i32; 258];
+    let mut values = [0i32; 4];
+    let mut scratch = [0i32; 10240];
+    let answer = restoration::restore(network, stack, pair, &mut back, &mut values, &mut scratch);
+    put_answer(out, 0, answer, &back, &values)
+}
+
+// The words of a text whose network ends at e and whose stack ends at f.
+fn restore_split(words: &[i32], e: usize, f: usize, out: &mut [u8]) -> usize
+    requires { ⌜ (e ≤ f) × (f ≤ length (now words)) ⌝ }
+    ensures { λ r. ⌜ Printed (now (out .entry)) 0 (onSplit (now (words .entry)) (Split.Parts e f)) (mostRestored 258 4) r (now (out .exit)) ⌝ }
+{
+    let network = &words[..e];
+    let behind = &words[e..];
+    let stack = &behind[..f - e];
+    let pair = &words[f..];
+    restore_parts(network, stack, pair, out)
+}
+
+// The words of a text, split and restored.
+fn restore_words(words: &[i32], out: &mut [u8]) -> usize
+    ensures { λ r. ⌜ Printed (now (out .entry)) 0 (onSplit (now (words .entry)) (splitOf (now (words .entry)))) (mostRestored 258 4) r (now (out .exit)) ⌝ }
+{
+    match split_words(words) {
+        Split::No(q) => crate::put_refusal(out, 0, q),
+        Split::Parts(e, f) => restore_split(words, e, f, out),
+    }
+}
+
+// From the bytes of a text to the bytes of the restoring program's answer, and how many they are; what stands behind them is zero.
+// They are never more than `mostRestored 258 4`, which is below 65536.
+pub fn restore_text(text: &[u8], out: &mut [u8]) -> usize
+    ensures { λ r. ⌜ Printed (noBytes (length (now (out .entry)))) 0 (restoreText (now (text .entry))) (mostRestored 258 4) r (now (out .exit)) ⌝ }
+{
+    text::clear(out);
+    let mut words = [0i32; 12288];
+    match text::read_words(text, &mut words) {
+        Reading::Words(n) => restore_words(&words[..n], out),
+        Reading::Refused => crate::put_refusal(out, 0, 14),
     }
 }
