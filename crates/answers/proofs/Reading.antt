@@ -1,14 +1,13 @@
 -- What is known of a text that was read, where there is room for all its words. Assumes nothing.
 use mathlib.Core.Path.{_≡_, refl, sym, ap, _∙_}
-use mathlib.Core.List.{List, _++_}
+use mathlib.Core.List.{List}
 use mathlib.Core.Option.{Option, some, none}
-use Prim.Native.Nat.{ℕ, _+_, _≤_}
+use Prim.Native.Nat.{ℕ, _≤_}
 use native.Mathlib.Omega.{arith}
 use lib.IntN.{ℤ}
 use lib.ListN.{length, take, length-append}
 use lib.Seq.{take-at}
 use Rattle.fraction.specs.Laws.{never}
-use Rattle.text.specs.declared.Reading.{Reading}
 use Rattle.text.specs.declared.Reading.the-variants.{Words, Refused}
 use Rattle.text.specs.Text.{wordsOf, answer, padded, Read}
 use Rattle.text.proofs.Count.{room-enough}

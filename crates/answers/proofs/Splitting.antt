@@ -12,7 +12,6 @@ use Rattle.fraction.specs.Laws.{never}
 use Rattle.network.specs.declared.record.Size.{Size}
 use Rattle.network.specs.declared.record.Size.the-variants.{Is, Off}
 use Rattle.network.specs.Record.{word, sizeOf, figures}
-use Rattle.answers.specs.declared.restoring.Split.{Split}
 use Rattle.answers.specs.declared.restoring.Split.the-variants.{Parts, No}
 use Rattle.answers.specs.Restoring.{splitStack, stackSplit, splitSized, splitBy, splitOf}
 

@@ -6,7 +6,6 @@ use Prim.Native.Nat.{ℕ, _+_, _-_, _*_}
 use lib.Dec.{leb}
 use lib.IntN.{ℤ}
 use lib.ListN.{length, take, drop}
-use Rattle.network.specs.declared.Net.{Net}
 use Rattle.network.specs.declared.record.Size.{Size}
 use Rattle.network.specs.declared.record.Size.the-variants.{Is, Off}
 use Rattle.network.specs.Record.{word, sizeOf, figures, readOf}

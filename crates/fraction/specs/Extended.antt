@@ -10,7 +10,7 @@ use borrow.Author.Tests.{lt-ltb, le-ltb, ne-eqb}
 use lib.Signed.{ltZ}
 use Rattle.algebra.specs.Rat.{ℚ, _≤ℚ_, ≤ℚ-dec}
 use Rattle.algebra.specs.Order.{_<_}
-use Rattle.algebra.specs.Frac.{frac, frac-lt}
+use Rattle.algebra.specs.Frac.{frac-lt}
 use Rattle.fraction.specs.declared.Fraction.{Fraction}
 use Rattle.fraction.specs.Exact.{Proper, over, noLower, noUpper, isLess}
 use Rattle.fraction.specs.Laws.{never}

@@ -1,16 +1,15 @@
 -- Laws of `Exact`: the tests decide what they are named for; what fits is exact and in form, and what is exact and in form fits. Assumes nothing.
-use mathlib.Core.Path.{_≡_, refl, sym, ap, _∙_, subst, subst⁻¹}
+use mathlib.Core.Path.{_≡_, refl, sym, ap, _∙_, subst⁻¹}
 use mathlib.Core.Bool.{Bool, true, false, cond, _&&_}
 use Prim.Native.Nat.{ℕ, _*_, _/_, _≤_, _<_}
 use native.Mathlib.Nat.{eq-of-mul-eq-mul-right}
 use native.Mathlib.Omega.{arith}
 use borrow.Author.Tests.{le-leb, lt-leb, leb-true, lt-ltb, ltb-true, eq-eqb, ne-eqb, eqb-true}
-use lib.Dec.{leb, ltb, eqb}
+use lib.Dec.{leb, ltb}
 use lib.IntN.{ℤ, pos, natAbs, _*ℤ_}
 use Rattle.integer.specs.Gcd.{gcd, gcd-pos, coprime-quotients, left-product, right-product, right-pos, lowest}
 use Rattle.integer.specs.Whole.{signed, natAbs-signed, natAbs-mul, same-ratio, same-sign}
 use Rattle.fraction.specs.declared.Fraction.{Fraction}
-use Rattle.fraction.specs.declared.Worked.{Worked}
 use Rattle.fraction.specs.declared.Worked.the-variants.{Fits, Misfit}
 use Rattle.fraction.specs.Exact.{Operand, Proper, isOperand, isProper, over, most, fitted, reduceOf}
 

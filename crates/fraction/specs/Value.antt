@@ -1,19 +1,19 @@
 -- The value of a fraction in ℚ: each operation is the one of ℚ where its result fits, and it is a misfit only where no fraction in form has that value. Assumes nothing.
-use mathlib.Core.Path.{_≡_, refl, sym, ap, _∙_, subst}
+use mathlib.Core.Path.{_≡_, refl, sym, ap, _∙_}
 use mathlib.Core.Bool.{Bool, true, false, cond}
 use mathlib.Core.Logic.{⊎-elim}
 use Prim.Native.Nat.{ℕ, _*_, _≤_, _<_}
 use native.Mathlib.Nat.{mul-pos, eq-zero-or-pos}
 use native.Mathlib.Omega.{arith}
 use borrow.Author.Tests.{eq-eqb, ne-eqb, eqb-true, le-leb}
-use lib.IntN.{ℤ, pos, negsuc, negℤ, natAbs, _*ℤ_, zero-*ℤ}
+use lib.IntN.{ℤ, pos, negsuc, negℤ, natAbs, zero-*ℤ}
 use Rattle.integer.specs.Whole.{signed, eqZ-true, eqZ-refl, natAbs-negℤ, natAbs-signed}
 use Rattle.algebra.specs.Rat.{ℚ, _+ℚ_, _*ℚ_, -ℚ_, invℚ, 0ℚ}
 use Rattle.algebra.specs.Frac.{frac, frac-int, frac-eq, frac-exact, frac-add, frac-mul, frac-neg, frac-inv}
 use Rattle.fraction.specs.declared.Fraction.{Fraction}
 use Rattle.fraction.specs.declared.Worked.{Worked}
 use Rattle.fraction.specs.declared.Worked.the-variants.{Fits, Misfit}
-use Rattle.fraction.specs.Exact.{Operand, Proper, over, most, andThen, isOperand, isSame, reduceOf, sumOf, differenceOf, productOf, quotientOf, negationOf, reciprocalOf, denOf, fromWords, denWord}
+use Rattle.fraction.specs.Exact.{Operand, Proper, over, most, andThen, isOperand, isSame, reduceOf, sumOf, differenceOf, productOf, quotientOf, negationOf, reciprocalOf, fromWords, denWord}
 use Rattle.fraction.specs.Laws.{and-both, is-operand, reduce-exact, reduce-proper, reduce-complete}
 
 unfoldable pub value : Fraction → ℚ

@@ -166,6 +166,12 @@ unfolding all
 all-fails p i zero t = let e : 0 + suc i ≡ suc i = omega arith in rw (e, t, and-false) refl
 all-fails p i (suc k) t = let e : suc k + suc i ≡ suc (k + suc i) = omega (arith, add-one k, add-one (k + suc i)) in rw (e, all-fails p i k t) refl
 
+-- what each passes, all pass
+pub each-all : (p : ℕ → Bool) (n : ℕ) → ((i : ℕ) → i < n → p i ≡ true) → all p n ≡ true
+unfolding all
+each-all p zero h = refl
+each-all p (suc n) h = rw (each-all p n (λ i l. h i (omega (arith, add-one n)))) (h n (omega (arith, add-one n)))
+
 pub passed-fails : {p : ℕ → Bool} {n i : ℕ} → Passed p n i → i < n → p i ≡ false → false ≡ all p n
 passed-fails {p} {n} {i} h l t =
     let e : n - suc i + suc i ≡ n = omega (arith, add-one i) in

@@ -1,7 +1,6 @@
 -- A network in exact numbers: the linear program over ℚ that 01, "The problem and its figures", says. Nodes are its rows and arcs its columns, at their numbers. Assumes nothing.
 use mathlib.Core.Bool.{cond, not}
 use mathlib.Core.Option.{Option, some, none}
-use Prim.Native.Nat.{ℕ}
 use lib.Dec.{eqb}
 use Rattle.algebra.specs.Rat.{ℚ, 0ℚ}
 use Rattle.presolve.specs.LP.{LP}

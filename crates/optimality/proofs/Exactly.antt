@@ -10,7 +10,7 @@ use lib.Dec.{T}
 use lib.IntN.{ℤ, pos}
 use borrow.Author.Tests.{ne-eqb, not-true, le-leb}
 use Rattle.loops.specs.Loops.{all}
-use Rattle.loops.proofs.Laws.{all-each}
+use Rattle.loops.proofs.Laws.{all-each, each-all}
 use Rattle.algebra.specs.Solver.{_:*_, :0, _:=_, ring1}
 use Rattle.algebra.specs.Rat.{ℚ, ℚ-ring, _*ℚ_, invℚ, 0ℚ, fromℤ}
 use Rattle.algebra.specs.Order.{_<_ as _<ℚ_, lt→le, le-of-eq}
@@ -44,7 +44,6 @@ use Rattle.network.proofs.Sane.{sane}
 use Rattle.network.proofs.Paired.{flow-proper, no-flow-read}
 use Rattle.optimality.specs.Figures.{balanceOf, reducedCost, valueOf, balanceFits, costFits, allFit, isBalanced, isWithin, isWithinAt, isAt, keepsBy, keepsRule, keepsRuleAt, verdictBy, verdictOf}
 use Rattle.optimality.specs.Test.{pairIn, pairAsked, examined, twoWords, Proven, Least}
-use Rattle.optimality.proofs.Laws.{each-all}
 use Rattle.optimality.proofs.Values.{Exactly, balance-exactly, value-exactly, cost-exactly, column-used, column-unused}
 
 -- what fits is in form and exact

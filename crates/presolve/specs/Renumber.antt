@@ -11,8 +11,7 @@ use native.Mathlib.Omega.{arith}
 use lib.Dec.{T}
 use Rattle.algebra.specs.Solver.{_:+_, _:*_, :0, _:=_, ring1}
 use Rattle.algebra.specs.Rat.{ℚ, ℚ-ring, _+ℚ_ as _+_, _*ℚ_ as _*_, 0ℚ as 𝟘}
-use Rattle.algebra.specs.Sum.{Absent, sum, sum-congr, sum-zero, upd, upd-same, upd-other, range}
-use Rattle.presolve.specs.Named.{absent-apart}
+use Rattle.algebra.specs.Sum.{sum, sum-congr, sum-zero, range}
 use Rattle.presolve.specs.Bounds.{fits-closed}
 use Rattle.presolve.specs.LP.{LP, Gone, Pair, Feasible, Solved, InBounds, PriceRule, worth, reduced, brings, total, value}
 use Rattle.presolve.specs.Step.{SoundStep}

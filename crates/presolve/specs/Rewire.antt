@@ -2,24 +2,22 @@
 use mathlib.Core.Path.{_≡_, refl, sym, _∙_, ap, ap₂, subst}
 use mathlib.Core.Logic.{_⊎_, inl, inr}
 use mathlib.Core.List.{List, [], _∷_, List·Memᴰ}
-use mathlib.Core.Option.{Option, none, some}
+use mathlib.Core.Option.{none, some}
 use Prim.Native.Nat.{ℕ, _<_ as _<ⁿ_}
 use native.Mathlib.Decide.{ℕ-discrete}
 use lib.Dec.{T}
-use Rattle.algebra.specs.Ring.{combo, combo2}
-use Rattle.algebra.specs.Solver.{_:+_, _:*_, _:-_, :neg, :0, :1, _:=_, ring1, ring2, ring3}
-use Rattle.algebra.specs.Rat.{ℚ, ℚ-ring, _+ℚ_ as _+_, _*ℚ_ as _*_, -ℚ_ as -_, _≤ℚ_ as _≤_, 0ℚ as 𝟘, 1ℚ as 𝟙, invℚ as inv, mulℚ-inv as mul-inv, addℚ-zero as add-zero}
+use Rattle.algebra.specs.Solver.{_:*_, _:-_, :0, _:=_, ring1, ring2}
+use Rattle.algebra.specs.Rat.{ℚ, ℚ-ring, _+ℚ_ as _+_, _*ℚ_ as _*_, -ℚ_ as -_, 0ℚ as 𝟘, 1ℚ as 𝟙, invℚ as inv, addℚ-zero as add-zero}
 use Rattle.algebra.specs.Order.{_<_}
 use Rattle.algebra.specs.Sum.{Absent, step, only, range, range-once, range-mem}
 use Rattle.algebra.specs.Sum as Sum
-use Rattle.presolve.specs.Named.{Distinct, Perm, named?, absent-mem}
-use Rattle.presolve.specs.LP.{Column}
-use Rattle.presolve.specs.Price.{Ends, only-zero, only-scale}
-use Rattle.presolve.specs.Spoke.{Side, plus, minus, sgn, Spoke, SpokeAt, Through, through-flip}
+use Rattle.presolve.specs.Named.{Distinct, Perm}
+use Rattle.presolve.specs.Price.{Ends, only-zero}
+use Rattle.presolve.specs.Spoke.{Spoke, SpokeAt, Through}
 use Rattle.presolve.specs.TwoArcs.{NewBounds, TwoArcs}
 use Rattle.presolve.specs.Junction.{Open}
 use Rattle.presolve.specs.Crossing.{four, Crossing, crossing-arc}
-use Rattle.presolve.specs.Net.{Sane, Legal, gone-out, touch, Arc, Working, column, columnAt, rhsAt, lpOf, column-in, rhs-in, rhs-out, column-same, rhs-less}
+use Rattle.presolve.specs.Net.{gone-out, Arc, Working, column, columnAt, rhsAt, lpOf, column-in, rhs-in, rhs-out, column-same, rhs-less}
 
 -- `far` loses v, the constant gains `gain`
 pub record Rewired (w w′ : Working) (i : ℕ) (names : List ℕ) (far : ℕ) (v gain : ℚ) : Type 0 where
@@ -162,40 +160,3 @@ two-of w w′ i j k e R hi J K tj tk d alone nj nk q E c b = record {
   where
     new : columnAt w′ (j .arc) ≡ column e
     new = column-in w′ (j .arc) nj ∙ ap column q
-
--- ---- what such a step keeps up
-
--- an arc that is in after the step is legal, and its ends are nodes that are in
-pub record NewArc (w′ : Working) (c : ℕ) : Type 0 where
-  pub legal : Legal (w′ .arc c)
-  pub from-in : (w′ .arc c .from <ⁿ w′ .n) × T (w′ .node? (w′ .arc c .from))
-  pub to-in : (w′ .arc c .to <ⁿ w′ .n) × T (w′ .node? (w′ .arc c .to))
-
-pub sane-of : {w w′ : Working} {i : ℕ} {names : List ℕ} {far : ℕ} {v gain : ℚ} → Sane w → Rewired w w′ i names far v gain
-    → ((c : ℕ) → c <ⁿ w .m → T (w .arc? c) → (w .arc c .from ≡ i) ⊎ (w .arc c .to ≡ i) → List·Memᴰ c names)
-    → ((c : ℕ) → List·Memᴰ c names → T (w′ .arc? c) → NewArc w′ c) → Sane w′
-sane-of {w} {w′} {i} {names} S R all new = record { legal = λ c h k. arc c h k .legal; from-in = λ c h k. arc c h k .from-in; to-in = λ c h k. arc c h k .to-in }
-  where
-    stays : (c : ℕ) → c <ⁿ w .m → Absent c names → T (w′ .arc? c) → NewArc w′ c
-    stays c h a k = let t : T (w .arc? c) = subst T (R .arcs-in c h a) k in record {
-      legal = subst Legal (sym (R .arcs c h a)) (S .legal c h t);
-      from-in = place (w .arc c .from) (w′ .arc c .from) (ap (λ e. e .from) (sym (R .arcs c h a))) (S .from-in c h t) (λ q. absent-mem a (all c h t (inl q)));
-      to-in = place (w .arc c .to) (w′ .arc c .to) (ap (λ e. e .to) (sym (R .arcs c h a))) (S .to-in c h t) (λ q. absent-mem a (all c h t (inr q)));
-    }
-      where
-        place : (u u′ : ℕ) → u ≡ u′ → ((u <ⁿ w .n) × T (w .node? u)) → ¬ (u ≡ i) → (u′ <ⁿ w′ .n) × T (w′ .node? u′)
-        place u u′ q p n = subst (λ t. (t <ⁿ w′ .n) × T (w′ .node? t)) q (subst (λ t. u <ⁿ t) (sym (R .n-same)) (p .0), subst T (sym (R .nodes u (p .0) n)) (p .1))
-
-    arc : (c : ℕ) → c <ⁿ w′ .m → T (w′ .arc? c) → NewArc w′ c
-    arc c h k = go (named? c names)
-      where
-        go : List·Memᴰ c names ⊎ Absent c names → NewArc w′ c
-        go (inl m) = new c m k
-        go (inr a) = stays c (subst (λ t. c <ⁿ t) (R .m-same) h) a k
-
--- multipliers stay other than 0
-pub quotient-ne : (o e : ℚ) → ¬ (o ≡ 𝟘) → ¬ (e ≡ 𝟘) → ¬ (o * inv e ≡ 𝟘)
-quotient-ne o e ho he z = ho (combo2 ℚ-ring e (- o) z (mul-inv e he) (ring3 ℚ-ring o e (inv e) (λ o e i. o :- :0 := e :* (o :* i :- :0) :+ :neg o :* (e :* i :- :1)) refl))
-
-pub negative-ne : (x : ℚ) → ¬ (x ≡ 𝟘) → ¬ (- x ≡ 𝟘)
-negative-ne x h e = h (combo ℚ-ring (- 𝟙) e (ring1 ℚ-ring x (λ x. x :- :0 := :neg :1 :* (:neg x :- :0)) refl))

@@ -27,12 +27,12 @@ use Rattle.network.specs.declared.Arc.{Arc}
 use Rattle.network.specs.declared.Net.{Net}
 use Rattle.network.specs.declared.Change.{Change}
 use Rattle.network.specs.declared.Tried.{Tried}
-use Rattle.network.specs.Network.{arcAt, supplyAt, isHere, degreeOf, touchingAfter, isRoot, sideOf, applied}
+use Rattle.network.specs.Network.{arcAt, supplyAt, isHere, degreeOf, isRoot, sideOf, applied}
 use Rattle.network.specs.Legal.{Legal}
 use Rattle.network.specs.Program.{boundOf, exactArc, exactOf, programOf}
 use Rattle.network.proofs.Kept.{here-number, touching-used}
 use Rattle.network.proofs.Bounds.{bound-is, no-upper}
-use Rattle.reduction.specs.Rules.{firstN, secondN, firstP, secondP, firstAt, secondAt, thirdAt, fourthAt, hasSignAt, signedAfter, isFree, crossedOf, allFree, allApart, putOf, changeFour, fourOf, fourFit, crossingWith, crossingAt, withThree, withTwo, withOne, crossingBy, crossingOf, bothBy, bothSigns, signsOf, crossingWhere, ruleSix}
+use Rattle.reduction.specs.Rules.{firstN, secondN, firstP, secondP, firstAt, secondAt, thirdAt, fourthAt, hasSignAt, isFree, crossedOf, allFree, allApart, putOf, changeFour, fourOf, fourFit, crossingWith, crossingAt, withThree, withTwo, withOne, crossingBy, crossingOf, bothBy, bothSigns, signsOf, crossingWhere, ruleSix}
 use Rattle.reduction.specs.declared.crossing.Four.{Four}
 use Rattle.reduction.proofs.Frame.{Unnamed, arc-one, arc-two, arc-three, arc-four, supply-same}
 use Rattle.reduction.proofs.Arcs.{four-and}

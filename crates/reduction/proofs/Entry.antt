@@ -1,5 +1,5 @@
 -- What an answer of `reduce` says of the words that it was given, whatever they are. Assumes nothing.
-use mathlib.Core.Path.{_≡_, refl, sym, ap, _∙_}
+use mathlib.Core.Path.{_≡_, refl}
 use mathlib.Core.Bool.{Bool, true, false}
 use mathlib.Core.List.{List}
 use Prim.Native.Nat.{ℕ, _+_, _≤_}
@@ -14,8 +14,7 @@ use Rattle.network.specs.Program.{programOf}
 use Rattle.presolve.specs.LP as LP
 use Rattle.fraction.specs.Laws.{never}
 use Rattle.network.proofs.Legal.{read-legal, read-is}
-use Rattle.reduction.specs.declared.Answer.{Answer}
-use Rattle.reduction.specs.declared.Answer.the-variants.{Reduced, NoFlow, Refused}
+use Rattle.reduction.specs.declared.Answer.the-variants.{Reduced, NoFlow}
 use Rattle.reduction.specs.Search.{ranOf}
 use Rattle.reduction.specs.Reduce.{roomBy, isRoomy, questions, answerBy, answerOf}
 use Rattle.reduction.proofs.Order.{NoneApplies}

@@ -4,7 +4,7 @@ use mathlib.Core.Bool.{Bool, true, false, cond, not, _||_}
 use Prim.Native.Nat.{ℕ, _≤_, _<_}
 use native.Mathlib.Omega.{arith}
 use lib.Dec.{T, eqb}
-use borrow.Author.Tests.{eqb-false, ne-eqb, eq-eqb, not-true}
+use borrow.Author.Tests.{eqb-false, ne-eqb, not-true}
 use Rattle.algebra.specs.Solver.{_:-_, :0, _:=_, ring1}
 use Rattle.algebra.specs.Rat.{ℚ, ℚ-ring, 0ℚ, _+ℚ_}
 use Rattle.algebra.specs.Sum.{Once, only, range-once}
@@ -12,18 +12,18 @@ use Rattle.presolve.specs.LP.{LP, Pair, Solved, NoFlow, total}
 use Rattle.presolve.specs.Step.{SoundStep, with-constant, feasible-constant, solved-constant, total-constant, total-shift, stay, then, shifted, no-flow}
 use Rattle.presolve.specs.Price.{root, only-zero}
 use Rattle.presolve.specs.Spoke.{Spoke, SpokeAt}
-use Rattle.presolve.specs.Net.{Sane, columnAt, tail-of, head-of, column-in, column-out, column-same, touch-off, rhs-in, rhs-out}
+use Rattle.presolve.specs.Net.{columnAt, tail-of, head-of, column-in, column-out, column-same, touch-off, rhs-in, rhs-out}
 use Rattle.presolve.specs.Net as Exact
 use Rattle.fraction.specs.declared.Fraction.{Fraction}
 use Rattle.fraction.specs.Exact.{zeroFraction, isZero}
 use Rattle.fraction.specs.Value.{value, same-is}
-use Rattle.fraction.specs.Worked.{nonzero-value, zero-is}
+use Rattle.fraction.specs.Worked.{zero-is}
 use Rattle.fraction.specs.Laws.{never}
 use Rattle.network.specs.declared.Arc.{Arc}
 use Rattle.network.specs.declared.Net.{Net}
 use Rattle.network.specs.declared.Change.{Change}
 use Rattle.network.specs.Network.{noArc, arcAt, supplyAt, isHere, isTouching, isRoot, farEnd, sideOf, applied}
-use Rattle.network.specs.Legal.{LegalArc, Legal}
+use Rattle.network.specs.Legal.{Legal}
 use Rattle.network.specs.Program.{exactArc, exactOf, programOf}
 use Rattle.network.proofs.Sane.{sane}
 use Rattle.network.proofs.Kept.{here-number, used-number, touching-used}

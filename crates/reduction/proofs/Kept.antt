@@ -1,14 +1,13 @@
 -- Every step keeps a network legal. Assumes nothing.
 use mathlib.Core.Path.{_≡_, refl, sym, _∙_}
 use mathlib.Core.Bool.{Bool, true, false, cond, _&&_, not}
-use mathlib.Core.Option.{some}
 use mathlib.Core.Logic.{_⊎_, inl, inr, ⊎-elim}
 use Prim.Native.Nat.{ℕ, _≤_}
 use native.Mathlib.Omega.{arith}
-use lib.Dec.{eqb, ltb}
+use lib.Dec.{eqb}
 use borrow.Author.Tests.{eqb-true, eqb-false, ne-eqb, not-true}
 use Rattle.loops.specs.Loops.{scan}
-use Rattle.loops.proofs.Laws.{scan-each, runs-keeps}
+use Rattle.loops.proofs.Laws.{scan-each}
 use Rattle.fraction.specs.declared.Fraction.{Fraction}
 use Rattle.fraction.specs.declared.Worked.{Worked}
 use Rattle.fraction.specs.declared.Worked.the-variants.{Fits, Misfit}
@@ -26,8 +25,7 @@ use Rattle.network.specs.Network.{noArc, arcAt, supplyAt, isHere, degreeOf, isT
 use Rattle.network.specs.Legal.{LegalArc, Legal}
 use Rattle.network.proofs.Kept.{here-number, touching-used}
 use Rattle.reduction.specs.Rules.{supplyLess, droppedOf, atFlow, closedBy, closedArc, ruleOne, costlyBy, ruleFour, isCandidate, hasPair, bareBy, bareNode, ruleTwo, singleIn, singleBy, singleArc, singleWhere, ruleThree, farSupply, keptOf, mergedBy, twoArcs, apartBy, keepFirst, keepBy, keepOne, twoWhere, ruleFive, signedAfter, isFree, isApart, crossedOf, allFree, allApart, putOf, fourOf, fourFit, crossingWith, crossingAt, withThree, withTwo, withOne, crossingBy, crossingOf, bothBy, bothSigns, signsOf, crossingWhere, ruleSix, noRule, whereHere, ofNodes, nodeRule, ruleAt}
-use Rattle.reduction.specs.Search.{noStep, stepAt, orOn, orElse, lastPlace, ranked, nextOf, started, stepped, moved, moveOf, ranOf}
-use Rattle.reduction.specs.declared.search.Ran.{Ran}
+use Rattle.reduction.specs.Search.{noStep, stepAt, orOn, orElse, lastPlace, ranked, nextOf}
 use Rattle.reduction.specs.declared.search.Step.{Step}
 use Rattle.reduction.specs.declared.crossing.Four.{Four}
 use Rattle.reduction.specs.declared.figures.Made.{Made}

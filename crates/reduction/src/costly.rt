@@ -8,7 +8,6 @@ ghost use Rattle.network.specs.Network.{arcAt};
 ghost use Rattle.reduction.specs.Rules.{isOpenRoot, isCandidate, hasPair, costlyWith, ruleFour};
 ghost use Rattle.reduction.specs.Seen.{wayOf, waysOf, barOf, isDueUnder, isDueFrom, isEnd, isDueEnd, isPassed, barredBy, Known, Searched, nothingSeen, marked, markedAll, soughtAt};
 use crate::figures::at_flow;
-use crate::figures::figure;
 use crate::figures::is_finite;
 use crate::figures::is_positive;
 use crate::figures::is_under;
@@ -120,7 +119,7 @@ fn way(x: Arc, i: usize, e: Fraction) -> Fraction
         let a = e.fit();
         let a1 = x.a.fit();
         if is_positive(a.over(a1)) {
-            return figure(x.cost.fit().times(a).over(a1));
+            return x.cost.fit().times(a).over(a1).figure();
         }
         return network::no_figure();
     }

@@ -4,8 +4,6 @@ ghost use mathlib.Core.Bool.{true, false};
 ghost use Rattle.network.specs.Network.{touchingAfter};
 ghost use Rattle.reduction.specs.Rules.{hasSignAt, signedAfter, isFree, isApart, threeFit, crossedBy, crossedOf, allFree, allApart, putOf, changeFour, fourOf, fourFit, crossingAt, withOne, crossingOf, bothSigns, signsOf, ruleSix};
 use crate::figures::Made;
-use crate::figures::figure;
-use crate::figures::is_fit;
 use fraction::Fraction;
 use fraction::Worked;
 use network::Arc;
@@ -82,9 +80,9 @@ fn crossed_by(n: Side, p: Side, a: Worked, b: Worked, c: Worked) -> Made
     ensures { λ r. ⌜ r ≡ crossedBy n p a b c ⌝ }
 {
     let fits = all_fit(a, b, c);
-    let cost = figure(c);
-    let fa = figure(a);
-    let fb = figure(b);
+    let cost = c.figure();
+    let fa = a.figure();
+    let fb = b.figure();
     let lower = Fraction::ZERO;
     let upper = Fraction::NO_UPPER;
     let arc = Arc {
@@ -102,8 +100,8 @@ fn crossed_by(n: Side, p: Side, a: Worked, b: Worked, c: Worked) -> Made
 fn all_fit(a: Worked, b: Worked, c: Worked) -> bool
     ensures { λ r. ⌜ r ≡ threeFit a b c ⌝ }
 {
-    if is_fit(a) {
-        return is_fit(b) && is_fit(c);
+    if a.is_fit() {
+        return b.is_fit() && c.is_fit();
     }
     false
 }

@@ -1,6 +1,5 @@
 // Figures of the rules, and an arc that is dropped at a known flow.
 ghost use mathlib.Core.Path.{_≡_};
-ghost use Rattle.fraction.specs.Formula.{isFit, figureOf};
 ghost use Rattle.fraction.specs.Exact.{isFinite};
 ghost use Rattle.reduction.specs.Rules.{isPositive, isUnder, larger as largerOf, smaller as smallerOf, supplyLess, droppedOf, atFlow};
 use fraction::Fraction;
@@ -14,25 +13,6 @@ use network::Tried;
 pub struct Made {
     pub fits: bool,
     pub arc: Arc,
-}
-
-pub fn is_fit(w: Worked) -> bool
-    ensures { λ r. ⌜ r ≡ isFit w ⌝ }
-{
-    match w {
-        Worked::Fits(_) => true,
-        Worked::Misfit => false,
-    }
-}
-
-// The figure; none where it doesn't fit.
-pub fn figure(w: Worked) -> Fraction
-    ensures { λ r. ⌜ r ≡ figureOf w ⌝ }
-{
-    match w {
-        Worked::Fits(x) => x,
-        Worked::Misfit => network::no_figure(),
-    }
 }
 
 // Whether a bound is no mark.

@@ -2,9 +2,7 @@
 ghost use mathlib.Core.Path.{_≡_};
 ghost use Rattle.reduction.specs.Rules.{sameSign, farMultiplier, farSupply, keptCost, boundFrom, tighterLower, tighterUpper, keptLower, keptUpper, lowerSource, upperSource, keptArc, allFit, madeOf, keptOf, changeTwo, mergedOf, twoArcs, keepFirst, keepOne, ruleFive};
 use crate::figures::Made;
-use crate::figures::figure;
 use crate::figures::is_finite;
-use crate::figures::is_fit;
 use crate::figures::larger;
 use crate::figures::smaller;
 use fraction::Fraction;
@@ -153,9 +151,9 @@ fn kept_arc(j: Side, k: Side, c: Fraction, l: Fraction, u: Fraction, b: Fraction
 fn all_fit(c: Worked, l: Worked, u: Worked, b: Worked) -> bool
     ensures { λ x. ⌜ x ≡ allFit c l u b ⌝ }
 {
-    if is_fit(c) {
-        if is_fit(l) {
-            return is_fit(u) && is_fit(b);
+    if c.is_fit() {
+        if l.is_fit() {
+            return u.is_fit() && b.is_fit();
         }
         return false;
     }
@@ -166,7 +164,7 @@ fn made_arc(j: Side, k: Side, c: Worked, l: Worked, u: Worked, b: Worked) -> Mad
     ensures { λ x. ⌜ x ≡ madeOf j k c l u b ⌝ }
 {
     let fits = all_fit(c, l, u, b);
-    let arc = kept_arc(j, k, figure(c), figure(l), figure(u), figure(b));
+    let arc = kept_arc(j, k, c.figure(), l.figure(), u.figure(), b.figure());
     Made { fits, arc }
 }
 
@@ -203,8 +201,8 @@ fn merged(i: usize, j: usize, k: usize, w: Side, m: Made, g: Worked) -> Tried
     ensures { λ x. ⌜ x ≡ mergedOf i j k w m g ⌝ }
 {
     let arc = m.arc;
-    if m.fits && is_fit(g) {
-        return network::changes(change_two(j, arc, k, w.other, figure(g), i));
+    if m.fits && g.is_fit() {
+        return network::changes(change_two(j, arc, k, w.other, g.figure(), i));
     }
     network::passes()
 }

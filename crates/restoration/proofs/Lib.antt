@@ -2,9 +2,9 @@ pub mod Stacks
 pub mod Words
 pub mod Logs
 pub mod Small
-pub mod Replay
 pub mod Figures
 pub mod Undone
 pub mod Whole
+pub mod Replay
 pub mod Asked
 pub mod Optimum

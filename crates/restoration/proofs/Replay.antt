@@ -1,36 +1,26 @@
 -- A run that can be taken again passes legal networks, and the run of a legal network can be taken again. Assumes nothing.
-use mathlib.Core.Path.{_≡_, refl, sym, ap, _∙_}
+use mathlib.Core.Path.{_≡_, refl, sym, _∙_, subst}
 use mathlib.Core.List.{List}
-use mathlib.Core.Logic.{⊎-elim}
-use mathlib.Core.Option.{some}
 use Prim.Native.Nat.{ℕ, zero, suc, _+_, _*_, _≤_, _<_}
-use native.Mathlib.Nat.{eq-or-lt-of-le, le-of-suc-le-suc}
 use native.Mathlib.Numerals.{add-one}
 use native.Mathlib.Omega.{arith}
 use lib.IntN.{ℤ}
-use lib.ListN.{length, set, length-set}
-use lib.Seq.{getD-set-same, getD-set-other}
-use borrow.Author.Tests.{lt-ltb, ltb-true}
-use mathlib.Core.Bool.{Bool, true, false}
-use lib.Dec.{ltb}
-use Rattle.loops.specs.Loops.{runs}
-use Rattle.loops.proofs.Laws.{runs-keeps}
+use lib.ListN.{length}
 use Rattle.fraction.specs.Laws.{never}
 use Rattle.network.specs.declared.Net.{Net}
-use Rattle.network.specs.declared.Kind.{Kind}
-use Rattle.network.specs.declared.Kind.the-variants.{Passes, NoFlow, Changes}
-use Rattle.network.specs.Network.{applied}
+use Rattle.network.specs.declared.Kind.the-variants.{Changes}
 use Rattle.network.specs.Legal.{Legal}
 use Rattle.reduction.specs.declared.search.Taken.{Taken}
-use Rattle.reduction.specs.declared.search.Step.{Step}
 use Rattle.reduction.specs.declared.search.Ran.{Ran}
-use Rattle.reduction.specs.Search.{nextOf, started, stepped, moved, moveOf, ranOf}
-use Rattle.reduction.specs.Stack.{takenAt}
-use Rattle.reduction.proofs.Kept.{kept, next-kept}
-use Rattle.reduction.proofs.Order.{IsFirst, next-first}
+use Rattle.reduction.specs.Search.{nextOf, ranOf}
+use Rattle.reduction.proofs.Kept.{kept}
+use Rattle.reduction.proofs.Order.{next-first}
 use Rattle.reduction.proofs.RunLaws.{last-place-le}
+use Rattle.reduction.proofs.Done.{ran-steps, legal-left}
+use Rattle.reduction.specs.Rules.{ruleAt}
+use Rattle.restoration.proofs.Whole.{IsNext, ran-traced}
 use Rattle.restoration.specs.Way.{after, traceAt}
-use Rattle.restoration.specs.Log.{isTaken, withTrace, nextNet, nextTrace, Logged, Replayed}
+use Rattle.restoration.specs.Log.{withTrace, nextNet, nextTrace, Logged, Replayed}
 use Rattle.restoration.proofs.Logs.{Small, trace-long, logged-more}
 use Rattle.restoration.proofs.Small.{trace-small}
 
@@ -73,91 +63,15 @@ module _ {net : Net} {ran : Ran} (g : Legal net) (w : Replayed net ran) where
         log = rw (f, h .is) (logged-more net ran k zs (h .log) room-left (step-small k l));
       }
 
--- ---- the run of a legal network
+-- ---- the run of a legal network can be taken again
 
--- runs with the same first n steps
-after-same : (net : Net) (p q : Ran) (n : ℕ) → ((k : ℕ) → k < n → takenAt q k ≡ takenAt p k) → after net q n ≡ after net p n
-unfolding after
-after-same net p q zero h = refl
-after-same net p q (suc n) h = rw (h n (omega (arith, add-one n)), after-same net p q n (λ k l. h k (omega (arith, add-one n))))
+-- the next step answers a change, at a place of an arc or a node
+next-taken : (net : Net) (t : Taken) → IsNext net t → (ruleAt net (t .rule) (t .place) .kind ≡ Changes) × (t .place ≤ 96)
+next-taken net t n =
+    let f = next-first net (λ z. never (let x = sym (n .changes) ∙ z in cc)) in
+    subst (λ (t : Taken). (ruleAt net (t .rule) (t .place) .kind ≡ Changes) × (t .place ≤ 96)) (n .is) (f .kind-is ∙ n .changes, omega (arith, f .place-high, last-place-le (nextOf net .rule)))
 
-record Way (net : Net) (at : Ran) : Type 0 where
-  legal : Legal (at .net)
-  long : length (at .taken) ≡ 128
-  few : at .steps ≤ 128
-  is : at .net ≡ after net at (at .steps)
-  taken : (k : ℕ) → k < at .steps → isTaken net at k
-
-taken-same : (net : Net) (p q : Ran) (k : ℕ) → ((i : ℕ) → i < k + 1 → takenAt q i ≡ takenAt p i) → isTaken net p k → isTaken net q k
-taken-same net p q k h t = rw (after-same net p q k (λ i l. h i (omega arith)), h k (omega arith)) t
-
--- one more step, which is the next one
-way-stepped : {net : Net} {at : Ran} {s : Step} → Way net at → at .steps < 128 → IsFirst (at .net) s → s .kind ≡ Changes → Legal (applied (at .net) (s .change)) → Way net (stepped at s)
-unfolding stepped nextNet
-way-stepped {net} {at} {s} w room f e g =
-    rw (lt-ltb (at .steps) 128 room)
-    (record {
-      legal = g;
-      long = length-set (at .taken) (at .steps) (record { rule = s .rule; place = s .place }) ∙ w .long;
-      few = omega arith;
-      is = sym (after-more net to (at .steps) ∙ on);
-      taken = λ k h.
-          ⊎-elim
-          (λ (q : k ≡ at .steps). rw q here-taken)
-          (λ (l : k < at .steps). taken-same net at to k (λ i m. same i (omega arith)) (w .taken k l))
-          (eq-or-lt-of-le (le-of-suc-le-suc (rw (add-one (at .steps)) at h)));
-    })
-  where
-    step : Taken
-    step = record { rule = s .rule; place = s .place }
-
-    to : Ran
-    to = record { net = applied (at .net) (s .change); steps = at .steps + 1; taken = set (at .taken) (at .steps) step; last = at .last }
-
-    same : (k : ℕ) → k < at .steps → takenAt to k ≡ takenAt at k
-    same k l = getD-set-other (at .taken) (at .steps) k step (record { rule = 0; place = 0 }) (λ q. omega arith)
-
-    here : takenAt to (at .steps) ≡ step
-    here = getD-set-same (at .taken) (at .steps) step (record { rule = 0; place = 0 }) (omega (arith, w .long))
-
-    before : after net to (at .steps) ≡ at .net
-    before = after-same net at to (at .steps) same ∙ sym (w .is)
-
-    on : nextNet (after net to (at .steps)) to (at .steps) ≡ applied (at .net) (s .change)
-    on = rw (before, here) (ap (applied (at .net)) (f .change-is))
-
-    here-taken : isTaken net to (at .steps)
-    here-taken = rw (before, here) (f .kind-is ∙ e, omega (arith, f .place-high, last-place-le (s .rule)))
-
-way-moved : {net : Net} (k : Kind) (at t : Ran) (s : Step) → moved k at s ≡ some t → Way net at → (k ≡ Changes → IsFirst (at .net) s × (s .kind ≡ Changes) × Legal (applied (at .net) (s .change))) → Way net t
-unfolding stepped
-way-moved {net} Passes at t s e w f = never cc
-way-moved {net} NoFlow at t s e w f = never cc
-way-moved {net} Changes at t s e w f = let z : stepped at s ≡ t = cc in rw (← z) (by (ltb (at .steps) 128) refl)
-  where
-    by : (b : Bool) → ltb (at .steps) 128 ≡ b → Way net (stepped at s)
-    by true q = let x = f refl in way-stepped w (ltb-true _ _ q) (x .0) (x .1) (x .2)
-    by false q = rw q w
-
-way-on : {net : Net} (at t : Ran) → moveOf at ≡ some t → Way net at → Way net t
-way-on at t e w =
-    way-moved (nextOf (at .net) .kind) at t (nextOf (at .net)) e w
-    (λ q. (next-first (at .net) (λ z. never (let x = sym q ∙ z in cc)), q, next-kept (at .net) (w .legal) q))
-
-way-begun : {net : Net} → Legal net → Way net (started net)
-unfolding after
-way-begun g = record { legal = g; long = refl; few = omega arith; is = refl; taken = λ k h. absurd (omega arith) }
-
-ran-way : (net : Net) → Legal net → Way net (runs moveOf 128 (started net))
-ran-way net g = runs-keeps (Way net) moveOf way-on 128 (started net) (way-begun g)
-
--- the run of a legal network can be taken again, and ends where it ended
 pub ran-replayed : (net : Net) → Legal net → Replayed net (ranOf net)
-unfolding ranOf
 ran-replayed net g =
-    let w = ran-way net g in
-    record { few = w .few; taken = λ k h. taken-same net (runs moveOf 128 (started net)) _ k (λ i l. refl) (w .taken k h) }
-
-pub ran-after : (net : Net) → Legal net → ranOf net .net ≡ after net (ranOf net) (ranOf net .steps)
-unfolding ranOf
-ran-after net g = let w = ran-way net g in w .is ∙ sym (after-same net (runs moveOf 128 (started net)) (ranOf net) _ (λ k l. refl))
+    let few : ranOf net .steps ≤ 128 = omega (arith, ran-steps net g, legal-left g) in
+    record { few = few; taken = λ k h. next-taken _ _ (ran-traced net g .each k h) }

@@ -5,7 +5,7 @@ use lib.Dec.{eqb}
 use Rattle.fraction.specs.declared.Fraction.{Fraction}
 use Rattle.fraction.specs.declared.Worked.{Worked}
 use Rattle.fraction.specs.declared.Worked.the-variants.{Fits, Misfit}
-use Rattle.fraction.specs.Exact.{zeroFraction, isLess}
+use Rattle.fraction.specs.Exact.{zeroFraction}
 use Rattle.fraction.specs.Formula.{isFit, figureOf, _⊕_, _⊖_, _⊗_, _⊘_, ⊝_}
 use Rattle.network.specs.declared.Arc.{Arc}
 use Rattle.network.specs.declared.Side.{Side}
