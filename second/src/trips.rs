@@ -57,6 +57,10 @@ pub fn optimal_pair(draw: &mut Draw, network: &Network) -> Option<Pair> {
 impl Trip {
     fn new(draw: &mut Draw, shape: Shape) -> Trip {
         let original = network(draw, shape);
+        Trip::of(draw, original)
+    }
+
+    pub fn of(draw: &mut Draw, original: Network) -> Trip {
         let reduction = reduce(&original);
         let mut trip = Trip { original, reduction, pair: None };
         trip.pair = trip.reduced().and_then(|reduced| optimal_pair(draw, reduced));
@@ -87,7 +91,7 @@ impl Trip {
     }
 
     /// The words; without a pair they have one of zeros.
-    fn words(&self) -> Words {
+    pub fn words(&self) -> Words {
         self.words_with(self.pair.clone())
     }
 

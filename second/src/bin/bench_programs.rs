@@ -1,12 +1,14 @@
-//! Times another reducing program against this package's on the same networks.
-//! Argument 1: the other program; 2: this package's.
+//! Times other programs against this package's on the same networks, reducing and restoring.
+//! Argument 1: the other reducing program; 2: this package's; 3 and 4: likewise for restoring.
 
 use second::draw::Draw;
 use second::fraction::{Bound, Fraction};
 use second::network::{Arc, Network};
+use second::programs::read_and_restore;
 use second::reduce::{reduce, End};
 use second::samples::{self, Shape};
 use second::text::line;
+use second::trips::{Trip, Words};
 use std::io::Write;
 use std::process::{Command, Stdio};
 use std::time::{Duration, Instant};
@@ -18,7 +20,6 @@ const TEXTS: usize = 20;
 const ROUNDS: usize = 30;
 /// So many texts are run between two runs on the empty network.
 const BETWEEN_EMPTY: usize = 6;
-const EMPTY: &str = "0 0\n";
 /// Refused before any network is made: beyond this, time on the empty network is work and not start-up.
 const REFUSED: &str = "x\n";
 
@@ -51,6 +52,21 @@ impl Kind {
         };
         stir(draw, &mut network);
         network
+    }
+
+    /// The words of a network of the kind, its stack and an optimal pair that can be restored; the step count.
+    fn words(self, draw: &mut Draw, n: usize, m: usize) -> (Words, usize) {
+        loop {
+            let network = self.network(draw, n, m);
+            if !self.suits(&network) {
+                continue;
+            }
+            let trip = Trip::of(draw, network);
+            let words = trip.words();
+            if trip.pair.is_some() && read_and_restore(line(&words.all()).as_bytes()).is_ok() {
+                return (words, trip.reduction.steps.len());
+            }
+        }
     }
 
     /// The network has a reduction of the kind.
@@ -170,21 +186,6 @@ fn stir(draw: &mut Draw, network: &mut Network) {
     network.supplies = network.supplies.iter().map(|(node, supply)| (numbers[node - 1], *supply)).collect();
 }
 
-fn text_of(network: &Network) -> String {
-    let record = network.record();
-    let (n, m) = record.sizes;
-    line(&[n as i32, m as i32]) + &line(&record.numerators()) + &line(&record.denominators())
-}
-
-/// The step count in a printed answer is its third line from the end; none in a refusal.
-fn steps_of(answer: &str) -> usize {
-    if answer.starts_with("refused") {
-        return 0;
-    }
-    let count = answer.lines().rev().nth(2).and_then(|count| count.parse().ok());
-    count.unwrap_or_else(|| panic!("no step count: {answer}"))
-}
-
 /// A text, and the times of both programs on it.
 struct Case {
     text: String,
@@ -193,10 +194,12 @@ struct Case {
 }
 
 impl Case {
-    fn new(text: String, programs: &[String; 2]) -> Case {
+    /// Both programs must give the same answer, of the kind expected.
+    fn new(text: String, steps: usize, programs: &[String; 2], expected: &str) -> Case {
         let answers = [0, 1].map(|which| run(&programs[which], &text).1);
         assert_eq!(answers[0], answers[1], "the programs' answers differ on\n{text}");
-        Case { steps: steps_of(&answers[0]), text, times: [vec![], vec![]] }
+        assert!(answers[0].starts_with(expected), "not {expected}:\n{text}{}", answers[0]);
+        Case { text, steps, times: [vec![], vec![]] }
     }
 
     /// One run of each program.
@@ -239,61 +242,96 @@ fn mean(figures: impl Iterator<Item = f64>) -> f64 {
     figures.iter().sum::<f64>() / figures.len() as f64
 }
 
+/// The two programs of a task and their times.
+struct Bench {
+    programs: [String; 2],
+    /// The first word of the answers.
+    answer: &'static str,
+    cases: Vec<Case>,
+    empty: Case,
+    refused: Case,
+}
+
+impl Bench {
+    fn new(programs: [String; 2], answer: &'static str, empty: &str) -> Bench {
+        let case = |text: &str, expected| Case::new(text.to_string(), 0, &programs, expected);
+        let (empty, refused) = (case(empty, answer), case(REFUSED, "refused"));
+        Bench { programs, answer, cases: vec![], empty, refused }
+    }
+
+    fn add(&mut self, words: &[i32], steps: usize) {
+        self.cases.push(Case::new(line(words), steps, &self.programs, self.answer));
+    }
+
+    fn run(&mut self, number: usize, round: usize) {
+        if number % BETWEEN_EMPTY == 0 {
+            for case in [&mut self.empty, &mut self.refused] {
+                case.run(&self.programs, round + number / BETWEEN_EMPTY);
+            }
+        }
+        self.cases[number].run(&self.programs, round);
+    }
+
+    /// Prints and returns mean times over each row's texts, of each text's median less that of the empty network.
+    /// With the rows of reducing there is one more column: the verified program's time over that of reducing.
+    fn print_table(&self, reducing: Option<&[[f64; 2]]>) -> Vec<[f64; 2]> {
+        let (start_up, refused) = ([0, 1].map(|which| self.empty.median(which)), &self.refused);
+        println!("start-up (empty network, subtracted): verified {:.0}, Rust {:.0}", start_up[0], start_up[1]);
+        println!("for comparison, a refused text: verified {:.0}, Rust {:.0}", refused.median(0), refused.median(1));
+        let last = if reducing.is_some() { "  /reducing" } else { "" };
+        println!("{:>5} {:>5} {:>6} {:>9} {:>9} {:>7}{last}", "n/m", "kind", "steps", "verified", "Rust", "ratio");
+        let mut rows = vec![];
+        for (row, cases) in self.cases.chunks(TEXTS).enumerate() {
+            let (n, m) = SIZES[row / KINDS.len()];
+            let steps = mean(cases.iter().map(|case| case.steps as f64));
+            let [verified, rust] =
+                [0, 1].map(|which| mean(cases.iter().map(|case| case.median(which))) - start_up[which]);
+            let name = KINDS[row % KINDS.len()].name();
+            let ratio = verified / rust;
+            let last = reducing.map_or(String::new(), |rows| format!("{:>11.2}", verified / rows[row][0]));
+            println!("{n:>2}/{m:<2} {name:>5} {steps:>6.1} {verified:>9.1} {rust:>9.1} {ratio:>7.2}{last}");
+            rows.push([verified, rust]);
+        }
+        println!("growth from {} to {} nodes:", SIZES[0].0, SIZES[SIZES.len() - 1].0);
+        let largest = &rows[rows.len() - KINDS.len()..];
+        for (kind, (least, most)) in KINDS.iter().zip(rows.iter().zip(largest)) {
+            println!("{:>11}  verified {:>6.1}, Rust {:>6.1}", kind.name(), most[0] / least[0], most[1] / least[1]);
+        }
+        let longest = micros(*self.cases.iter().flat_map(|case| &case.times[0]).max().expect("some run"));
+        let slowest = self.cases.iter().map(|case| case.median(0)).fold(0.0, f64::max);
+        println!("verified, start-up included: longest single run {longest:.0}, longest median {slowest:.0}");
+        rows
+    }
+}
+
 fn main() {
     let arguments: Vec<String> = std::env::args().skip(1).collect();
-    let Ok(programs) = <[String; 2]>::try_from(arguments) else {
-        eprintln!("bench_reduce VERIFIED RUST");
+    let Ok([verified_reduce, rust_reduce, verified_restore, rust_restore]) = <[String; 4]>::try_from(arguments) else {
+        eprintln!("bench_programs VERIFIED_REDUCE RUST_REDUCE VERIFIED_RESTORE RUST_RESTORE");
         std::process::exit(2);
     };
+    let mut reducing = Bench::new([verified_reduce, rust_reduce], "reduced", "0 0\n");
+    let mut restoring = Bench::new([verified_restore, rust_restore], "restored", "0 0 0 0 0\n");
 
     let mut draw = Draw::new(0x5EC0_4D05);
-    let mut cases = vec![];
     for (n, m) in SIZES {
         for kind in KINDS {
             for _ in 0..TEXTS {
-                let network = std::iter::repeat_with(|| kind.network(&mut draw, n, m))
-                    .find(|network| kind.suits(network))
-                    .expect("some network suits");
-                cases.push(Case::new(text_of(&network), &programs));
+                let (words, steps) = kind.words(&mut draw, n, m);
+                reducing.add(&words.network, steps);
+                restoring.add(&words.all(), steps);
             }
         }
     }
-    let [mut empty, mut refused] = [EMPTY, REFUSED].map(|text| Case::new(text.to_string(), &programs));
     for round in 0..ROUNDS {
-        for (number, case) in cases.iter_mut().enumerate() {
-            if number % BETWEEN_EMPTY == 0 {
-                empty.run(&programs, round + number / BETWEEN_EMPTY);
-                refused.run(&programs, round + number / BETWEEN_EMPTY);
-            }
-            case.run(&programs, round);
+        for number in 0..reducing.cases.len() {
+            reducing.run(number, round);
+            restoring.run(number, round);
         }
     }
-    print_table(&cases, &empty, &refused);
-}
-
-/// Mean times over a row's texts, of each text's median less that of the empty network.
-fn print_table(cases: &[Case], empty: &Case, refused: &Case) {
-    let start_up = [0, 1].map(|which| empty.median(which));
     println!("{TEXTS} texts in a row, {ROUNDS} runs of each program on each; microseconds, without the start-up");
-    println!("start-up (empty network, subtracted): verified {:.0}, Rust {:.0}", start_up[0], start_up[1]);
-    println!("for comparison, a refused text: verified {:.0}, Rust {:.0}", refused.median(0), refused.median(1));
-    println!("{:>5} {:>5} {:>6} {:>9} {:>9} {:>7}", "n/m", "kind", "steps", "verified", "Rust", "ratio");
-    let mut rows = vec![];
-    for (row, row_cases) in cases.chunks(TEXTS).enumerate() {
-        let (n, m) = SIZES[row / KINDS.len()];
-        let steps = mean(row_cases.iter().map(|case| case.steps as f64));
-        let [verified, rust] =
-            [0, 1].map(|which| mean(row_cases.iter().map(|case| case.median(which))) - start_up[which]);
-        let name = KINDS[row % KINDS.len()].name();
-        println!("{n:>2}/{m:<2} {name:>5} {steps:>6.1} {verified:>9.1} {rust:>9.1} {:>7.2}", verified / rust);
-        rows.push([verified, rust]);
-    }
-    println!("growth from {} to {} nodes:", SIZES[0].0, SIZES[SIZES.len() - 1].0);
-    let largest = &rows[rows.len() - KINDS.len()..];
-    for (kind, (least, most)) in KINDS.iter().zip(rows.iter().zip(largest)) {
-        println!("{:>11}  verified {:>6.1}, Rust {:>6.1}", kind.name(), most[0] / least[0], most[1] / least[1]);
-    }
-    let longest = cases.iter().flat_map(|case| &case.times[0]).max().expect("some run");
-    let slowest = cases.iter().map(|case| case.median(0)).fold(0.0, f64::max);
-    println!("verified, start-up included: longest single run {:.0}, longest median {slowest:.0}", micros(*longest));
+    println!("\nreducing");
+    let rows = reducing.print_table(None);
+    println!("\nrestoring");
+    restoring.print_table(Some(&rows));
 }
