@@ -6,6 +6,16 @@ use second::draw::Draw;
 use second::programs::{read_and_restore, restoring};
 use second::trips::{sample, Sample, Ways};
 
+/// Instances A to D of document 01: the network and the stack, the flows offered, and what is printed.
+const INSTANCE: &str = "3 3\n4 -5 2 1 2 1 0 3 1 -1 1 2 2 0 1 1 -1 3 2 7 0 1 1 -1\n\
+                        1 1 1 1 1 1 1 1 1 1 1 1 1 1 0 1 1 1 1 1 1 0 1 2\n1\n3\n3\n2 2\n2 0 ";
+const OFFERED: [(&str, &str); 4] = [
+    ("3 1", "restored\n3 3\n2 0 7 3 1 2\n1 1 1 1 1 1\n5 1\n19 1\n"),
+    ("2 2", "refused 12\n"),
+    ("4 0", "refused 11\n"),
+    ("3 2", "refused 10\n"),
+];
+
 /// What the trips themselves showed, whatever the other program says.
 #[derive(Default)]
 struct Checks {
@@ -48,6 +58,9 @@ impl Checks {
 fn main() {
     let (other, count, folder) = arguments("compare_restore", 3000);
     let mut comparison = Comparison::new(own_program("restore"), other, folder);
+    for (flows, printed) in OFFERED {
+        comparison.compare(format!("{INSTANCE}{flows}\n1 1 1 1\n").as_bytes(), printed);
+    }
     let mut draw = Draw::new(0x5EC0_4D03);
     let mut checks = Checks::default();
     for number in 0..count {
