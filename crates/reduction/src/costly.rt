@@ -277,7 +277,7 @@ fn seek_pair(net: Net, seen: Seen, j: usize, now: u8, t: Arc) -> Sought
 }
 
 // Rule 4 at arc j, by what is known.
-pub fn seek(net: Net, seen: Seen, j: usize, now: u8) -> Sought
+pub(crate) fn seek(net: Net, seen: Seen, j: usize, now: u8) -> Sought
     requires { ⌜ Known net now seen ⌝ }
     ensures { λ r. ⌜ (r .tried ≡ ruleFour net j) × Known net now (r .seen) ⌝ }
 {

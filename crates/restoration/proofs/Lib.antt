@@ -8,3 +8,4 @@ pub mod Whole
 pub mod Replay
 pub mod Asked
 pub mod Optimum
+pub mod Passed

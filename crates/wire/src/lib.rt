@@ -1,5 +1,5 @@
 // Signed words of 32 bits in bytes, the lowest byte first, for the programs that are compared with another implementation.
-ghost use Prim.Native.Nat.{_≤_, _<_};
+ghost use Prim.Native.Nat.{_<_};
 use fraction::Fraction;
 
 fn wide(x: u8) -> u64
@@ -89,25 +89,36 @@ pub fn put_number(out: &mut [u8], at: usize, v: usize) {
 }
 
 // A figure's two words.
-pub fn put_figure(out: &mut [u8], at: usize, f: Fraction)
-    requires { ⌜ at < 100000 ⌝ }
-{
+pub fn put_figure(out: &mut [u8], at: usize, f: Fraction) {
+    if out.len() <= at {
+        return;
+    }
     put(out, at, f.num);
     put(out, at + 4, f.den_word());
 }
 
 // The figure whose words stand in b from place `at`.
-pub fn figure(b: &[u8], at: usize) -> Fraction
-    requires { ⌜ at < 100000 ⌝ }
-{
+pub fn figure(b: &[u8], at: usize) -> Fraction {
+    if b.len() <= at {
+        return Fraction { num: 0, den: 0 };
+    }
     Fraction::from_words(word(b, at), word(b, at + 4))
 }
 
-// The first `count` words of `words` from the bytes in b from place `at`.
-pub fn read(b: &[u8], at: usize, words: &mut [i32], count: usize)
-    requires { ⌜ (at < 100000) × (count ≤ 10000) ⌝ }
-{
+// The place of word i from a place on; the end where it is beyond.
+fn place(len: usize, at: usize, i: usize) -> usize {
+    if len <= at {
+        return len;
+    }
+    if (len - at) / 4 <= i {
+        return len;
+    }
+    at + 4 * i
+}
+
+// The first `count` words of `words` from the bytes in b from place `at`, as far as they go.
+pub fn read(b: &[u8], at: usize, words: &mut [i32], count: usize) {
     for i in 0..count {
-        loops::put(words, i, word(b, at + 4 * i));
+        loops::put(words, i, word(b, place(b.len(), at, i)));
     }
 }

@@ -1,5 +1,7 @@
 -- `wire::read` meets its contract. Assumes nothing.
 use Prim.Native.Nat.{_-_, _≤_}
+use Rattle.algebra.specs.Solver.{at}
+use Rattle.loops.specs.Loops.{count}
 use borrow.Author.Needs.{needs}
 use lib.ListN.{length}
 use mathlib.Core.Path.{_≡_}
@@ -26,8 +28,7 @@ read-spec =
     Inv-loop
     μ-loop
     (λ c. search needs)
-    (λ c. search needs)
-    (λ c. search needs)
+    (λ c κs. search needs)
     (λ c κs. search needs)
     (λ c κs. search needs)
     (λ c. search needs)
