@@ -10,3 +10,5 @@ pub mod Ranks
 pub mod Survivors
 pub mod Bounds
 pub mod Paired
+pub mod Lent
+pub mod Lists

@@ -1,10 +1,12 @@
 // A network (01, "The problem and its figures") as a reduction works on it, its record read and written.
 ghost use mathlib.Core.Path.{_≡_};
 ghost use Rattle.fraction.specs.Exact.{noFigure};
+ghost use Rattle.network.specs.ArcList.{nodesOf, joined};
 ghost use Rattle.network.specs.Network.{noArc, emptyNet, arcAt, supplyAt, isHere, withArc, withSupply, setHere, withNode, without, withPut, withLevel, applied};
 ghost use Rattle.network.specs.Network.{isTouching, degreeOf, touchingAfter, isRoot, farEnd, sideOf, noPut, noLevel, noChange, changeOne, passed, refuted, changed};
 use fraction::Fraction;
 
+pub mod list;
 pub mod output;
 pub mod pair;
 pub mod record;
@@ -28,6 +30,14 @@ pub struct Net {
     pub here: [bool; 33],
     pub supply: [Fraction; 33],
     pub arcs: [Arc; 97],
+}
+
+// What a network is beside its arcs, which may stand in a lent list.
+pub struct Nodes {
+    pub n: usize,
+    pub m: usize,
+    pub here: [bool; 33],
+    pub supply: [Fraction; 33],
 }
 
 // An arc for a number; none where the number is 0.
@@ -109,6 +119,42 @@ pub fn empty_net(n: usize, m: usize) -> Net
         supply: [f; 33],
         arcs: [a; 97],
     }
+}
+
+// A network without its arcs.
+pub fn nodes_of(net: Net) -> Nodes
+    ensures { λ r. ⌜ r ≡ nodesOf net ⌝ }
+{
+    let here = net.here;
+    let supply = net.supply;
+    Nodes {
+        n: net.n,
+        m: net.m,
+        here,
+        supply,
+    }
+}
+
+// A network of nodes and arcs.
+pub fn join(nodes: Nodes, arcs: [Arc; 97]) -> Net
+    ensures { λ r. ⌜ r ≡ joined nodes arcs ⌝ }
+{
+    let here = nodes.here;
+    let supply = nodes.supply;
+    Net {
+        n: nodes.n,
+        m: nodes.m,
+        here,
+        supply,
+        arcs,
+    }
+}
+
+// The arc to be put.
+pub fn arc_of(p: Put) -> Arc
+    ensures { λ r. ⌜ r ≡ p .arc ⌝ }
+{
+    p.arc
 }
 
 // The arc of number j.

@@ -61,7 +61,7 @@ pub fn size_at(xs: &[i32], at: usize, limit: usize) -> Size
 }
 
 // Question 2: the sizes, where they are within limits and the length is right.
-fn sizes(xs: &[i32]) -> Asked
+pub(crate) fn sizes(xs: &[i32]) -> Asked
     ensures { λ r. ⌜ r ≡ sizesOf (now (xs .entry)) ⌝ }
 {
     match size_at(xs, 0, 32) {
@@ -155,7 +155,7 @@ fn all_ends(xs: &[i32], n: usize, t: usize, m: usize) -> bool
 }
 
 // The arc of number j + 1.
-fn arc_in(xs: &[i32], n: usize, t: usize, j: usize) -> Arc
+pub(crate) fn arc_in(xs: &[i32], n: usize, t: usize, j: usize) -> Arc
     requires { ⌜ (n ≤ 32) × (j ≤ 96) ⌝ }
     ensures { λ r. ⌜ r ≡ arcIn (now (xs .entry)) n t j ⌝ }
 {

@@ -1,0 +1,192 @@
+-- Laws of the lent list of arc records.
+--     record-low .. replaced-past     a record by its number
+--     arcs-put                        a record replaced is an arc replaced
+--     loaded-net                      a cleared list, loaded, has the network of the record
+--     changed-net                     the records of a step's change replaced: the network after the step
+-- Assumes nothing.
+use mathlib.Core.Bool.{Bool, true, false, cond}
+use mathlib.Core.List.{List, _∷_, [], _++_}
+use mathlib.Core.Path.{_≡_, refl, sym, ap, _∙_}
+use Prim.Native.Nat.{ℕ, zero, suc, _+_, _-_, _<_, _≤_}
+use native.Mathlib.Numerals.{add-one}
+use native.Mathlib.Omega.{arith}
+use lib.Dec.{leb}
+use lib.IntN.{ℤ}
+use lib.ListN.{length, getD, set, take, replicate, length-set, length-replicate, List·getD-eq-default}
+use lib.Seq.{set-out, take-suc, take-set-lt, take-set-le, take-all}
+use borrow.Author.Tests.{le-leb, lt-leb, leb-true, leb-false}
+use Rattle.loops.specs.Loops.{build, upto}
+use Rattle.loops.proofs.Laws.{Filled, filled-more, build-const, build-same, upto-keeps}
+use Rattle.network.specs.declared.Arc.{Arc}
+use Rattle.network.specs.declared.Net.{Net}
+use Rattle.network.specs.declared.Nodes.{Nodes}
+use Rattle.network.specs.declared.Put.{Put}
+use Rattle.network.specs.declared.Change.{Change}
+use Rattle.network.specs.declared.record.Asked.{Asked}
+use Rattle.network.specs.declared.record.Asked.the-variants.{Go, No}
+use Rattle.network.specs.Network.{noArc, emptyNet, isNumber, withArc, withPut, withSupply, withNode, without, applied}
+use Rattle.network.specs.Record.{figures, arcIn, sizesOf, nodeTurn, arcTurn, netOf, netBy, readOf}
+use Rattle.network.specs.ArcList.{recordAt, replaced, replacedAll, noArcs, loadTurn, loadedBy, loaded, arcsIn, nodesOf, joined}
+
+-- ---- a record by its number
+
+pub record-low : (xs : List Arc) (j : ℕ) → j < 1 → noArc ≡ recordAt xs j
+unfolding recordAt
+record-low xs zero l = refl
+record-low xs (suc j) l = absurd (omega (arith, l))
+
+pub record-in : (xs : List Arc) (j : ℕ) → 1 ≤ j → getD xs (j - 1) noArc ≡ recordAt xs j
+unfolding recordAt
+record-in xs zero l = absurd (omega (arith, l))
+record-in xs (suc j) l = ap (λ (k : ℕ). getD xs k noArc) (omega arith)
+
+pub record-past : (xs : List Arc) (j : ℕ) → length xs < j → noArc ≡ recordAt xs j
+unfolding recordAt
+record-past xs zero l = refl
+record-past xs (suc j) l = sym (List·getD-eq-default xs noArc {n = j} (omega (arith, l)))
+
+pub replaced-low : (xs : List Arc) (j : ℕ) (t : Arc) → j < 1 → xs ≡ replaced xs j t
+unfolding replaced
+replaced-low xs zero t l = refl
+replaced-low xs (suc j) t l = absurd (omega (arith, l))
+
+pub replaced-in : (xs : List Arc) (j : ℕ) (t : Arc) → 1 ≤ j → set xs (j - 1) t ≡ replaced xs j t
+unfolding replaced
+replaced-in xs zero t l = absurd (omega (arith, l))
+replaced-in xs (suc j) t l = ap (λ (k : ℕ). set xs k t) (omega arith)
+
+pub replaced-past : (xs : List Arc) (j : ℕ) (t : Arc) → length xs < j → xs ≡ replaced xs j t
+unfolding replaced
+replaced-past xs zero t l = refl
+replaced-past xs (suc j) t l = sym (set-out xs j t (omega (arith, l)))
+
+pub replaced-next : (xs : List Arc) (i : ℕ) (t : Arc) → set xs i t ≡ replaced xs (i + 1) t
+unfolding replaced
+replaced-next xs i t = sym (ap (λ (k : ℕ). replaced xs k t) (add-one i))
+
+pub length-replaced : (xs : List Arc) (j : ℕ) (t : Arc) → length (replaced xs j t) ≡ length xs
+unfolding replaced
+length-replaced xs zero t = refl
+length-replaced xs (suc j) t = length-set xs j t
+
+-- one record more is replaced, from the first on
+pub filled-next : {f : ℕ → Arc} {n : ℕ} {d s s′ : List Arc} {i : ℕ} {t : Arc} → Filled f n d s i → i < n → n ≤ length d → t ≡ f i → s′ ≡ replaced s (i + 1) t → Filled f n d s′ (i + 1)
+filled-next {s = s} {i = i} {t = t} h l b e e′ = rw (e′, ← replaced-next s i t) (filled-more h l b e)
+
+-- ---- the arcs at their numbers
+
+build-taken : (ys : List Arc) (n : ℕ) → n ≤ length ys → build n (λ i. getD ys i noArc) ≡ take n ys
+unfolding build
+build-taken ys zero l = refl
+build-taken ys (suc n) l = ap (λ (h : List Arc). h ++ (getD ys n noArc ∷ [])) (build-taken ys n (omega (arith, l))) ∙ sym (take-suc ys n noArc (omega (arith, l)))
+
+pub arcs-are : (xs : List Arc) → 96 ≤ length xs → arcsIn xs ≡ noArc ∷ take 96 xs
+unfolding arcsIn recordAt
+arcs-are xs l = build-taken (noArc ∷ xs) 97 (omega (arith, l))
+
+pub arcs-put : (net : Net) (xs : List Arc) (j : ℕ) (t : Arc) → 96 ≤ length xs → net .arcs ≡ arcsIn xs → withArc net j t .arcs ≡ arcsIn (replaced xs j t)
+unfolding withArc replaced
+arcs-put net xs zero t l e = e
+arcs-put net xs (suc j) t l e = by-case (leb (suc j) 96) refl
+  where
+  long : 96 ≤ length (set xs j t)
+  long = rw (length-set xs j t) l
+
+  by-case : (b : Bool) → leb (suc j) 96 ≡ b → withArc net (suc j) t .arcs ≡ arcsIn (set xs j t)
+  by-case true q = rw (le-leb 1 (suc j) (omega arith), q, e, arcs-are xs l, arcs-are (set xs j t) long, take-set-lt 96 xs j t (omega (arith, leb-true (suc j) 96 q)))
+  by-case false q = rw (le-leb 1 (suc j) (omega arith), q, e, arcs-are xs l, arcs-are (set xs j t) long, take-set-le 96 xs j t (omega (arith, leb-false (suc j) 96 q)))
+
+pub arcs-none : (k : ℕ) → arcsIn (noArcs k) ≡ replicate 97 noArc
+unfolding arcsIn recordAt
+arcs-none k = build-same 97 (recordAt (noArcs k)) (λ _. noArc) (λ i l. getD-none (suc k) i) ∙ build-const 97 noArc
+  where
+  getD-none : (n i : ℕ) → getD (replicate n noArc) i noArc ≡ noArc
+  getD-none zero i = refl
+  getD-none (suc n) zero = refl
+  getD-none (suc n) (suc i) = getD-none n i
+
+-- ---- the list loaded
+
+pub length-turns : (words : List ℤ) (n t m : ℕ) (xs : List Arc) → length (upto (loadTurn words n t) m xs) ≡ length xs
+length-turns words n t m xs =
+    upto-keeps (λ (ys : List Arc). length ys ≡ length xs) (loadTurn words n t) (λ j ys e. length-replaced ys (j + 1) (arcIn words n t j) ∙ e) m xs refl
+
+load-turns : (words : List ℤ) (n t m : ℕ) (net : Net) (xs : List Arc) → 96 ≤ length xs → net .arcs ≡ arcsIn xs → upto (arcTurn words n t) m net .arcs ≡ arcsIn (upto (loadTurn words n t) m xs)
+unfolding upto
+load-turns words n t zero net xs l e = e
+load-turns words n t (suc m) net xs l e =
+    arcs-put
+    (upto (arcTurn words n t) m net)
+    (upto (loadTurn words n t) m xs)
+    (m + 1)
+    (arcIn words n t m)
+    (rw (length-turns words n t m xs) l)
+    (load-turns words n t m net xs l e)
+
+pub length-loaded : (words : List ℤ) (xs : List Arc) → length (loaded words xs) ≡ length xs
+unfolding loaded
+length-loaded words xs = by-sizes (sizesOf words)
+  where
+  by-sizes : (q : Asked) → length (loadedBy words q xs) ≡ length xs
+  by-sizes (No q) = refl
+  by-sizes (Go n m) = length-turns words n (figures n m) m xs
+
+pub loaded-net : (words : List ℤ) (k : ℕ) → 96 ≤ k → joined (nodesOf (readOf words)) (arcsIn (loaded words (noArcs k))) ≡ readOf words
+unfolding loaded readOf netOf withNode withSupply
+loaded-net words k l = by-sizes (sizesOf words)
+  where
+  long : 96 ≤ length (noArcs k)
+  long = rw (length-replicate k noArc) l
+
+  kept : (n m : ℕ) → upto (nodeTurn words (figures n m)) n (emptyNet n m) .arcs ≡ arcsIn (noArcs k)
+  kept n m = upto-keeps (λ (net : Net). net .arcs ≡ arcsIn (noArcs k)) (nodeTurn words (figures n m)) (λ i net e. e) n (emptyNet n m) (sym (arcs-none k))
+
+  by-sizes : (q : Asked) → joined (nodesOf (netBy words q)) (arcsIn (loadedBy words q (noArcs k))) ≡ netBy words q
+  by-sizes (No q) = ap (joined (nodesOf (emptyNet 0 0))) (arcs-none k)
+  by-sizes (Go n m) = ap (joined (nodesOf (netOf words n m))) (sym (load-turns words n (figures n m) m (upto (nodeTurn words (figures n m)) n (emptyNet n m)) (noArcs k) long (kept n m)))
+
+-- ---- a step's change
+
+pub length-replaced-all : (xs : List Arc) (c : Change) → length (replacedAll xs c) ≡ length xs
+unfolding replacedAll
+length-replaced-all xs c = length-replaced _ _ _ ∙ length-replaced _ _ _ ∙ length-replaced _ _ _ ∙ length-replaced xs _ _
+
+pub changed-net : (nodes : Nodes) (xs : List Arc) (c : Change) → 96 ≤ length xs → joined (nodesOf (applied (joined nodes (arcsIn xs)) c)) (arcsIn (replacedAll xs c)) ≡ applied (joined nodes (arcsIn xs)) c
+unfolding replacedAll applied without withSupply
+changed-net nodes xs c l = ap (joined (nodesOf (applied net₀ c))) (sym (step net₃ xs₃ (c .four) (rw (long xs₂ (c .three), long xs₁ (c .two), long xs (c .one)) l) e₃))
+  where
+  long : (ys : List Arc) (p : Put) → length (replaced ys (p .number) (p .arc)) ≡ length ys
+  long ys p = length-replaced ys (p .number) (p .arc)
+
+  step : (net : Net) (ys : List Arc) (p : Put) → 96 ≤ length ys → net .arcs ≡ arcsIn ys → withPut net p .arcs ≡ arcsIn (replaced ys (p .number) (p .arc))
+  step net ys p = arcs-put net ys (p .number) (p .arc)
+
+  net₀ : Net
+  net₀ = joined nodes (arcsIn xs)
+
+  net₁ : Net
+  net₁ = withPut net₀ (c .one)
+
+  net₂ : Net
+  net₂ = withPut net₁ (c .two)
+
+  net₃ : Net
+  net₃ = withPut net₂ (c .three)
+
+  xs₁ : List Arc
+  xs₁ = replaced xs (c .one .number) (c .one .arc)
+
+  xs₂ : List Arc
+  xs₂ = replaced xs₁ (c .two .number) (c .two .arc)
+
+  xs₃ : List Arc
+  xs₃ = replaced xs₂ (c .three .number) (c .three .arc)
+
+  e₁ : net₁ .arcs ≡ arcsIn xs₁
+  e₁ = step net₀ xs (c .one) l refl
+
+  e₂ : net₂ .arcs ≡ arcsIn xs₂
+  e₂ = step net₁ xs₁ (c .two) (rw (long xs (c .one)) l) e₁
+
+  e₃ : net₃ .arcs ≡ arcsIn xs₃
+  e₃ = step net₂ xs₂ (c .three) (rw (long xs₁ (c .two), long xs (c .one)) l) e₂

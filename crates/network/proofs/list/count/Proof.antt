@@ -1,0 +1,14 @@
+-- `network::list::count` meets its contract. The part that follows the code is `Proof/Tie.antt`, made by tools/lift.py.
+-- Assumes nothing.
+mod Tie
+use borrow.Author.Needs.{needs}
+use Rattle.network.proofs.list.count.Statement.{statement}
+use Rattle.network.proofs.list.count.Proof.Tie as tie
+use Rattle.network.proofs.Lent.list_count.Reads as reads
+use Rattle.network.proofs.Lent.list_count.Lts as lts
+
+returns : tie.Need-returns
+returns c = search needs
+
+pub count-spec : {M : Type 1} → statement M
+count-spec = tie.close (tie.spec returns)

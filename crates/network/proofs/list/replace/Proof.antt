@@ -1,0 +1,31 @@
+-- `network::list::replace` meets its contract. The part that follows the code is `Proof/Tie.antt`, made by tools/lift.py.
+-- Assumes nothing.
+mod Tie
+use native.Mathlib.Omega.{arith}
+use Rattle.network.proofs.Lists.{replaced-low, replaced-in, replaced-past}
+use borrow.Author.Needs.{needs}
+use Rattle.network.proofs.list.replace.Statement.{statement}
+use Rattle.network.proofs.list.replace.Proof.Tie as tie
+use Rattle.network.proofs.Lent.list_replace.Reads as reads
+use Rattle.network.proofs.Lent.list_replace.Lts as lts
+
+returns : tie.Need-returns
+returns c = replaced-low _ _ _ (c .if1 .taken)
+
+mul-t : tie.Need-mul-t
+mul-t c = search needs
+
+slice-set-from-t : tie.Need-slice-set-from-t
+slice-set-from-t c = search needs
+
+same-length : tie.Need-same-length
+same-length c = search needs
+
+returns-2 : tie.Need-returns-2
+returns-2 c = replaced-in _ (c .before .before .args .j) _ (omega arith)
+
+returns-3 : tie.Need-returns-3
+returns-3 c = replaced-past _ (c .before .before .args .j) _ (omega arith)
+
+pub replace-spec : {M : Type 1} → statement M
+replace-spec = tie.close (tie.spec returns mul-t slice-set-from-t same-length returns-2 returns-3)

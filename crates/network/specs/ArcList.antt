@@ -1,0 +1,56 @@
+-- The lent list of arc records (01, "Records": "the working arcs stand as a lent list of arc records, one for each number"), and the network whose arcs stand in it. Assumes nothing.
+use mathlib.Core.List.{List, _∷_}
+use Prim.Native.Nat.{ℕ, zero, suc, _+_}
+use lib.IntN.{ℤ}
+use lib.ListN.{getD, set, replicate}
+use Rattle.loops.specs.Loops.{build, upto}
+use Rattle.network.specs.declared.Arc.{Arc}
+use Rattle.network.specs.declared.Net.{Net}
+use Rattle.network.specs.declared.Nodes.{Nodes}
+use Rattle.network.specs.declared.Change.{Change}
+use Rattle.network.specs.declared.record.Asked.{Asked}
+use Rattle.network.specs.declared.record.Asked.the-variants.{Go, No}
+use Rattle.network.specs.Network.{noArc}
+use Rattle.network.specs.Record.{figures, arcIn, sizesOf}
+
+-- the record of number j, from 1; zeros where there is none
+unfoldable pub recordAt : List Arc → ℕ → Arc
+recordAt xs j = getD (noArc ∷ xs) j noArc
+
+-- replaced, where there is such a number
+unfoldable pub replaced : List Arc → ℕ → Arc → List Arc
+replaced xs zero t = xs
+replaced xs (suc j) t = set xs j t
+
+-- by the arcs of a step's change
+unfoldable pub replacedAll : List Arc → Change → List Arc
+replacedAll xs c =
+    replaced (replaced (replaced (replaced xs (c .one .number) (c .one .arc)) (c .two .number) (c .two .arc)) (c .three .number) (c .three .arc)) (c .four .number) (c .four .arc)
+
+-- "every figure in it zero": k records all of whose numbers are 0
+abbrev pub noArcs : ℕ → List Arc
+noArcs k = replicate k noArc
+
+-- the arcs of a network's record put into the list, where question 2 is answered by yes
+abbrev pub loadTurn : List ℤ → ℕ → ℕ → ℕ → List Arc → List Arc
+loadTurn words n t j xs = replaced xs (j + 1) (arcIn words n t j)
+
+abbrev pub loadedBy : List ℤ → Asked → List Arc → List Arc
+loadedBy words (No q) xs = xs
+loadedBy words (Go n m) xs = upto (loadTurn words n (figures n m)) m xs
+
+unfoldable pub loaded : List ℤ → List Arc → List Arc
+loaded words xs = loadedBy words (sizesOf words) xs
+
+-- ---- a network whose arcs stand in the list
+
+-- the arcs at their numbers
+unfoldable pub arcsIn : List Arc → List Arc
+arcsIn xs = build 97 (recordAt xs)
+
+-- what a network is beside its arcs, and the network of both
+abbrev pub nodesOf : Net → Nodes
+nodesOf net = record { n = net .n; m = net .m; here = net .here; supply = net .supply }
+
+abbrev pub joined : Nodes → List Arc → Net
+joined nodes arcs = record { n = nodes .n; m = nodes .m; here = nodes .here; supply = nodes .supply; arcs = arcs }

@@ -1,0 +1,113 @@
+// The lent list of arc records (01, "Records"): the working arcs, one record for each number, from 1. What takes the list counts,
+// reads, replaces and clears its records, and no more; functions on an arc by value do the arithmetic.
+// The next line is for tools/lift.py:
+// lent: Arc [i8; 56]
+ghost use mathlib.Core.Path.{_≡_};
+ghost use Prim.Native.Nat.{_≤_};
+ghost use lib.ListN.{length};
+ghost use Rattle.loops.specs.Loops.{upto};
+ghost use Rattle.network.specs.ArcList.{recordAt, replaced, replacedAll, noArcs, arcsIn, loadTurn, loaded};
+use crate::Arc;
+use crate::Change;
+use crate::Put;
+use crate::record::Asked;
+
+// How many records there are.
+pub fn count(arcs: &[Arc]) -> usize
+    ensures { λ r. ⌜ r ≡ length (now (arcs .entry)) ⌝ }
+{
+    arcs.len()
+}
+
+// The record of number j; zeros where there is none.
+pub fn read(arcs: &[Arc], j: usize) -> Arc
+    ensures { λ r. ⌜ r ≡ recordAt (now (arcs .entry)) j ⌝ }
+{
+    if j < 1 {
+        return crate::no_arc();
+    }
+    if j <= arcs.len() {
+        return arcs[j - 1];
+    }
+    crate::no_arc()
+}
+
+// The record of number j replaced, where there is one.
+pub fn replace(arcs: &mut [Arc], j: usize, t: Arc)
+    ensures { λ _. ⌜ now (arcs .exit) ≡ replaced (now (arcs .entry)) j t ⌝ }
+{
+    if j < 1 {
+        return;
+    }
+    if j <= arcs.len() {
+        arcs[j - 1] = t;
+    }
+}
+
+// Every number of every record becomes zero, however long the list is.
+pub fn clear(arcs: &mut [Arc])
+    ensures { λ _. ⌜ now (arcs .exit) ≡ noArcs (length (now (arcs .entry))) ⌝ }
+{
+    let mut i = 0;
+    while i < arcs.len() {
+        let z = crate::no_arc();
+        replace(arcs, i + 1, z);
+        i += 1;
+    }
+}
+
+// The arcs at their numbers, by value.
+pub fn view(arcs: &[Arc]) -> [Arc; 97]
+    ensures { λ r. ⌜ r ≡ arcsIn (now (arcs .entry)) ⌝ }
+{
+    let z = crate::no_arc();
+    let mut at = [z; 97];
+    let mut j = 0;
+    while j < 97 {
+        at[j] = read(arcs, j);
+        j += 1;
+    }
+    at
+}
+
+// An arc put at its number.
+pub(crate) fn put_record(arcs: &mut [Arc], p: Put)
+    ensures { λ _. ⌜ now (arcs .exit) ≡ replaced (now (arcs .entry)) (p .number) (p .arc) ⌝ }
+{
+    replace(arcs, p.number, crate::arc_of(p));
+}
+
+// The arcs of a step's change put at their numbers.
+pub fn put_change(arcs: &mut [Arc], c: Change)
+    ensures { λ _. ⌜ now (arcs .exit) ≡ replacedAll (now (arcs .entry)) c ⌝ }
+{
+    put_record(arcs, c.one);
+    put_record(arcs, c.two);
+    put_record(arcs, c.three);
+    put_record(arcs, c.four);
+}
+
+// The arcs 1 to m of a network's record.
+pub(crate) fn load_arcs(arcs: &mut [Arc], network: &[i32], n: usize, t: usize, m: usize)
+    requires { ⌜ (n ≤ 32) × (m ≤ 96) ⌝ }
+    ensures { λ _. ⌜ now (arcs .exit) ≡ upto (loadTurn (now (network .entry)) n t) m (now (arcs .entry)) ⌝ }
+{
+    let mut j = 0;
+    while j < m {
+        let a = crate::record::arc_in(network, n, t, j);
+        replace(arcs, j + 1, a);
+        j += 1;
+    }
+}
+
+// The arcs of a network's record, where question 2 is answered by yes.
+pub fn load(arcs: &mut [Arc], network: &[i32])
+    ensures { λ _. ⌜ now (arcs .exit) ≡ loaded (now (network .entry)) (now (arcs .entry)) ⌝ }
+{
+    match crate::record::sizes(network) {
+        Asked::No(_) => {},
+        Asked::Go(n, m) => {
+            load_arcs(arcs, network, n, n + 7 * m, m);
+        },
+    }
+}
