@@ -89,21 +89,21 @@ unfolding withArc replaced
 arcs-put net xs zero t l e = e
 arcs-put net xs (suc j) t l e = by-case (leb (suc j) 96) refl
   where
-  long : 96 ≤ length (set xs j t)
-  long = rw (length-set xs j t) l
+    long : 96 ≤ length (set xs j t)
+    long = rw (length-set xs j t) l
 
-  by-case : (b : Bool) → leb (suc j) 96 ≡ b → withArc net (suc j) t .arcs ≡ arcsIn (set xs j t)
-  by-case true q = rw (le-leb 1 (suc j) (omega arith), q, e, arcs-are xs l, arcs-are (set xs j t) long, take-set-lt 96 xs j t (omega (arith, leb-true (suc j) 96 q)))
-  by-case false q = rw (le-leb 1 (suc j) (omega arith), q, e, arcs-are xs l, arcs-are (set xs j t) long, take-set-le 96 xs j t (omega (arith, leb-false (suc j) 96 q)))
+    by-case : (b : Bool) → leb (suc j) 96 ≡ b → withArc net (suc j) t .arcs ≡ arcsIn (set xs j t)
+    by-case true q = rw (le-leb 1 (suc j) (omega arith), q, e, arcs-are xs l, arcs-are (set xs j t) long, take-set-lt 96 xs j t (omega (arith, leb-true (suc j) 96 q)))
+    by-case false q = rw (le-leb 1 (suc j) (omega arith), q, e, arcs-are xs l, arcs-are (set xs j t) long, take-set-le 96 xs j t (omega (arith, leb-false (suc j) 96 q)))
 
 pub arcs-none : (k : ℕ) → arcsIn (noArcs k) ≡ replicate 97 noArc
 unfolding arcsIn recordAt
 arcs-none k = build-same 97 (recordAt (noArcs k)) (λ _. noArc) (λ i l. getD-none (suc k) i) ∙ build-const 97 noArc
   where
-  getD-none : (n i : ℕ) → getD (replicate n noArc) i noArc ≡ noArc
-  getD-none zero i = refl
-  getD-none (suc n) zero = refl
-  getD-none (suc n) (suc i) = getD-none n i
+    getD-none : (n i : ℕ) → getD (replicate n noArc) i noArc ≡ noArc
+    getD-none zero i = refl
+    getD-none (suc n) zero = refl
+    getD-none (suc n) (suc i) = getD-none n i
 
 -- ---- the list loaded
 
@@ -127,23 +127,23 @@ pub length-loaded : (words : List ℤ) (xs : List Arc) → length (loaded words 
 unfolding loaded
 length-loaded words xs = by-sizes (sizesOf words)
   where
-  by-sizes : (q : Asked) → length (loadedBy words q xs) ≡ length xs
-  by-sizes (No q) = refl
-  by-sizes (Go n m) = length-turns words n (figures n m) m xs
+    by-sizes : (q : Asked) → length (loadedBy words q xs) ≡ length xs
+    by-sizes (No q) = refl
+    by-sizes (Go n m) = length-turns words n (figures n m) m xs
 
 pub loaded-net : (words : List ℤ) (k : ℕ) → 96 ≤ k → joined (nodesOf (readOf words)) (arcsIn (loaded words (noArcs k))) ≡ readOf words
 unfolding loaded readOf netOf withNode withSupply
 loaded-net words k l = by-sizes (sizesOf words)
   where
-  long : 96 ≤ length (noArcs k)
-  long = rw (length-replicate k noArc) l
+    long : 96 ≤ length (noArcs k)
+    long = rw (length-replicate k noArc) l
 
-  kept : (n m : ℕ) → upto (nodeTurn words (figures n m)) n (emptyNet n m) .arcs ≡ arcsIn (noArcs k)
-  kept n m = upto-keeps (λ (net : Net). net .arcs ≡ arcsIn (noArcs k)) (nodeTurn words (figures n m)) (λ i net e. e) n (emptyNet n m) (sym (arcs-none k))
+    kept : (n m : ℕ) → upto (nodeTurn words (figures n m)) n (emptyNet n m) .arcs ≡ arcsIn (noArcs k)
+    kept n m = upto-keeps (λ (net : Net). net .arcs ≡ arcsIn (noArcs k)) (nodeTurn words (figures n m)) (λ i net e. e) n (emptyNet n m) (sym (arcs-none k))
 
-  by-sizes : (q : Asked) → joined (nodesOf (netBy words q)) (arcsIn (loadedBy words q (noArcs k))) ≡ netBy words q
-  by-sizes (No q) = ap (joined (nodesOf (emptyNet 0 0))) (arcs-none k)
-  by-sizes (Go n m) = ap (joined (nodesOf (netOf words n m))) (sym (load-turns words n (figures n m) m (upto (nodeTurn words (figures n m)) n (emptyNet n m)) (noArcs k) long (kept n m)))
+    by-sizes : (q : Asked) → joined (nodesOf (netBy words q)) (arcsIn (loadedBy words q (noArcs k))) ≡ netBy words q
+    by-sizes (No q) = ap (joined (nodesOf (emptyNet 0 0))) (arcs-none k)
+    by-sizes (Go n m) = ap (joined (nodesOf (netOf words n m))) (sym (load-turns words n (figures n m) m (upto (nodeTurn words (figures n m)) n (emptyNet n m)) (noArcs k) long (kept n m)))
 
 -- ---- a step's change
 
@@ -155,38 +155,38 @@ pub changed-net : (nodes : Nodes) (xs : List Arc) (c : Change) → 96 ≤ length
 unfolding replacedAll applied without withSupply
 changed-net nodes xs c l = ap (joined (nodesOf (applied net₀ c))) (sym (step net₃ xs₃ (c .four) (rw (long xs₂ (c .three), long xs₁ (c .two), long xs (c .one)) l) e₃))
   where
-  long : (ys : List Arc) (p : Put) → length (replaced ys (p .number) (p .arc)) ≡ length ys
-  long ys p = length-replaced ys (p .number) (p .arc)
+    long : (ys : List Arc) (p : Put) → length (replaced ys (p .number) (p .arc)) ≡ length ys
+    long ys p = length-replaced ys (p .number) (p .arc)
 
-  step : (net : Net) (ys : List Arc) (p : Put) → 96 ≤ length ys → net .arcs ≡ arcsIn ys → withPut net p .arcs ≡ arcsIn (replaced ys (p .number) (p .arc))
-  step net ys p = arcs-put net ys (p .number) (p .arc)
+    step : (net : Net) (ys : List Arc) (p : Put) → 96 ≤ length ys → net .arcs ≡ arcsIn ys → withPut net p .arcs ≡ arcsIn (replaced ys (p .number) (p .arc))
+    step net ys p = arcs-put net ys (p .number) (p .arc)
 
-  net₀ : Net
-  net₀ = joined nodes (arcsIn xs)
+    net₀ : Net
+    net₀ = joined nodes (arcsIn xs)
 
-  net₁ : Net
-  net₁ = withPut net₀ (c .one)
+    net₁ : Net
+    net₁ = withPut net₀ (c .one)
 
-  net₂ : Net
-  net₂ = withPut net₁ (c .two)
+    net₂ : Net
+    net₂ = withPut net₁ (c .two)
 
-  net₃ : Net
-  net₃ = withPut net₂ (c .three)
+    net₃ : Net
+    net₃ = withPut net₂ (c .three)
 
-  xs₁ : List Arc
-  xs₁ = replaced xs (c .one .number) (c .one .arc)
+    xs₁ : List Arc
+    xs₁ = replaced xs (c .one .number) (c .one .arc)
 
-  xs₂ : List Arc
-  xs₂ = replaced xs₁ (c .two .number) (c .two .arc)
+    xs₂ : List Arc
+    xs₂ = replaced xs₁ (c .two .number) (c .two .arc)
 
-  xs₃ : List Arc
-  xs₃ = replaced xs₂ (c .three .number) (c .three .arc)
+    xs₃ : List Arc
+    xs₃ = replaced xs₂ (c .three .number) (c .three .arc)
 
-  e₁ : net₁ .arcs ≡ arcsIn xs₁
-  e₁ = step net₀ xs (c .one) l refl
+    e₁ : net₁ .arcs ≡ arcsIn xs₁
+    e₁ = step net₀ xs (c .one) l refl
 
-  e₂ : net₂ .arcs ≡ arcsIn xs₂
-  e₂ = step net₁ xs₁ (c .two) (rw (long xs (c .one)) l) e₁
+    e₂ : net₂ .arcs ≡ arcsIn xs₂
+    e₂ = step net₁ xs₁ (c .two) (rw (long xs (c .one)) l) e₁
 
-  e₃ : net₃ .arcs ≡ arcsIn xs₃
-  e₃ = step net₂ xs₂ (c .three) (rw (long xs₁ (c .two), long xs (c .one)) l) e₂
+    e₃ : net₃ .arcs ≡ arcsIn xs₃
+    e₃ = step net₂ xs₂ (c .three) (rw (long xs₁ (c .two), long xs (c .one)) l) e₂

@@ -383,7 +383,7 @@ pub fn change_one(one: Put, left: Level, right: Level, gone: usize) -> Change
 }
 
 // Nothing changed.
-fn no_change() -> Change
+pub fn no_change() -> Change
     ensures { λ r. ⌜ r ≡ noChange ⌝ }
 {
     change_one(no_put(), no_level(), no_level(), 0)

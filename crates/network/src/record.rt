@@ -2,9 +2,11 @@
 ghost use mathlib.Core.Path.{_≡_};
 ghost use Prim.Native.Nat.{_+_, _*_, _≤_};
 ghost use Rattle.loops.specs.Loops.{all, upto};
+ghost use Rattle.network.specs.ArcList.{nodesOf};
 ghost use Rattle.network.specs.Record.{word, figureAt, sizeOf, sizesOf, roleOf, isPermitted, isInForm, endOf, isEnd, hasEnds, arcIn, isWeighted, isWeightedAt, figuresAsked, askedOf, nodeTurn, arcTurn, netOf, readOf};
 use crate::Arc;
 use crate::Net;
+use crate::Nodes;
 use fraction::Fraction;
 
 // A size within its limit.
@@ -280,4 +282,11 @@ pub fn read(network: &[i32]) -> Net
         Asked::No(_) => crate::empty_net(0, 0),
         Asked::Go(n, m) => read_sized(network, n, m),
     }
+}
+
+// The nodes of a record's network.
+pub fn read_beside(network: &[i32]) -> Nodes
+    ensures { λ r. ⌜ r ≡ nodesOf (readOf (now (network .entry))) ⌝ }
+{
+    crate::nodes_of(read(network))
 }

@@ -271,27 +271,11 @@ known-mark {net} {now} {seen} h k to others none = by (ltb k 97) refl
 known-put : {net : Net} {now : ℕ} {seen : Seen} → Known net now seen → (k : ℕ) (a : Arc) → Known (withArc net k a) now (marked seen k now)
 known-put {net} h k a = known-mark h k (withArc net k a) (λ j ne. arc-left net k a j (λ _. ne)) (put-out net k a)
 
-known-stay : {net : Net} {now : ℕ} {seen : Seen} → Known net now seen → (k : ℕ) → Known net now (marked seen k now)
-known-stay {net} h k = known-mark h k net (λ j n. refl) (λ j g. refl)
-
--- a change is made
-known-after : {net : Net} {now : ℕ} {seen : Seen} → Known net now seen → (c : Change) → Known (applied net c) now (markedAll seen c now)
+pub known-after : {net : Net} {now : ℕ} {seen : Seen} → Known net now seen → (c : Change) → Known (applied net c) now (markedAll seen c now)
 unfolding applied without withSupply
 known-after h c =
     let k = known-put (known-put (known-put (known-put h (c .one .number) (c .one .arc)) (c .two .number) (c .two .arc)) (c .three .number) (c .three .arc)) (c .four .number) (c .four .arc) in
     record { past = k .past; long = k .long; vain = k .vain }
-
--- a step is taken
-pub known-stepped : {now : ℕ} {seen : Seen} (at : Ran) (s : Step) → Known (at .net) now seen → Known (stepped at s .net) now (markedAll seen (s .change) now)
-unfolding stepped
-known-stepped {now} {seen} at s h = by (ltb (at .steps) 128)
-  where
-    c : Change
-    c = s .change
-
-    by : (b : Bool) → Known (cond b (record { net = applied (at .net) (s .change); steps = at .steps + 1; taken = set (at .taken) (at .steps) (record { rule = s .rule; place = s .place }); last = at .last }) at .net) now (markedAll seen c now)
-    by true = known-after h c
-    by false = known-stay (known-stay (known-stay (known-stay h (c .one .number)) (c .two .number)) (c .three .number)) (c .four .number)
 
 -- what rule 4 answers, as a step
 pub four-at : (net : Net) (i : ℕ) (t : Tried) → t ≡ ruleFour net i → answered 4 i t ≡ stepAt net 4 i

@@ -17,3 +17,5 @@ pub mod Crossed
 pub mod Sound
 pub mod Whole
 pub mod Entry
+pub mod Lent
+pub mod ListRun

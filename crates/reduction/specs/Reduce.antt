@@ -7,6 +7,7 @@ use lib.Dec.{leb}
 use lib.IntN.{ℤ}
 use Rattle.loops.specs.Loops.{zeros}
 use Rattle.presolve.specs.LP as LP
+use Rattle.network.specs.declared.Arc.{Arc}
 use Rattle.network.specs.declared.Kind.{Kind}
 use Rattle.network.specs.declared.Kind.the-variants.{Passes, NoFlow as NoFlow·kind, Changes}
 use Rattle.network.specs.declared.record.Asked.{Asked}
@@ -14,6 +15,7 @@ use Rattle.network.specs.declared.record.Asked.the-variants.{Go, No}
 use Rattle.network.specs.Record.{askedOf, readOf}
 use Rattle.network.specs.Output.{packedOf, networkOf}
 use Rattle.network.specs.Program.{programOf}
+use Rattle.network.specs.ArcList.{noArcs}
 use Rattle.reduction.specs.declared.Answer.{Answer}
 use Rattle.reduction.specs.declared.Answer.the-variants.{Reduced, NoFlow, Refused}
 use Rattle.reduction.specs.declared.search.Ran.{Ran}
@@ -25,11 +27,11 @@ abbrev pub roomBy : Bool → List ℤ → Asked
 roomBy false xs = No 1
 roomBy true xs = askedOf xs
 
-unfoldable pub isRoomy : ℕ → ℕ → ℕ → Bool
-isRoomy out stack scratch = leb 1410 out && (leb 257 stack && leb 10240 scratch)
+unfoldable pub isRoomy : ℕ → ℕ → ℕ → ℕ → Bool
+isRoomy out stack scratch arcs = leb 1410 out && (leb 257 stack && (leb 10240 scratch && leb 96 arcs))
 
-unfoldable pub questions : List ℤ → ℕ → ℕ → ℕ → Asked
-questions xs out stack scratch = roomBy (isRoomy out stack scratch) xs
+unfoldable pub questions : List ℤ → ℕ → ℕ → ℕ → ℕ → Asked
+questions xs out stack scratch arcs = roomBy (isRoomy out stack scratch arcs) xs
 
 -- ---- the end of a run: by the answer after the last step
 
@@ -64,12 +66,18 @@ abbrev pub stackWords : List ℤ → ℕ → Asked → List ℤ
 stackWords xs s (No q) = zeros s
 stackWords xs s (Go n m) = stackOf (ranOf (readOf xs)) s
 
--- the network's words, the lengths of the lent output, stack and scratch; the result, and all words written
-pub record Reduction (xs : List ℤ) (o s w : ℕ) (r : Answer) (out stack scratch : List ℤ) : Type 0 where
-  pub result : r ≡ answerOf xs (questions xs o s w)
-  pub out-is : out ≡ outputOf xs o (questions xs o s w)
-  pub stack-is : stack ≡ stackWords xs s (questions xs o s w)
+pub record Asking (xs : List ℤ) (o s : ℕ) (q : Asked) (r : Answer) (out stack : List ℤ) : Type 0 where
+  pub result : r ≡ answerOf xs q
+  pub out-is : out ≡ outputOf xs o q
+  pub stack-is : stack ≡ stackWords xs s q
+
+-- the network's words, the lengths of the lent output, stack, scratch and arc list; the result, all words written, and the records
+pub record Reduction (xs : List ℤ) (o s w k : ℕ) (r : Answer) (out stack scratch : List ℤ) (arcs : List Arc) : Type 0 where
+  pub result : r ≡ answerOf xs (questions xs o s w k)
+  pub out-is : out ≡ outputOf xs o (questions xs o s w k)
+  pub stack-is : stack ≡ stackWords xs s (questions xs o s w k)
   pub scratch-is : scratch ≡ zeros w
+  pub arcs-is : arcs ≡ noArcs k
   -- no flow: the network given has no feasible flow, in fractions of any width
   pub flowless : (rule place : ℕ) → r ≡ NoFlow rule place → LP.NoFlow (programOf (readOf xs))
 

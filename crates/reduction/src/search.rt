@@ -2,11 +2,19 @@
 ghost use mathlib.Core.Path.{_≡_};
 ghost use Rattle.reduction.specs.Rules.{nodeRule, ruleAt};
 ghost use Rattle.reduction.specs.Seen.{Known};
-ghost use Rattle.reduction.specs.Search.{noStep, answered, stepAt, lastPlace, ranked, nextOf, started, stepped, ended, ranOf};
+ghost use Prim.Native.Nat.{_≤_, _<_};
+ghost use lib.Dec.{leb};
+ghost use lib.ListN.{length};
+ghost use Rattle.network.specs.ArcList.{arcsIn, joined};
+ghost use Rattle.reduction.specs.Seen.{markedAll};
+ghost use Rattle.reduction.specs.Search.{noStep, answered, stepAt, lastPlace, ranked, nextOf, ranOf};
+ghost use Rattle.reduction.specs.ListRun.{begun, takenOn, stopped, Advanced, Turned, netIn, ranIn, ranBy, concluded};
 use crate::costly::Seen;
+use network::Arc;
 use network::Change;
 use network::Kind;
 use network::Net;
+use network::Nodes;
 use network::Tried;
 
 // The answer of a rule at a place.
@@ -185,84 +193,152 @@ pub fn next(net: Net) -> Step
     f.step
 }
 
-fn take(at: Ran, s: Step) -> Ran
-    ensures { λ r. ⌜ r ≡ stepped at s ⌝ }
+// A run under way, beside its arcs, which stand in the lent list: what it has come to, what is known, what is to be put into the
+// list, and whether it is active.
+pub struct Progress {
+    pub nodes: Nodes,
+    pub steps: usize,
+    pub taken: [Taken; 128],
+    pub last: Step,
+    pub seen: Seen,
+    pub put: Change,
+    pub active: bool,
+}
+
+// Before the first step.
+pub(crate) fn start(nodes: Nodes) -> Progress
+    ensures { λ r. ⌜ r ≡ begun nodes ⌝ }
 {
-    let net = at.net;
-    let change = s.change;
+    let last = no_step();
+    let seen = crate::costly::unseen();
+    let put = network::no_change();
+    Progress {
+        nodes,
+        steps: 0,
+        taken: [Taken { rule: 0, place: 0 }; 128],
+        last,
+        seen,
+        put,
+        active: true,
+    }
+}
+
+// A step taken, at a time.
+fn take(at: Progress, net: Net, s: Step, seen: Seen, time: u8) -> Progress
+    requires { ⌜ at .steps < 128 ⌝ }
+    ensures { λ r. ⌜ r ≡ takenOn at net s (markedAll seen (s .change) time) ⌝ }
+{
+    let put = s.change;
     let last = at.last;
     let mut taken = at.taken;
     let k = at.steps;
-    if k < 128 {
-        taken[k] = Taken {
-            rule: s.rule,
-            place: s.place,
-        };
-        let to = network::apply(net, change);
-        return Ran {
-            net: to,
-            steps: k + 1,
-            taken,
-            last,
-        };
+    taken[k] = Taken {
+        rule: s.rule,
+        place: s.place,
+    };
+    let nodes = network::nodes_of(network::apply(net, put));
+    let known = crate::costly::mark_all(seen, put, time);
+    Progress {
+        nodes,
+        steps: k + 1,
+        taken,
+        last,
+        seen: known,
+        put,
+        active: true,
+    }
+}
+
+// The end, with the last answer.
+fn stop(at: Progress, last: Step) -> Progress
+    ensures { λ r. ⌜ r ≡ stopped at last ⌝ }
+{
+    let nodes = at.nodes;
+    let taken = at.taken;
+    let seen = at.seen;
+    let put = network::no_change();
+    Progress {
+        nodes,
+        steps: at.steps,
+        taken,
+        last,
+        seen,
+        put,
+        active: false,
+    }
+}
+
+// The next step of a run whose arcs are `view`, or its end.
+pub(crate) fn advance(at: Progress, view: [Arc; 97]) -> Progress
+    requires { ⌜ Known (joined (at .nodes) view) (at .steps) (at .seen) × (at .steps ≤ 128) ⌝ }
+    ensures { λ r. ⌜ Advanced at view r ⌝ }
+{
+    let net = network::join(at.nodes, view);
+    let time = (at.steps + 1) as u8;
+    let found = next_known(net, at.seen, time);
+    let s = found.step;
+    let kind = s.kind;
+    if 128 <= at.steps {
+        return stop(at, s);
+    }
+    match kind {
+        Kind::Passes => stop(at, s),
+        Kind::NoFlow => stop(at, s),
+        Kind::Changes => take(at, net, s, found.seen, time),
+    }
+}
+
+// What is to be put into the list.
+pub(crate) fn put_of(at: Progress) -> Change
+    ensures { λ r. ⌜ r ≡ at .put ⌝ }
+{
+    at.put
+}
+
+// One turn of a run: the next step taken in the list, or the end.
+pub(crate) fn turn(at: Progress, arcs: &mut [Arc]) -> Progress
+    requires { ⌜ Known (joined (at .nodes) (arcsIn (now arcs))) (at .steps) (at .seen) × (at .steps ≤ 128) × (96 ≤ length (now arcs)) ⌝ }
+    ensures { λ r. ⌜ Turned at (now (arcs .entry)) r (now (arcs .exit)) ⌝ }
+{
+    let view = network::list::view(arcs);
+    let next = advance(at, view);
+    network::list::put_change(arcs, put_of(next));
+    next
+}
+
+// Steps until there is none.
+pub(crate) fn run_on(nodes: Nodes, arcs: &mut [Arc]) -> Progress
+    requires { ⌜ 96 ≤ length (now arcs) ⌝ }
+    ensures { λ r. ⌜ (ranIn r (now (arcs .exit)) ≡ ranOf (netIn nodes (now (arcs .entry)))) × (length (now (arcs .exit)) ≡ length (now (arcs .entry))) ⌝ }
+{
+    let mut at = start(nodes);
+    while at.active {
+        at = turn(at, arcs);
     }
     at
 }
 
-fn start(net: Net) -> Ran
-    ensures { λ r. ⌜ r ≡ started net ⌝ }
+// Steps until there is none, in a list that is long enough; else none.
+pub fn run(nodes: Nodes, arcs: &mut [Arc]) -> Progress
+    ensures { λ r. ⌜ (ranIn r (now (arcs .exit)) ≡ ranBy (leb 96 (length (now (arcs .entry)))) (netIn nodes (now (arcs .entry)))) × (length (now (arcs .exit)) ≡ length (now (arcs .entry))) ⌝ }
 {
-    let last = no_step();
-    Ran {
-        net,
-        steps: 0,
-        taken: [Taken { rule: 0, place: 0 }; 128],
-        last,
+    if 96 <= network::list::count(arcs) {
+        return run_on(nodes, arcs);
     }
+    start(nodes)
 }
 
-fn end(at: Ran, last: Step) -> Ran
-    ensures { λ r. ⌜ r ≡ ended at last ⌝ }
+// A run with its arcs.
+pub fn conclude(at: Progress, view: [Arc; 97]) -> Ran
+    ensures { λ r. ⌜ r ≡ concluded at view ⌝ }
 {
-    let net = at.net;
+    let net = network::join(at.nodes, view);
     let taken = at.taken;
+    let last = at.last;
     Ran {
         net,
         steps: at.steps,
         taken,
         last,
     }
-}
-
-// Steps until there is none.
-pub fn run(net: Net) -> Ran
-    ensures { λ r. ⌜ r ≡ ranOf net ⌝ }
-{
-    let mut at = start(net);
-    let mut seen = crate::costly::unseen();
-    let mut f: usize = 0;
-    while f < 128 {
-        let now = at.net;
-        let time = (f + 1) as u8;
-        let found = next_known(now, seen, time);
-        let s = found.step;
-        let known = found.seen;
-        let kind = s.kind;
-        match kind {
-            Kind::Passes => {
-                return end(at, s);
-            },
-            Kind::NoFlow => {
-                return end(at, s);
-            },
-            Kind::Changes => {
-                let change = s.change;
-                seen = crate::costly::mark_all(known, change, time);
-                at = take(at, s);
-            },
-        }
-        f += 1;
-    }
-    let now = at.net;
-    end(at, next(now))
 }

@@ -1,51 +1,62 @@
--- `reduction::reduce` meets its contract. Assumes nothing.
-use Rattle.algebra.specs.Solver.{at}
+-- `reduction::reduce` meets its contract. The part that follows the code is `Proof/Tie.antt`, made by tools/lift.py.
+-- Assumes nothing.
+mod Tie
+use lib.ListN.{length}
+use Rattle.network.specs.ArcList.{noArcs}
 use Rattle.loops.specs.Loops.{zeros}
-use Rattle.fraction.specs.Laws.{never}
-use Rattle.reduction.specs.Reduce.{questions}
+use mathlib.Core.Path.{_∙_, ap, sym}
 use Rattle.reduction.proofs.Entry.{no-flow-given}
 use borrow.Author.Needs.{needs}
-use lib.ListN.{length}
-use mathlib.Core.Path.{_∙_, _≡_, ap, sym}
 use Rattle.reduction.proofs.reduce.Statement.{statement}
-use Rattle.reduction.proofs.reduce.Tie as tie
+use Rattle.reduction.proofs.reduce.Proof.Tie as tie
+use Rattle.reduction.proofs.Lent.reduce.Reads as reads
+use Rattle.reduction.proofs.Lent.reduce.Lts as lts
 
-asked-is : (c : tie.After-ask) → c .ask .result ≡ questions (c .before .before .before .before .before .before .before .before .before .before .args .network .now) (length (c .before .before .before .before .before .before .before .before .before .before .args .out .now)) (length (c .before .before .before .before .before .before .before .before .before .before .args .stack .now)) (length (c .before .before .before .before .before .before .before .before .before .before .args .scratch .now))
-asked-is c = rw (c .before .before .before .before .before .before .before .before .clear .kept .0, c .before .before .before .before .before .clear2 .kept .0, c .before .before .clear3 .kept .0) at (c .ask .ensures)
+clear-requires : tie.Need-clear-requires
+clear-requires c κs = search needs
 
-finish-requires : tie.Need-finish-requires
-finish-requires c κs = c .before .before .before .before .before .before .before .before .before .before .before .before .before .before .clear .ensures ∙ ap zeros (sym (c .before .before .before .before .before .before .before .before .before .before .before .before .before .before .clear .kept .0))
+clear-requires-2 : tie.Need-clear-requires-2
+clear-requires-2 c κs = search needs
 
-returns : tie.Need-returns
-returns c = let e = sym (asked-is (c .before .before .before)) ∙ c .before .q .given .1 in record { result = rw e; out-is = rw e (c .before .before .before .before .before .before .before .before .before .before .before .clear .ensures); stack-is = rw e (c .before .before .before .before .before .before .before .before .clear2 .ensures); scratch-is = c .before .before .before .before .before .clear3 .ensures; flowless = λ k i f. never cc }
+clear-requires-3 : tie.Need-clear-requires-3
+clear-requires-3 c κs = search needs
+
+clear-requires-4 : tie.Need-clear-requires-4
+clear-requires-4 c κs = search needs
+
+ask-all-requires : tie.Need-ask-all-requires
+ask-all-requires c κs = (c .before .before .before .before .before .before .before .before .before .before .before .before .before .clear .ensures ∙ ap zeros (sym (c .before .before .before .before .before .before .before .before .before .before .before .before .before .clear .kept .0)), c .before .before .before .before .before .before .before .before .before .before .clear2 .ensures ∙ ap zeros (sym (c .before .before .before .before .before .before .before .before .before .before .clear2 .kept .0)), c .before .before .before .before .clear4 .ensures ∙ ap noArcs (sym (c .before .before .before .before .clear4 .kept .0)))
+
+clear-requires-5 : tie.Need-clear-requires-5
+clear-requires-5 c κs = search needs
+
+same-length : tie.Need-same-length
+same-length c = search needs
+
+same-length-2 : tie.Need-same-length-2
+same-length-2 c = search needs
+
+same-length-3 : tie.Need-same-length-3
+same-length-3 c = search needs
 
 same-length-4 : tie.Need-same-length-4
-same-length-4 c = c .before .before .finish .kept .1 .0 ∙ c .before .before .before .before .before .before .before .before .before .before .before .before .before .before .before .before .before .clear .kept .0
+same-length-4 c = search needs
 
-same-length-5 : tie.Need-same-length-5
-same-length-5 c = c .before .before .finish .kept .1 .1 .0 ∙ c .before .before .before .before .before .before .before .before .before .before .before .before .before .before .clear2 .kept .0
-
-returns-2 : tie.Need-returns-2
-returns-2 c = let A = c .before .before .before .before .before .before .before .before .before .before .before .before .before .before .before .before .before .before .before .args in let e = sym (asked-is (c .before .before .before .before .before .before .before .before .before)) ∙ c .before .before .before .before .before .before .before .enum-told .given .1 in let f = rw (c .before .before .before .before .before .run .ensures, c .before .before .before .before .before .before .read .ensures) at (c .before .before .finish .ensures) in record { result = rw e (f .result); out-is = rw e (rw (c .before .before .before .before .before .before .before .before .before .before .before .before .before .before .before .before .before .clear .kept .0) at (f .out-is)); stack-is = rw e (rw (c .before .before .before .before .before .before .before .before .before .before .before .before .before .before .clear2 .kept .0) at (f .stack-is)); scratch-is = c .before .before .before .before .before .before .before .before .before .before .before .clear3 .ensures; flowless = λ k i g. no-flow-given (A .network .now) (length (A .out .now)) (length (A .stack .now)) (length (A .scratch .now)) k i (rw e (sym (f .result) ∙ g)) }
+returns : tie.Need-returns
+returns c = let f = rw (c .before .before .before .before .before .before .before .before .before .before .before .before .before .before .before .before .before .before .before .before .clear .kept .0, c .before .before .before .before .before .before .before .before .before .before .before .before .before .before .before .before .before .clear2 .kept .0, c .before .before .before .before .before .before .before .before .before .before .before .before .before .before .clear3 .kept .0, c .before .before .before .before .before .before .before .before .before .before .before .clear4 .kept .0) at (c .before .before .before .before .before .before .ask-all .ensures) in record { result = f .result; out-is = f .out-is; stack-is = f .stack-is; scratch-is = c .before .before .before .before .before .before .before .before .before .before .before .before .before .before .clear3 .ensures; arcs-is = c .before .clear5 .ensures ∙ ap noArcs (c .before .before .before .before .before .before .ask-all .kept .1 .1 .1 .1 .0 ∙ c .before .before .before .before .before .before .before .before .before .before .before .clear4 .kept .0); flowless = λ rule i g. no-flow-given _ _ _ _ _ rule i (sym (f .result) ∙ g) }
 
 pub reduce-spec : {M : Type 1} → statement M
 reduce-spec =
     tie.close
     (tie.spec
-    (λ c κs. search needs)
-    (λ c κs. search needs)
-    (λ c κs. search needs)
-    (λ c κs. search needs)
-    (λ c. search needs)
-    (λ c. search needs)
-    (λ c κs. search needs)
-    (λ c κs. search needs)
-    finish-requires
-    (λ c. search needs)
-    (λ c. search needs)
-    (λ c. search needs)
-    returns
+    clear-requires
+    clear-requires-2
+    clear-requires-3
+    clear-requires-4
+    ask-all-requires
+    clear-requires-5
+    same-length
+    same-length-2
+    same-length-3
     same-length-4
-    same-length-5
-    (λ c. search needs)
-    returns-2)
+    returns)

@@ -366,7 +366,7 @@ module _ (claims· : Claims) where
   s3 = Scalar.n-room T4 8 Syntax.tyBool
 
   abbrev s4 : Typed.Both T5 T8
-  s4 = Call.callB ps·0 r·0 (claims· .0) (claims· .1) T5 (record { pos = 2; ty = Syntax.tyRef (Syntax.named 1) Syntax.imm (Syntax.tyInt Syntax.w32); ref = λ x. x; }, (Num.vAt 3 λ x. x, (Num.vAt 4 λ x. x, (Num.vAt 6 λ x. x, tt)))) 7 (L._∷_ 1 L.[]) Rec.by-value
+  s4 = Call.callB ps·0 r·0 (claims· .0) (claims· .1) T5 (record { pos = 2; ty = Syntax.tyRef (Syntax.named 1) Syntax.imm (Syntax.tyInt Syntax.w32); ref = λ x. x }, (Num.vAt 3 λ x. x, (Num.vAt 4 λ x. x, (Num.vAt 6 λ x. x, tt)))) 7 (L._∷_ 1 L.[]) Rec.by-value
 
   abbrev s6 : Typed.Gives T8 T10
   s6 = Relend.k-sl-relend Rec.row T8 1 10 0 2 q9 q10 Row.off λ x. x
@@ -378,7 +378,7 @@ module _ (claims· : Claims) where
   s8 = Scalar.k-op2 T11 (Syntax.add Syntax.unsigned) (Scalar.oAt 6 (Syntax.tyInt Syntax.w64) (Row.valS (Row.sInt Syntax.w64))) (Scalar.oInt Syntax.w64 1) 12 q18 (Row.sInt Syntax.w64 .of)
 
   abbrev s9 : Typed.Both T12 T13
-  s9 = Call.callB ps·1 r·1 (claims· .2) (claims· .3) T12 (record { pos = 11; ty = Syntax.tyRef Syntax.erased Syntax.mut Rec.named; ref = λ x. x; }, (Num.vAt 12 λ x. x, (record { pos = 7; st = L.[]; d = 0; at = λ x. x }, tt))) 9 (L._∷_ 2 L.[]) Syntax.tyUnit
+  s9 = Call.callB ps·1 r·1 (claims· .2) (claims· .3) T12 (record { pos = 11; ty = Syntax.tyRef Syntax.erased Syntax.mut Rec.named; ref = λ x. x }, (Num.vAt 12 λ x. x, (record { pos = 7; st = L.[]; d = 0; at = λ x. x }, tt))) 9 (L._∷_ 2 L.[]) Syntax.tyUnit
 
   abbrev s10 : Typed.Mo T13 → Typed.Mo T14
   s10 = Scalar.n-room T13 7 Rec.by-value
@@ -411,7 +411,7 @@ module _ (claims· : Claims) where
   s21 = Scalar.n-room T24 5 (Syntax.tyInt Syntax.w64)
 
   abbrev put0 : L.List (Rec.row .Denot) × Rows.sc-here (Row.sInt Syntax.w64) .Mod → Typed.Mo T2 → Typed.Mo T2
-  put0 = λ vs u. Row.set 6 q17 (vs .1) (T2 .locals) (Row.set 1 q4 record { ptr = Row.get 1 (T2 .locals) u .ptr; name = Row.get 1 (T2 .locals) u .name; now = vs .0; } (T2 .locals) u)
+  put0 = λ vs u. Row.set 6 q17 (vs .1) (T2 .locals) (Row.set 1 q4 record { ptr = Row.get 1 (T2 .locals) u .ptr; name = Row.get 1 (T2 .locals) u .name; now = vs .0 } (T2 .locals) u)
 
   module _ (Pre· : (κs : Lifetimes.Lfts 2) → FnKinds.Dens κs ps → Type 0) (Post· : (κs : Lifetimes.Lfts 2) → (a : FnKinds.Dens κs ps) → FnKinds.Plain 2 ps r κs) where
     module _ (M : Type 1) where
@@ -539,82 +539,82 @@ module _ (claims· : Claims) where
         g11 = L._∷_ q19 (L._∷_ (1, Relend.mslice-owed Rec.row q9 0 2 (Row.lease (κs .0) (qs .0))) (L._∷_ q2 (L._∷_ q14 (L._∷_ q15 (L._∷_ q16 (L._∷_ q17 (L._∷_ q22 (L._∷_ q20 (L._∷_ q21 (L._∷_ q7 (L._∷_ q6 (L._∷_ q11 L.[]))))))))))))
 
         abbrev G0 : Row.Cx
-        G0 = record { locals = t0; slots = L._∷_ (Row.lease (κs .0) (qs .0)) (L._∷_ (Row.lease (κs .1 .0) (qs .1 .0)) (L._∷_ Row.off L.[])); }
+        G0 = record { locals = t0; slots = L._∷_ (Row.lease (κs .0) (qs .0)) (L._∷_ (Row.lease (κs .1 .0) (qs .1 .0)) (L._∷_ Row.off L.[])) }
 
         abbrev G1 : Row.Cx
-        G1 = record { locals = t1; slots = L._∷_ (Row.lease (κs .0) (qs .0)) (L._∷_ (Row.lease (κs .1 .0) (qs .1 .0)) (L._∷_ Row.off L.[])); }
+        G1 = record { locals = t1; slots = L._∷_ (Row.lease (κs .0) (qs .0)) (L._∷_ (Row.lease (κs .1 .0) (qs .1 .0)) (L._∷_ Row.off L.[])) }
 
         abbrev G2 : Row.Cx
-        G2 = record { locals = t2; slots = L._∷_ (Row.lease (κs .0) (qs .0)) (L._∷_ (Row.lease (κs .1 .0) (qs .1 .0)) (L._∷_ Row.off L.[])); }
+        G2 = record { locals = t2; slots = L._∷_ (Row.lease (κs .0) (qs .0)) (L._∷_ (Row.lease (κs .1 .0) (qs .1 .0)) (L._∷_ Row.off L.[])) }
 
         abbrev G3 : Row.Cx
-        G3 = record { locals = t2; slots = L._∷_ (Row.lease (κs .0) (qs .0)) (L._∷_ (Row.lease (κs .1 .0) (qs .1 .0)) (L._∷_ Row.off L.[])); }
+        G3 = record { locals = t2; slots = L._∷_ (Row.lease (κs .0) (qs .0)) (L._∷_ (Row.lease (κs .1 .0) (qs .1 .0)) (L._∷_ Row.off L.[])) }
 
         abbrev G4 : Row.Cx
-        G4 = record { locals = t3; slots = L._∷_ (Row.lease (κs .0) (qs .0)) (L._∷_ (Row.lease (κs .1 .0) (qs .1 .0)) (L._∷_ Row.off L.[])); }
+        G4 = record { locals = t3; slots = L._∷_ (Row.lease (κs .0) (qs .0)) (L._∷_ (Row.lease (κs .1 .0) (qs .1 .0)) (L._∷_ Row.off L.[])) }
 
         abbrev G5 : Row.Cx
-        G5 = record { locals = t2; slots = L._∷_ (Row.lease (κs .0) (qs .0)) (L._∷_ (Row.lease (κs .1 .0) (qs .1 .0)) (L._∷_ Row.off L.[])); }
+        G5 = record { locals = t2; slots = L._∷_ (Row.lease (κs .0) (qs .0)) (L._∷_ (Row.lease (κs .1 .0) (qs .1 .0)) (L._∷_ Row.off L.[])) }
 
         abbrev G6 : Row.Cx
-        G6 = record { locals = t2; slots = L._∷_ (Row.lease (κs .0) (qs .0)) (L._∷_ (Row.lease (κs .1 .0) (qs .1 .0)) (L._∷_ Row.off L.[])); }
+        G6 = record { locals = t2; slots = L._∷_ (Row.lease (κs .0) (qs .0)) (L._∷_ (Row.lease (κs .1 .0) (qs .1 .0)) (L._∷_ Row.off L.[])) }
 
         abbrev G7 : Row.Cx
-        G7 = record { locals = t2; slots = L._∷_ (Row.lease (κs .0) (qs .0)) (L._∷_ (Row.lease (κs .1 .0) (qs .1 .0)) (L._∷_ Row.off L.[])); }
+        G7 = record { locals = t2; slots = L._∷_ (Row.lease (κs .0) (qs .0)) (L._∷_ (Row.lease (κs .1 .0) (qs .1 .0)) (L._∷_ Row.off L.[])) }
 
         abbrev G8 : Row.Cx
-        G8 = record { locals = t4; slots = L._∷_ (Row.lease (κs .0) (qs .0)) (L._∷_ (Row.lease (κs .1 .0) (qs .1 .0)) (L._∷_ Row.off L.[])); }
+        G8 = record { locals = t4; slots = L._∷_ (Row.lease (κs .0) (qs .0)) (L._∷_ (Row.lease (κs .1 .0) (qs .1 .0)) (L._∷_ Row.off L.[])) }
 
         abbrev G9 : Row.Cx
-        G9 = record { locals = t4; slots = L._∷_ (Row.lease (κs .0) (qs .0)) (L._∷_ (Row.lease (κs .1 .0) (qs .1 .0)) (L._∷_ Row.alive L.[])); }
+        G9 = record { locals = t4; slots = L._∷_ (Row.lease (κs .0) (qs .0)) (L._∷_ (Row.lease (κs .1 .0) (qs .1 .0)) (L._∷_ Row.alive L.[])) }
 
         abbrev G10 : Row.Cx
-        G10 = record { locals = g5; slots = L._∷_ Row.off (L._∷_ (Row.lease (κs .1 .0) (qs .1 .0)) (L._∷_ Row.alive L.[])); }
+        G10 = record { locals = g5; slots = L._∷_ Row.off (L._∷_ (Row.lease (κs .1 .0) (qs .1 .0)) (L._∷_ Row.alive L.[])) }
 
         abbrev G11 : Row.Cx
-        G11 = record { locals = g6; slots = L._∷_ Row.off (L._∷_ (Row.lease (κs .1 .0) (qs .1 .0)) (L._∷_ Row.alive L.[])); }
+        G11 = record { locals = g6; slots = L._∷_ Row.off (L._∷_ (Row.lease (κs .1 .0) (qs .1 .0)) (L._∷_ Row.alive L.[])) }
 
         abbrev G12 : Row.Cx
-        G12 = record { locals = g7; slots = L._∷_ Row.off (L._∷_ (Row.lease (κs .1 .0) (qs .1 .0)) (L._∷_ Row.alive L.[])); }
+        G12 = record { locals = g7; slots = L._∷_ Row.off (L._∷_ (Row.lease (κs .1 .0) (qs .1 .0)) (L._∷_ Row.alive L.[])) }
 
         abbrev G13 : Row.Cx
-        G13 = record { locals = g8; slots = L._∷_ Row.off (L._∷_ (Row.lease (κs .1 .0) (qs .1 .0)) (L._∷_ Row.alive L.[])); }
+        G13 = record { locals = g8; slots = L._∷_ Row.off (L._∷_ (Row.lease (κs .1 .0) (qs .1 .0)) (L._∷_ Row.alive L.[])) }
 
         abbrev G14 : Row.Cx
-        G14 = record { locals = g9; slots = L._∷_ Row.off (L._∷_ (Row.lease (κs .1 .0) (qs .1 .0)) (L._∷_ Row.alive L.[])); }
+        G14 = record { locals = g9; slots = L._∷_ Row.off (L._∷_ (Row.lease (κs .1 .0) (qs .1 .0)) (L._∷_ Row.alive L.[])) }
 
         abbrev G15 : Row.Cx
-        G15 = record { locals = g10; slots = L._∷_ Row.off (L._∷_ (Row.lease (κs .1 .0) (qs .1 .0)) (L._∷_ Row.alive L.[])); }
+        G15 = record { locals = g10; slots = L._∷_ Row.off (L._∷_ (Row.lease (κs .1 .0) (qs .1 .0)) (L._∷_ Row.alive L.[])) }
 
         abbrev G16 : Row.Cx
-        G16 = record { locals = g11; slots = L._∷_ Row.off (L._∷_ (Row.lease (κs .1 .0) (qs .1 .0)) (L._∷_ Row.alive L.[])); }
+        G16 = record { locals = g11; slots = L._∷_ Row.off (L._∷_ (Row.lease (κs .1 .0) (qs .1 .0)) (L._∷_ Row.alive L.[])) }
 
         abbrev G17 : Row.Cx
-        G17 = record { locals = g11; slots = L._∷_ Row.off (L._∷_ (Row.lease (κs .1 .0) (qs .1 .0)) (L._∷_ Row.dead L.[])); }
+        G17 = record { locals = g11; slots = L._∷_ Row.off (L._∷_ (Row.lease (κs .1 .0) (qs .1 .0)) (L._∷_ Row.dead L.[])) }
 
         abbrev G18 : Row.Cx
-        G18 = record { locals = t2; slots = L._∷_ (Row.lease (κs .0) (qs .0)) (L._∷_ (Row.lease (κs .1 .0) (qs .1 .0)) (L._∷_ Row.dead L.[])); }
+        G18 = record { locals = t2; slots = L._∷_ (Row.lease (κs .0) (qs .0)) (L._∷_ (Row.lease (κs .1 .0) (qs .1 .0)) (L._∷_ Row.dead L.[])) }
 
         abbrev G19 : Row.Cx
-        G19 = record { locals = t2; slots = L._∷_ (Row.lease (κs .0) (qs .0)) (L._∷_ (Row.lease (κs .1 .0) (qs .1 .0)) (L._∷_ Row.off L.[])); }
+        G19 = record { locals = t2; slots = L._∷_ (Row.lease (κs .0) (qs .0)) (L._∷_ (Row.lease (κs .1 .0) (qs .1 .0)) (L._∷_ Row.off L.[])) }
 
         abbrev G20 : Row.Cx
-        G20 = record { locals = t2; slots = L._∷_ (Row.lease (κs .0) (qs .0)) (L._∷_ (Row.lease (κs .1 .0) (qs .1 .0)) (L._∷_ Row.off L.[])); }
+        G20 = record { locals = t2; slots = L._∷_ (Row.lease (κs .0) (qs .0)) (L._∷_ (Row.lease (κs .1 .0) (qs .1 .0)) (L._∷_ Row.off L.[])) }
 
         abbrev G21 : Row.Cx
-        G21 = record { locals = t12; slots = L._∷_ (Row.lease (κs .0) (qs .0)) (L._∷_ (Row.lease (κs .1 .0) (qs .1 .0)) (L._∷_ Row.off L.[])); }
+        G21 = record { locals = t12; slots = L._∷_ (Row.lease (κs .0) (qs .0)) (L._∷_ (Row.lease (κs .1 .0) (qs .1 .0)) (L._∷_ Row.off L.[])) }
 
         abbrev G22 : Row.Cx
-        G22 = record { locals = t13; slots = L._∷_ (Row.lease (κs .0) (qs .0)) (L._∷_ (Row.lease (κs .1 .0) (qs .1 .0)) (L._∷_ Row.off L.[])); }
+        G22 = record { locals = t13; slots = L._∷_ (Row.lease (κs .0) (qs .0)) (L._∷_ (Row.lease (κs .1 .0) (qs .1 .0)) (L._∷_ Row.off L.[])) }
 
         abbrev G23 : Row.Cx
-        G23 = record { locals = t14; slots = L._∷_ (Row.lease (κs .0) (qs .0)) (L._∷_ (Row.lease (κs .1 .0) (qs .1 .0)) (L._∷_ Row.off L.[])); }
+        G23 = record { locals = t14; slots = L._∷_ (Row.lease (κs .0) (qs .0)) (L._∷_ (Row.lease (κs .1 .0) (qs .1 .0)) (L._∷_ Row.off L.[])) }
 
         abbrev G24 : Row.Cx
-        G24 = record { locals = t15; slots = L._∷_ (Row.lease (κs .0) (qs .0)) (L._∷_ (Row.lease (κs .1 .0) (qs .1 .0)) (L._∷_ Row.off L.[])); }
+        G24 = record { locals = t15; slots = L._∷_ (Row.lease (κs .0) (qs .0)) (L._∷_ (Row.lease (κs .1 .0) (qs .1 .0)) (L._∷_ Row.off L.[])) }
 
         abbrev G25 : Row.Cx
-        G25 = record { locals = t1; slots = L._∷_ (Row.lease (κs .0) (qs .0)) (L._∷_ (Row.lease (κs .1 .0) (qs .1 .0)) (L._∷_ Row.off L.[])); }
+        G25 = record { locals = t1; slots = L._∷_ (Row.lease (κs .0) (qs .0)) (L._∷_ (Row.lease (κs .1 .0) (qs .1 .0)) (L._∷_ Row.off L.[])) }
 
         abbrev Δ0 : Typed.Outs
         Δ0 = record { next = Option.none; exits = L.[]; returns = Option.some G1 }
@@ -672,7 +672,7 @@ module _ (claims· : Claims) where
           d11 = Typed.g-pre 𝓤 H A W 𝓣 E G13 G14 b10 Δ3 (Typed.pass T13 T14 s10) at10 (Scalar.g-room 𝓤 H A W E G13 7 Rec.by-value (Rec.room 𝓤 H A W)) d10
 
           d12 : Typed.Typed 𝓤 H A 𝓣 E G12 b11 Δ3 at12
-          d12 = Typed.s-seq 𝓤 H A W 𝓣 E G12 G13 b9 b10 Δ3 (Typed.both s9) at11 (Plain.t-call-plain 𝓤 H A W 𝓣 1 ps·1 r·1 (claims· .2) (claims· .3) "network::list::replace" (known .1) E (λ pos β. β) G12 (record { pos = 11; ty = Syntax.tyRef Syntax.erased Syntax.mut Rec.named; ref = λ x. x; }, (Num.vAt 12 λ x. x, (record { pos = 7; st = L.[]; d = 0; at = λ x. x }, tt))) 9 (L._∷_ 2 L.[]) (Call.sub-id 𝓤 H A W (G12 .slots)) (TReads.as-is 𝓤 H A (Mut.mslice Rec.row q10 2), Mut.reads-mslice 𝓤 H A W Rec.row q10 2, Path.refl, ((Scalar.reads-sc 𝓤 H A W (Row.sInt Syntax.w64), Path.refl), ((Rec.yields 𝓤 H A W, Path.refl), tt))) (TReads.room-gone 𝓤 H A Syntax.tyUnit) (tt, tt) Path.refl) d11
+          d12 = Typed.s-seq 𝓤 H A W 𝓣 E G12 G13 b9 b10 Δ3 (Typed.both s9) at11 (Plain.t-call-plain 𝓤 H A W 𝓣 1 ps·1 r·1 (claims· .2) (claims· .3) "network::list::replace" (known .1) E (λ pos β. β) G12 (record { pos = 11; ty = Syntax.tyRef Syntax.erased Syntax.mut Rec.named; ref = λ x. x }, (Num.vAt 12 λ x. x, (record { pos = 7; st = L.[]; d = 0; at = λ x. x }, tt))) 9 (L._∷_ 2 L.[]) (Call.sub-id 𝓤 H A W (G12 .slots)) (TReads.as-is 𝓤 H A (Mut.mslice Rec.row q10 2), Mut.reads-mslice 𝓤 H A W Rec.row q10 2, Path.refl, ((Scalar.reads-sc 𝓤 H A W (Row.sInt Syntax.w64), Path.refl), ((Rec.yields 𝓤 H A W, Path.refl), tt))) (TReads.room-gone 𝓤 H A Syntax.tyUnit) (tt, tt) Path.refl) d11
 
           d13 : Typed.Typed 𝓤 H A 𝓣 E G11 b12 Δ3 at13
           d13 = Typed.s-seq 𝓤 H A W 𝓣 E G11 G12 b8 b11 Δ3 (Typed.ask s8) at12 (Scalar.t-op2 𝓤 H A W E 𝓣 G11 (Syntax.add Syntax.unsigned) (Scalar.oAt 6 (Syntax.tyInt Syntax.w64) (Row.valS (Row.sInt Syntax.w64))) (Scalar.oInt Syntax.w64 1) 12 q18 (Syntax.tyInt Syntax.w64) (Row.valS (Row.sInt Syntax.w64)) (Row.sInt Syntax.w64 .of) (Scalar.reads-sc 𝓤 H A W (Row.sInt Syntax.w64), Path.refl) tt (TReads.room-gone 𝓤 H A (Syntax.tyInt Syntax.w64)) (Scalar.holds-sc 𝓤 H A W (Row.sInt Syntax.w64)) Path.refl (λ u. Path.refl) λ u. tt) d12
@@ -687,7 +687,7 @@ module _ (claims· : Claims) where
           d16 = Typed.g-pre 𝓤 H A W 𝓣 E G8 G9 b14 Δ3 (λ Ψ. Ψ) at15 (Lifetime.g-begin 𝓤 H A W E G8 2 (tt, (tt, (tt, (tt, (tt, (tt, (tt, (tt, (tt, (tt, (tt, (tt, (tt, tt)))))))))))))) d15
 
           d17 : Typed.Typed 𝓤 H A 𝓣 E G5 b15 Δ3 at17
-          d17 = Typed.s-seq 𝓤 H A W 𝓣 E G5 G8 b5 b14 Δ3 (Typed.both s4) at16 (Plain.t-call-plain 𝓤 H A W 𝓣 1 ps·0 r·0 (claims· .0) (claims· .1) "network::record::arc_in" (known .0) E (λ pos β. β) G5 (record { pos = 2; ty = Syntax.tyRef (Syntax.named 1) Syntax.imm (Syntax.tyInt Syntax.w32); ref = λ x. x; }, (Num.vAt 3 λ x. x, (Num.vAt 4 λ x. x, (Num.vAt 6 λ x. x, tt)))) 7 (L._∷_ 1 L.[]) (Call.sub-id 𝓤 H A W (G5 .slots)) (ShrSlice.spares-sslice 𝓤 H A W (Signed.SInt Syntax.w32) q8 1, Shared.reads-sslice 𝓤 H A W (Signed.SInt Syntax.w32) q8 1, Path.refl, ((Scalar.reads-sc 𝓤 H A W (Row.sInt Syntax.w64), Path.refl), ((Scalar.reads-sc 𝓤 H A W (Row.sInt Syntax.w64), Path.refl), ((Scalar.reads-sc 𝓤 H A W (Row.sInt Syntax.w64), Path.refl), tt)))) (TReads.room-gone 𝓤 H A Rec.by-value) (tt, tt) Path.refl) d16
+          d17 = Typed.s-seq 𝓤 H A W 𝓣 E G5 G8 b5 b14 Δ3 (Typed.both s4) at16 (Plain.t-call-plain 𝓤 H A W 𝓣 1 ps·0 r·0 (claims· .0) (claims· .1) "network::record::arc_in" (known .0) E (λ pos β. β) G5 (record { pos = 2; ty = Syntax.tyRef (Syntax.named 1) Syntax.imm (Syntax.tyInt Syntax.w32); ref = λ x. x }, (Num.vAt 3 λ x. x, (Num.vAt 4 λ x. x, (Num.vAt 6 λ x. x, tt)))) 7 (L._∷_ 1 L.[]) (Call.sub-id 𝓤 H A W (G5 .slots)) (ShrSlice.spares-sslice 𝓤 H A W (Signed.SInt Syntax.w32) q8 1, Shared.reads-sslice 𝓤 H A W (Signed.SInt Syntax.w32) q8 1, Path.refl, ((Scalar.reads-sc 𝓤 H A W (Row.sInt Syntax.w64), Path.refl), ((Scalar.reads-sc 𝓤 H A W (Row.sInt Syntax.w64), Path.refl), ((Scalar.reads-sc 𝓤 H A W (Row.sInt Syntax.w64), Path.refl), tt)))) (TReads.room-gone 𝓤 H A Rec.by-value) (tt, tt) Path.refl) d16
 
           d18 : Typed.Typed 𝓤 H A 𝓣 E G4 b16 Δ3 at18
           d18 = Typed.t-seq 𝓤 H A W 𝓣 E G4 G5 b4 b15 Δ3 at4 at17 d4 d17
@@ -771,7 +771,7 @@ module _ (claims· : Claims) where
       Need-loop-holds = (c : Start) → Inv·0 (Row.get 1 (T2 .locals) (m1 (c .κs) (c .args)) .now) (Row.get 2 (T2 .locals) (m1 (c .κs) (c .args)) .now) (Row.get 3 (T2 .locals) (m1 (c .κs) (c .args))) (Row.get 4 (T2 .locals) (m1 (c .κs) (c .args))) (Row.get 5 (T2 .locals) (m1 (c .κs) (c .args))) (Row.get 6 (T2 .locals) (m1 (c .κs) (c .args))) (Row.get 1 (T2 .locals) (m1 (c .κs) (c .args)) .now) (Row.get 6 (T2 .locals) (m1 (c .κs) (c .args)))
 
       abbrev pub m2 : (before : Start) → (arcs : L.List (Rec.row .Denot)) → (j : Rows.sc-here (Row.sInt Syntax.w64) .Mod) → Typed.Mo T2
-      m2 = λ before arcs j. Row.set 6 q17 j (Row.setRow 1 q4 (T2 .locals)) (Row.set 1 q4 record { ptr = Row.get 1 (T2 .locals) (m1 (before .κs) (before .args)) .ptr; name = Row.get 1 (T2 .locals) (m1 (before .κs) (before .args)) .name; now = arcs; } (T2 .locals) (m1 (before .κs) (before .args)))
+      m2 = λ before arcs j. Row.set 6 q17 j (Row.setRow 1 q4 (T2 .locals)) (Row.set 1 q4 record { ptr = Row.get 1 (T2 .locals) (m1 (before .κs) (before .args)) .ptr; name = Row.get 1 (T2 .locals) (m1 (before .κs) (before .args)) .name; now = arcs } (T2 .locals) (m1 (before .κs) (before .args)))
 
       abbrev W3 : (before : Start) → (arcs : L.List (Rec.row .Denot)) → (j : Rows.sc-here (Row.sInt Syntax.w64) .Mod) → Typed.Want O3
       W3 = λ before arcs j. Typed.inLoop T2 O2 (Typed.Round T2 O2 put0 (λ u vs. Inv·0 (Row.get 1 (T2 .locals) u .now) (Row.get 2 (T2 .locals) u .now) (Row.get 3 (T2 .locals) u) (Row.get 4 (T2 .locals) u) (Row.get 5 (T2 .locals) u) (Row.get 6 (T2 .locals) u) (vs .0) (vs .1)) (λ u vs. μ·0 (Row.get 1 (T2 .locals) u .now) (Row.get 2 (T2 .locals) u .now) (Row.get 3 (T2 .locals) u) (Row.get 4 (T2 .locals) u) (Row.get 5 (T2 .locals) u) (Row.get 6 (T2 .locals) u) (vs .0) (vs .1)) at19 (m1 (before .κs) (before .args)) (arcs, j)) (W2 (before .κs) (before .args))
@@ -822,14 +822,14 @@ module _ (claims· : Claims) where
 
       module _ (before· : In-loop) where
         abbrev pub After-arc-in·own : Type 0
-        After-arc-in·own = Called.Called ps·0 r·0 (claims· .1) T5 (record { pos = 2; ty = Syntax.tyRef (Syntax.named 1) Syntax.imm (Syntax.tyInt Syntax.w32); ref = λ x. x; }, (Num.vAt 3 λ x. x, (Num.vAt 4 λ x. x, (Num.vAt 6 λ x. x, tt)))) (m4 (before· .before))
+        After-arc-in·own = Called.Called ps·0 r·0 (claims· .1) T5 (record { pos = 2; ty = Syntax.tyRef (Syntax.named 1) Syntax.imm (Syntax.tyInt Syntax.w32); ref = λ x. x }, (Num.vAt 3 λ x. x, (Num.vAt 4 λ x. x, (Num.vAt 6 λ x. x, tt)))) (m4 (before· .before))
 
       pub record After-arc-in : Type 0 where
         pub before : In-loop
         pub arc-in : After-arc-in·own before
 
       abbrev pub After-arc-in·gave : (c : After-arc-in) → s4 .gives (m4 (c .before .before))
-      After-arc-in·gave = λ c. Called.given ps·0 r·0 (claims· .1) T5 (record { pos = 2; ty = Syntax.tyRef (Syntax.named 1) Syntax.imm (Syntax.tyInt Syntax.w32); ref = λ x. x; }, (Num.vAt 3 λ x. x, (Num.vAt 4 λ x. x, (Num.vAt 6 λ x. x, tt)))) (m4 (c .before .before)) (c .arc-in)
+      After-arc-in·gave = λ c. Called.given ps·0 r·0 (claims· .1) T5 (record { pos = 2; ty = Syntax.tyRef (Syntax.named 1) Syntax.imm (Syntax.tyInt Syntax.w32); ref = λ x. x }, (Num.vAt 3 λ x. x, (Num.vAt 4 λ x. x, (Num.vAt 6 λ x. x, tt)))) (m4 (c .before .before)) (c .arc-in)
 
       abbrev pub m7 : (before : After-arc-in) → (given : s6 .gives (m6 (before .before) (After-arc-in·gave before))) → Typed.Mo T10
       m7 = λ before given. s6 .next (m6 (before .before) (After-arc-in·gave before)) given
@@ -859,14 +859,14 @@ module _ (claims· : Claims) where
 
       module _ (before· : After-replace-arg) where
         abbrev pub After-replace·own : Type 0
-        After-replace·own = Called.Called ps·1 r·1 (claims· .3) T12 (record { pos = 11; ty = Syntax.tyRef Syntax.erased Syntax.mut Rec.named; ref = λ x. x; }, (Num.vAt 12 λ x. x, (record { pos = 7; st = L.[]; d = 0; at = λ x. x }, tt))) (m9 (before· .before) (before· .replace-arg .given))
+        After-replace·own = Called.Called ps·1 r·1 (claims· .3) T12 (record { pos = 11; ty = Syntax.tyRef Syntax.erased Syntax.mut Rec.named; ref = λ x. x }, (Num.vAt 12 λ x. x, (record { pos = 7; st = L.[]; d = 0; at = λ x. x }, tt))) (m9 (before· .before) (before· .replace-arg .given))
 
       pub record After-replace : Type 0 where
         pub before : After-replace-arg
         pub replace : After-replace·own before
 
       abbrev pub After-replace·gave : (c : After-replace) → s9 .gives (m9 (c .before .before) (c .before .replace-arg .given))
-      After-replace·gave = λ c. Called.given ps·1 r·1 (claims· .3) T12 (record { pos = 11; ty = Syntax.tyRef Syntax.erased Syntax.mut Rec.named; ref = λ x. x; }, (Num.vAt 12 λ x. x, (record { pos = 7; st = L.[]; d = 0; at = λ x. x }, tt))) (m9 (c .before .before) (c .before .replace-arg .given)) (c .replace)
+      After-replace·gave = λ c. Called.given ps·1 r·1 (claims· .3) T12 (record { pos = 11; ty = Syntax.tyRef Syntax.erased Syntax.mut Rec.named; ref = λ x. x }, (Num.vAt 12 λ x. x, (record { pos = 7; st = L.[]; d = 0; at = λ x. x }, tt))) (m9 (c .before .before) (c .before .replace-arg .given)) (c .replace)
 
       abbrev pub m11 : (before : After-replace-arg) → (given : s9 .gives (m9 (before .before) (before .replace-arg .given))) → Typed.Mo T14
       m11 = λ before given. s10 (m10 before given)
@@ -926,13 +926,13 @@ module _ (claims· : Claims) where
         lay6 = λ c. ((MutSlice.fix-len (Row.get 1 (T25 .locals) (m20 (c .before)) .ptr) (Row.get 1 (T25 .locals) (m20 (c .before)) .name) (Row.get 1 (T25 .locals) (m20 (c .before)) .now) (dens (c .before .before .κs) (c .before .before .args) .0 .now) (same-length record { before = c .before; loop-test = c .loop-test }), (Path.refl, (tt, (tt, (tt, tt))))), returns record { before = c .before; loop-test = c .loop-test })
 
         lay5 : (c : After-replace) → at11 (W3 (c .before .before .before .before .before) (c .before .before .before .before .loop .arcs) (c .before .before .before .before .loop .j)) (m10 (c .before) (After-replace·gave c))
-        lay5 = λ c. (Path.refl, λ g. (add-j record { before = record { before = c .before; replace = c .replace }; arcs = record { given = g }; }, (μ·0 (Row.get 1 (T2 .locals) (m1 (c .before .before .before .before .before .κs) (c .before .before .before .before .before .args)) .now) (Row.get 2 (T2 .locals) (m1 (c .before .before .before .before .before .κs) (c .before .before .before .before .before .args)) .now) (Row.get 3 (T2 .locals) (m1 (c .before .before .before .before .before .κs) (c .before .before .before .before .before .args))) (Row.get 4 (T2 .locals) (m1 (c .before .before .before .before .before .κs) (c .before .before .before .before .before .args))) (Row.get 5 (T2 .locals) (m1 (c .before .before .before .before .before .κs) (c .before .before .before .before .before .args))) (Row.get 6 (T2 .locals) (m1 (c .before .before .before .before .before .κs) (c .before .before .before .before .before .args))) (Row.get 1 (T2 .locals) (m15 record { before = c .before; replace = c .replace } g) .now) (Row.get 6 (T2 .locals) (m15 record { before = c .before; replace = c .replace } g)), loop-less record { before = record { before = c .before; replace = c .replace }; arcs = record { given = g }; }, ((Row.get 1 (T2 .locals) (m15 record { before = c .before; replace = c .replace } g) .now, Row.get 6 (T2 .locals) (m15 record { before = c .before; replace = c .replace } g)), Path.refl {a = m15 record { before = c .before; replace = c .replace } g}, loop-again record { before = record { before = c .before; replace = c .replace }; arcs = record { given = g }; }, Path.refl {a = μ·0 (Row.get 1 (T2 .locals) (m1 (c .before .before .before .before .before .κs) (c .before .before .before .before .before .args)) .now) (Row.get 2 (T2 .locals) (m1 (c .before .before .before .before .before .κs) (c .before .before .before .before .before .args)) .now) (Row.get 3 (T2 .locals) (m1 (c .before .before .before .before .before .κs) (c .before .before .before .before .before .args))) (Row.get 4 (T2 .locals) (m1 (c .before .before .before .before .before .κs) (c .before .before .before .before .before .args))) (Row.get 5 (T2 .locals) (m1 (c .before .before .before .before .before .κs) (c .before .before .before .before .before .args))) (Row.get 6 (T2 .locals) (m1 (c .before .before .before .before .before .κs) (c .before .before .before .before .before .args))) (Row.get 1 (T2 .locals) (m15 record { before = c .before; replace = c .replace; } g) .now) (Row.get 6 (T2 .locals) (m15 record { before = c .before; replace = c .replace; } g))}))))
+        lay5 = λ c. (Path.refl, λ g. (add-j record { before = record { before = c .before; replace = c .replace }; arcs = record { given = g } }, (μ·0 (Row.get 1 (T2 .locals) (m1 (c .before .before .before .before .before .κs) (c .before .before .before .before .before .args)) .now) (Row.get 2 (T2 .locals) (m1 (c .before .before .before .before .before .κs) (c .before .before .before .before .before .args)) .now) (Row.get 3 (T2 .locals) (m1 (c .before .before .before .before .before .κs) (c .before .before .before .before .before .args))) (Row.get 4 (T2 .locals) (m1 (c .before .before .before .before .before .κs) (c .before .before .before .before .before .args))) (Row.get 5 (T2 .locals) (m1 (c .before .before .before .before .before .κs) (c .before .before .before .before .before .args))) (Row.get 6 (T2 .locals) (m1 (c .before .before .before .before .before .κs) (c .before .before .before .before .before .args))) (Row.get 1 (T2 .locals) (m15 record { before = c .before; replace = c .replace } g) .now) (Row.get 6 (T2 .locals) (m15 record { before = c .before; replace = c .replace } g)), loop-less record { before = record { before = c .before; replace = c .replace }; arcs = record { given = g } }, ((Row.get 1 (T2 .locals) (m15 record { before = c .before; replace = c .replace } g) .now, Row.get 6 (T2 .locals) (m15 record { before = c .before; replace = c .replace } g)), Path.refl {a = m15 record { before = c .before; replace = c .replace } g}, loop-again record { before = record { before = c .before; replace = c .replace }; arcs = record { given = g } }, Path.refl {a = μ·0 (Row.get 1 (T2 .locals) (m1 (c .before .before .before .before .before .κs) (c .before .before .before .before .before .args)) .now) (Row.get 2 (T2 .locals) (m1 (c .before .before .before .before .before .κs) (c .before .before .before .before .before .args)) .now) (Row.get 3 (T2 .locals) (m1 (c .before .before .before .before .before .κs) (c .before .before .before .before .before .args))) (Row.get 4 (T2 .locals) (m1 (c .before .before .before .before .before .κs) (c .before .before .before .before .before .args))) (Row.get 5 (T2 .locals) (m1 (c .before .before .before .before .before .κs) (c .before .before .before .before .before .args))) (Row.get 6 (T2 .locals) (m1 (c .before .before .before .before .before .κs) (c .before .before .before .before .before .args))) (Row.get 1 (T2 .locals) (m15 record { before = c .before; replace = c .replace } g) .now) (Row.get 6 (T2 .locals) (m15 record { before = c .before; replace = c .replace } g))}))))
 
         lay4 : (c : After-arc-in) → at16 (W3 (c .before .before .before) (c .before .before .loop .arcs) (c .before .before .loop .j)) (m6 (c .before) (After-arc-in·gave c))
-        lay4 = λ c. λ g. (Path.refl, (add-replace record { before = record { before = c .before; arc-in = c .arc-in }; replace-arg = record { given = g }; }, (replace-requires record { before = record { before = c .before; arc-in = c .arc-in }; replace-arg = record { given = g }; }, λ g'. lay5 record { before = record { before = record { before = c .before; arc-in = c .arc-in }; replace-arg = record { given = g }; }; replace = Called.called ps·1 r·1 (claims· .3) T12 (record { pos = 11; ty = Syntax.tyRef Syntax.erased Syntax.mut Rec.named; ref = λ x. x; }, (Num.vAt 12 λ x. x, (record { pos = 7; st = L.[]; d = 0; at = λ x. x }, tt))) (m9 record { before = c .before; arc-in = c .arc-in } g) g'; })))
+        lay4 = λ c. λ g. (Path.refl, (add-replace record { before = record { before = c .before; arc-in = c .arc-in }; replace-arg = record { given = g } }, (replace-requires record { before = record { before = c .before; arc-in = c .arc-in }; replace-arg = record { given = g } }, λ g'. lay5 record { before = record { before = record { before = c .before; arc-in = c .arc-in }; replace-arg = record { given = g } }; replace = Called.called ps·1 r·1 (claims· .3) T12 (record { pos = 11; ty = Syntax.tyRef Syntax.erased Syntax.mut Rec.named; ref = λ x. x }, (Num.vAt 12 λ x. x, (record { pos = 7; st = L.[]; d = 0; at = λ x. x }, tt))) (m9 record { before = c .before; arc-in = c .arc-in } g) g' })))
 
         lay3 : (c : In-loop) → at17 (W3 (c .before .before) (c .before .loop .arcs) (c .before .loop .j)) (m4 (c .before))
-        lay3 = λ c. (arc-in-requires record { before = c .before; loop-test = c .loop-test }, λ g. lay4 record { before = record { before = c .before; loop-test = c .loop-test }; arc-in = Called.called ps·0 r·0 (claims· .1) T5 (record { pos = 2; ty = Syntax.tyRef (Syntax.named 1) Syntax.imm (Syntax.tyInt Syntax.w32); ref = λ x. x; }, (Num.vAt 3 λ x. x, (Num.vAt 4 λ x. x, (Num.vAt 6 λ x. x, tt)))) (m4 (c .before)) g; })
+        lay3 = λ c. (arc-in-requires record { before = c .before; loop-test = c .loop-test }, λ g. lay4 record { before = record { before = c .before; loop-test = c .loop-test }; arc-in = Called.called ps·0 r·0 (claims· .1) T5 (record { pos = 2; ty = Syntax.tyRef (Syntax.named 1) Syntax.imm (Syntax.tyInt Syntax.w32); ref = λ x. x }, (Num.vAt 3 λ x. x, (Num.vAt 4 λ x. x, (Num.vAt 6 λ x. x, tt)))) (m4 (c .before)) g })
 
         lay2 : (c : After-loop) → at3 (W4 (c .before .before) (c .before .loop .arcs) (c .before .loop .j)) (m3 (c .before .before) (c .before .loop .arcs) (c .before .loop .j))
         lay2 = λ c. lay6 record { before = c .before; loop-test = c .loop-test }
@@ -941,11 +941,11 @@ module _ (claims· : Claims) where
         lay1 = λ c. lay3 record { before = c .before; loop-test = c .loop-test }
 
         pub laid : (c : Start) → at29 (W0 (c .κs) (c .args)) (m0 (c .κs) (c .args))
-        laid = λ c. (((Row.get 1 (T2 .locals) (m1 (c .κs) (c .args)) .now, Row.get 6 (T2 .locals) (m1 (c .κs) (c .args))), Path.refl {a = m1 (c .κs) (c .args)}, loop-holds c), λ vs inv. (tt, (λ taken. lay1 record { before = record { before = c; loop = record { arcs = vs .0; j = vs .1; inv = inv }; }; loop-test = record { taken = Tests.ltb-true (Row.get 6 (T2 .locals) (m2 c (vs .0) (vs .1))) (Row.get 5 (T2 .locals) (m2 c (vs .0) (vs .1))) taken; }; }, λ left. lay2 record { before = record { before = c; loop = record { arcs = vs .0; j = vs .1; inv = inv }; }; loop-test = record { left = Tests.ltb-false (Row.get 6 (T2 .locals) (m2 c (vs .0) (vs .1))) (Row.get 5 (T2 .locals) (m2 c (vs .0) (vs .1))) left; }; })))
+        laid = λ c. (((Row.get 1 (T2 .locals) (m1 (c .κs) (c .args)) .now, Row.get 6 (T2 .locals) (m1 (c .κs) (c .args))), Path.refl {a = m1 (c .κs) (c .args)}, loop-holds c), λ vs inv. (tt, (λ taken. lay1 record { before = record { before = c; loop = record { arcs = vs .0; j = vs .1; inv = inv } }; loop-test = record { taken = Tests.ltb-true (Row.get 6 (T2 .locals) (m2 c (vs .0) (vs .1))) (Row.get 5 (T2 .locals) (m2 c (vs .0) (vs .1))) taken } }, λ left. lay2 record { before = record { before = c; loop = record { arcs = vs .0; j = vs .1; inv = inv } }; loop-test = record { left = Tests.ltb-false (Row.get 6 (T2 .locals) (m2 c (vs .0) (vs .1))) (Row.get 5 (T2 .locals) (m2 c (vs .0) (vs .1))) left } })))
 
         module _ (κs : Lifetimes.Lfts 2) (qs : Lifetimes.Shares 2) where
           pub asked : (a : FnKinds.Dens κs ps) → (good : FnKinds.GoodsP κs ps a) → (pre : Pre· κs a) → (bs : L.List Nat.ℕ) → Φ (Any.wantQ 2 ps r xs m κs qs a (Post· κs a)) (Function.init 2 ps r xs m κs qs a)
-          asked = λ a good pre bs. laid record { κs = κs; args = record { arcs = a .0; network = a .1 .0; n = a .1 .1 .0; t = a .1 .1 .1 .0; m = a .1 .1 .1 .1 .0; }; good = good; fits = record { n = record { fits = good .1 .1 .0 .1 }; t = record { fits = good .1 .1 .1 .0 .1 }; m = record { fits = good .1 .1 .1 .1 .0 .1 }; }; pre = pre; }
+          asked = λ a good pre bs. laid record { κs = κs; args = record { arcs = a .0; network = a .1 .0; n = a .1 .1 .0; t = a .1 .1 .1 .0; m = a .1 .1 .1 .1 .0 }; good = good; fits = record { n = record { fits = good .1 .1 .0 .1 }; t = record { fits = good .1 .1 .1 .0 .1 }; m = record { fits = good .1 .1 .1 .1 .0 .1 } }; pre = pre }
 
         module _ {M : Type 1} (𝓤 : URA.URA M) (H : Wp.Heap 𝓤) (A : Atoms.Atoms 𝓤) (W : Kit.Given 𝓤 H A) (𝓣 : Wp.Tables 𝓤 H) (known0 : Plain.Known 𝓤 H A W 𝓣 1 ps·0 r·0 (claims· .0) (claims· .1) "network::record::arc_in") (known1 : Plain.Known 𝓤 H A W 𝓣 1 ps·1 r·1 (claims· .2) (claims· .3) "network::list::replace") where
           pub spec : Statement.Triple 𝓤 (Wp.WpFn 𝓤 H (𝓣 .C) (𝓣 .Λ) (Function.fnOf 2 ps r xs m hs body)) (Function.plainOf 𝓤 H A 2 ps r Pre· Post·)

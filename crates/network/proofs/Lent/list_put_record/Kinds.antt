@@ -14,7 +14,7 @@ use mathlib.Core.Path
 use Rattle.network.proofs.Lent.Rec
 
 abbrev pub ps : L.List (FnKinds.PK 1)
-ps = L._∷_ (MutSlice.pMutS Rec.row 0 tt) (L._∷_ (Value.pVal record { ty = Declared.row Put·.the-type; one = Path.refl; val = StructLaws.val Put·.the-type Put-Laws·.the-laws; tells = StructLaws.tells Put·.the-type Put-Laws·.the-laws; still = StructLaws.still Put·.the-type Put-Laws·.the-copy Exit.yes; row = Rows.whole (Declared.row Put·.the-type); rd = λ x. x; mk = λ x. x; } λ M 𝓤 H A W. record { copies = StructLaws.copy Put·.the-type Put-Laws·.the-copy 𝓤 H A W; lawful = StructLaws.lawful Put·.the-type Put-Laws·.the-laws 𝓤 H A W; makes = StructLaws.makes Put·.the-type Put-Laws·.the-plain 𝓤 H A; in-mem = Local.mem-whole 𝓤 H A W (Declared.row Put·.the-type); of-mem = Local.whole-mem 𝓤 H A W (Declared.row Put·.the-type); }) L.[])
+ps = L._∷_ (MutSlice.pMutS Rec.row 0 tt) (L._∷_ (Value.pVal record { ty = Declared.row Put·.the-type; one = Path.refl; val = StructLaws.val Put·.the-type Put-Laws·.the-laws; tells = StructLaws.tells Put·.the-type Put-Laws·.the-laws; still = StructLaws.still Put·.the-type Put-Laws·.the-copy Exit.yes; row = Rows.whole (Declared.row Put·.the-type); rd = λ x. x; mk = λ x. x } λ M 𝓤 H A W. record { copies = StructLaws.copy Put·.the-type Put-Laws·.the-copy 𝓤 H A W; lawful = StructLaws.lawful Put·.the-type Put-Laws·.the-laws 𝓤 H A W; makes = StructLaws.makes Put·.the-type Put-Laws·.the-plain 𝓤 H A; in-mem = Local.mem-whole 𝓤 H A W (Declared.row Put·.the-type); of-mem = Local.whole-mem 𝓤 H A W (Declared.row Put·.the-type) }) L.[])
 
 abbrev pub r : FnKinds.RK 1
 r = FnKinds.rUnit

@@ -86,7 +86,7 @@ abbrev pub q0 : Row.Entry
 q0 = (2, Rows.any-gone q1)
 
 abbrev pub ps : L.List (FnKinds.PK 1)
-ps = L._∷_ (MutSlice.pMutS Rec.row 0 tt) (L._∷_ (Value.pVal record { ty = Declared.row Put·.the-type; one = Path.refl; val = StructLaws.val Put·.the-type Put-Laws·.the-laws; tells = StructLaws.tells Put·.the-type Put-Laws·.the-laws; still = StructLaws.still Put·.the-type Put-Laws·.the-copy Exit.yes; row = Rows.whole (Declared.row Put·.the-type); rd = λ x. x; mk = λ x. x; } λ M 𝓤 H A W. record { copies = StructLaws.copy Put·.the-type Put-Laws·.the-copy 𝓤 H A W; lawful = StructLaws.lawful Put·.the-type Put-Laws·.the-laws 𝓤 H A W; makes = StructLaws.makes Put·.the-type Put-Laws·.the-plain 𝓤 H A; in-mem = Local.mem-whole 𝓤 H A W (Declared.row Put·.the-type); of-mem = Local.whole-mem 𝓤 H A W (Declared.row Put·.the-type); }) L.[])
+ps = L._∷_ (MutSlice.pMutS Rec.row 0 tt) (L._∷_ (Value.pVal record { ty = Declared.row Put·.the-type; one = Path.refl; val = StructLaws.val Put·.the-type Put-Laws·.the-laws; tells = StructLaws.tells Put·.the-type Put-Laws·.the-laws; still = StructLaws.still Put·.the-type Put-Laws·.the-copy Exit.yes; row = Rows.whole (Declared.row Put·.the-type); rd = λ x. x; mk = λ x. x } λ M 𝓤 H A W. record { copies = StructLaws.copy Put·.the-type Put-Laws·.the-copy 𝓤 H A W; lawful = StructLaws.lawful Put·.the-type Put-Laws·.the-laws 𝓤 H A W; makes = StructLaws.makes Put·.the-type Put-Laws·.the-plain 𝓤 H A; in-mem = Local.mem-whole 𝓤 H A W (Declared.row Put·.the-type); of-mem = Local.whole-mem 𝓤 H A W (Declared.row Put·.the-type) }) L.[])
 
 abbrev pub r : FnKinds.RK 1
 r = KUnit.rUnit
@@ -98,7 +98,7 @@ abbrev pub m : Nat.ℕ
 m = 1
 
 abbrev pub ps·0 : L.List (FnKinds.PK 0)
-ps·0 = L._∷_ (Value.pVal record { ty = Declared.row Put·.the-type; one = Path.refl; val = StructLaws.val Put·.the-type Put-Laws·.the-laws; tells = StructLaws.tells Put·.the-type Put-Laws·.the-laws; still = StructLaws.still Put·.the-type Put-Laws·.the-copy Exit.yes; row = Rows.whole (Declared.row Put·.the-type); rd = λ x. x; mk = λ x. x; } λ M 𝓤 H A W. record { copies = StructLaws.copy Put·.the-type Put-Laws·.the-copy 𝓤 H A W; lawful = StructLaws.lawful Put·.the-type Put-Laws·.the-laws 𝓤 H A W; makes = StructLaws.makes Put·.the-type Put-Laws·.the-plain 𝓤 H A; in-mem = Local.mem-whole 𝓤 H A W (Declared.row Put·.the-type); of-mem = Local.whole-mem 𝓤 H A W (Declared.row Put·.the-type); }) L.[]
+ps·0 = L._∷_ (Value.pVal record { ty = Declared.row Put·.the-type; one = Path.refl; val = StructLaws.val Put·.the-type Put-Laws·.the-laws; tells = StructLaws.tells Put·.the-type Put-Laws·.the-laws; still = StructLaws.still Put·.the-type Put-Laws·.the-copy Exit.yes; row = Rows.whole (Declared.row Put·.the-type); rd = λ x. x; mk = λ x. x } λ M 𝓤 H A W. record { copies = StructLaws.copy Put·.the-type Put-Laws·.the-copy 𝓤 H A W; lawful = StructLaws.lawful Put·.the-type Put-Laws·.the-laws 𝓤 H A W; makes = StructLaws.makes Put·.the-type Put-Laws·.the-plain 𝓤 H A; in-mem = Local.mem-whole 𝓤 H A W (Declared.row Put·.the-type); of-mem = Local.whole-mem 𝓤 H A W (Declared.row Put·.the-type) }) L.[]
 
 abbrev pub r·0 : FnKinds.RK 0
 r·0 = Rec.result
@@ -228,7 +228,7 @@ module _ (claims· : Claims) where
   s3 = Call.callB ps·0 r·0 (claims· .0) (claims· .1) T4 (record { pos = 2; st = L.[]; d = 0; at = λ x. x }, tt) 6 L.[] Rec.by-value
 
   abbrev s4 : Typed.Both T5 T6
-  s4 = Call.callB ps·1 r·1 (claims· .2) (claims· .3) T5 (record { pos = 5; ty = Syntax.tyRef Syntax.erased Syntax.mut Rec.named; ref = λ x. x; }, (Num.vFld 2 (L._∷_ (Syntax.field 0) L.[]) 0 λ x. Put·.struct .as-values x .0, (record { pos = 6; st = L.[]; d = 0; at = λ x. x }, tt))) 3 (L._∷_ 1 L.[]) Syntax.tyUnit
+  s4 = Call.callB ps·1 r·1 (claims· .2) (claims· .3) T5 (record { pos = 5; ty = Syntax.tyRef Syntax.erased Syntax.mut Rec.named; ref = λ x. x }, (Num.vFld 2 (L._∷_ (Syntax.field 0) L.[]) 0 λ x. Put·.struct .as-values x .0, (record { pos = 6; st = L.[]; d = 0; at = λ x. x }, tt))) 3 (L._∷_ 1 L.[]) Syntax.tyUnit
 
   abbrev s5 : Typed.Mo T6 → Typed.Mo T7
   s5 = Scalar.n-room T6 2 q1
@@ -320,13 +320,13 @@ module _ (claims· : Claims) where
         g8 = L._∷_ q11 (L._∷_ (1, Relend.mslice-owed Rec.row q8 0 1 (Row.lease (κs .0) (qs .0))) (L._∷_ q0 (L._∷_ q12 (L._∷_ q7 (L._∷_ q6 (L._∷_ q13 L.[]))))))
 
         abbrev G0 : Row.Cx
-        G0 = record { locals = t0; slots = L._∷_ (Row.lease (κs .0) (qs .0)) (L._∷_ Row.off L.[]); }
+        G0 = record { locals = t0; slots = L._∷_ (Row.lease (κs .0) (qs .0)) (L._∷_ Row.off L.[]) }
 
         abbrev G1 : Row.Cx
-        G1 = record { locals = t1; slots = L._∷_ (Row.lease (κs .0) (qs .0)) (L._∷_ Row.off L.[]); }
+        G1 = record { locals = t1; slots = L._∷_ (Row.lease (κs .0) (qs .0)) (L._∷_ Row.off L.[]) }
 
         abbrev G2 : Row.Cx
-        G2 = record { locals = t0; slots = L._∷_ (Row.lease (κs .0) (qs .0)) (L._∷_ Row.alive L.[]); }
+        G2 = record { locals = t0; slots = L._∷_ (Row.lease (κs .0) (qs .0)) (L._∷_ Row.alive L.[]) }
 
         abbrev G3 : Row.Cx
         G3 = record { locals = g2; slots = L._∷_ Row.off (L._∷_ Row.alive L.[]) }
@@ -353,13 +353,13 @@ module _ (claims· : Claims) where
         G10 = record { locals = g8; slots = L._∷_ Row.off (L._∷_ Row.dead L.[]) }
 
         abbrev G11 : Row.Cx
-        G11 = record { locals = t9; slots = L._∷_ (Row.lease (κs .0) (qs .0)) (L._∷_ Row.dead L.[]); }
+        G11 = record { locals = t9; slots = L._∷_ (Row.lease (κs .0) (qs .0)) (L._∷_ Row.dead L.[]) }
 
         abbrev G12 : Row.Cx
-        G12 = record { locals = t9; slots = L._∷_ (Row.lease (κs .0) (qs .0)) (L._∷_ Row.off L.[]); }
+        G12 = record { locals = t9; slots = L._∷_ (Row.lease (κs .0) (qs .0)) (L._∷_ Row.off L.[]) }
 
         abbrev G13 : Row.Cx
-        G13 = record { locals = t1; slots = L._∷_ (Row.lease (κs .0) (qs .0)) (L._∷_ Row.off L.[]); }
+        G13 = record { locals = t1; slots = L._∷_ (Row.lease (κs .0) (qs .0)) (L._∷_ Row.off L.[]) }
 
         abbrev Δ0 : Typed.Outs
         Δ0 = record { next = Option.none; exits = L.[]; returns = Option.some G1 }
@@ -393,7 +393,7 @@ module _ (claims· : Claims) where
           d7 = Typed.g-pre 𝓤 H A W 𝓣 E G6 G7 b6 Δ0 (Typed.pass T6 T7 s5) at6 (Scalar.g-room 𝓤 H A W E G6 2 q1 (Local.room-whole 𝓤 H A W (Declared.row Put·.the-type) q1 Path.refl)) d6
 
           d8 : Typed.Typed 𝓤 H A 𝓣 E G5 b7 Δ0 at8
-          d8 = Typed.s-seq 𝓤 H A W 𝓣 E G5 G6 b3 b6 Δ0 (Typed.both s4) at7 (Plain.t-call-plain 𝓤 H A W 𝓣 1 ps·1 r·1 (claims· .2) (claims· .3) "network::list::replace" (known .1) E (λ pos β. β) G5 (record { pos = 5; ty = Syntax.tyRef Syntax.erased Syntax.mut Rec.named; ref = λ x. x; }, (Num.vFld 2 (L._∷_ (Syntax.field 0) L.[]) 0 λ x. Put·.struct .as-values x .0, (record { pos = 6; st = L.[]; d = 0; at = λ x. x }, tt))) 3 (L._∷_ 1 L.[]) (Call.sub-id 𝓤 H A W (G5 .slots)) (TReads.as-is 𝓤 H A (Mut.mslice Rec.row q9 1), Mut.reads-mslice 𝓤 H A W Rec.row q9 1, Path.refl, ((Reads.reads-field 𝓤 H A W Put·.the-type Put-Laws·.the-laws 0 (Syntax.tyInt Syntax.w64) 0 Path.refl, Path.refl), ((Rec.yields 𝓤 H A W, Path.refl), tt))) (TReads.room-gone 𝓤 H A Syntax.tyUnit) (tt, tt) Path.refl) d7
+          d8 = Typed.s-seq 𝓤 H A W 𝓣 E G5 G6 b3 b6 Δ0 (Typed.both s4) at7 (Plain.t-call-plain 𝓤 H A W 𝓣 1 ps·1 r·1 (claims· .2) (claims· .3) "network::list::replace" (known .1) E (λ pos β. β) G5 (record { pos = 5; ty = Syntax.tyRef Syntax.erased Syntax.mut Rec.named; ref = λ x. x }, (Num.vFld 2 (L._∷_ (Syntax.field 0) L.[]) 0 λ x. Put·.struct .as-values x .0, (record { pos = 6; st = L.[]; d = 0; at = λ x. x }, tt))) 3 (L._∷_ 1 L.[]) (Call.sub-id 𝓤 H A W (G5 .slots)) (TReads.as-is 𝓤 H A (Mut.mslice Rec.row q9 1), Mut.reads-mslice 𝓤 H A W Rec.row q9 1, Path.refl, ((Reads.reads-field 𝓤 H A W Put·.the-type Put-Laws·.the-laws 0 (Syntax.tyInt Syntax.w64) 0 Path.refl, Path.refl), ((Rec.yields 𝓤 H A W, Path.refl), tt))) (TReads.room-gone 𝓤 H A Syntax.tyUnit) (tt, tt) Path.refl) d7
 
           d9 : Typed.Typed 𝓤 H A 𝓣 E G4 b8 Δ0 at9
           d9 = Typed.s-seq 𝓤 H A W 𝓣 E G4 G5 b2 b7 Δ0 (Typed.both s3) at8 (Plain.t-call-plain 𝓤 H A W 𝓣 0 ps·0 r·0 (claims· .0) (claims· .1) "network::arc_of" (known .0) E (λ pos β. β) G4 (record { pos = 2; st = L.[]; d = 0; at = λ x. x }, tt) 6 L.[] (Call.sub-id 𝓤 H A W (G4 .slots)) ((Yields.yields-copy 𝓤 H A W (λ ρ. Unit) (Declared.row Put·.the-type) Path.refl (Copies.cStruct Put·.the-type Put-Laws·.the-laws Put-Laws·.the-copy .copy 𝓤 H A W) (Rows.whole (Declared.row Put·.the-type)) (λ x. x) (λ x. x) (λ ρ told. Local.mem-whole 𝓤 H A W (Declared.row Put·.the-type) ρ) λ ρ told. Local.whole-mem 𝓤 H A W (Declared.row Put·.the-type) ρ, Path.refl), tt) (TReads.room-gone 𝓤 H A Rec.by-value) tt Path.refl) d8
@@ -413,7 +413,7 @@ module _ (claims· : Claims) where
       module _ (κs : Lifetimes.Lfts 1) where
         pub record Args : Type 0 where
           pub arcs : FnKinds.Den {n = 1} κs (MutSlice.pMutS Rec.row 0 tt)
-          pub p : FnKinds.Den {n = 1} κs (Value.pVal record { ty = Declared.row Put·.the-type; one = Path.refl; val = StructLaws.val Put·.the-type Put-Laws·.the-laws; tells = StructLaws.tells Put·.the-type Put-Laws·.the-laws; still = StructLaws.still Put·.the-type Put-Laws·.the-copy Exit.yes; row = Rows.whole (Declared.row Put·.the-type); rd = λ x. x; mk = λ x. x; } λ M 𝓤 H A W. record { copies = StructLaws.copy Put·.the-type Put-Laws·.the-copy 𝓤 H A W; lawful = StructLaws.lawful Put·.the-type Put-Laws·.the-laws 𝓤 H A W; makes = StructLaws.makes Put·.the-type Put-Laws·.the-plain 𝓤 H A; in-mem = Local.mem-whole 𝓤 H A W (Declared.row Put·.the-type); of-mem = Local.whole-mem 𝓤 H A W (Declared.row Put·.the-type); })
+          pub p : FnKinds.Den {n = 1} κs (Value.pVal record { ty = Declared.row Put·.the-type; one = Path.refl; val = StructLaws.val Put·.the-type Put-Laws·.the-laws; tells = StructLaws.tells Put·.the-type Put-Laws·.the-laws; still = StructLaws.still Put·.the-type Put-Laws·.the-copy Exit.yes; row = Rows.whole (Declared.row Put·.the-type); rd = λ x. x; mk = λ x. x } λ M 𝓤 H A W. record { copies = StructLaws.copy Put·.the-type Put-Laws·.the-copy 𝓤 H A W; lawful = StructLaws.lawful Put·.the-type Put-Laws·.the-laws 𝓤 H A W; makes = StructLaws.makes Put·.the-type Put-Laws·.the-plain 𝓤 H A; in-mem = Local.mem-whole 𝓤 H A W (Declared.row Put·.the-type); of-mem = Local.whole-mem 𝓤 H A W (Declared.row Put·.the-type) })
 
         abbrev pub dens : (a : Args) → FnKinds.Dens κs ps
         dens = λ a. (a .arcs, (a .p, tt))
@@ -469,14 +469,14 @@ module _ (claims· : Claims) where
 
       module _ (before· : After-arc-of) where
         abbrev pub After-replace·own : Type 0
-        After-replace·own = Called.Called ps·1 r·1 (claims· .3) T5 (record { pos = 5; ty = Syntax.tyRef Syntax.erased Syntax.mut Rec.named; ref = λ x. x; }, (Num.vFld 2 (L._∷_ (Syntax.field 0) L.[]) 0 λ x. Put·.struct .as-values x .0, (record { pos = 6; st = L.[]; d = 0; at = λ x. x }, tt))) (m3 (before· .before) (After-arc-of·gave before·))
+        After-replace·own = Called.Called ps·1 r·1 (claims· .3) T5 (record { pos = 5; ty = Syntax.tyRef Syntax.erased Syntax.mut Rec.named; ref = λ x. x }, (Num.vFld 2 (L._∷_ (Syntax.field 0) L.[]) 0 λ x. Put·.struct .as-values x .0, (record { pos = 6; st = L.[]; d = 0; at = λ x. x }, tt))) (m3 (before· .before) (After-arc-of·gave before·))
 
       pub record After-replace : Type 0 where
         pub before : After-arc-of
         pub replace : After-replace·own before
 
       abbrev pub After-replace·gave : (c : After-replace) → s4 .gives (m3 (c .before .before) (After-arc-of·gave (c .before)))
-      After-replace·gave = λ c. Called.given ps·1 r·1 (claims· .3) T5 (record { pos = 5; ty = Syntax.tyRef Syntax.erased Syntax.mut Rec.named; ref = λ x. x; }, (Num.vFld 2 (L._∷_ (Syntax.field 0) L.[]) 0 λ x. Put·.struct .as-values x .0, (record { pos = 6; st = L.[]; d = 0; at = λ x. x }, tt))) (m3 (c .before .before) (After-arc-of·gave (c .before))) (c .replace)
+      After-replace·gave = λ c. Called.given ps·1 r·1 (claims· .3) T5 (record { pos = 5; ty = Syntax.tyRef Syntax.erased Syntax.mut Rec.named; ref = λ x. x }, (Num.vFld 2 (L._∷_ (Syntax.field 0) L.[]) 0 λ x. Put·.struct .as-values x .0, (record { pos = 6; st = L.[]; d = 0; at = λ x. x }, tt))) (m3 (c .before .before) (After-arc-of·gave (c .before))) (c .replace)
 
       abbrev pub m5 : (before : After-arc-of) → (given : s4 .gives (m3 (before .before) (After-arc-of·gave before))) → Typed.Mo T7
       m5 = λ before given. s5 (m4 before given)
@@ -509,17 +509,17 @@ module _ (claims· : Claims) where
 
       module _ (arc-of-requires : Need-arc-of-requires) (replace-requires : Need-replace-requires) (same-length : Need-same-length) (returns : Need-returns) where
         lay2 : (c : After-replace) → at7 (W0 (c .before .before .before .κs) (c .before .before .before .args)) (m4 (c .before) (After-replace·gave c))
-        lay2 = λ c. (Path.refl, λ g. ((MutSlice.fix-len (Row.get 1 (T13 .locals) (m9 record { before = c .before; replace = c .replace; } g) .ptr) (Row.get 1 (T13 .locals) (m9 record { before = c .before; replace = c .replace; } g) .name) (Row.get 1 (T13 .locals) (m9 record { before = c .before; replace = c .replace; } g) .now) (dens (c .before .before .before .κs) (c .before .before .before .args) .0 .now) (same-length record { before = record { before = c .before; replace = c .replace }; arcs = record { given = g }; }), (tt, tt)), returns record { before = record { before = c .before; replace = c .replace }; arcs = record { given = g }; }))
+        lay2 = λ c. (Path.refl, λ g. ((MutSlice.fix-len (Row.get 1 (T13 .locals) (m9 record { before = c .before; replace = c .replace } g) .ptr) (Row.get 1 (T13 .locals) (m9 record { before = c .before; replace = c .replace } g) .name) (Row.get 1 (T13 .locals) (m9 record { before = c .before; replace = c .replace } g) .now) (dens (c .before .before .before .κs) (c .before .before .before .args) .0 .now) (same-length record { before = record { before = c .before; replace = c .replace }; arcs = record { given = g } }), (tt, tt)), returns record { before = record { before = c .before; replace = c .replace }; arcs = record { given = g } }))
 
         lay1 : (c : After-arc-of) → at8 (W0 (c .before .before .κs) (c .before .before .args)) (m3 (c .before) (After-arc-of·gave c))
-        lay1 = λ c. (replace-requires record { before = c .before; arc-of = c .arc-of }, λ g. lay2 record { before = record { before = c .before; arc-of = c .arc-of }; replace = Called.called ps·1 r·1 (claims· .3) T5 (record { pos = 5; ty = Syntax.tyRef Syntax.erased Syntax.mut Rec.named; ref = λ x. x; }, (Num.vFld 2 (L._∷_ (Syntax.field 0) L.[]) 0 λ x. Put·.struct .as-values x .0, (record { pos = 6; st = L.[]; d = 0; at = λ x. x }, tt))) (m3 (c .before) (After-arc-of·gave c)) g; })
+        lay1 = λ c. (replace-requires record { before = c .before; arc-of = c .arc-of }, λ g. lay2 record { before = record { before = c .before; arc-of = c .arc-of }; replace = Called.called ps·1 r·1 (claims· .3) T5 (record { pos = 5; ty = Syntax.tyRef Syntax.erased Syntax.mut Rec.named; ref = λ x. x }, (Num.vFld 2 (L._∷_ (Syntax.field 0) L.[]) 0 λ x. Put·.struct .as-values x .0, (record { pos = 6; st = L.[]; d = 0; at = λ x. x }, tt))) (m3 (c .before) (After-arc-of·gave c)) g })
 
         pub laid : (c : Start) → at12 (W0 (c .κs) (c .args)) (m0 (c .κs) (c .args))
-        laid = λ c. λ g. (Path.refl, (arc-of-requires record { before = c; replace-arg = record { given = g } }, λ g'. lay1 record { before = record { before = c; replace-arg = record { given = g } }; arc-of = Called.called ps·0 r·0 (claims· .1) T4 (record { pos = 2; st = L.[]; d = 0; at = λ x. x }, tt) (m2 c g) g'; }))
+        laid = λ c. λ g. (Path.refl, (arc-of-requires record { before = c; replace-arg = record { given = g } }, λ g'. lay1 record { before = record { before = c; replace-arg = record { given = g } }; arc-of = Called.called ps·0 r·0 (claims· .1) T4 (record { pos = 2; st = L.[]; d = 0; at = λ x. x }, tt) (m2 c g) g' }))
 
         module _ (κs : Lifetimes.Lfts 1) (qs : Lifetimes.Shares 1) where
           pub asked : (a : FnKinds.Dens κs ps) → (good : FnKinds.GoodsP κs ps a) → (pre : Pre· κs a) → (bs : L.List Nat.ℕ) → Φ (Any.wantQ 1 ps r xs m κs qs a (Post· κs a)) (Function.init 1 ps r xs m κs qs a)
-          asked = λ a good pre bs. laid record { κs = κs; args = record { arcs = a .0; p = a .1 .0 }; good = good; pre = pre; }
+          asked = λ a good pre bs. laid record { κs = κs; args = record { arcs = a .0; p = a .1 .0 }; good = good; pre = pre }
 
         module _ {M : Type 1} (𝓤 : URA.URA M) (H : Wp.Heap 𝓤) (A : Atoms.Atoms 𝓤) (W : Kit.Given 𝓤 H A) (𝓣 : Wp.Tables 𝓤 H) (known0 : Plain.Known 𝓤 H A W 𝓣 0 ps·0 r·0 (claims· .0) (claims· .1) "network::arc_of") (known1 : Plain.Known 𝓤 H A W 𝓣 1 ps·1 r·1 (claims· .2) (claims· .3) "network::list::replace") where
           pub spec : Statement.Triple 𝓤 (Wp.WpFn 𝓤 H (𝓣 .C) (𝓣 .Λ) (Function.fnOf 1 ps r xs m hs body)) (Function.plainOf 𝓤 H A 1 ps r Pre· Post·)

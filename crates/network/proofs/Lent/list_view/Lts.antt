@@ -383,7 +383,7 @@ module _ (claims· : Claims) where
   s7 = λ bs. Scalar.n-room T8 5 Syntax.tyBool
 
   abbrev s8 : (bs : L.List Nat.ℕ) → Typed.Both T9 T12
-  s8 = λ bs. Call.callB ps·1 r·1 (claims· .2) (claims· .3) T9 (record { pos = 1; ty = Syntax.tyRef (Syntax.named 0) Syntax.imm Rec.named; ref = λ x. x; }, (Num.vAt 4 λ x. x, tt)) 6 (L._∷_ 0 L.[]) Rec.by-value
+  s8 = λ bs. Call.callB ps·1 r·1 (claims· .2) (claims· .3) T9 (record { pos = 1; ty = Syntax.tyRef (Syntax.named 0) Syntax.imm Rec.named; ref = λ x. x }, (Num.vAt 4 λ x. x, tt)) 6 (L._∷_ 0 L.[]) Rec.by-value
 
   abbrev s9 : (bs : L.List Nat.ℕ) → Typed.Asks T12 T13
   s9 = λ bs. Scalar.k-op2 T12 (Syntax.mul Syntax.unsigned) (Scalar.oAt 4 (Syntax.tyInt Syntax.w64) (Row.valS (Row.sInt Syntax.w64))) (Scalar.oInt Syntax.w64 56) 7 q8 (Row.sInt Syntax.w64 .of)
@@ -662,7 +662,7 @@ module _ (claims· : Claims) where
           d13 = Typed.s-seq 𝓤 H A W 𝓣 E G12 G13 b8 b15 Δ3 (Typed.ask (s9 bs)) (at12 bs) (Scalar.t-op2 𝓤 H A W E 𝓣 G12 (Syntax.mul Syntax.unsigned) (Scalar.oAt 4 (Syntax.tyInt Syntax.w64) (Row.valS (Row.sInt Syntax.w64))) (Scalar.oInt Syntax.w64 56) 7 q8 (Syntax.tyInt Syntax.w64) (Row.valS (Row.sInt Syntax.w64)) (Row.sInt Syntax.w64 .of) (Scalar.reads-sc 𝓤 H A W (Row.sInt Syntax.w64), Path.refl) tt (TReads.room-gone 𝓤 H A (Syntax.tyInt Syntax.w64)) (Scalar.holds-sc 𝓤 H A W (Row.sInt Syntax.w64)) Path.refl (λ u. Path.refl) λ u. tt) d12
 
           d14 : Typed.Typed 𝓤 H A 𝓣 E G9 b17 Δ3 (at14 bs)
-          d14 = Typed.s-seq 𝓤 H A W 𝓣 E G9 G12 b7 b16 Δ3 (Typed.both (s8 bs)) (at13 bs) (Plain.t-call-plain 𝓤 H A W 𝓣 1 ps·1 r·1 (claims· .2) (claims· .3) "network::list::read" (known .1) E (λ pos β. β) G9 (record { pos = 1; ty = Syntax.tyRef (Syntax.named 0) Syntax.imm Rec.named; ref = λ x. x; }, (Num.vAt 4 λ x. x, tt)) 6 (L._∷_ 0 L.[]) (Call.sub-id 𝓤 H A W (G9 .slots)) (ShrSlice.spares-sslice 𝓤 H A W Rec.row q1 0, Shared.reads-sslice 𝓤 H A W Rec.row q1 0, Path.refl, ((Scalar.reads-sc 𝓤 H A W (Row.sInt Syntax.w64), Path.refl), tt)) (TReads.room-gone 𝓤 H A Rec.by-value) (tt, tt) Path.refl) d13
+          d14 = Typed.s-seq 𝓤 H A W 𝓣 E G9 G12 b7 b16 Δ3 (Typed.both (s8 bs)) (at13 bs) (Plain.t-call-plain 𝓤 H A W 𝓣 1 ps·1 r·1 (claims· .2) (claims· .3) "network::list::read" (known .1) E (λ pos β. β) G9 (record { pos = 1; ty = Syntax.tyRef (Syntax.named 0) Syntax.imm Rec.named; ref = λ x. x }, (Num.vAt 4 λ x. x, tt)) 6 (L._∷_ 0 L.[]) (Call.sub-id 𝓤 H A W (G9 .slots)) (ShrSlice.spares-sslice 𝓤 H A W Rec.row q1 0, Shared.reads-sslice 𝓤 H A W Rec.row q1 0, Path.refl, ((Scalar.reads-sc 𝓤 H A W (Row.sInt Syntax.w64), Path.refl), tt)) (TReads.room-gone 𝓤 H A Rec.by-value) (tt, tt) Path.refl) d13
 
           d15 : Typed.Typed 𝓤 H A 𝓣 E G8 b18 Δ3 (at15 bs)
           d15 = Typed.t-seq 𝓤 H A W 𝓣 E G8 G9 b6 b17 Δ3 (at4 bs) (at14 bs) d4 d14
@@ -819,14 +819,14 @@ module _ (claims· : Claims) where
 
       module _ (before· : In-loop) where
         abbrev pub After-read·own : Type 0
-        After-read·own = Called.Called ps·1 r·1 (claims· .3) T9 (record { pos = 1; ty = Syntax.tyRef (Syntax.named 0) Syntax.imm Rec.named; ref = λ x. x; }, (Num.vAt 4 λ x. x, tt)) (m8 (before· .before))
+        After-read·own = Called.Called ps·1 r·1 (claims· .3) T9 (record { pos = 1; ty = Syntax.tyRef (Syntax.named 0) Syntax.imm Rec.named; ref = λ x. x }, (Num.vAt 4 λ x. x, tt)) (m8 (before· .before))
 
       pub record After-read : Type 0 where
         pub before : In-loop
         pub read : After-read·own before
 
       abbrev pub After-read·gave : (c : After-read) → s8 (c .before .before .before .before .blocks) .gives (m8 (c .before .before))
-      After-read·gave = λ c. Called.given ps·1 r·1 (claims· .3) T9 (record { pos = 1; ty = Syntax.tyRef (Syntax.named 0) Syntax.imm Rec.named; ref = λ x. x; }, (Num.vAt 4 λ x. x, tt)) (m8 (c .before .before)) (c .read)
+      After-read·gave = λ c. Called.given ps·1 r·1 (claims· .3) T9 (record { pos = 1; ty = Syntax.tyRef (Syntax.named 0) Syntax.imm Rec.named; ref = λ x. x }, (Num.vAt 4 λ x. x, tt)) (m8 (c .before .before)) (c .read)
 
       abbrev pub Need-mul-at : Type 0
       Need-mul-at = (c : After-read) → s9 (c .before .before .before .before .blocks) .asks (m10 (c .before) (After-read·gave c))
@@ -890,7 +890,7 @@ module _ (claims· : Claims) where
         lay5 = λ c. (mul-at record { before = c .before; read = c .read }, (tt, (((Path.refl, Path.refl), array-set-from-at record { before = c .before; read = c .read }), (add-j record { before = c .before; read = c .read }, (μ·0 (Row.get 1 (T6 .locals) (m5 (c .before .before .before .before) (After-no-arc·gave (c .before .before .before))) .now) (Row.get 3 (T6 .locals) (m5 (c .before .before .before .before) (After-no-arc·gave (c .before .before .before)))) (Row.get 4 (T6 .locals) (m5 (c .before .before .before .before) (After-no-arc·gave (c .before .before .before)))) (Row.get 3 (T6 .locals) (m19 (c .before) (After-read·gave c))) (Row.get 4 (T6 .locals) (m19 (c .before) (After-read·gave c))), loop-less record { before = c .before; read = c .read }, ((Row.get 3 (T6 .locals) (m19 (c .before) (After-read·gave c)), Row.get 4 (T6 .locals) (m19 (c .before) (After-read·gave c))), Path.refl {a = m19 (c .before) (After-read·gave c)}, loop-again record { before = c .before; read = c .read }, Path.refl {a = μ·0 (Row.get 1 (T6 .locals) (m5 (c .before .before .before .before) (After-no-arc·gave (c .before .before .before))) .now) (Row.get 3 (T6 .locals) (m5 (c .before .before .before .before) (After-no-arc·gave (c .before .before .before)))) (Row.get 4 (T6 .locals) (m5 (c .before .before .before .before) (After-no-arc·gave (c .before .before .before)))) (Row.get 3 (T6 .locals) (m19 (c .before) (After-read·gave c))) (Row.get 4 (T6 .locals) (m19 (c .before) (After-read·gave c)))}))))))
 
         lay4 : (c : In-loop) → at14 (c .before .before .before .blocks) (W3 (c .before .before) (c .before .loop .at) (c .before .loop .j)) (m8 (c .before))
-        lay4 = λ c. (read-requires record { before = c .before; loop-test = c .loop-test }, λ g. lay5 record { before = record { before = c .before; loop-test = c .loop-test }; read = Called.called ps·1 r·1 (claims· .3) T9 (record { pos = 1; ty = Syntax.tyRef (Syntax.named 0) Syntax.imm Rec.named; ref = λ x. x; }, (Num.vAt 4 λ x. x, tt)) (m8 (c .before)) g; })
+        lay4 = λ c. (read-requires record { before = c .before; loop-test = c .loop-test }, λ g. lay5 record { before = record { before = c .before; loop-test = c .loop-test }; read = Called.called ps·1 r·1 (claims· .3) T9 (record { pos = 1; ty = Syntax.tyRef (Syntax.named 0) Syntax.imm Rec.named; ref = λ x. x }, (Num.vAt 4 λ x. x, tt)) (m8 (c .before)) g })
 
         lay3 : (c : After-loop) → at3 (c .before .before .before .blocks) (W4 (c .before .before) (c .before .loop .at) (c .before .loop .j)) (m7 (c .before .before) (c .before .loop .at) (c .before .loop .j))
         lay3 = λ c. lay6 record { before = c .before; loop-test = c .loop-test }
@@ -899,14 +899,14 @@ module _ (claims· : Claims) where
         lay2 = λ c. lay4 record { before = c .before; loop-test = c .loop-test }
 
         lay1 : (c : After-no-arc) → at27 (c .before .blocks) (W0 (c .before .κs) (c .before .args) (c .before .blocks)) (m1 (c .before) (After-no-arc·gave c))
-        lay1 = λ c. (((Row.get 3 (T6 .locals) (m5 (c .before) (After-no-arc·gave c)), Row.get 4 (T6 .locals) (m5 (c .before) (After-no-arc·gave c))), Path.refl {a = m5 (c .before) (After-no-arc·gave c)}, loop-holds record { before = c .before; no-arc = c .no-arc }), λ vs inv. (tt, (λ taken. lay2 record { before = record { before = record { before = c .before; no-arc = c .no-arc }; loop = record { at = vs .0; j = vs .1; inv = inv }; }; loop-test = record { taken = Tests.ltb-true (Row.get 4 (T6 .locals) (m6 record { before = c .before; no-arc = c .no-arc; } (vs .0) (vs .1))) 97 taken; }; }, λ left. lay3 record { before = record { before = record { before = c .before; no-arc = c .no-arc }; loop = record { at = vs .0; j = vs .1; inv = inv }; }; loop-test = record { left = Tests.ltb-false (Row.get 4 (T6 .locals) (m6 record { before = c .before; no-arc = c .no-arc; } (vs .0) (vs .1))) 97 left; }; })))
+        lay1 = λ c. (((Row.get 3 (T6 .locals) (m5 (c .before) (After-no-arc·gave c)), Row.get 4 (T6 .locals) (m5 (c .before) (After-no-arc·gave c))), Path.refl {a = m5 (c .before) (After-no-arc·gave c)}, loop-holds record { before = c .before; no-arc = c .no-arc }), λ vs inv. (tt, (λ taken. lay2 record { before = record { before = record { before = c .before; no-arc = c .no-arc }; loop = record { at = vs .0; j = vs .1; inv = inv } }; loop-test = record { taken = Tests.ltb-true (Row.get 4 (T6 .locals) (m6 record { before = c .before; no-arc = c .no-arc } (vs .0) (vs .1))) 97 taken } }, λ left. lay3 record { before = record { before = record { before = c .before; no-arc = c .no-arc }; loop = record { at = vs .0; j = vs .1; inv = inv } }; loop-test = record { left = Tests.ltb-false (Row.get 4 (T6 .locals) (m6 record { before = c .before; no-arc = c .no-arc } (vs .0) (vs .1))) 97 left } })))
 
         pub laid : (c : Start) → at28 (c .blocks) (W0 (c .κs) (c .args) (c .blocks)) (m0 (c .κs) (c .args) (c .blocks))
-        laid = λ c. (no-arc-requires c, λ g. lay1 record { before = c; no-arc = Called.called ps·0 r·0 (claims· .1) T0 tt (m0 (c .κs) (c .args) (c .blocks)) g; })
+        laid = λ c. (no-arc-requires c, λ g. lay1 record { before = c; no-arc = Called.called ps·0 r·0 (claims· .1) T0 tt (m0 (c .κs) (c .args) (c .blocks)) g })
 
         module _ (κs : Lifetimes.Lfts 1) (qs : Lifetimes.Shares 1) where
           pub asked : (a : FnKinds.Dens κs ps) → (good : FnKinds.GoodsP κs ps a) → (pre : Pre· κs a) → (bs : L.List Nat.ℕ) → Φ bs (Any.wantQ 1 ps r xs m κs qs a (Post· κs a)) (Function.init 1 ps r xs m κs qs a)
-          asked = λ a good pre bs. laid record { κs = κs; args = record { arcs = a .0 }; blocks = bs; good = good; pre = pre; }
+          asked = λ a good pre bs. laid record { κs = κs; args = record { arcs = a .0 }; blocks = bs; good = good; pre = pre }
 
         module _ {M : Type 1} (𝓤 : URA.URA M) (H : Wp.Heap 𝓤) (A : Atoms.Atoms 𝓤) (W : Kit.Given 𝓤 H A) (𝓣 : Wp.Tables 𝓤 H) (known0 : Plain.Known 𝓤 H A W 𝓣 0 ps·0 r·0 (claims· .0) (claims· .1) "network::no_arc") (known1 : Plain.Known 𝓤 H A W 𝓣 1 ps·1 r·1 (claims· .2) (claims· .3) "network::list::read") where
           pub spec : Statement.Triple 𝓤 (Wp.WpFn 𝓤 H (𝓣 .C) (𝓣 .Λ) (Function.fnOf 1 ps r xs m hs body)) (Function.plainOf 𝓤 H A 1 ps r Pre· Post·)

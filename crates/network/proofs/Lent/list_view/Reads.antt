@@ -42,7 +42,7 @@ module _ (κs : Lifetimes.Lfts 1) where
   pre-read = λ a g. Read.all-models (requires a g) (λ w. Read.r-top) (λ w. Path.refl) (λ w. Path.refl) λ w. Path.refl
 
   abbrev pub ensures-1·read : (a : World.ArgsD list-view·.signature κs) → (g : Ghost) → (r : World.ResD list-view·.signature κs) → (s : Clauses.AtExit (FnKinds.endedOf 1 list-view-Kinds·.ps list-view-Kinds·.r) κs) → Read.Read (Base a) (Owned r s) λ w. list-view·.ensures-1 (w .𝓤) (w .H) κs (w .𝓖 .A) (w .𝓜 .mem) (w .𝓡 .run) (a .0) record { entry = a .0; exit = s .0 } r
-  ensures-1·read = λ a g r s. Read.all-models (λ w. list-view·.ensures-1 (w .𝓤) (w .H) κs (w .𝓖 .A) (w .𝓜 .mem) (w .𝓡 .run) (a .0) record { entry = a .0; exit = s .0; } r) (λ w. Read.r-last _) (λ w. Path.refl) (λ w. Path.refl) λ w. Path.refl
+  ensures-1·read = λ a g r s. Read.all-models (λ w. list-view·.ensures-1 (w .𝓤) (w .H) κs (w .𝓖 .A) (w .𝓜 .mem) (w .𝓡 .run) (a .0) record { entry = a .0; exit = s .0 } r) (λ w. Read.r-last _) (λ w. Path.refl) (λ w. Path.refl) λ w. Path.refl
 
   abbrev pub post-read : (a : World.ArgsD list-view·.signature κs) → (g : Ghost) → (r : World.ResD list-view·.signature κs) → (s : Clauses.AtExit (FnKinds.endedOf 1 list-view-Kinds·.ps list-view-Kinds·.r) κs) → Read.Read (Base a) (Owned r s) (ensures a g r s)
   post-read = λ a g r s. ensures-1·read a g r s
