@@ -111,7 +111,7 @@ class Crate:
         if re.match(r'[iu](8|16|32|64|size)$', ty): return '0'
         mm = re.match(r'\[(.*);\s*([^;\]]+)\]$', ty)
         if mm: return '[%s; %s]' % (self.default(mm.group(1)), mm.group(2))
-        at, mp, k, t = type_of(name)
+        at, mp, k, t = type_of(name, self)
         name = '::'.join(('crate' if at == self.name else at,) + mp + (name,))
         if k == 'struct':
             return name + ' { ' + ', '.join('%s: %s' % (f, self.default(y)) for f, y in re.findall(r'(?:pub )?(\w+)\s*:\s*(\[[^\]]*\]|[^,}]+)', t[t.index('{'):])) + ' }'
@@ -171,9 +171,9 @@ def named_types():
 TYPES = named_types()
 
 
-def type_of(name):
-    """The crate that declares a type, its module, kind and text."""
-    return next((c.name,) + c.types[name] for c in ALL.values() if name in c.types)
+def type_of(name, here):
+    """The crate that declares a type, this one or another, its module, kind and text."""
+    return next((c.name,) + c.types[name] for c in [here, *ALL.values()] if name in c.types)
 
 
 # ---- what Rattle made of the twin
@@ -333,7 +333,7 @@ def write(path, text):
 
 
 def none_of(name):
-    at, mp, k, t = type_of(name)
+    at, mp, k, t = type_of(name, HOME)
     def one(ty):
         if ty == 'bool': return 'false'
         if re.match(r'i\d|isize', ty): return 'pos 0'

@@ -54,7 +54,7 @@ reducedLines (Refused q) net stack = refusedBytes ++ lineOf (wordOf (numberOf (R
 -- a network's words, reduced into slices of the lengths that question 1 asks for
 abbrev pub reducedText : List ℤ → List ℕ
 reducedText xs =
-    reducedLines (answerOf xs (questions xs 1410 257 10240)) (outputOf xs 1410 (questions xs 1410 257 10240)) (stackWords xs 257 (questions xs 1410 257 10240))
+    reducedLines (answerOf xs (questions xs 1410 257 10240 96)) (outputOf xs 1410 (questions xs 1410 257 10240 96)) (stackWords xs 257 (questions xs 1410 257 10240 96))
 
 -- question 14 first
 abbrev pub onWords : Option (List ℤ) → List ℕ

@@ -63,8 +63,8 @@ restoredLines (Refused q) pair values = refusedBytes ++ lineOf (wordOf (numberOf
 -- restored into slices of the lengths that question 1 asks for
 abbrev pub restoredText : List ℤ → List ℤ → List ℤ → List ℕ
 restoredText xs zs ys =
-    restoredLines (answerOf (refusalOf xs zs ys 258 4 10240)) (outBy (refusalOf xs zs ys 258 4 10240) (readOf xs) (backFrom (readOf xs) (ranOf (readOf xs)) ys) 258)
-    (valuesBy (refusalOf xs zs ys 258 4 10240) (readOf xs) (ranOf (readOf xs)) ys (backFrom (readOf xs) (ranOf (readOf xs)) ys) 4)
+    restoredLines (answerOf (refusalOf xs zs ys 258 4 10240 96)) (outBy (refusalOf xs zs ys 258 4 10240 96) (readOf xs) (backFrom (readOf xs) (ranOf (readOf xs)) ys) 258)
+    (valuesBy (refusalOf xs zs ys 258 4 10240 96) (readOf xs) (ranOf (readOf xs)) ys (backFrom (readOf xs) (ranOf (readOf xs)) ys) 4)
 
 -- "the rest is the pair"
 abbrev pub onSplit : List ℤ → Split → List ℕ

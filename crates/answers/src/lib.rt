@@ -112,7 +112,7 @@ fn reduce_words(words: &[i32], out: &mut [u8]) -> usize
     let mut net = [0i32; 1410];
     let mut stack = [0i32; 257];
     let mut scratch = [0i32; 10240];
-    let answer = reduction::reduce(words, &mut net, &mut stack, &mut scratch);
+    let answer = reduction::plain::reduce(words, &mut net, &mut stack, &mut scratch);
     put_answer(out, 0, answer, &net, &stack)
 }
 

@@ -94,7 +94,14 @@ fn restore_parts(network: &[i32], stack: &[i32], pair: &[i32], out: &mut [u8]) -
     let mut back = [0i32; 258];
     let mut values = [0i32; 4];
     let mut scratch = [0i32; 10240];
-    let answer = restoration::restore(network, stack, pair, &mut back, &mut values, &mut scratch);
+    let answer = restoration::plain::restore(
+        network,
+        stack,
+        pair,
+        &mut back,
+        &mut values,
+        &mut scratch,
+    );
     put_answer(out, 0, answer, &back, &values)
 }
 

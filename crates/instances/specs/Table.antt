@@ -49,7 +49,7 @@ abbrev pub All : List Row → Type 0
 All [] = Unit
 All (r ∷ rs) = (r .computed ≡ r .documented) × All rs
 
--- ---- A, E and F: reducing, with the least that may be lent: 1410 words for the network, 257 for the stack, 10240 of scratch
+-- ---- A, E and F: reducing, with the least that may be lent: 1410 words for the network, 257 for the stack, 10240 of scratch, 96 records
 
 -- the answer, all words of the network output and all words of the stack
 abbrev Outcome : Type 0
@@ -59,7 +59,7 @@ abbrev outcomeBy : List ℤ → Asked → Outcome
 outcomeBy xs q = (answerOf xs q, (outputOf xs 1410 q, stackWords xs 257 q))
 
 abbrev reducing : List ℤ → Outcome
-reducing xs = outcomeBy xs (questions xs 1410 257 10240)
+reducing xs = outcomeBy xs (questions xs 1410 257 10240 96)
 
 -- "words behind a record are zero"
 abbrev filled : ℕ → List ℤ → List ℤ
@@ -91,7 +91,7 @@ stack = pos 1 ∷ pos 3 ∷ pos 3 ∷ []
 abbrev A : Row
 A = row Outcome (reducing given) (outcome Reduced left stack)
 
--- A and B: restoring, with the least that may be lent: 258 words for the pair, 4 for the values, 10240 of scratch
+-- A and B: restoring, with the least that may be lent: 258 words for the pair, 4 for the values, 10240 of scratch, 96 records
 
 -- the answer, all words of the pair and all words of the values
 abbrev Return : Type 0
@@ -102,7 +102,7 @@ returnBy q xs ys =
     (answerBack q, (outBy q (readOf xs) (backFrom (readOf xs) (ranOf (readOf xs)) ys) 258, valuesBy q (readOf xs) (ranOf (readOf xs)) ys (backFrom (readOf xs) (ranOf (readOf xs)) ys) 4))
 
 abbrev restoring : List ℤ → List ℤ → List ℤ → Return
-restoring xs zs ys = returnBy (refusalOf xs zs ys 258 4 10240) xs ys
+restoring xs zs ys = returnBy (refusalOf xs zs ys 258 4 10240 96) xs ys
 
 -- A, its restoring half: prices 2 and 0, flows 3 and 1
 abbrev offered : ℕ → ℕ → List ℤ

@@ -4,8 +4,11 @@ pub mod Logs
 pub mod Small
 pub mod Figures
 pub mod Undone
+pub mod Reput
 pub mod Whole
 pub mod Replay
+pub mod ListWay
 pub mod Asked
 pub mod Optimum
 pub mod Passed
+pub mod Lent

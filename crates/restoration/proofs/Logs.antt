@@ -21,9 +21,8 @@ use Rattle.network.specs.Output.{wordOf, wholeOf, roleFigure}
 use Rattle.reduction.specs.declared.search.Ran.{Ran}
 use Rattle.restoration.specs.declared.trace.Trace.{Trace}
 use Rattle.restoration.specs.declared.back.Back.{Back}
-use Rattle.restoration.specs.Back.{undone}
 use Rattle.restoration.specs.Way.{traceAt, backOver}
-use Rattle.restoration.specs.Log.{putFigure, putAt, restFigure, traceFigure, withFigure, figureTurn, withTrace, figureIn, numberIn, putIn, numbersIn, traceIn, backIn, Logged}
+use Rattle.restoration.specs.Log.{putFigure, putAt, restFigure, traceFigure, withFigure, figureTurn, withTrace, figureIn, numberIn, putIn, numbersIn, traceIn, downFrom, backIn, Logged}
 
 -- ---- one figure
 
@@ -210,24 +209,25 @@ logged-more net ran k zs g l s i h =
 
 -- the way back by the log
 pub back-logged : (net : Net) (ran : Ran) (zs : List ℤ) (k : ℕ) (b : Back) → Logged net ran k zs → backIn zs k b ≡ backOver net ran k b
-unfolding backIn backOver
+unfolding downFrom backOver
 back-logged net ran zs zero b g = refl
 back-logged net ran zs (suc k) b g = rw (g k (omega (arith, add-one k))) (back-logged net ran zs k _ (λ i h. g i (omega (arith, add-one k))))
 
--- a loop that undoes the n steps of a log, the last first: at its head, with k left
-pub record Undoing (zs : List ℤ) (n : ℕ) (b : Back) (k : ℕ) (at : Back) : Type 0 where
-  pub few : k ≤ n
-  pub is : backIn zs k at ≡ backIn zs n b
+-- a loop that takes a state over n numbers, the last first: at its head, with k left
+module _ {S : Type 0} (f : ℕ → S → S) where
+  pub record Descended (n : ℕ) (s₀ : S) (k : ℕ) (s : S) : Type 0 where
+    pub few : k ≤ n
+    pub is : downFrom f k s ≡ downFrom f n s₀
 
-pub undoing-none : (zs : List ℤ) (n : ℕ) (b : Back) → Undoing zs n b n b
-undoing-none zs n b = record { few = omega arith; is = refl }
+  pub descended-none : (n : ℕ) (s : S) → Descended n s n s
+  descended-none n s = record { few = omega arith; is = refl }
 
-pub undoing-more : {zs : List ℤ} {n : ℕ} {b : Back} {k : ℕ} {at t : Back} → Undoing zs n b k at → 0 < k → t ≡ undone (traceIn zs (80 * (k - 1))) at → Undoing zs n b (k - 1) t
-unfolding backIn
-undoing-more {zs} {n} {b} {k} {at} {t} h l e =
-    let q : k ≡ suc (k - 1) = omega (arith, add-one (k - 1)) in
-    record { few = omega arith; is = ap (backIn zs (k - 1)) e ∙ sym (ap (λ (j : ℕ). backIn zs j at) q) ∙ h .is }
+  pub descended-more : {n : ℕ} {s₀ : S} {k : ℕ} {s t : S} → Descended n s₀ k s → 0 < k → t ≡ f (k - 1) s → Descended n s₀ (k - 1) t
+  unfolding downFrom
+  descended-more {n} {s₀} {k} {s} {t} h l e =
+      let q : k ≡ suc (k - 1) = omega (arith, add-one (k - 1)) in
+      record { few = omega arith; is = ap (downFrom f (k - 1)) e ∙ sym (ap (λ (j : ℕ). downFrom f j s) q) ∙ h .is }
 
-pub undoing-all : {zs : List ℤ} {n : ℕ} {b : Back} {k : ℕ} {at : Back} → Undoing zs n b k at → k ≤ 0 → at ≡ backIn zs n b
-unfolding backIn
-undoing-all {k = k} h l = let q : k ≡ 0 = omega arith in rw q at (h .is)
+  pub descended-all : {n : ℕ} {s₀ : S} {k : ℕ} {s : S} → Descended n s₀ k s → k ≤ 0 → s ≡ downFrom f n s₀
+  unfolding downFrom
+  descended-all {k = k} h l = let q : k ≡ 0 = omega arith in rw q at (h .is)

@@ -134,10 +134,10 @@ module _ {net : Net} (g : Legal net) (gap : Gapless net) (pair : Pair) (o : ℕ)
 
 -- ---- where none of 1 to 13 is answered by no
 
-pub record AllYes (xs zs ys : List ℤ) (o v w : ℕ) : Type 0 where
+pub record AllYes (xs zs ys : List ℤ) (o v w k : ℕ) : Type 0 where
   pub n : ℕ
   pub m : ℕ
-  pub roomy : isRoomy o v w ≡ true
+  pub roomy : isRoomy o v w k ≡ true
   pub asked : askedOf xs ≡ Go n m
   pub tested : examined (reducedNet (ranOf (readOf xs))) ys ≡ 0
   pub fits : isBack (readOf xs) (backFrom (readOf xs) (ranOf (readOf xs)) ys) ≡ true
@@ -167,19 +167,19 @@ module _ (net : Net) (ran : Ran) (zs ys : List ℤ) where
       by Passes e = on (isStack ran zs) e
       by Changes e = on (isStack ran zs) e
 
-module _ (xs zs ys : List ℤ) (o v w : ℕ) where
-  all-yes : refusalOf xs zs ys o v w ≡ 0 → AllYes xs zs ys o v w
+module _ (xs zs ys : List ℤ) (o v w k : ℕ) where
+  all-yes : refusalOf xs zs ys o v w k ≡ 0 → AllYes xs zs ys o v w k
   unfolding refusalOf
-  all-yes e = by (isRoomy o v w) refl (askedOf xs) refl e
+  all-yes e = by (isRoomy o v w k) refl (askedOf xs) refl e
     where
-      by : (b : Bool) → isRoomy o v w ≡ b → (a : Asked) → askedOf xs ≡ a → roomAsked b xs zs ys ≡ 0 → AllYes xs zs ys o v w
+      by : (b : Bool) → isRoomy o v w k ≡ b → (a : Asked) → askedOf xs ≡ a → roomAsked b xs zs ys ≡ 0 → AllYes xs zs ys o v w k
       by false r a f e = absurd (omega arith)
       by true r (No q) f e = absurd (let k : q ≡ 0 = rw f at e in omega (arith, asked-no xs q f))
       by true r (Go n m) f e =
           let t = run-yes (readOf xs) (ranOf (readOf xs)) zs ys (rw f at e) in
           record { n = n; m = m; roomy = r; asked = f; tested = tested-yes (readOf xs) (ranOf (readOf xs)) zs ys (t .0); fits = t .1 }
 
-  module _ (y : AllYes xs zs ys o v w) where
+  module _ (y : AllYes xs zs ys o v w k) where
     abbrev net : Net
     net = readOf xs
 
@@ -190,7 +190,7 @@ module _ (xs zs ys : List ℤ) (o v w : ℕ) where
     b = backFrom net ran ys
 
     legal : Legal net
-    legal = ready xs o v w (y .roomy) (y .asked) .legal
+    legal = ready xs o v w k (y .roomy) (y .asked) .legal
 
     reduced-legal : Legal (reducedNet ran)
     reduced-legal = packed-legal (ran-legal net legal)
@@ -212,7 +212,7 @@ module _ (xs zs ys : List ℤ) (o v w : ℕ) where
     optimum : Optimum net ran ys (pairWords (net .n) (net .m) (b .pair) o) (fourWords (reducedValue ran ys) (originalValue net b) v)
     optimum =
         let gap = read-gapless xs (y .n) (y .m) (y .asked) in
-        let room = ready xs o v w (y .roomy) (y .asked) .out-room in
+        let room = ready xs o v w k (y .roomy) (y .asked) .out-room in
         record {
           tested = y .tested;
           proven = proven;
@@ -225,7 +225,7 @@ module _ (xs zs ys : List ℤ) (o v w : ℕ) where
   restored-is (suc q) e = never cc
 
   -- the words of a call that answers so
-  pub restored-optimum : {r : Answer} {out values : List ℤ} → Answered (refusalOf xs zs ys o v w) (readOf xs) (ranOf (readOf xs)) ys o v r out values → r ≡ Restored → Optimum (readOf xs) (ranOf (readOf xs)) ys out values
+  pub restored-optimum : {r : Answer} {out values : List ℤ} → Answered (refusalOf xs zs ys o v w k) (readOf xs) (ranOf (readOf xs)) ys o v r out values → r ≡ Restored → Optimum (readOf xs) (ranOf (readOf xs)) ys out values
   restored-optimum a p =
-      let z = restored-is (refusalOf xs zs ys o v w) (sym (a .result) ∙ p) in
+      let z = restored-is (refusalOf xs zs ys o v w k) (sym (a .result) ∙ p) in
       rw (rw z at (a .out-is), rw z at (a .values-is)) (optimum (all-yes z))

@@ -44,18 +44,18 @@ not-width net ys = form (isPair ys (net .n) (net .m))
         number (allFit net (pairIn net ys)) (all (isBalanced net (pairIn net ys)) (net .n)) (all (isWithinAt net (pairIn net ys)) (net .m))
         (all (keepsRuleAt net (pairIn net ys)) (net .m)) e
 
-module _ (xs zs ys : List ℤ) (o v w : ℕ) where
+module _ (xs zs ys : List ℤ) (o v w k : ℕ) where
   abbrev ran : Ran
   ran = ranOf (readOf xs)
 
   -- no refusal that is asked before question 8 applies
   pub record Heard (n m : ℕ) : Type 0 where
-    pub roomy : isRoomy o v w ≡ true
+    pub roomy : isRoomy o v w k ≡ true
     pub asked : askedOf xs ≡ Go n m
     pub reduced : ran .last .kind ≡ NoFlow → ⊥
     pub stack : isStack ran zs ≡ true
 
-  heard-refusal : {n m : ℕ} → Heard n m → refusalOf xs zs ys o v w ≡ pairAsked (examined (reducedNet ran) ys) (readOf xs) ran ys
+  heard-refusal : {n m : ℕ} → Heard n m → refusalOf xs zs ys o v w k ≡ pairAsked (examined (reducedNet ran) ys) (readOf xs) ran ys
   unfolding refusalOf ranRefusal
   heard-refusal h = rw (h .roomy, h .asked) (by (ran .last .kind) refl)
     where
@@ -65,7 +65,7 @@ module _ (xs zs ys : List ℤ) (o v w : ℕ) where
       by Changes e = rw (h .stack)
 
   -- "a pair is passed where .. in restoring, where the answer is success or 13"
-  pub passed-exactly : {n m : ℕ} → Heard n m → ((refusalOf xs zs ys o v w ≡ 0) ⊎ (refusalOf xs zs ys o v w ≡ 13)) ↔ Proven (reducedNet ran) ys
+  pub passed-exactly : {n m : ℕ} → Heard n m → ((refusalOf xs zs ys o v w k ≡ 0) ⊎ (refusalOf xs zs ys o v w k ≡ 13)) ↔ Proven (reducedNet ran) ys
   passed-exactly {n} {m} h = (λ p. to (examined (reducedNet ran) ys) refl p, λ q. from (proven .1 q))
     where
       legal : Legal (readOf xs)
@@ -74,17 +74,17 @@ module _ (xs zs ys : List ℤ) (o v w : ℕ) where
       proven : examined (reducedNet ran) ys ≡ 0 ↔ Proven (reducedNet ran) ys
       proven = exactly-proven (packed-legal (ran-legal (readOf xs) legal)) (packed-gapless (ran-legal (readOf xs) legal)) ys
 
-      number : (q : ℕ) → examined (reducedNet ran) ys ≡ q → refusalOf xs zs ys o v w ≡ pairAsked q (readOf xs) ran ys
+      number : (q : ℕ) → examined (reducedNet ran) ys ≡ q → refusalOf xs zs ys o v w k ≡ pairAsked q (readOf xs) ran ys
       number q e = rw e at (heard-refusal h)
 
-      to : (q : ℕ) → examined (reducedNet ran) ys ≡ q → ((refusalOf xs zs ys o v w ≡ 0) ⊎ (refusalOf xs zs ys o v w ≡ 13)) → Proven (reducedNet ran) ys
+      to : (q : ℕ) → examined (reducedNet ran) ys ≡ q → ((refusalOf xs zs ys o v w k ≡ 0) ⊎ (refusalOf xs zs ys o v w k ≡ 13)) → Proven (reducedNet ran) ys
       to zero e p = proven .0 e
       to (suc q) e (inl p) = let f : suc q ≡ 0 = sym (number (suc q) e) ∙ p in absurd (omega arith)
       to (suc q) e (inr p) = absurd (not-width (reducedNet ran) ys (e ∙ sym (number (suc q) e) ∙ p))
 
-      from : examined (reducedNet ran) ys ≡ 0 → (refusalOf xs zs ys o v w ≡ 0) ⊎ (refusalOf xs zs ys o v w ≡ 13)
+      from : examined (reducedNet ran) ys ≡ 0 → (refusalOf xs zs ys o v w k ≡ 0) ⊎ (refusalOf xs zs ys o v w k ≡ 13)
       from e = by (isBack (readOf xs) (backFrom (readOf xs) ran ys)) refl
         where
-          by : (b : Bool) → isBack (readOf xs) (backFrom (readOf xs) ran ys) ≡ b → (refusalOf xs zs ys o v w ≡ 0) ⊎ (refusalOf xs zs ys o v w ≡ 13)
+          by : (b : Bool) → isBack (readOf xs) (backFrom (readOf xs) ran ys) ≡ b → (refusalOf xs zs ys o v w k ≡ 0) ⊎ (refusalOf xs zs ys o v w k ≡ 13)
           by true f = inl (number 0 e ∙ rw f refl)
           by false f = inr (number 0 e ∙ rw f refl)

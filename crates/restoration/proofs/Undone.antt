@@ -359,6 +359,12 @@ five-two net i = by (eqb (degreeOf net i) 2) refl
     by true d e = eqb-true _ _ d
     by false d e = never cc
 
+-- at a node of degree 4, where there is a second N and a second P: the two N and the two P are its arcs
+pub both-signs : (net : Net) → Legal net → (i : ℕ) → isHere net i ≡ true → degreeOf net i ≡ 4 → (not (eqb (secondN net i) 0) && not (eqb (secondP net i) 0)) ≡ true → Four (touches net i) (firstN net i) (secondN net i) (firstP net i) (secondP net i)
+both-signs net g i here d w =
+    let t = and-both (not (eqb (secondN net i) 0)) _ w in
+    two-signs net i (number net g i here) d (signed-first net i true 0) (signed-first net i true _) (signed-first net i false 0) (signed-first net i false _) (positive _ (not-true _ (t .0))) (positive _ (not-true _ (t .1))) .0
+
 six-four : (net : Net) → Legal net → (i : ℕ) → isHere net i ≡ true → ruleSix net i .kind ≡ Changes → Four (touches net i) (firstN net i) (secondN net i) (firstP net i) (secondP net i)
 unfolding ruleSix signsOf bothSigns
 six-four net g i here = by (eqb (degreeOf net i) 4 && isZero (supplyAt net i)) refl
@@ -377,9 +383,7 @@ six-four net g i here = by (eqb (degreeOf net i) 4 && isZero (supplyAt net i)) r
 
     both : degreeOf net i ≡ 4 → (b : Bool) → (not (eqb n2 0) && not (eqb p2 0)) ≡ b → bothBy b net i n1 n2 p1 p2 .kind ≡ Changes → Four (touches net i) n1 n2 p1 p2
     both d false w e = never cc
-    both d true w e =
-        let t = and-both (not (eqb n2 0)) _ w in
-        two-signs net i (number net g i here) d (signed-first net i true 0) (signed-first net i true n1) (signed-first net i false 0) (signed-first net i false p1) (positive n2 (not-true _ (t .0))) (positive p2 (not-true _ (t .1))) .0
+    both d true w e = both-signs net g i here d w
 
     by : (b : Bool) → (eqb (degreeOf net i) 4 && isZero (supplyAt net i)) ≡ b → crossingWhere b net i .kind ≡ Changes → Four (touches net i) n1 n2 p1 p2
     by false d e = never cc

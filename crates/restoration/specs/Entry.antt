@@ -2,10 +2,11 @@
 use mathlib.Core.Path.{_≡_}
 use mathlib.Core.Bool.{Bool, true, false}
 use mathlib.Core.List.{List}
-use Prim.Native.Nat.{ℕ, _≤_}
+use Prim.Native.Nat.{ℕ, zero, suc, _≤_}
 use lib.IntN.{ℤ}
 use lib.ListN.{length}
 use Rattle.loops.specs.Loops.{zeros}
+use Rattle.fraction.specs.declared.Fraction.{Fraction}
 use Rattle.network.specs.declared.Net.{Net}
 use Rattle.network.specs.declared.Kind.{Kind}
 use Rattle.network.specs.declared.Kind.the-variants.{Passes, NoFlow, Changes}
@@ -13,8 +14,9 @@ use Rattle.network.specs.Legal.{Legal}
 use Rattle.reduction.specs.declared.search.Ran.{Ran}
 use Rattle.optimality.specs.Test.{examined}
 use Rattle.restoration.specs.declared.Answer.{Answer}
+use Rattle.restoration.specs.declared.back.Back.{Back}
 use Rattle.restoration.specs.Log.{Replayed}
-use Rattle.restoration.specs.Restore.{isStack, reducedNet, backFrom, answerOf, outBy, valuesBy}
+use Rattle.restoration.specs.Restore.{isStack, reducedNet, backFrom, originalValue, isBack, backAsked, answerOf, fourWords, outBy, valuesBy}
 
 -- 7 to 12; 6 to 12: the first that is answered by no; 0 where none is
 abbrev pub afterStack : Bool → Ran → List ℤ → ℕ
@@ -41,6 +43,16 @@ pub record Ready (net : Net) (ran : Ran) (o v w : ℕ) : Type 0 where
   pub out-room : 258 ≤ o
   pub values-room : 4 ≤ v
   pub scratch-room : 10240 ≤ w
+
+-- the end of the way back, b, with the reduced value x
+abbrev pub valuesWith : ℕ → Fraction → Net → Back → ℕ → List ℤ
+valuesWith zero x net b v = fourWords x (originalValue net b) v
+valuesWith (suc q) x net b v = zeros v
+
+pub record Finished (net : Net) (x : Fraction) (b : Back) (o v : ℕ) (r : Answer) (out values : List ℤ) : Type 0 where
+  pub result : r ≡ answerOf (backAsked (isBack net b))
+  pub out-is : out ≡ outBy (backAsked (isBack net b)) net b o
+  pub values-is : values ≡ valuesWith (backAsked (isBack net b)) x net b v
 
 -- the answer and the words written, by the number q of the first question that is answered by no
 pub record Answered (q : ℕ) (net : Net) (ran : Ran) (ys : List ℤ) (o v : ℕ) (r : Answer) (out values : List ℤ) : Type 0 where

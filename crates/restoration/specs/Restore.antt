@@ -13,6 +13,7 @@ use Rattle.fraction.specs.declared.Fraction.{Fraction}
 use Rattle.fraction.specs.Exact.{fromWords, denWord}
 use Rattle.fraction.specs.Formula.{isFit, figureOf}
 use Rattle.fraction.specs.Value.{value}
+use Rattle.network.specs.declared.Arc.{Arc}
 use Rattle.network.specs.declared.Net.{Net}
 use Rattle.network.specs.declared.Kind.{Kind}
 use Rattle.network.specs.declared.Kind.the-variants.{Passes, NoFlow, Changes}
@@ -22,6 +23,7 @@ use Rattle.network.specs.declared.record.Asked.the-variants.{Go, No}
 use Rattle.network.specs.Record.{word, askedOf, readOf}
 use Rattle.network.specs.Output.{packedOf, wordOf, arraysOf}
 use Rattle.network.specs.Pair.{priceAt, flowAt, pairOf, exactPair}
+use Rattle.network.specs.ArcList.{noArcs}
 use Rattle.network.specs.Program.{programOf}
 use Rattle.reduction.specs.declared.search.Ran.{Ran}
 use Rattle.reduction.specs.Search.{ranOf}
@@ -87,16 +89,16 @@ abbrev pub askedBy : Asked → List ℤ → List ℤ → List ℤ → ℕ
 askedBy (No q) xs zs ys = q
 askedBy (Go n m) xs zs ys = ranRefusal (readOf xs) (ranOf (readOf xs)) zs ys
 
--- 1: "pair 258, values 4 .., scratch 10240"
+-- 1: "pair 258, values 4 .., scratch 10240", and an arc list of "at least 96 records"
 abbrev pub roomAsked : Bool → List ℤ → List ℤ → List ℤ → ℕ
 roomAsked false xs zs ys = 1
 roomAsked true xs zs ys = askedBy (askedOf xs) xs zs ys
 
-unfoldable pub isRoomy : ℕ → ℕ → ℕ → Bool
-isRoomy out values scratch = leb 258 out && (leb 4 values && leb 10240 scratch)
+unfoldable pub isRoomy : ℕ → ℕ → ℕ → ℕ → Bool
+isRoomy out values scratch arcs = leb 258 out && (leb 4 values && (leb 10240 scratch && leb 96 arcs))
 
-unfoldable pub refusalOf : List ℤ → List ℤ → List ℤ → ℕ → ℕ → ℕ → ℕ
-refusalOf xs zs ys o v w = roomAsked (isRoomy o v w) xs zs ys
+unfoldable pub refusalOf : List ℤ → List ℤ → List ℤ → ℕ → ℕ → ℕ → ℕ → ℕ
+refusalOf xs zs ys o v w k = roomAsked (isRoomy o v w k) xs zs ys
 
 -- ---- the answer, and the words written
 
@@ -153,11 +155,12 @@ pub record Optimum (net : Net) (ran : Ran) (ys out values : List ℤ) : Type 0 w
   pub optimal : Optimal (programOf net) (exactPair (writtenPair net out) .flow)
   pub cost : value (fromWords (word values 2) (word values 3)) ≡ total (programOf net) (exactPair (writtenPair net out) .flow)
 
--- ---- a call: the words of the network, the stack and the pair, the lengths of the lent pair, values and scratch; the result, and all words written
+-- ---- a call: the words of the network, the stack and the pair, the lengths of the lent pair, values, scratch and arc list; the result, all words written, and the records
 
-pub record Restoration (xs zs ys : List ℤ) (o v w : ℕ) (r : Answer) (out values scratch : List ℤ) : Type 0 where
-  pub result : r ≡ answerOf (refusalOf xs zs ys o v w)
-  pub out-is : out ≡ outBy (refusalOf xs zs ys o v w) (readOf xs) (backFrom (readOf xs) (ranOf (readOf xs)) ys) o
-  pub values-is : values ≡ valuesBy (refusalOf xs zs ys o v w) (readOf xs) (ranOf (readOf xs)) ys (backFrom (readOf xs) (ranOf (readOf xs)) ys) v
+pub record Restoration (xs zs ys : List ℤ) (o v w k : ℕ) (r : Answer) (out values scratch : List ℤ) (arcs : List Arc) : Type 0 where
+  pub result : r ≡ answerOf (refusalOf xs zs ys o v w k)
+  pub out-is : out ≡ outBy (refusalOf xs zs ys o v w k) (readOf xs) (backFrom (readOf xs) (ranOf (readOf xs)) ys) o
+  pub values-is : values ≡ valuesBy (refusalOf xs zs ys o v w k) (readOf xs) (ranOf (readOf xs)) ys (backFrom (readOf xs) (ranOf (readOf xs)) ys) v
   pub scratch-is : scratch ≡ zeros w
+  pub arcs-is : arcs ≡ noArcs k
   pub optimum : r ≡ Restored → Optimum (readOf xs) (ranOf (readOf xs)) ys out values

@@ -15,7 +15,8 @@ pub struct Back {
     pub pair: Pair,
 }
 
-fn begin(pair: Pair) -> Back
+// Before the last step is undone.
+pub(crate) fn begin(pair: Pair) -> Back
     ensures { λ r. ⌜ r ≡ begun pair ⌝ }
 {
     Back { fits: true, pair }

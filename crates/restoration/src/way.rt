@@ -1,16 +1,25 @@
 // The whole way back: the steps are logged on the way there, and undone from the log, the last first.
 ghost use mathlib.Core.Path.{_≡_};
 ghost use Prim.Native.Nat.{_≤_, _<_, _*_};
-ghost use lib.ListN.{length, set};
+ghost use lib.ListN.{length, getD, set};
 ghost use Rattle.loops.specs.Loops.{build};
-ghost use Rattle.network.specs.Legal.{Legal};
-ghost use Rattle.restoration.specs.Way.{spreadPrice, spreadFlow, spreadOf, wayBack};
-ghost use Rattle.restoration.specs.Log.{nextNet, nextTrace, withTrace, Replayed, Logged, backIn};
+ghost use Rattle.network.specs.ArcList.{arcsIn, joined};
+ghost use Rattle.network.specs.Record.{readOf};
+ghost use Rattle.reduction.specs.ListRun.{netIn, ranWith};
+ghost use Rattle.restoration.specs.Back.{begun};
+ghost use Rattle.restoration.specs.Trace.{traceOf};
+ghost use Rattle.restoration.specs.Way.{spreadPrice, spreadFlow, spreadOf, backOver};
+ghost use Rattle.restoration.specs.Log.{withTrace, movedBy, LoggedTurn, LogAsked, LogMade, oldArcs, backTurn, backIn, arcsTurn, arcsBackIn};
 use crate::back::Back;
+use crate::trace::Trace;
 use fraction::Fraction;
+use network::Arc;
+use network::Change;
 use network::Net;
+use network::Nodes;
 use network::pair::Pair;
-use reduction::search::Ran;
+use reduction::search::Progress;
+use reduction::search::Taken;
 
 // The price of node i of the original numbers, from a pair of the reduced network.
 fn spread_price(net: Net, pair: Pair, i: usize) -> Fraction
@@ -84,58 +93,140 @@ pub fn spread(net: Net, pair: Pair) -> Pair
     Pair { price, flow }
 }
 
-// Step k logged, and taken.
-fn log_step(net: Net, ran: Ran, words: &mut [i32], k: usize) -> Net
+// A step worked again: the nodes after it, and the arcs that it puts.
+pub struct Moved {
+    pub nodes: Nodes,
+    pub put: Change,
+}
+
+// Step k, s, logged and worked again on a network whose arcs are `view`.
+pub(crate) fn log_step(
+    nodes: Nodes,
+    view: [Arc; 97],
+    s: Taken,
+    words: &mut [i32],
+    k: usize,
+) -> Moved
     requires { ⌜ k < 128 ⌝ }
-    ensures { λ r. ⌜ (r ≡ nextNet net ran k) × (now (words .exit) ≡ withTrace (now (words .entry)) (80 * k) (nextTrace net ran k)) ⌝ }
+    ensures { λ r. ⌜ (r ≡ movedBy (joined nodes view) s) × (now (words .exit) ≡ withTrace (now (words .entry)) (80 * k) (traceOf (joined nodes view) (s .rule) (s .place))) ⌝ }
 {
-    let s = reduction::stack::taken_at(ran, k);
+    let net = network::join(nodes, view);
     let t = crate::trace::trace_step(net, s.rule, s.place);
     crate::log::store_trace(words, 80 * k, t);
     let x = reduction::search::try_rule(net, s.rule, s.place);
-    let c = x.change;
-    network::apply(net, c)
+    let put = x.change;
+    let to = network::nodes_of(network::apply(net, put));
+    Moved { nodes: to, put }
 }
 
-// Every step logged.
-fn log_steps(net: Net, ran: Ran, words: &mut [i32])
-    requires { ⌜ Legal net × Replayed net ran × (10240 ≤ length (now words)) ⌝ }
-    ensures { λ _. ⌜ Logged net ran (ran .steps) (now (words .exit)) ⌝ }
+// The arcs that a step puts.
+pub(crate) fn put_of(m: Moved) -> Change
+    ensures { λ r. ⌜ r ≡ m .put ⌝ }
 {
-    let steps = ran.steps;
-    let mut at = net;
-    for k in 0..steps {
-        at = log_step(at, ran, words, k);
+    m.put
+}
+
+// Step k, s, logged, and taken again in the list.
+pub(crate) fn log_turn(
+    nodes: Nodes,
+    s: Taken,
+    words: &mut [i32],
+    k: usize,
+    arcs: &mut [Arc],
+) -> Nodes
+    requires { ⌜ (k < 128) × (96 ≤ length (now arcs)) ⌝ }
+    ensures { λ r. ⌜ LoggedTurn (netIn nodes (now (arcs .entry))) s k (now (words .entry)) (length (now (arcs .entry))) r (now (words .exit)) (now (arcs .exit)) ⌝ }
+{
+    let view = network::list::view(arcs);
+    let m = log_step(nodes, view, s, words, k);
+    network::list::put_change(arcs, put_of(m));
+    m.nodes
+}
+
+// Step k of a run, from 0.
+pub(crate) fn step_at(at: Progress, k: usize) -> Taken
+    ensures { λ r. ⌜ r ≡ getD (at .taken) k (record { rule = 0; place = 0 }) ⌝ }
+{
+    if k < 128 {
+        return at.taken[k];
+    }
+    Taken { rule: 0, place: 0 }
+}
+
+// Every step of a run logged, and taken again in the list.
+pub(crate) fn log_steps(nodes: Nodes, at: Progress, words: &mut [i32], arcs: &mut [Arc])
+    requires { ⌜ LogAsked (netIn nodes (now arcs)) at (length (now words)) (length (now arcs)) ⌝ }
+    ensures { λ _. ⌜ LogMade (netIn nodes (now (arcs .entry))) at (length (now (arcs .entry))) (now (words .exit)) (now (arcs .exit)) ⌝ }
+{
+    let steps = at.steps;
+    let mut there = nodes;
+    let mut k = 0;
+    while k < steps {
+        let s = step_at(at, k);
+        there = log_turn(there, s, words, k, arcs);
+        k += 1;
     }
 }
 
+// The old arcs of a step, to be put.
+pub(crate) fn old_arcs(t: Trace) -> Change
+    ensures { λ r. ⌜ r ≡ oldArcs t ⌝ }
+{
+    let one = t.one;
+    let two = t.two;
+    let three = t.three;
+    let four = t.four;
+    let left = network::no_level();
+    let right = network::no_level();
+    Change {
+        one,
+        two,
+        three,
+        four,
+        left,
+        right,
+        gone: 0,
+    }
+}
+
+// Step k undone by the log: the pair before it, and its old arcs put back into the list.
+pub(crate) fn undo_turn(words: &[i32], k: usize, b: Back, arcs: &mut [Arc]) -> Back
+    requires { ⌜ k < 128 ⌝ }
+    ensures { λ r. ⌜ (r ≡ backTurn (now (words .entry)) k b) × (now (arcs .exit) ≡ arcsTurn (now (words .entry)) k (now (arcs .entry))) ⌝ }
+{
+    let t = crate::log::trace_in(words, 80 * k);
+    network::list::put_change(arcs, old_arcs(t));
+    crate::back::undo(t, b)
+}
+
 // The logged steps undone, the last first.
-fn undo_steps(words: &[i32], steps: usize, b: Back) -> Back
+pub(crate) fn undo_steps(words: &[i32], steps: usize, b: Back, arcs: &mut [Arc]) -> Back
     requires { ⌜ steps ≤ 128 ⌝ }
-    ensures { λ r. ⌜ r ≡ backIn (now (words .entry)) steps b ⌝ }
+    ensures { λ r. ⌜ (r ≡ backIn (now (words .entry)) steps b) × (now (arcs .exit) ≡ arcsBackIn (now (words .entry)) steps (now (arcs .entry))) ⌝ }
 {
     let mut at = b;
     let mut k = steps;
     while 0 < k {
         k -= 1;
-        let t = crate::log::trace_in(words, 80 * k);
-        at = crate::back::undo(t, at);
+        at = undo_turn(words, k, at, arcs);
     }
     at
 }
 
-// From a pair of the reduced network to one of the original, over a run that can be taken again.
-pub(crate) fn way_back(net: Net, ran: Ran, pair: Pair, scratch: &mut [i32]) -> Back
-    requires { ⌜ Legal net × Replayed net ran × (10240 ≤ length (now scratch)) ⌝ }
-    ensures { λ r. ⌜ r ≡ wayBack net ran pair ⌝ }
+// From a pair of the reduced network, at the original numbers, to one of the original, over a run that can be taken again: the
+// list goes from the original network to the reduced one and back.
+pub(crate) fn way_back(
+    network: &[i32],
+    at: Progress,
+    pair: Pair,
+    words: &mut [i32],
+    arcs: &mut [Arc],
+) -> Back
+    requires { ⌜ LogAsked (readOf (now network)) at (length (now words)) (length (now arcs)) ⌝ }
+    ensures { λ r. ⌜ (r ≡ backOver (readOf (now (network .entry))) (ranWith at (readOf (now (network .entry)))) (at .steps) (begun pair)) × (arcsIn (now (arcs .exit)) ≡ readOf (now (network .entry)) .arcs) × (length (now (arcs .exit)) ≡ length (now (arcs .entry))) ⌝ }
 {
-    let steps = ran.steps;
-    let to = ran.net;
-    log_steps(net, ran, scratch);
-    let p = spread(to, pair);
-    let from = Back {
-        fits: true,
-        pair: p,
-    };
-    undo_steps(scratch, steps, from)
+    network::list::clear(arcs);
+    network::list::load(arcs, network);
+    log_steps(network::record::read_beside(network), at, words, arcs);
+    undo_steps(words, at.steps, crate::back::begin(pair), arcs)
 }

@@ -1,42 +1,53 @@
--- `restoration::go_back` meets its contract. Assumes nothing.
-use Rattle.algebra.specs.Solver.{at}
-use Rattle.restoration.proofs.Asked.{refused-back, restored-back}
-use Rattle.restoration.specs.Restore.{backFrom}
+-- `restoration::go_back` meets its contract. The part that follows the code is `Proof/Tie.antt`, made by tools/lift.py.
+-- Assumes nothing.
+mod Tie
+use Rattle.restoration.proofs.ListWay.{back-is}
+use mathlib.Core.Path.{_∙_, refl}
+use Rattle.restoration.proofs.Asked.{finished-back}
+use Rattle.restoration.proofs.Replay.{replayed-same}
 use borrow.Author.Needs.{needs}
-use mathlib.Core.Path.{refl}
 use Rattle.restoration.proofs.go_back.Statement.{statement}
-use Rattle.restoration.proofs.go_back.Tie as tie
+use Rattle.restoration.proofs.go_back.Proof.Tie as tie
+use Rattle.restoration.proofs.Lent.go_back.Reads as reads
+use Rattle.restoration.proofs.Lent.go_back.Lts as lts
+
+read-offer-requires : tie.Need-read-offer-requires
+read-offer-requires c κs = search needs
+
+way-back-requires : tie.Need-way-back-requires
+way-back-requires c κs = let g = c .before .before .before .pre .1 in record { legal = g .legal; replayed = replayed-same _ _ _ refl refl (g .replayed); words-room = g .scratch-room; records-room = c .before .before .before .pre .2 }
+
+view-requires : tie.Need-view-requires
+view-requires c κs = search needs
+
+finish-requires : tie.Need-finish-requires
+finish-requires c κs = let g = c .before .before .before .before .before .before .before .before .before .before .pre .1 in (c .before .before .before .before .before .before .before .before .before .before .pre .0, g .legal, c .before .before .view .ensures ∙ c .before .before .before .before .before .before .way-back .ensures .1, g .out-room, g .values-room)
+
+same-length : tie.Need-same-length
+same-length c = search needs
+
+same-length-2 : tie.Need-same-length-2
+same-length-2 c = search needs
+
+same-length-3 : tie.Need-same-length-3
+same-length-3 c = search needs
+
+same-length-4 : tie.Need-same-length-4
+same-length-4 c = search needs
 
 returns : tie.Need-returns
-unfolding backFrom
-returns c =
-    let w = c .before .before .write .ensures in
-    restored-back (c .before .before .before .before .before .before .before .before .before .before .before .before .before .way-back .result) (rw (c .before .before .before .before .before .before .before .before .before .before .before .before .before .before .before .reduced-pair .ensures) at (c .before .before .before .before .before .before .before .before .before .before .before .before .before .way-back .ensures)) (rw (c .before .before .before .before .before .before .before .before .before .if1 .taken, ← c .before .before .before .before .before .before .before .before .before .before .value .ensures, ← c .before .before .before .before .before .before .before .before .is-fit .ensures) (c .before .before .before .before .before .before .before .if2 .taken)) (w .0) (rw (c .before .before .before .before .before .before .reduced-value .ensures, c .before .before .before .before .before .figure .ensures, c .before .before .before .before .before .before .before .before .before .before .value .ensures) at (w .1))
-
-returns-2 : tie.Need-returns-2
-unfolding backFrom
-returns-2 c = refused-back (c .before .before .before .before .before .before .way-back .result) (rw (c .before .before .before .before .before .before .before .before .reduced-pair .ensures) at (c .before .before .before .before .before .before .way-back .ensures)) (rw (c .before .before .if1 .taken, ← c .before .before .before .value .ensures, ← c .before .is-fit .ensures) (c .if2 .left)) (c .before .before .before .before .before .before .before .before .before .pre .0 .no-pair) (c .before .before .before .before .before .before .before .before .before .pre .0 .no-values)
-
-returns-3 : tie.Need-returns-3
-unfolding backFrom
-returns-3 c = refused-back (c .before .before .before .before .way-back .result) (rw (c .before .before .before .before .before .before .reduced-pair .ensures) at (c .before .before .before .before .way-back .ensures)) (rw (c .if1 .left) refl) (c .before .before .before .before .before .before .before .pre .0 .no-pair) (c .before .before .before .before .before .before .before .pre .0 .no-values)
+returns c = finished-back (c .before .before .finish .ensures) (back-is _ (c .before .before .before .before .before .before .before .before .before .before .before .before .before .args .at) _ _ (c .before .before .before .before .before .before .before .before .before .way-back .ensures .0) (c .before .before .before .before .before .before .before .before .before .before .before .before .read-offer .ensures .0)) (c .before .before .before .before .before .before .before .before .before .before .before .before .read-offer .ensures .1)
 
 pub go-back-spec : {M : Type 1} → statement M
 go-back-spec =
     tie.close
     (tie.spec
-    (λ c κs. search needs)
-    (λ c κs. search needs)
-    (λ c κs. search needs)
-    (λ c κs. search needs)
-    (λ c κs. search needs)
-    (λ c κs. search needs)
-    (λ c κs. search needs)
-    (λ c. search needs)
-    (λ c. search needs)
-    (λ c. search needs)
-    returns
-    (λ c. search needs)
-    returns-2
-    (λ c. search needs)
-    returns-3)
+    read-offer-requires
+    way-back-requires
+    view-requires
+    finish-requires
+    same-length
+    same-length-2
+    same-length-3
+    same-length-4
+    returns)

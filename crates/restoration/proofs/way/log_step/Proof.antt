@@ -1,12 +1,10 @@
 -- `restoration::way::log_step` meets its contract. Assumes nothing.
-use Rattle.restoration.specs.Log.{nextNet}
 use borrow.Author.Needs.{needs}
 use Rattle.restoration.proofs.way.log_step.Statement.{statement}
 use Rattle.restoration.proofs.way.log_step.Tie as tie
 
 returns : tie.Need-returns
-unfolding nextNet
-returns c = (rw (c .apply .ensures, c .before .before .try-rule .ensures, c .before .before .before .before .before .before .before .taken-at .ensures), rw (c .before .before .before .before .store-trace .ensures, c .before .before .before .before .before .before .trace-step .ensures, c .before .before .before .before .before .before .before .taken-at .ensures))
+returns c = (rw (c .nodes-of .ensures, c .before .apply .ensures, c .before .before .before .try-rule .ensures, c .before .before .before .before .before .before .before .before .join .ensures), rw (c .before .before .before .before .before .store-trace .ensures, c .before .before .before .before .before .before .before .trace-step .ensures, c .before .before .before .before .before .before .before .before .join .ensures))
 
 pub log-step-spec : {M : Type 1} → statement M
 log-step-spec =
@@ -15,6 +13,7 @@ log-step-spec =
     (λ c κs. search needs)
     (λ c κs. search needs)
     (λ c. search needs)
+    (λ c κs. search needs)
     (λ c κs. search needs)
     (λ c κs. search needs)
     (λ c κs. search needs)
