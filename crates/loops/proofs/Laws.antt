@@ -7,7 +7,7 @@ use native.Mathlib.Nat.{not-suc-le-zero, eq-or-lt-of-le, le-of-suc-le-suc}
 use native.Mathlib.Numerals.{add-one}
 use native.Mathlib.Omega.{arith}
 use lib.ListN.{List·getD-append, length, getD, take, drop, set, replicate, length-append, length-set, length-drop, replicate-append-replicate, drop-of-length-le}
-use lib.Seq.{getD-at, drop-cons, set-at, take-all, take-at}
+use lib.Seq.{getD-at, drop-cons, set-at, take-all}
 use borrow.Rule.Slice.PartMut.{midOf, putMid}
 use mathlib.Core.List.{append-nil}
 use Rattle.loops.specs.Loops.{build, written, upto, tally, count, all, any, scan, onward, runs}
@@ -83,17 +83,8 @@ module _ {A : Type 0} where
   pub part-back : (a : ℕ) (xs ys : List A) → putMid a (length xs - a) xs ys ≡ take a xs ++ ys
   part-back a xs ys = rw (drop-of-length-le (drop a xs) {i = length xs - a} (rw length-drop (omega arith)), append-nil) refl
 
-  pub filled-front : {f : ℕ → A} {n : ℕ} {d s : List A} {i : ℕ} → Filled f n d s i → n ≤ i → take n s ≡ build n f
-  unfolding written
-  filled-front {f} {n} {d} h l = rw (filled-all h l) (take-at (build n f) (drop n d) n (length-build n f))
-
   pub part-long : (a : ℕ) (xs : List A) → length (midOf a (length xs - a) xs) ≡ length xs - a
   part-long a xs = ap length (part-in a xs) ∙ length-drop a xs
-
-  -- a record written in two: its front P by one call, and the rest, from k on, lent to another
-  pub part-joined : (k : ℕ) (f : ℕ → A) (d : List A) {L D Q : List A} → L ≡ written k f d → D ≡ Q → putMid k (length L - k) L D ≡ build k f ++ Q
-  unfolding written
-  part-joined k f d {L} {D} {Q} l e = part-back k L D ∙ rw (l, e) (ap (λ (t : List A). t ++ Q) (take-at (build k f) (drop k d) k (length-build k f)))
 
   front-one : (v : A) (d : List A) → 0 < length d → take 1 (set d 0 v) ≡ v ∷ []
   front-one v [] h = absurd (not-suc-le-zero h)

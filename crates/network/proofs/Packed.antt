@@ -1,28 +1,41 @@
 -- The survivors are no more than there is room for, and they are a legal network where the whole was. Assumes nothing.
 use mathlib.Core.Path.{_≡_, refl, sym, ap, _∙_}
-use mathlib.Core.Bool.{Bool, true, false, _&&_}
+use mathlib.Core.Bool.{Bool, true, false, cond, _&&_}
 use mathlib.Core.Logic.{inr}
 use Prim.Native.Nat.{ℕ, zero, suc, _+_, _≤_, _<_}
 use native.Mathlib.Numerals.{add-one}
 use native.Mathlib.Omega.{arith}
 use lib.Dec.{eqb, ltb, leb}
-use lib.ListN.{length-set}
+use lib.ListN.{getD, length-set}
 use lib.Seq.{getD-set-same, getD-set-other}
 use borrow.Author.Tests.{lt-ltb, ltb-true, ltb-false, le-leb, lt-leb, leb-true, eqb-true, eqb-false, eq-eqb, ne-eqb}
-use Rattle.loops.specs.Loops.{upto, tally, count}
-use Rattle.loops.proofs.Laws.{upto-keeps, count-le, count-mono, count-under, count-shift, count-some}
+use Rattle.loops.specs.Loops.{build, upto, tally, count}
+use Rattle.loops.proofs.Laws.{getD-build, upto-keeps, count-same, count-le, count-mono, count-under, count-shift, count-some}
 use Rattle.fraction.specs.declared.Fraction.{Fraction}
 use Rattle.fraction.specs.Exact.{Proper, noFigure}
 use Rattle.fraction.specs.Laws.{and-both, never}
 use Rattle.network.specs.declared.Arc.{Arc}
 use Rattle.network.specs.declared.Net.{Net}
 use Rattle.network.specs.Network.{noArc, emptyNet, arcAt, supplyAt, isHere, isRoot, withArc, withSupply, withNode}
-use Rattle.network.specs.Output.{rankOf, renumbered, withSizes, behindNodes, behindArcs, packNode, packArc, packedOf}
+use Rattle.network.specs.Output.{rankOf, placed, renumbered, withSizes, behindNodes, behindArcs, packNode, packArc, packedOf}
 use Rattle.network.specs.Legal.{LegalArc, Legal}
 use Rattle.network.proofs.Legal.{number, getD-all}
 use Rattle.network.proofs.Kept.{here-number, moved, arc-kept}
 
 -- ---- new numbers
+
+-- beyond the last number nothing is counted
+rank-past : (net : Net) (i : ℕ) → 33 ≤ i → rankOf net 32 ≡ rankOf net i
+unfolding rankOf
+rank-past net i h = count-same (λ k. isHere net k && leb k i) (λ k. isHere net k && leb k 32) 33 (λ k l. rw (le-leb k 32 (omega arith), le-leb k i (omega arith)))
+
+-- as a list has them
+pub placed-is : (net : Net) (i : ℕ) → placed (build 33 (rankOf net)) i ≡ rankOf net i
+placed-is net i = by (ltb i 33) refl
+  where
+    by : (b : Bool) → ltb i 33 ≡ b → cond b (getD (build 33 (rankOf net)) i 0) (getD (build 33 (rankOf net)) 32 0) ≡ rankOf net i
+    by true e = getD-build 33 (rankOf net) 0 i (ltb-true i 33 e)
+    by false e = getD-build 33 (rankOf net) 0 32 (omega arith) ∙ rank-past net i (ltb-false i 33 e)
 
 module _ {net : Net} (g : Legal net) where
   -- how many nodes are left

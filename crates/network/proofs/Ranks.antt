@@ -22,22 +22,27 @@ use Rattle.network.proofs.Sane.{is-true}
 -- ---- how many
 
 module _ (p : ℕ → Bool) where
-  -- those up to i, where i is one of them
-  pub rank-is : (n i : ℕ) → i < n → p i ≡ true → count (λ k. p k && leb k i) n ≡ count p i + 1
+  -- those up to i
+  pub rank-up : (n i : ℕ) → i < n → count (λ k. p k && leb k i) n ≡ count p (i + 1)
   unfolding count
-  rank-is zero i h e = absurd (omega arith)
-  rank-is (suc n) i h e =
+  rank-up zero i h = absurd (omega arith)
+  rank-up (suc n) i h =
       ⊎-elim
-      (λ (q : i ≡ n). rw (← q) (rw (e, le-leb i i (omega arith), count-same p (λ k. p k && leb k i) i (λ k l. up k l))))
-      (λ (l : i < n). rw (lt-leb n i l, and-false) (rank-is n i l e))
+      (λ (q : i ≡ n). rw (← q) (rw (le-leb i i (omega arith), whole (p i), count-same p (λ k. p k && leb k i) i (λ k l. up k l), add-one i)))
+      (λ (l : i < n). rw (lt-leb n i l, and-false) (rank-up n i l))
       (eq-or-lt-of-le (le-of-suc-le-suc h))
     where
+      whole : (b : Bool) → (b && true) ≡ b
+      whole true = refl
+      whole false = refl
+
       up : (k : ℕ) → k < i → (p k && leb k i) ≡ p k
       up k l = rw (le-leb k i (omega arith)) (whole (p k))
-        where
-          whole : (b : Bool) → (b && true) ≡ b
-          whole true = refl
-          whole false = refl
+
+  -- where i is one of them
+  pub rank-is : (n i : ℕ) → i < n → p i ≡ true → count (λ k. p k && leb k i) n ≡ count p i + 1
+  unfolding count
+  rank-is n i h e = rank-up n i h ∙ rw (add-one i, e)
 
   pub count-more : (i n : ℕ) → i < n → p i ≡ true → count p i < count p n
   unfolding count

@@ -4,14 +4,12 @@ use mathlib.Core.List.{List, _∷_, _++_}
 use Prim.Native.Nat.{ℕ, _+_, _-_, _/_, _%_}
 use lib.Dec.{eqb, ltb, leb}
 use lib.IntN.{ℤ, pos}
-use lib.ListN.{getD, set, replicate}
+use lib.ListN.{getD}
 use Rattle.loops.specs.Loops.{build, count, upto, zeros}
 use Rattle.fraction.specs.declared.Fraction.{Fraction}
 use Rattle.fraction.specs.Exact.{over, most, denWord}
 use Rattle.network.specs.declared.Arc.{Arc}
 use Rattle.network.specs.declared.Net.{Net}
-use Rattle.network.specs.declared.output.Two.{Two}
-use Rattle.network.specs.declared.output.Arrays.{Arrays}
 use Rattle.network.specs.Network.{emptyNet, arcAt, supplyAt, isHere, withArc, withNode}
 use Rattle.network.specs.Record.{figures}
 
@@ -28,8 +26,16 @@ isUsed net j = not (eqb (arcAt net j .from) 0)
 unfoldable pub arcRank : Net → ℕ → ℕ
 arcRank net j = count (λ k. isUsed net k && leb k j) 97
 
+-- an arc with these ends
+abbrev pub between : ℕ → ℕ → Arc → Arc
+between i k t = record { from = i; to = k; cost = t .cost; lower = t .lower; upper = t .upper; a = t .a; b = t .b }
+
 abbrev pub renumbered : Net → Arc → Arc
-renumbered net t = record { from = rankOf net (t .from); to = rankOf net (t .to); cost = t .cost; lower = t .lower; upper = t .upper; a = t .a; b = t .b }
+renumbered net t = between (rankOf net (t .from)) (rankOf net (t .to)) t
+
+-- the new number of node i, where those of the numbers 0 to 32 are listed
+abbrev pub placed : List ℕ → ℕ → ℕ
+placed l i = cond (ltb i 33) (getD l i 0) (getD l 32 0)
 
 abbrev pub withSizes : Net → ℕ → ℕ → Net
 withSizes p n m = record { n = n; m = m; here = p .here; supply = p .supply; arcs = p .arcs }
@@ -60,22 +66,6 @@ packedOf net = upto (packArc net) 96 (upto (packNode net) 32 (emptyNet 0 0))
 -- k words f, k words g, and zeros: room words; zeros alone where there is no room for both
 unfoldable pub arraysOf : (ℕ → ℤ) → (ℕ → ℤ) → ℕ → ℕ → List ℤ
 arraysOf f g k room = cond (leb (k + k) room) (build k f ++ (build k g ++ zeros (room - k - k))) (zeros room)
-
-abbrev pub two : ℤ → ℤ → Two
-two x y = record { first = x; second = y }
-
-abbrev pub twoAt : Arrays → ℕ → Two
-twoAt s k = getD (s .at) k (two (pos 0) (pos 0))
-
--- the arrays of words all zero, with word k of both replaced, and with the words f and g
-abbrev pub noWords : Arrays
-noWords = record { at = replicate 704 (two (pos 0) (pos 0)) }
-
-abbrev pub withWords : Arrays → ℕ → ℤ → ℤ → Arrays
-withWords s k x y = record { at = set (s .at) k (two x y) }
-
-unfoldable pub wordsOf : (ℕ → ℤ) → (ℕ → ℤ) → Arrays
-wordsOf f g = record { at = build 704 (λ k. two (f k) (g k)) }
 
 -- ---- a network's record
 

@@ -2,7 +2,7 @@
 ghost use mathlib.Core.Path.{_≡_};
 ghost use Rattle.fraction.specs.Exact.{noFigure};
 ghost use Rattle.network.specs.ArcList.{nodesOf, joined};
-ghost use Rattle.network.specs.Network.{noArc, emptyNet, arcAt, supplyAt, isHere, withArc, withSupply, setHere, withNode, without, withPut, withLevel, applied};
+ghost use Rattle.network.specs.Network.{noArc, emptyNet, arcAt, supplyAt, isHere, withArc, withSupply, setHere, without, withPut, withLevel, applied};
 ghost use Rattle.network.specs.Network.{isTouching, degreeOf, touchingAfter, isRoot, farEnd, sideOf, noPut, noLevel, noChange, changeOne, passed, refuted, changed};
 use fraction::Fraction;
 
@@ -227,13 +227,6 @@ fn set_here(mut net: Net, i: usize, h: bool) -> Net
         return net;
     }
     net
-}
-
-// Node i, with its supply, put in use.
-pub fn put_node(net: Net, i: usize, f: Fraction) -> Net
-    ensures { λ r. ⌜ r ≡ withNode net i f ⌝ }
-{
-    set_here(put_supply(net, i, f), i, true)
 }
 
 // Node i dropped.

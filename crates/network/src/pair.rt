@@ -142,7 +142,7 @@ fn read_prices(pair: Pair, words: &[i32], t: usize, n: usize) -> Pair
     let mut at = pair;
     for i in 0..n {
         let f = crate::record::figure_at(words, t, i);
-        at = put_price(at, i + 1, f);
+        at.price[i + 1] = f;
     }
     at
 }
@@ -155,7 +155,7 @@ fn read_flows(pair: Pair, words: &[i32], n: usize, t: usize, m: usize) -> Pair
     let mut at = pair;
     for j in 0..m {
         let f = crate::record::figure_at(words, t, n + j);
-        at = put_flow(at, j + 1, f);
+        at.flow[j + 1] = f;
     }
     at
 }

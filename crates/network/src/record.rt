@@ -245,7 +245,8 @@ fn read_nodes(net: Net, xs: &[i32], t: usize, n: usize) -> Net
     let mut at = net;
     for i in 0..n {
         let f = figure_at(xs, t, i);
-        at = crate::put_node(at, i + 1, f);
+        at.supply[i + 1] = f;
+        at.here[i + 1] = true;
     }
     at
 }
@@ -258,7 +259,7 @@ fn read_arcs(net: Net, xs: &[i32], n: usize, t: usize, m: usize) -> Net
     let mut at = net;
     for j in 0..m {
         let a = arc_in(xs, n, t, j);
-        at = crate::put_arc(at, j + 1, a);
+        at.arcs[j + 1] = a;
     }
     at
 }

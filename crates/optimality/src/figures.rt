@@ -1,15 +1,42 @@
 // The figures of the test: balances, reduced costs and the value; and its questions 9 to 12. The loops read an arc in place,
 // so that no network is copied for one; beyond the last number there is none.
 ghost use mathlib.Core.Path.{_≡_};
+ghost use mathlib.Core.Bool.{_&&_};
+ghost use Prim.Native.Nat.{ℕ, _<_};
+ghost use lib.ListN.{getD, set};
 ghost use Rattle.loops.specs.Loops.{all};
-ghost use Rattle.fraction.specs.Formula.{_⊕_, _⊗_};
+ghost use Rattle.fraction.specs.Exact.{noFigure, isSame};
+ghost use Rattle.fraction.specs.Formula.{isFit, figureOf, _⊕_, _⊗_};
 ghost use Rattle.network.specs.Network.{isTouching, isRoot, sideOf};
-ghost use Rattle.optimality.specs.Figures.{balanceBy, balanceOf, reducedBy, reducedCost, valueOf, balanceFits, costFits, allFit, isBalanced, isWithin, isWithinAt, isAt, keepsRule, keepsRuleAt, verdictOf};
+ghost use Rattle.optimality.specs.Figures.{sumAt, balanceBy, balanceOf, reducedBy, costIn, valueOf, balanceFits, costFits, isBalanced, isWithin, isWithinAt, isAt, keepsRule, keepsRuleAt, verdictOf};
 use fraction::Fraction;
 use fraction::Worked;
 use network::Arc;
 use network::Net;
 use network::pair::Pair;
+
+// The balance of a node.
+struct Sum {
+    w: Worked,
+}
+
+// The balances of the nodes 0 to 32.
+struct Sums {
+    at: [Sum; 33],
+}
+
+// Whether all balances fit, and whether every node is balanced.
+struct Nodes {
+    fit: bool,
+    balanced: bool,
+}
+
+// Whether all reduced costs fit, all flows are within bounds, and the price rule is kept.
+struct Arcs {
+    fit: bool,
+    within: bool,
+    kept: bool,
+}
 
 // A sum with one term more, e × x.
 fn with_term(w: Worked, e: Fraction, x: Fraction) -> Worked
@@ -62,12 +89,22 @@ fn reduced(t: Arc, p: Fraction, q: Fraction) -> Worked
     both
 }
 
-// An arc's reduced cost.
-pub fn reduced_cost(t: Arc, pair: Pair) -> Worked
-    ensures { λ r. ⌜ r ≡ reducedCost t pair ⌝ }
+// The price of node i.
+fn price_in(price: [Fraction; 33], i: usize) -> Fraction
+    ensures { λ r. ⌜ r ≡ getD price i noFigure ⌝ }
 {
-    let p = network::pair::price_at(pair, t.from);
-    let q = network::pair::price_at(pair, t.to);
+    if i < 33 {
+        return price[i];
+    }
+    network::no_figure()
+}
+
+// An arc's reduced cost.
+fn reduced_cost(t: Arc, price: [Fraction; 33]) -> Worked
+    ensures { λ r. ⌜ r ≡ costIn price t ⌝ }
+{
+    let p = price_in(price, t.from);
+    let q = price_in(price, t.to);
     reduced(t, p, q)
 }
 
@@ -89,58 +126,82 @@ pub fn value(net: Net, pair: Pair) -> Worked
     w
 }
 
-// Whether all balances fit.
-fn balances_fit(net: Net, pair: Pair) -> bool
-    ensures { λ r. ⌜ r ≡ all (balanceFits net pair) (net .n) ⌝ }
+// The balance of node i, and one term more.
+fn add_at(mut s: Sums, i: usize, e: Fraction, x: Fraction) -> Sums
+    ensures { λ r. ⌜ r .at ≡ set (s .at) i (record { w = sumAt s i ⊕ Worked.Fits e ⊗ Worked.Fits x }) ⌝ }
 {
-    for i in 0..net.n {
-        if balance(net, pair, i + 1).is_fit() {} else {
-            return false;
-        }
+    if i < 33 {
+        let z = s.at[i];
+        let v = z.w;
+        let w = with_term(v, e, x);
+        s.at[i] = Sum { w };
     }
-    true
+    s
 }
 
-// Whether all reduced costs fit.
-fn costs_fit(net: Net, pair: Pair) -> bool
-    ensures { λ r. ⌜ r ≡ all (costFits net pair) (net .m) ⌝ }
+// The balances of all nodes, and the flow of one arc more.
+fn add_arc(s: Sums, t: Arc, x: Fraction) -> Sums
+    ensures { λ r. ⌜ ((i : ℕ) → i < 33 → sumAt r i ≡ balanceBy (isTouching t i) (sideOf t i .e) x (sumAt s i)) ⌝ }
 {
+    let a = t.a;
+    let b = t.b;
+    let one = add_at(s, t.from, a, x);
+    if network::is_root(t) {
+        return one;
+    }
+    add_at(one, t.to, b, x)
+}
+
+// The balances of the nodes 0 to 32, arcs upward.
+fn balances(net: Net, pair: Pair) -> Sums
+    ensures { λ r. ⌜ ((i : ℕ) → i < 33 → sumAt r i ≡ balanceOf net pair i) ⌝ }
+{
+    let w = Fraction::ZERO.fit();
+    let z = Sum { w };
+    let mut s = Sums { at: [z; 33] };
     for j in 0..net.m {
         let mut t = network::no_arc();
+        let mut x = network::no_figure();
         if j < 96 {
             t = net.arcs[j + 1];
+            x = pair.flow[j + 1];
         }
-        if reduced_cost(t, pair).is_fit() {} else {
-            return false;
-        }
+        s = add_arc(s, t, x);
     }
-    true
+    s
 }
 
-// Question 9.
-fn all_fit(net: Net, pair: Pair) -> bool
-    ensures { λ r. ⌜ r ≡ allFit net pair ⌝ }
+// One node more, of balance w and supply r.
+fn ask_node(a: Nodes, w: Worked, r: Fraction) -> Nodes
+    ensures { λ q. ⌜ (q .fit ≡ (a .fit && isFit w)) × (q .balanced ≡ (a .balanced && isSame (figureOf w) r)) ⌝ }
 {
-    if balances_fit(net, pair) {
-        if costs_fit(net, pair) {
-            return value(net, pair).is_fit();
-        }
-        return false;
-    }
-    false
+    let fit = a.fit && w.is_fit();
+    let balanced = a.balanced && w.figure().same(r);
+    Nodes { fit, balanced }
 }
 
-// Question 10.
-fn all_balanced(net: Net, pair: Pair) -> bool
-    ensures { λ r. ⌜ r ≡ all (isBalanced net pair) (net .n) ⌝ }
+// Questions 9 and 10 of all nodes.
+fn ask_nodes(net: Net, pair: Pair) -> Nodes
+    ensures { λ r. ⌜ (r .fit ≡ all (balanceFits net pair) (net .n)) × (r .balanced ≡ all (isBalanced net pair) (net .n)) ⌝ }
 {
+    let s = balances(net, pair);
+    let mut a = Nodes {
+        fit: true,
+        balanced: true,
+    };
     for i in 0..net.n {
-        let r = network::supply_at(net, i + 1);
-        if balance(net, pair, i + 1).figure().same(r) {} else {
-            return false;
+        let mut w = Fraction::ZERO.fit();
+        let mut r = network::no_figure();
+        if i < 32 {
+            let z = s.at[i + 1];
+            w = z.w;
+            r = net.supply[i + 1];
+        } else {
+            w = balance(net, pair, i + 1);
         }
+        a = ask_node(a, w, r);
     }
-    true
+    a
 }
 
 // Whether a flow is within an arc's bounds.
@@ -153,24 +214,6 @@ fn is_within(t: Arc, x: Fraction) -> bool
         return false;
     }
     !u.less(x)
-}
-
-// Question 11.
-fn all_within(net: Net, pair: Pair) -> bool
-    ensures { λ r. ⌜ r ≡ all (isWithinAt net pair) (net .m) ⌝ }
-{
-    for j in 0..net.m {
-        let mut t = network::no_arc();
-        let mut x = network::no_figure();
-        if j < 96 {
-            t = net.arcs[j + 1];
-            x = pair.flow[j + 1];
-        }
-        if is_within(t, x) {} else {
-            return false;
-        }
-    }
-    true
 }
 
 // Whether a bound is finite and the flow is at it.
@@ -196,10 +239,29 @@ pub fn keeps_rule(l: Fraction, u: Fraction, x: Fraction, d: Fraction) -> bool
     true
 }
 
-// Question 12.
-fn all_keep(net: Net, pair: Pair) -> bool
-    ensures { λ r. ⌜ r ≡ all (keepsRuleAt net pair) (net .m) ⌝ }
+// One arc more, with its flow and all prices.
+fn ask_arc(a: Arcs, t: Arc, x: Fraction, price: [Fraction; 33]) -> Arcs
+    ensures { λ r. ⌜ (r .fit ≡ (a .fit && isFit (costIn price t))) × (r .within ≡ (a .within && isWithin t x)) × (r .kept ≡ (a .kept && keepsRule (t .lower) (t .upper) x (figureOf (costIn price t)))) ⌝ }
 {
+    let l = t.lower;
+    let u = t.upper;
+    let w = reduced_cost(t, price);
+    let fit = a.fit && w.is_fit();
+    let within = a.within && is_within(t, x);
+    let kept = a.kept && keeps_rule(l, u, x, w.figure());
+    Arcs { fit, within, kept }
+}
+
+// Questions 9, 11 and 12 of all arcs.
+fn ask_arcs(net: Net, pair: Pair) -> Arcs
+    ensures { λ r. ⌜ (r .fit ≡ all (costFits net pair) (net .m)) × (r .within ≡ all (isWithinAt net pair) (net .m)) × (r .kept ≡ all (keepsRuleAt net pair) (net .m)) ⌝ }
+{
+    let price = pair.price;
+    let mut a = Arcs {
+        fit: true,
+        within: true,
+        kept: true,
+    };
     for j in 0..net.m {
         let mut t = network::no_arc();
         let mut x = network::no_figure();
@@ -207,30 +269,33 @@ fn all_keep(net: Net, pair: Pair) -> bool
             t = net.arcs[j + 1];
             x = pair.flow[j + 1];
         }
-        let l = t.lower;
-        let u = t.upper;
-        let d = reduced_cost(t, pair).figure();
-        if keeps_rule(l, u, x, d) {} else {
-            return false;
-        }
+        a = ask_arc(a, t, x, price);
     }
-    true
+    a
 }
 
 // The first of the questions 9 to 12 that is answered by no; 0 where none is.
 pub fn verdict(net: Net, pair: Pair) -> usize
     ensures { λ r. ⌜ r ≡ verdictOf net pair ⌝ }
 {
-    if all_fit(net, pair) {} else {
+    let nodes = ask_nodes(net, pair);
+    let arcs = ask_arcs(net, pair);
+    if nodes.fit {} else {
         return 9;
     }
-    if all_balanced(net, pair) {} else {
+    if arcs.fit {} else {
+        return 9;
+    }
+    if value(net, pair).is_fit() {} else {
+        return 9;
+    }
+    if nodes.balanced {} else {
         return 10;
     }
-    if all_within(net, pair) {} else {
+    if arcs.within {} else {
         return 11;
     }
-    if all_keep(net, pair) {} else {
+    if arcs.kept {} else {
         return 12;
     }
     0

@@ -3,11 +3,10 @@ ghost use mathlib.Core.Path.{_≡_};
 ghost use mathlib.Core.List.{_∷_};
 ghost use Prim.Native.Nat.{_-_, _≤_};
 ghost use lib.ListN.{length};
-ghost use Rattle.network.specs.Output.{wordsOf, wordOf, arraysOf};
+ghost use Rattle.network.specs.Output.{wordOf, arraysOf};
 ghost use Rattle.reduction.specs.Stack.{takenAt, ruleWord, placeWord, stackOf};
 use crate::search::Ran;
 use crate::search::Taken;
-use network::output::Arrays;
 
 // Step k, from 0; zeros where there is none.
 pub fn taken_at(ran: Ran, k: usize) -> Taken
@@ -19,31 +18,27 @@ pub fn taken_at(ran: Ran, k: usize) -> Taken
     Taken { rule: 0, place: 0 }
 }
 
-// The rules and places of the steps.
-fn step_words(ran: Ran) -> Arrays
-    ensures { λ r. ⌜ r ≡ wordsOf (ruleWord ran) (placeWord ran) ⌝ }
+// The rules of the steps, as many places, and zeros behind them.
+fn write_steps(ran: Ran, out: &mut [i32])
+    requires { ⌜ (ran .steps ≤ 128) × (256 ≤ length (now out)) ⌝ }
+    ensures { λ _. ⌜ now (out .exit) ≡ arraysOf (ruleWord ran) (placeWord ran) (ran .steps) (length (now (out .entry))) ⌝ }
 {
-    let mut s = network::output::no_words();
-    for k in 0..704 {
-        let t = taken_at(ran, k);
-        s = network::output::put_words(
-            s,
-            k,
-            network::output::word_of(t.rule),
-            network::output::word_of(t.place),
-        );
+    let s = ran.steps;
+    for k in 0..s {
+        let t = ran.taken[k];
+        loops::put(out, k, network::output::word_of(t.rule));
+        loops::put(out, s + k, network::output::word_of(t.place));
     }
-    s
+    let end = s + s;
+    loops::clear(&mut out[end..]);
 }
 
 fn write_sized(ran: Ran, out: &mut [i32])
     requires { ⌜ (ran .steps ≤ 128) × (257 ≤ length (now out)) ⌝ }
     ensures { λ _. ⌜ now (out .exit) ≡ wordOf (ran .steps) ∷ arraysOf (ruleWord ran) (placeWord ran) (ran .steps) (length (now (out .entry)) - 1) ⌝ }
 {
-    let k = ran.steps;
-    let s = step_words(ran);
-    loops::put(out, 0, network::output::word_of(k));
-    network::output::write_arrays(s, &mut out[1..], k);
+    loops::put(out, 0, network::output::word_of(ran.steps));
+    write_steps(ran, &mut out[1..]);
 }
 
 // The stack's record, and zeros behind it; zeros alone where it has no room.

@@ -1,35 +1,31 @@
 // The words that a restored pair and the two values are written as.
 ghost use mathlib.Core.Path.{_≡_};
-ghost use Prim.Native.Nat.{_≤_};
+ghost use Prim.Native.Nat.{_+_, _≤_};
 ghost use lib.ListN.{length};
 ghost use Rattle.loops.specs.Loops.{zeros};
-ghost use Rattle.network.specs.Output.{wordsOf};
-ghost use Rattle.restoration.specs.Restore.{pairFigure, pairNum, pairDen, pairWords, fourWords};
+ghost use Rattle.network.specs.Output.{arraysOf};
+ghost use Rattle.restoration.specs.Restore.{pairNum, pairDen, pairWords, fourWords};
 use fraction::Fraction;
-use network::output::Arrays;
 use network::pair::Pair;
 
-// Figure k of a pair's record.
-fn figure(n: usize, pair: Pair, k: usize) -> Fraction
-    requires { ⌜ k ≤ 704 ⌝ }
-    ensures { λ r. ⌜ r ≡ pairFigure n pair k ⌝ }
+// The figures' numerators, as many denominators, and zeros behind them.
+fn write_figures(n: usize, m: usize, pair: Pair, out: &mut [i32])
+    requires { ⌜ (n ≤ 32) × (m ≤ 96) × (256 ≤ length (now out)) ⌝ }
+    ensures { λ _. ⌜ now (out .exit) ≡ arraysOf (pairNum n pair) (pairDen n pair) (n + m) (length (now (out .entry))) ⌝ }
 {
-    if k + 1 <= n {
-        return network::pair::price_at(pair, k + 1);
+    let t = n + m;
+    for k in 0..t {
+        let mut f = network::no_figure();
+        if k + 1 <= n {
+            f = pair.price[k + 1];
+        } else {
+            f = pair.flow[k - n + 1];
+        }
+        loops::put(out, k, f.num);
+        loops::put(out, t + k, f.den_word());
     }
-    network::pair::flow_at(pair, k - n + 1)
-}
-
-// The numerators and denominators of a pair's figures.
-fn figure_words(n: usize, pair: Pair) -> Arrays
-    ensures { λ r. ⌜ r ≡ wordsOf (pairNum n pair) (pairDen n pair) ⌝ }
-{
-    let mut s = network::output::no_words();
-    for k in 0..704 {
-        let f = figure(n, pair, k);
-        s = network::output::put_words(s, k, f.num, f.den_word());
-    }
-    s
+    let end = t + t;
+    loops::clear(&mut out[end..]);
 }
 
 // A pair's record, and zeros behind it.
@@ -37,10 +33,9 @@ pub(crate) fn write_pair(n: usize, m: usize, pair: Pair, out: &mut [i32])
     requires { ⌜ (n ≤ 32) × (m ≤ 96) × (258 ≤ length (now out)) ⌝ }
     ensures { λ _. ⌜ now (out .exit) ≡ pairWords n m pair (length (now (out .entry))) ⌝ }
 {
-    let s = figure_words(n, pair);
     loops::put(out, 0, network::output::word_of(n));
     loops::put(out, 1, network::output::word_of(m));
-    network::output::write_arrays(s, &mut out[2..], n + m);
+    write_figures(n, m, pair, &mut out[2..]);
 }
 
 // Two figures as four words, into a slice of zeros.

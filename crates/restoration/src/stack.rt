@@ -1,5 +1,6 @@
 // Question 7: whether the stack offered is the one that the reduction gives.
 ghost use mathlib.Core.Path.{_≡_};
+ghost use mathlib.Core.Bool.{_&&_};
 ghost use Prim.Native.Nat.{_+_, _*_, _<_};
 ghost use lib.Dec.{eqb};
 ghost use lib.ListN.{length};
@@ -9,6 +10,7 @@ ghost use Rattle.network.specs.Record.{word};
 ghost use Rattle.network.specs.Output.{wordOf};
 ghost use Rattle.restoration.specs.Restore.{isStep, isStack};
 use reduction::search::Ran;
+use reduction::search::Taken;
 
 // Whether so many words are a step count, and a rule and a place for each step.
 fn is_long(len: usize, steps: usize) -> bool
@@ -34,13 +36,11 @@ fn is_word(stack: &[i32], at: usize, k: usize) -> bool
     network::pair::is_size(stack, at, 0)
 }
 
-// Whether step k, from 0, has its rule and its place.
-fn is_step(ran: Ran, stack: &[i32], k: usize) -> bool
-    requires { ⌜ (k < ran .steps) × (length (now stack) ≡ 1 + 2 * ran .steps) ⌝ }
-    ensures { λ r. ⌜ r ≡ isStep ran (now (stack .entry)) k ⌝ }
+// Whether step k of s, from 0, has this rule and this place.
+fn is_step(stack: &[i32], s: usize, k: usize, t: Taken) -> bool
+    requires { ⌜ (k < s) × (length (now stack) ≡ 1 + 2 * s) ⌝ }
+    ensures { λ r. ⌜ r ≡ (eqZ (word (now (stack .entry)) (1 + k)) (wordOf (t .rule)) && eqZ (word (now (stack .entry)) (1 + s + k)) (wordOf (t .place))) ⌝ }
 {
-    let s = ran.steps;
-    let t = reduction::stack::taken_at(ran, k);
     is_word(stack, 1 + k, t.rule) && is_word(stack, 1 + s + k, t.place)
 }
 
@@ -48,8 +48,13 @@ fn all_steps(ran: Ran, stack: &[i32]) -> bool
     requires { ⌜ length (now stack) ≡ 1 + 2 * ran .steps ⌝ }
     ensures { λ r. ⌜ r ≡ all (isStep ran (now (stack .entry))) (ran .steps) ⌝ }
 {
-    for k in 0..ran.steps {
-        if is_step(ran, stack, k) {} else {
+    let s = ran.steps;
+    for k in 0..s {
+        let mut t = Taken { rule: 0, place: 0 };
+        if k < 128 {
+            t = ran.taken[k];
+        }
+        if is_step(stack, s, k, t) {} else {
             return false;
         }
     }

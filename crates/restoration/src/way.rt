@@ -1,7 +1,7 @@
 // The whole way back: the steps are logged on the way there, and undone from the log, the last first.
 ghost use mathlib.Core.Path.{_≡_};
 ghost use Prim.Native.Nat.{_≤_, _<_, _*_};
-ghost use lib.ListN.{length, getD, set};
+ghost use lib.ListN.{length, getD};
 ghost use Rattle.loops.specs.Loops.{build};
 ghost use Rattle.network.specs.ArcList.{arcsIn, joined};
 ghost use Rattle.network.specs.Record.{readOf};
@@ -12,7 +12,6 @@ ghost use Rattle.restoration.specs.Way.{spreadPrice, spreadFlow, spreadO
 ghost use Rattle.restoration.specs.Log.{withTrace, movedBy, LoggedTurn, LogAsked, LogMade, oldArcs, backTurn, backIn, arcsTurn, arcsBackIn};
 use crate::back::Back;
 use crate::trace::Trace;
-use fraction::Fraction;
 use network::Arc;
 use network::Change;
 use network::Net;
@@ -21,63 +20,41 @@ use network::pair::Pair;
 use reduction::search::Progress;
 use reduction::search::Taken;
 
-// The price of node i of the original numbers, from a pair of the reduced network.
-fn spread_price(net: Net, pair: Pair, i: usize) -> Fraction
-    ensures { λ r. ⌜ r ≡ spreadPrice net pair i ⌝ }
-{
-    if network::is_here(net, i) {
-        return network::pair::price_at(pair, network::output::rank(net, i));
-    }
-    network::no_figure()
-}
-
-// The flow of arc j of the original numbers.
-fn spread_flow(net: Net, pair: Pair, j: usize) -> Fraction
-    ensures { λ r. ⌜ r ≡ spreadFlow net pair j ⌝ }
-{
-    let t = network::arc_at(net, j);
-    if t.from == 0 {
-        return network::no_figure();
-    }
-    network::pair::flow_at(pair, network::output::arc_rank(net, j))
-}
-
-fn set_price(mut pair: Pair, i: usize, f: Fraction) -> Pair
-    ensures { λ r. ⌜ r .price ≡ set (pair .price) i f ⌝ }
-{
-    if i < 33 {
-        pair.price[i] = f;
-    }
-    pair
-}
-
-fn set_flow(mut pair: Pair, j: usize, f: Fraction) -> Pair
-    ensures { λ r. ⌜ r .flow ≡ set (pair .flow) j f ⌝ }
-{
-    if j < 97 {
-        pair.flow[j] = f;
-    }
-    pair
-}
-
+// The prices, at the original numbers of the nodes in use.
 fn spread_prices(net: Net, pair: Pair) -> Pair
     ensures { λ r. ⌜ r .price ≡ build 33 (spreadPrice net pair) ⌝ }
 {
     let mut at = network::pair::no_pair();
+    let mut d: usize = 0;
     for i in 0..33 {
-        let f = spread_price(net, pair, i);
-        at = set_price(at, i, f);
+        let mut f = network::no_figure();
+        if net.here[i] {
+            d += 1;
+            if d < 33 {
+                f = pair.price[d];
+            }
+        }
+        at.price[i] = f;
     }
     at
 }
 
+// The flows, at the original numbers of the arcs in use.
 fn spread_flows(net: Net, pair: Pair) -> Pair
     ensures { λ r. ⌜ r .flow ≡ build 97 (spreadFlow net pair) ⌝ }
 {
     let mut at = network::pair::no_pair();
+    let mut d: usize = 0;
     for j in 0..97 {
-        let f = spread_flow(net, pair, j);
-        at = set_flow(at, j, f);
+        let mut f = network::no_figure();
+        let t = net.arcs[j];
+        if 1 <= t.from {
+            d += 1;
+            if d < 97 {
+                f = pair.flow[d];
+            }
+        }
+        at.flow[j] = f;
     }
     at
 }

@@ -6,7 +6,7 @@ use Rattle.network.proofs.output.pack.Tie as tie
 
 returns : tie.Need-returns
 unfolding packedOf
-returns c = rw (c .pack-arcs .ensures, c .before .pack-nodes .ensures, c .before .before .empty-net .ensures)
+returns c = rw (c .pack-arcs .ensures, c .before .pack-nodes .ensures .0)
 
 pub pack-spec : {M : Type 1} → statement M
-pack-spec = tie.close (tie.spec (λ c κs. search needs) (λ c κs. search needs) (λ c κs. search needs) returns)
+pack-spec = tie.close (tie.spec (λ c κs. search needs) (λ c κs. search needs) returns)

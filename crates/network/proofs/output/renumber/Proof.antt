@@ -4,7 +4,7 @@ use Rattle.network.proofs.output.renumber.Statement.{statement}
 use Rattle.network.proofs.output.renumber.Tie as tie
 
 returns : tie.Need-returns
-returns c = rw (c .before .before .before .before .before .rank2 .ensures, c .before .before .before .before .before .before .rank .ensures)
+returns c = rw (c .before .before .before .before .before .rank-in2 .ensures, c .before .before .before .before .before .before .rank-in .ensures)
 
 pub renumber-spec : {M : Type 1} → statement M
 renumber-spec = tie.close (tie.spec (λ c κs. search needs) (λ c κs. search needs) returns)

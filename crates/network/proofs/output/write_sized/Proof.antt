@@ -1,30 +1,24 @@
 -- `network::output::write_sized` meets its contract. Assumes nothing.
-use Rattle.algebra.specs.Solver.{at}
 use Rattle.integer.specs.Machine.{back32}
 use Rattle.loops.proofs.Laws.{part-long, part-sized}
-use Rattle.network.proofs.Arrays.{words-written}
-use Rattle.network.specs.Output.{denAt, numAt, wordOf}
+use Rattle.network.specs.Output.{wordOf}
 use borrow.Author.Needs.{needs}
-use mathlib.Core.Path.{_∙_}
 use native.Mathlib.Omega.{arith}
 use Rattle.network.proofs.output.write_sized.Statement.{statement}
 use Rattle.network.proofs.output.write_sized.Tie as tie
 
 returns : tie.Need-returns
 returns c =
-    let a = c .before .before .before .before .before .before .before .before .before .before .before .before .before .before .args in
+    let a = c .before .before .before .before .before .before .before .before .before .before .before .args in
     let one = c .before .before .before .before .before .before .before .before .put in
     let next = c .before .before .before .before .put2 in
     let front = rw (back32 (c .before .before .before .before .before .word-of2 .result) (search needs), c .before .before .before .before .before .word-of2 .ensures, one .ensures, back32 (c .before .before .before .before .before .before .before .before .before .word-of .result) (search needs), c .before .before .before .before .before .before .before .before .before .word-of .ensures) at (next .ensures) in
-    part-sized (wordOf (a .net .n)) (wordOf (a .net .m)) (a .out .now) front (rw (part-long, next .kept .0, one .kept .0, c .before .before .before .before .before .before .before .before .before .before .before .figure-words .ensures) at (c .before .write-arrays .ensures) ∙ words-written (numAt (a .net)) (denAt (a .net)) _ _ (omega arith)) (omega arith)
+    part-sized (wordOf (a .net .n)) (wordOf (a .net .m)) (a .out .now) front (rw (part-long, next .kept .0, one .kept .0) at (c .before .write-figures .ensures)) (omega arith)
 
 pub write-sized-spec : {M : Type 1} → statement M
 write-sized-spec =
     tie.close
     (tie.spec
-    (λ c. search needs)
-    (λ c. search needs)
-    (λ c κs. search needs)
     (λ c κs. search needs)
     (λ c κs. search needs)
     (λ c κs. search needs)

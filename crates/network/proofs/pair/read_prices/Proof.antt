@@ -1,8 +1,8 @@
 -- `network::pair::read_prices` meets its contract. Assumes nothing.
 use Prim.Native.Nat.{_-_}
-use Rattle.algebra.specs.Solver.{at}
 use Rattle.loops.proofs.Laws.{Folded, folded-all, folded-more, folded-none}
-use Rattle.network.specs.Pair.{priceTurn}
+use Rattle.network.proofs.Legal.{number}
+use Rattle.network.specs.Pair.{priceTurn, withPrice}
 use borrow.Author.Needs.{needs}
 use native.Mathlib.Omega.{arith}
 use Rattle.network.proofs.pair.read_prices.Statement.{statement}
@@ -18,7 +18,8 @@ loop-holds : tie.Need-loop-holds Inv-loop μ-loop
 loop-holds c = folded-none _ _ _
 
 loop-again : tie.Need-loop-again Inv-loop μ-loop
-loop-again c = folded-more _ (c .before .before .before .loop .inv) (omega arith) (rw (c .before .figure-at .ensures) at (c .put-price .ensures))
+unfolding withPrice
+loop-again c = folded-more _ (c .before .before .loop .inv) (omega arith) (rw (number 32 (c .before .before .loop .i) (omega arith), c .figure-at .ensures))
 
 returns : tie.Need-returns Inv-loop μ-loop
 returns c = folded-all _ (c .before .loop .inv) (omega arith)
@@ -32,7 +33,8 @@ read-prices-spec =
     loop-holds
     (λ c κs. search needs)
     (λ c. search needs)
-    (λ c κs. search needs)
+    (λ c. search needs)
+    (λ c. search needs)
     (λ c. search needs)
     (λ c. search needs)
     loop-again
