@@ -133,6 +133,16 @@ pub fn supply_at(net: Net, i: usize) -> Fraction
     no_figure()
 }
 
+// The supply of node i, by the supplies of all nodes.
+pub fn supply_of(supply: [Fraction; 33], i: usize) -> Fraction
+    ensures { λ r. ⌜ r ≡ getD supply i noFigure ⌝ }
+{
+    if i < 33 {
+        return supply[i];
+    }
+    no_figure()
+}
+
 // Whether node i is in use.
 pub fn is_here(net: Net, i: usize) -> bool
     ensures { λ r. ⌜ r ≡ isHere net i ⌝ }

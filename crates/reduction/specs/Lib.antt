@@ -1,5 +1,6 @@
 pub mod Rules
 pub mod Seen
+pub mod Filter
 pub mod Search
 pub mod Stack
 pub mod Reduce
