@@ -1,5 +1,5 @@
 -- What is known of rule 4, and that trying what is due alone gives its answer. Assumes nothing.
-use mathlib.Core.Path.{_≡_, refl, sym, ap, ap₂, _∙_}
+use mathlib.Core.Path.{_≡_, refl, sym, _∙_}
 use mathlib.Core.List.{List, [], _∷_}
 use mathlib.Core.Bool.{Bool, true, false, cond, _&&_, _||_, not, and-false}
 use mathlib.Core.Logic.{⊎-elim}

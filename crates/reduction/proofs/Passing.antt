@@ -9,7 +9,6 @@ use borrow.Author.Tests.{eq-eqb, eqb-true, eqb-false, ne-eqb, lt-ltb, ltb-true, 
 use lib.Dec.{eqb, ltb}
 use lib.ListN.{length, getD, set, replicate, length-set, length-replicate}
 use lib.Seq.{getD-set-same, getD-set-other}
-use Rattle.fraction.specs.declared.Fraction.{Fraction}
 use Rattle.fraction.specs.Exact.{isLess, isSame, noUpper}
 use Rattle.fraction.specs.Laws.{never}
 use Rattle.network.specs.declared.Arc.{Arc}
@@ -17,7 +16,7 @@ use Rattle.network.specs.declared.Net.{Net}
 use Rattle.network.specs.declared.Tried.{Tried}
 use Rattle.network.specs.Network.{arcAt, supplyAt, isHere, degreeOf, isRoot, sideOf, passed}
 use Rattle.reduction.specs.Filter.{isClosed, wantedOf, Covers, later, keptFirst}
-use Rattle.reduction.specs.Rules.{closedBy, closedArc, ruleOne, bareBy, bareNode, ruleTwo, singleWhere, ruleThree, isOpenRoot, twoArcs, apartBy, keepFirst, ruleFive, crossingWhere, ruleSix, whereHere, ofNodes, nodeRule, ruleAt}
+use Rattle.reduction.specs.Rules.{closedBy, closedArc, ruleOne, bareNode, ruleTwo, ruleThree, isOpenRoot, twoArcs, apartBy, keepFirst, ruleFive, ruleSix, whereHere, ofNodes, nodeRule, ruleAt}
 use Rattle.reduction.specs.Search.{answered, stepAt}
 
 -- ---- rule 1

@@ -41,10 +41,7 @@ pub(crate) fn is_closed(t: Arc) -> bool
     if t.from == 0 {
         return false;
     }
-    if u.less(l) {
-        return true;
-    }
-    l.same(u)
+    u.less(l) || l.same(u)
 }
 
 // Rule 1 at arc j, t, by the supplies.

@@ -19,10 +19,4 @@ returns-3 c = rw (ne-eqb _ _ (c .before .before .before .if1 .left), ← c .befo
 
 pub is-closed-spec : {M : Type 1} → statement M
 is-closed-spec =
-    tie.close
-    (tie.spec
-    returns
-    (λ c κs. search needs)
-    returns-2
-    (λ c κs. search needs)
-    returns-3)
+    tie.close (tie.spec returns (λ c κs. search needs) (λ c κs. search needs) returns-2 returns-3)
