@@ -40,7 +40,8 @@ impl Fraction {
             return Worked::Misfit;
         }
         let size = integer::size(z);
-        let g = integer::gcd(size, d);
+        // with a lower divisor d / g is beyond range
+        let g = integer::divisor(size, d, d / 2147483648);
         let n = size / g;
         let m = d / g;
         if n > 2147483647 {

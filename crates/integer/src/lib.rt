@@ -1,7 +1,8 @@
 // Whole numbers of the machine: the greatest common divisor, size and sign, exact products.
 ghost use mathlib.Core.Path.{_≡_};
 ghost use lib.IntN.{pos, natAbs, _*ℤ_};
-ghost use Rattle.integer.specs.Gcd.{gcd as gcdOf};
+ghost use Prim.Native.Nat.{_<_};
+ghost use Rattle.integer.specs.Gcd.{gcd as gcdOf, DivisorFrom};
 ghost use Rattle.integer.specs.Whole.{signed};
 
 // The greatest common divisor of two numbers; of a and 0 it is a.
@@ -11,6 +12,24 @@ pub fn gcd(a: u64, b: u64) -> u64
     let mut x = a;
     let mut y = b;
     while y != 0 {
+        let z = x % y;
+        x = y;
+        y = z;
+    }
+    x
+}
+
+// The greatest common divisor of two numbers; where it is below a limit, a number between the two.
+pub fn divisor(a: u64, b: u64, limit: u64) -> u64
+    requires { ⌜ 0 < b ⌝ }
+    ensures { λ r. ⌜ DivisorFrom limit a b r ⌝ }
+{
+    let mut x = a;
+    let mut y = b;
+    while y != 0 {
+        if y < limit {
+            return y;
+        }
         let z = x % y;
         x = y;
         y = z;

@@ -1,4 +1,5 @@
 pub mod Laws
+pub mod Tally
 pub mod Questions
 pub mod Pairs
 pub mod Arrays

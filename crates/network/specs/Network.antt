@@ -1,7 +1,9 @@
 -- The network that a reduction works on (01, "The problem and its figures"), and what a step changes in it. Assumes nothing.
+use mathlib.Core.Path.{_≡_}
+use mathlib.Core.List.{List}
 use mathlib.Core.Bool.{Bool, true, false, cond, _||_, _&&_}
-use Prim.Native.Nat.{ℕ, zero, suc, _+_, _-_}
-use lib.Dec.{eqb, leb}
+use Prim.Native.Nat.{ℕ, zero, suc, _+_, _-_, _<_}
+use lib.Dec.{eqb, leb, ltb}
 use lib.ListN.{getD, set, replicate}
 use Rattle.loops.specs.Loops.{count, scan}
 use Rattle.fraction.specs.declared.Fraction.{Fraction}
@@ -76,6 +78,13 @@ isTouching t i = eqb (t .from) i || eqb (t .to) i
 -- "degree is the number of arcs touching a node; a root arc counts once"
 unfoldable pub degreeOf : Net → ℕ → ℕ
 degreeOf net i = count (λ j. isTouching (arcAt net j) i) 97
+
+-- the degrees of the nodes 0 to 32; one more at number f
+abbrev pub raised : List ℕ → ℕ → List ℕ
+raised ds f = cond (ltb f 33) (set ds f (getD ds f 0 + 1)) ds
+
+abbrev pub AreDegrees : Net → List ℕ → Type 0
+AreDegrees net ds = (i : ℕ) → i < 33 → getD ds i 0 ≡ degreeOf net i
 
 -- the first arc after number k that touches node i; 0 where there is none
 abbrev pub orNext : ℕ → (ℕ → ℕ) → ℕ → ℕ

@@ -1,9 +1,11 @@
 // A network (01, "The problem and its figures") as a reduction works on it, its record read and written.
 ghost use mathlib.Core.Path.{_≡_};
+ghost use Prim.Native.Nat.{_≤_};
+ghost use lib.ListN.{getD};
 ghost use Rattle.fraction.specs.Exact.{noFigure};
 ghost use Rattle.network.specs.ArcList.{nodesOf, joined};
 ghost use Rattle.network.specs.Network.{noArc, emptyNet, arcAt, supplyAt, isHere, withArc, withSupply, setHere, without, withPut, withLevel, applied};
-ghost use Rattle.network.specs.Network.{isTouching, degreeOf, touchingAfter, isRoot, farEnd, sideOf, noPut, noLevel, noChange, changeOne, passed, refuted, changed};
+ghost use Rattle.network.specs.Network.{isTouching, degreeOf, raised, AreDegrees, touchingAfter, isRoot, farEnd, sideOf, noPut, noLevel, noChange, changeOne, passed, refuted, changed};
 use fraction::Fraction;
 
 pub mod list;
@@ -177,6 +179,16 @@ pub fn supply_at(net: Net, i: usize) -> Fraction
     no_figure()
 }
 
+// The supply of node i, by the supplies of all nodes.
+pub fn supply_of(supply: [Fraction; 33], i: usize) -> Fraction
+    ensures { λ r. ⌜ r ≡ getD supply i noFigure ⌝ }
+{
+    if i < 33 {
+        return supply[i];
+    }
+    no_figure()
+}
+
 // Whether node i is in use.
 pub fn is_here(net: Net, i: usize) -> bool
     ensures { λ r. ⌜ r ≡ isHere net i ⌝ }
@@ -286,6 +298,36 @@ pub fn degree(net: Net, i: usize) -> usize
         }
     }
     d
+}
+
+// The degree of each node, at its number.
+pub struct Degrees {
+    pub at: [usize; 33],
+}
+
+// One more at number i.
+fn add_one(at: &mut [usize; 33], i: usize)
+    requires { ⌜ getD (now at) i 0 ≤ 97 ⌝ }
+    ensures { λ _. ⌜ now (at .exit) ≡ raised (now (at .entry)) i ⌝ }
+{
+    if i < 33 {
+        at[i] += 1;
+    }
+}
+
+// The degrees of all nodes.
+pub fn all_degrees(net: Net) -> Degrees
+    ensures { λ r. ⌜ AreDegrees net (r .at) ⌝ }
+{
+    let mut at: [usize; 33] = [0; 33];
+    for j in 0..97 {
+        let t = net.arcs[j];
+        add_one(&mut at, t.from);
+        if t.from != t.to {
+            add_one(&mut at, t.to);
+        }
+    }
+    Degrees { at }
 }
 
 // The first arc after number k that touches node i; 0 where there is none.

@@ -1,5 +1,5 @@
 -- What is known of rule 4, and that trying what is due alone gives its answer. Assumes nothing.
-use mathlib.Core.Path.{_≡_, refl, sym, ap, ap₂, _∙_}
+use mathlib.Core.Path.{_≡_, refl, sym, _∙_}
 use mathlib.Core.List.{List, [], _∷_}
 use mathlib.Core.Bool.{Bool, true, false, cond, _&&_, _||_, not, and-false}
 use mathlib.Core.Logic.{⊎-elim}
@@ -7,7 +7,7 @@ use Prim.Native.Nat.{ℕ, zero, suc, _+_, _≤_, _<_}
 use native.Mathlib.Nat.{not-suc-le-zero, eq-or-lt-of-le, le-of-suc-le-suc}
 use native.Mathlib.Numerals.{add-one}
 use native.Mathlib.Omega.{arith}
-use borrow.Author.Tests.{le-ltb, lt-leb, ltb-true, ltb-false, eqb-true, eqb-false}
+use borrow.Author.Tests.{le-ltb, lt-ltb, lt-leb, ltb-true, ltb-false, eqb-true, eqb-false}
 use lib.Dec.{ltb, eqb}
 use lib.ListN.{getD, set, replicate, length-set, length-replicate}
 use lib.Seq.{getD-set-same, getD-set-other}
@@ -22,14 +22,17 @@ use Rattle.fraction.specs.Laws.{never}
 use Rattle.network.specs.declared.Arc.{Arc}
 use Rattle.network.specs.declared.Net.{Net}
 use Rattle.network.specs.declared.Change.{Change}
-use Rattle.network.specs.Network.{arcAt, supplyAt, farEnd, passed, withArc, withSupply, without, applied}
-use Rattle.reduction.specs.Rules.{isUnder, isPositive, isOpenRoot, isCostlier, partnerBy, hasPartnerBy, hasPartner, hasPair, supplyLess, droppedOf, atFlow, costlyWith, ruleFour, ruleAt}
+use Rattle.network.specs.Network.{arcAt, supplyAt, passed, withArc, withSupply, without, applied}
+use Rattle.reduction.specs.Rules.{isUnder, isPositive, isOpenRoot, isCostlier, partnerBy, hasPartnerBy, hasPartner, hasPair, isCandidate, droppedOf, atFlow, costlyWith, costlyBy, ruleFour, ruleAt}
 use Rattle.network.specs.declared.Tried.{Tried}
+use Rattle.network.specs.declared.Kind.{Kind}
+use Rattle.network.specs.declared.Kind.the-variants.{Passes, NoFlow, Changes}
 use Rattle.reduction.specs.declared.search.Step.{Step}
 use Rattle.reduction.specs.declared.search.Ran.{Ran}
-use Rattle.reduction.specs.Search.{answered, stepAt, stepped}
+use Rattle.reduction.specs.Search.{answered, stepAt, orOn, stepped}
 use Rattle.reduction.specs.declared.costly.Seen.{Seen}
-use Rattle.reduction.specs.Seen.{wayBy, wayOf, wayAt, waysOf, isOld, dueBy, isDueUnder, barOf, isDueFrom, isEnd, isDueEnd, isPair, Searched, Known, nothingSeen, marked, markedAll, soughtAt, isPassed, barredBy}
+use Rattle.reduction.specs.Seen.{wayBy, wayOf, wayAt, waysOf, isOld, dueBy, isDueUnder, barOf, isDueFrom, isPair, Searched, Known, nothingSeen, marked, markedAll, soughtAt, isStep, isDropped}
+use Rattle.reduction.specs.Filter.{Covers, isTimely, isDue}
 use Rattle.reduction.proofs.Frame.{arc-left}
 
 -- ---- tests that agree
@@ -155,26 +158,47 @@ module _ (net : Net) (seen : Seen) (w : ℕ) (t : Arc) (h : Searched net seen w 
   pub due-is : any (isDueFrom seen w (waysOf net (t .from) (t .a)) (waysOf net (t .to) (t .b)) (t .cost)) 97 ≡ hasPair net t
   due-is = any-same _ _ 97 (λ x l. any-same _ _ 97 (λ y m. due-under x y l m)) ∙ sym (pair-is net t)
 
-  -- where no root arc at an end is due
-  pub due-none : any (isDueEnd net seen w t) 97 ≡ false → hasPair net t ≡ false
-  unfolding isPair
-  due-none e = no-pair net t (λ x y l m. by x y l m (isOpenRoot (arcAt net x) (t .from)) refl (isOpenRoot (arcAt net y) (t .to)) refl)
-    where
-      old : (k : ℕ) → k < 97 → isEnd t (arcAt net k) ≡ true → isOld seen w k ≡ true
-      old k l f = off (isOld seen w k) refl
-        where
-          off : (b : Bool) → isOld seen w k ≡ b → isOld seen w k ≡ true
-          off true g = g
-          off false g = never (let z = sym (none-any (isDueEnd net seen w t) 97 e k l) ∙ ap₂ dueBy g f in let u = sym z in cc)
+-- where the search finds no pair due
+module _ (net : Net) (seen : Seen) (w : ℕ) (t : Arc) (h : Searched net seen w t) (put times : List ℕ) (same : seen .put ≡ put) (covers : Covers net put times) where
+  late : (i k : ℕ) → i < 33 → k < 97 → getD times i 0 ≤ w → isOpenRoot (arcAt net k) i ≡ true → isOld seen w k ≡ true
+  late i k l m g e = rw same (lt-ltb (getD put k 0) w (omega (arith, covers i k l m e)))
 
-      by : (x y : ℕ) → x < 97 → y < 97 → (r : Bool) → isOpenRoot (arcAt net x) (t .from) ≡ r → (s : Bool) → isOpenRoot (arcAt net y) (t .to) ≡ s → pairAt net t x y ≡ false
-      by x y l m true f true g = h x y l m (old x l (rw f)) (old y m (rw g (ends (isOpenRoot (arcAt net y) (t .from)))))
-        where
-          ends : (b : Bool) → (b || true) ≡ true
-          ends true = refl
-          ends false = refl
-      by x y l m true f false g = rw (f, g)
-      by x y l m false f s g = rw f
+  idle : (x y : ℕ) → t .from < 33 → t .to < 33 → x < 97 → y < 97 → isTimely w (getD times (t .from) 0) (getD times (t .to) 0) ≡ false → isOpenRoot (arcAt net x) (t .from) ≡ true → isOpenRoot (arcAt net y) (t .to) ≡ true → pairAt net t x y ≡ false
+  unfolding isTimely
+  idle x y l m lx ly e f g = by (ltb w p) refl (ltb w q) refl (rw (lt-ltb 0 p (omega (arith, covers _ x l lx f)), lt-ltb 0 q (omega (arith, covers _ y m ly g))) at e)
+    where
+      p : ℕ
+      p = getD times (t .from) 0
+
+      q : ℕ
+      q = getD times (t .to) 0
+
+      by : (a : Bool) → ltb w p ≡ a → (b : Bool) → ltb w q ≡ b → (a || b) ≡ false → pairAt net t x y ≡ false
+      by true i b j z = never (let u = sym z in cc)
+      by false i true j z = never (let u = sym z in cc)
+      by false i false j z = h x y lx ly (late _ x l lx (ltb-false w p i) f) (late _ y m ly (ltb-false w q j) g)
+
+  pub due-none : isCandidate t ≡ true → isDue times w t ≡ false → hasPair net t ≡ false
+  unfolding isDue isPair
+  due-none d e = by (ltb (t .from) 33) refl (ltb (t .to) 33) refl (rw d at e)
+    where
+      each : (x y : ℕ) → t .from < 33 → t .to < 33 → x < 97 → y < 97 → isTimely w (getD times (t .from) 0) (getD times (t .to) 0) ≡ false → (r : Bool) → isOpenRoot (arcAt net x) (t .from) ≡ r → (s : Bool) → isOpenRoot (arcAt net y) (t .to) ≡ s → pairAt net t x y ≡ false
+      each x y l m lx ly z true f true g = idle x y l m lx ly z f g
+      each x y l m lx ly z true f false g = rw (f, g)
+      each x y l m lx ly z false f s g = rw f
+
+      by : (a : Bool) → ltb (t .from) 33 ≡ a → (b : Bool) → ltb (t .to) 33 ≡ b → (not (a && b) || isTimely w (getD times (t .from) 0) (getD times (t .to) 0)) ≡ false → hasPair net t ≡ false
+      by true i true j z = no-pair net t (λ x y lx ly. each x y (ltb-true _ _ i) (ltb-true _ _ j) lx ly z _ refl _ refl)
+      by true i false j z = never (let u = sym z in cc)
+      by false i b j z = never (let u = sym z in cc)
+
+pub due-candidate : (times : List ℕ) (w : ℕ) (t : Arc) → isDue times w t ≡ true → isCandidate t ≡ true
+unfolding isDue
+due-candidate times w t e = by (isCandidate t) _ e
+  where
+    by : (b s : Bool) → (b && s) ≡ true → b ≡ true
+    by true s f = refl
+    by false s f = never (let g = f in cc)
 
 -- ---- what is known, kept
 
@@ -194,6 +218,10 @@ zeros : (n j : ℕ) → getD (replicate n 0) j 0 ≤ 0
 zeros zero j = omega arith
 zeros (suc n) zero = omega arith
 zeros (suc n) (suc j) = zeros n j
+
+-- nothing was put before every search
+pub searched-none : (net : Net) (seen : Seen) (t : Arc) → Searched net seen 0 t
+searched-none net seen t x y l m e f = absurd (omega (arith, ltb-true (getD (seen .put) x 0) 0 e))
 
 pub known-nothing : (net : Net) → Known net 0 nothingSeen
 known-nothing net =
@@ -222,6 +250,14 @@ known-sought {net} {now} {seen} k j e = by (ltb j 97)
     by : (b : Bool) → Known net now (cond b after seen)
     by false = k
     by true = record { past = λ i. set-le (seen .sought) j i now now (k .past i) (omega arith); long = k .long; vain = λ i. vain i (eqb i j) refl }
+
+pub sought-put : (seen : Seen) (j now : ℕ) → soughtAt seen j now .put ≡ seen .put
+unfolding soughtAt
+sought-put seen j now = by (ltb j 97)
+  where
+    by : (b : Bool) → cond b (record { put = seen .put; sought = set (seen .sought) j now }) seen .put ≡ seen .put
+    by true = refl
+    by false = refl
 
 -- an arc of no number is not put
 put-out : (net : Net) (k : ℕ) (a : Arc) (j : ℕ) → 97 ≤ k → arcAt (withArc net k a) j ≡ arcAt net j
@@ -277,20 +313,46 @@ known-after h c =
     let k = known-put (known-put (known-put (known-put h (c .one .number) (c .one .arc)) (c .two .number) (c .two .arc)) (c .three .number) (c .three .arc)) (c .four .number) (c .four .arc) in
     record { past = k .past; long = k .long; vain = k .vain }
 
--- what rule 4 answers, as a step
-pub four-at : (net : Net) (i : ℕ) (t : Tried) → t ≡ ruleFour net i → answered 4 i t ≡ stepAt net 4 i
-unfolding stepAt ruleAt
-four-at net i t e = ap (answered 4 i) e
+-- ---- what rule 4 answers at arc j: where no pair is due, where the arc can't be dropped, where there is no pair, and where there is one
 
--- ---- an arc that can't be dropped anyway
+abbrev AtLower : Net → ℕ → Tried
+AtLower net j = atFlow j (arcAt net j) (arcAt net j .lower) (supplyAt net (arcAt net j .from)) (supplyAt net (arcAt net j .to))
 
-pub barred : (b p : Bool) (net : Net) (j : ℕ) (t : Arc) → barredBy b net j t ≡ true → passed ≡ costlyWith p net j t
-unfolding atFlow droppedOf
-barred false p net j t e = never (let f = e in cc)
-barred true false net j t e = refl
-barred true true net j t e = by (supplyLess (t .from) (supplyAt net (t .from)) (t .a) (t .lower)) (supplyLess (farEnd t) (supplyAt net (t .to)) (t .b) (t .lower)) e
+pub four-idle : (net : Net) (j : ℕ) → (isCandidate (arcAt net j) ≡ true → hasPair net (arcAt net j) ≡ false) → answered 4 j passed ≡ stepAt net 4 j
+unfolding stepAt ruleAt ruleFour
+four-idle net j h = by (isCandidate (arcAt net j)) refl
   where
-    by : (p q : Worked) → isPassed (droppedOf p q j (t .from) (farEnd t) 0) ≡ true → passed ≡ droppedOf p q j (t .from) (farEnd t) 0
-    by (Fits x) (Fits y) e = never (let f = e in cc)
-    by (Fits x) Misfit e = refl
-    by Misfit q e = refl
+    by : (b : Bool) → isCandidate (arcAt net j) ≡ b → answered 4 j passed ≡ answered 4 j (costlyBy b net j (arcAt net j))
+    by true e = rw (h e)
+    by false e = refl
+
+-- an arc that can't be dropped passes
+stays : (p q : Worked) (j left right gone : ℕ) → isDropped (droppedOf p q j left right gone) ≡ false → droppedOf p q j left right gone ≡ passed
+unfolding droppedOf
+stays (Fits x) (Fits y) j left right gone e = never (let f = sym e in cc)
+stays (Fits x) Misfit j left right gone e = refl
+stays Misfit q j left right gone e = refl
+
+pub four-stays : (net : Net) (j : ℕ) → isDropped (AtLower net j) ≡ false → answered 4 j passed ≡ stepAt net 4 j
+unfolding stepAt ruleAt ruleFour atFlow
+four-stays net j e = by (isCandidate (arcAt net j))
+  where
+    either : (p : Bool) → answered 4 j passed ≡ answered 4 j (costlyWith p net j (arcAt net j))
+    either true = rw (stays _ _ j _ _ 0 e)
+    either false = refl
+
+    by : (b : Bool) → answered 4 j passed ≡ answered 4 j (costlyBy b net j (arcAt net j))
+    by true = either (hasPair net (arcAt net j))
+    by false = refl
+
+pub four-found : (net : Net) (j : ℕ) → isCandidate (arcAt net j) ≡ true → hasPair net (arcAt net j) ≡ true → answered 4 j (AtLower net j) ≡ stepAt net 4 j
+unfolding stepAt ruleAt ruleFour
+four-found net j e f = rw (e, f)
+
+pub four-stops : (x : Tried) → isDropped x ≡ true → (s : Step) (g : ℕ → Step) (j : ℕ) → orOn (x .kind) s g j ≡ s
+four-stops x e s g j = by (x .kind) e
+  where
+    by : (k : Kind) → isStep k ≡ true → orOn k s g j ≡ s
+    by Passes f = never (let h = f in cc)
+    by NoFlow f = refl
+    by Changes f = refl

@@ -2,6 +2,7 @@ pub mod RunLaws
 pub mod Touch
 pub mod Frame
 pub mod Known
+pub mod Passing
 pub mod Sides
 pub mod Arcs
 pub mod Kept

@@ -1,6 +1,6 @@
 -- What rule 4 keeps of earlier searches, so that no pair of root arcs is tried again, and the figures that it works once for each root arc. Assumes nothing.
 use mathlib.Core.Path.{_≡_}
-use mathlib.Core.Bool.{Bool, true, false, cond, _&&_, _||_}
+use mathlib.Core.Bool.{Bool, true, false, cond, _&&_}
 use mathlib.Core.List.{List}
 use Prim.Native.Nat.{ℕ, _≤_, _<_}
 use lib.Dec.{ltb}
@@ -17,7 +17,7 @@ use Rattle.network.specs.declared.Kind.{Kind}
 use Rattle.network.specs.declared.Kind.the-variants.{Passes, NoFlow, Changes}
 use Rattle.network.specs.declared.Tried.{Tried}
 use Rattle.network.specs.Network.{arcAt}
-use Rattle.reduction.specs.Rules.{isPositive, isUnder, isOpenRoot, isCostlier, costlyWith}
+use Rattle.reduction.specs.Rules.{isPositive, isUnder, isOpenRoot, isCostlier}
 use Rattle.reduction.specs.declared.costly.Seen.{Seen}
 
 -- ---- by way of a root arc
@@ -57,13 +57,6 @@ barOf old w = cond old w 0
 abbrev pub isDueFrom : Seen → ℕ → List Fraction → List Fraction → Fraction → ℕ → Bool
 isDueFrom seen w from to c k = any (isDueUnder seen (barOf (isOld seen w k) w) (getD from k noFigure) to c) 97
 
--- a root arc at an end of t is due
-abbrev pub isEnd : Arc → Arc → Bool
-isEnd t x = isOpenRoot x (t .from) || isOpenRoot x (t .to)
-
-abbrev pub isDueEnd : Net → Seen → ℕ → Arc → ℕ → Bool
-isDueEnd net seen w t k = dueBy (isOld seen w k) (isEnd t (arcAt net k))
-
 -- ---- what is known
 
 -- the root arcs x and y make t costly
@@ -95,16 +88,12 @@ markedAll seen c now = marked (marked (marked (marked seen (c .one .number) now)
 unfoldable pub soughtAt : Seen → ℕ → ℕ → Seen
 soughtAt seen j now = cond (ltb j 97) (record { put = seen .put; sought = set (seen .sought) j now }) seen
 
--- ---- arcs that can't be dropped anyway
+-- ---- an arc is dropped, or stays for a figure that doesn't fit
 
-abbrev pub isPassing : Kind → Bool
-isPassing Passes = true
-isPassing NoFlow = false
-isPassing Changes = false
+abbrev pub isStep : Kind → Bool
+isStep Passes = false
+isStep NoFlow = true
+isStep Changes = true
 
-abbrev pub isPassed : Tried → Bool
-isPassed t = isPassing (t .kind)
-
-abbrev pub barredBy : Bool → Net → ℕ → Arc → Bool
-barredBy false net j t = false
-barredBy true net j t = isPassed (costlyWith true net j t)
+abbrev pub isDropped : Tried → Bool
+isDropped t = isStep (t .kind)

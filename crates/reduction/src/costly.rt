@@ -1,12 +1,13 @@
 // Rule 4: costly arc. A run keeps when each arc was put, and when a pair was sought for it in vain: no pair of root arcs is tried again.
 ghost use mathlib.Core.Path.{_≡_};
-ghost use mathlib.Core.Bool.{true};
+ghost use Prim.Native.Nat.{_+_};
+ghost use Rattle.fraction.specs.Exact.{noFigure};
 ghost use Rattle.loops.specs.Loops.{any};
-ghost use lib.Dec.{ltb, eqb};
+ghost use lib.Dec.{ltb};
 ghost use lib.ListN.{getD};
-ghost use Rattle.network.specs.Network.{arcAt};
-ghost use Rattle.reduction.specs.Rules.{isOpenRoot, isCandidate, hasPair, costlyWith, ruleFour};
-ghost use Rattle.reduction.specs.Seen.{wayOf, waysOf, barOf, isDueUnder, isDueFrom, isEnd, isDueEnd, isPassed, barredBy, Known, Searched, nothingSeen, marked, markedAll, soughtAt};
+ghost use Rattle.reduction.specs.Rules.{isOpenRoot, isCandidate, hasPair, atFlow, ruleFour};
+ghost use Rattle.reduction.specs.Filter.{later, Covers, isTimely, isDue};
+ghost use Rattle.reduction.specs.Seen.{wayOf, waysOf, barOf, isDueUnder, isDueFrom, Searched, nothingSeen, marked, markedAll, soughtAt, isDropped};
 use crate::figures::at_flow;
 use crate::figures::is_finite;
 use crate::figures::is_positive;
@@ -22,12 +23,6 @@ use network::Tried;
 pub struct Seen {
     pub put: [u8; 97],
     pub sought: [u8; 97],
-}
-
-// What rule 4 answers at an arc, and what is known then.
-pub struct Sought {
-    pub tried: Tried,
-    pub seen: Seen,
 }
 
 // The cost by way of each root arc at a node.
@@ -77,7 +72,7 @@ pub fn mark_all(seen: Seen, change: Change, now: u8) -> Seen
 }
 
 // A pair was sought for arc j now, in vain.
-fn mark_sought(mut seen: Seen, j: usize, now: u8) -> Seen
+pub(crate) fn mark_sought(mut seen: Seen, j: usize, now: u8) -> Seen
     ensures { λ r. ⌜ r ≡ soughtAt seen j now ⌝ }
 {
     if j < 97 {
@@ -85,16 +80,6 @@ fn mark_sought(mut seen: Seen, j: usize, now: u8) -> Seen
         return seen;
     }
     seen
-}
-
-// When a pair was sought for arc j.
-fn sought_at(seen: Seen, j: usize) -> u8
-    ensures { λ r. ⌜ r ≡ getD (seen .sought) j 0 ⌝ }
-{
-    if j < 97 {
-        return seen.sought[j];
-    }
-    0
 }
 
 // Whether x is a root arc at node i without upper bound.
@@ -175,45 +160,84 @@ fn any_due_pair(seen: Seen, w: u8, from: Ways, to: Ways, c: Fraction) -> bool
     false
 }
 
-// Whether x is an open root arc at an end of t.
-fn is_end(t: Arc, x: Arc) -> bool
-    ensures { λ r. ⌜ r ≡ isEnd t x ⌝ }
-{
-    if is_open_root(x, t.from) {
-        return true;
-    }
-    is_open_root(x, t.to)
+// For each node, a time after those at which its root arcs without upper bound were put; 0 where it has none.
+pub struct Times {
+    pub at: [usize; 33],
 }
 
-// Whether a root arc at an end of t was put at the time w or later.
-fn any_due_end(net: Net, seen: Seen, w: u8, t: Arc) -> bool
-    ensures { λ r. ⌜ r ≡ any (isDueEnd net seen w t) 97 ⌝ }
+// The time p at node i, if it is later.
+fn put_time(at: &mut [usize; 33], i: usize, p: usize)
+    ensures { λ _. ⌜ now (at .exit) ≡ later (now (at .entry)) i p ⌝ }
 {
-    for k in 0..97 {
-        if seen.put[k] >= w {
-            let x = net.arcs[k];
-            if is_end(t, x) {
-                return true;
-            }
+    if i < 33 {
+        if at[i] < p {
+            at[i] = p;
         }
+    }
+}
+
+// The time after p.
+fn after(p: u8) -> usize
+    ensures { λ r. ⌜ r ≡ p + 1 ⌝ }
+{
+    (p as usize) + 1
+}
+
+pub(crate) fn all_times(net: Net, seen: Seen) -> Times
+    ensures { λ r. ⌜ Covers net (seen .put) (r .at) ⌝ }
+{
+    let mut at: [usize; 33] = [0; 33];
+    for k in 0..97 {
+        let x = net.arcs[k];
+        if is_open_root(x, x.from) {
+            put_time(&mut at, x.from, after(seen.put[k]));
+        }
+    }
+    Times { at }
+}
+
+// Whether there are times at both ends, and one of them is after w.
+fn is_timely(w: u8, p: usize, q: usize) -> bool
+    ensures { λ r. ⌜ r ≡ isTimely w p q ⌝ }
+{
+    if p == 0 {
+        return false;
+    }
+    if q == 0 {
+        return false;
+    }
+    (w as usize) < p || (w as usize) < q
+}
+
+// Whether t is a candidate at whose ends a pair may be due.
+pub(crate) fn is_due(at: &[usize; 33], w: u8, t: Arc) -> bool
+    ensures { λ r. ⌜ r ≡ isDue (now (at .entry)) w t ⌝ }
+{
+    let f = t.from;
+    let g = t.to;
+    if is_candidate(t) {
+        if f < 33 {
+            if g < 33 {
+                return is_timely(w, at[f], at[g]);
+            }
+            return true;
+        }
+        return true;
     }
     false
 }
 
 // Whether some pair of root arcs, at the from node and at the to node, makes t costly, where none is known from before the time w.
-fn has_pair(net: Net, seen: Seen, w: u8, t: Arc) -> bool
+pub(crate) fn has_pair(net: Net, seen: Seen, w: u8, t: Arc) -> bool
     requires { ⌜ Searched net seen w t ⌝ }
     ensures { λ r. ⌜ r ≡ hasPair net t ⌝ }
 {
-    if any_due_end(net, seen, w, t) {
-        let a = t.a;
-        let b = t.b;
-        let c = t.cost;
-        let from = all_ways(net, t.from, a);
-        let to = all_ways(net, t.to, b);
-        return any_due_pair(seen, w, from, to, c);
-    }
-    false
+    let a = t.a;
+    let b = t.b;
+    let c = t.cost;
+    let from = all_ways(net, t.from, a);
+    let to = all_ways(net, t.to, b);
+    any_due_pair(seen, w, from, to, c)
 }
 
 fn is_candidate(t: Arc) -> bool
@@ -227,72 +251,38 @@ fn is_candidate(t: Arc) -> bool
 }
 
 // Arc j dropped at its lower bound.
-fn at_lower(net: Net, j: usize, t: Arc) -> Tried
-    ensures { λ r. ⌜ r ≡ costlyWith true net j t ⌝ }
+pub(crate) fn at_lower(supply: [Fraction; 33], j: usize, t: Arc) -> Tried
+    ensures { λ r. ⌜ r ≡ atFlow j t (t .lower) (getD supply (t .from) noFigure) (getD supply (t .to) noFigure) ⌝ }
 {
-    let r = network::supply_at(net, t.from);
-    let s = network::supply_at(net, t.to);
+    let r = network::supply_of(supply, t.from);
+    let s = network::supply_of(supply, t.to);
     let l = t.lower;
     at_flow(j, t, l, r, s)
 }
 
-fn is_passed(t: Tried) -> bool
-    ensures { λ r. ⌜ r ≡ isPassed t ⌝ }
+// Whether an arc is dropped, and doesn't stay for a figure that doesn't fit.
+pub(crate) fn is_dropped(t: Tried) -> bool
+    ensures { λ r. ⌜ r ≡ isDropped t ⌝ }
 {
     let kind = t.kind;
     match kind {
-        Kind::Passes => true,
-        Kind::NoFlow => false,
-        Kind::Changes => false,
+        Kind::Passes => false,
+        Kind::NoFlow => true,
+        Kind::Changes => true,
     }
-}
-
-// Whether arc j, for which no pair was sought yet, could not be dropped anyway.
-fn is_barred(net: Net, j: usize, t: Arc, w: u8) -> bool
-    ensures { λ r. ⌜ r ≡ barredBy (eqb w 0) net j t ⌝ }
-{
-    if w == 0 {
-        return is_passed(at_lower(net, j, t));
-    }
-    false
-}
-
-// Rule 4 at arc j, a candidate.
-fn seek_pair(net: Net, seen: Seen, j: usize, now: u8, t: Arc) -> Sought
-    requires { ⌜ Known net now seen × (t ≡ arcAt net j) ⌝ }
-    ensures { λ r. ⌜ (r .tried ≡ costlyWith (hasPair net t) net j t) × Known net now (r .seen) ⌝ }
-{
-    let w = sought_at(seen, j);
-    if is_barred(net, j, t, w) {
-        let tried = network::passes();
-        return Sought { tried, seen };
-    }
-    if has_pair(net, seen, w, t) {
-        let tried = at_lower(net, j, t);
-        return Sought { tried, seen };
-    }
-    let tried = network::passes();
-    let known = mark_sought(seen, j, now);
-    Sought { tried, seen: known }
-}
-
-// Rule 4 at arc j, by what is known.
-pub(crate) fn seek(net: Net, seen: Seen, j: usize, now: u8) -> Sought
-    requires { ⌜ Known net now seen ⌝ }
-    ensures { λ r. ⌜ (r .tried ≡ ruleFour net j) × Known net now (r .seen) ⌝ }
-{
-    let t = network::arc_at(net, j);
-    if is_candidate(t) {
-        return seek_pair(net, seen, j, now, t);
-    }
-    let tried = network::passes();
-    Sought { tried, seen }
 }
 
 // Rule 4 at arc j.
 pub fn rule_four(net: Net, j: usize) -> Tried
     ensures { λ x. ⌜ x ≡ ruleFour net j ⌝ }
 {
-    let s = seek(net, unseen(), j, 0);
-    s.tried
+    let t = network::arc_at(net, j);
+    let supply = net.supply;
+    if is_candidate(t) {
+        if has_pair(net, unseen(), 0, t) {
+            return at_lower(supply, j, t);
+        }
+        return network::passes();
+    }
+    network::passes()
 }

@@ -1,8 +1,10 @@
 // Rule 6: crossing.
 ghost use mathlib.Core.Path.{_≡_};
-ghost use mathlib.Core.Bool.{true, false};
-ghost use Rattle.network.specs.Network.{touchingAfter};
-ghost use Rattle.reduction.specs.Rules.{hasSignAt, signedAfter, isFree, isApart, threeFit, crossedBy, crossedOf, allFree, allApart, putOf, changeFour, fourOf, fourFit, crossingAt, withOne, crossingOf, bothSigns, signsOf, ruleSix};
+ghost use mathlib.Core.Bool.{true, false, _&&_};
+ghost use Prim.Native.Nat.{_≤_};
+ghost use Rattle.fraction.specs.Exact.{isZero};
+ghost use Rattle.network.specs.Network.{supplyAt, touchingAfter};
+ghost use Rattle.reduction.specs.Rules.{hasSignAt, signedAfter, isFree, isApart, threeFit, crossedBy, crossedOf, allFree, allApart, putOf, changeFour, fourOf, fourFit, crossingAt, withOne, bothSigns, signsOf, crossingWhere, ruleSix};
 use crate::figures::Made;
 use fraction::Fraction;
 use fraction::Worked;
@@ -222,19 +224,18 @@ fn with_numbers(net: Net, i: usize, f: Four) -> Tried
     crossing_at(f, k1, k2, k3, k4, i)
 }
 
-fn crossing_of(net: Net, i: usize, n1: Arc, n2: Arc, p1: Arc, p2: Arc) -> Tried
-    ensures { λ r. ⌜ r ≡ crossingOf net i n1 n2 p1 p2 ⌝ }
+fn is_crossing(n1: Arc, n2: Arc, p1: Arc, p2: Arc, i: usize) -> bool
+    ensures { λ r. ⌜ r ≡ (allFree n1 n2 p1 p2 && allApart n1 n2 p1 p2 i) ⌝ }
 {
     if all_free(n1, n2, p1, p2) {
-        if all_apart(n1, n2, p1, p2, i) {
-            return with_numbers(net, i, all_four(n1, n2, p1, p2, i));
-        }
-        return network::passes();
+        return all_apart(n1, n2, p1, p2, i);
     }
-    network::passes()
+    false
 }
 
+// Rule 6 at node i, where the arcs of each sign are known.
 fn both_signs(net: Net, i: usize, n1: usize, n2: usize, p1: usize, p2: usize) -> Tried
+    requires { ⌜ (n1 ≤ 96) × (n2 ≤ 96) × (p1 ≤ 96) × (p2 ≤ 96) ⌝ }
     ensures { λ r. ⌜ r ≡ bothSigns net i n1 n2 p1 p2 ⌝ }
 {
     if n2 == 0 {
@@ -243,11 +244,14 @@ fn both_signs(net: Net, i: usize, n1: usize, n2: usize, p1: usize, p2: usize) ->
     if p2 == 0 {
         return network::passes();
     }
-    let a = network::arc_at(net, n1);
-    let b = network::arc_at(net, n2);
-    let c = network::arc_at(net, p1);
-    let d = network::arc_at(net, p2);
-    crossing_of(net, i, a, b, c, d)
+    let a = net.arcs[n1];
+    let b = net.arcs[n2];
+    let c = net.arcs[p1];
+    let d = net.arcs[p2];
+    if is_crossing(a, b, c, d, i) {
+        return with_numbers(net, i, all_four(a, b, c, d, i));
+    }
+    network::passes()
 }
 
 fn signs(net: Net, i: usize) -> Tried
@@ -260,6 +264,18 @@ fn signs(net: Net, i: usize) -> Tried
     both_signs(net, i, n1, n2, p1, p2)
 }
 
+// Rule 6 at node i of degree 4.
+pub(crate) fn cross_at(net: Net, i: usize) -> Tried
+    ensures { λ x. ⌜ x ≡ crossingWhere (isZero (supplyAt net i)) net i ⌝ }
+{
+    let supply = net.supply;
+    let r = network::supply_of(supply, i);
+    if r.is_zero() {
+        return signs(net, i);
+    }
+    network::passes()
+}
+
 // Rule 6 at node i.
 pub fn rule_six(net: Net, i: usize) -> Tried
     ensures { λ x. ⌜ x ≡ ruleSix net i ⌝ }
@@ -268,9 +284,5 @@ pub fn rule_six(net: Net, i: usize) -> Tried
     if d != 4 {
         return network::passes();
     }
-    let r = network::supply_at(net, i);
-    if r.is_zero() {
-        return signs(net, i);
-    }
-    network::passes()
+    cross_at(net, i)
 }

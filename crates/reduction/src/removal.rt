@@ -1,6 +1,11 @@
 // Rules 1, 2 and 3: closed arc, bare node, single arc.
 ghost use mathlib.Core.Path.{_≡_};
-ghost use Rattle.reduction.specs.Rules.{closedArc, ruleOne, bareNode, ruleTwo, singleArc, ruleThree};
+ghost use lib.ListN.{getD};
+ghost use mathlib.Core.Bool.{true};
+ghost use Rattle.fraction.specs.Exact.{noFigure};
+ghost use Rattle.network.specs.Network.{touchingAfter};
+ghost use Rattle.reduction.specs.Filter.{isClosed};
+ghost use Rattle.reduction.specs.Rules.{closedArc, ruleOne, bareNode, ruleTwo, singleArc, singleWhere, ruleThree};
 use crate::figures::at_flow;
 use crate::figures::dropped;
 use crate::figures::supply_less;
@@ -27,17 +32,37 @@ fn closed_arc(j: usize, t: Arc, r: Fraction, s: Fraction) -> Tried
     network::passes()
 }
 
+// Whether arc t is in use, and its bounds cross or meet.
+pub(crate) fn is_closed(t: Arc) -> bool
+    ensures { λ r. ⌜ r ≡ isClosed t ⌝ }
+{
+    let l = t.lower;
+    let u = t.upper;
+    if t.from == 0 {
+        return false;
+    }
+    u.less(l) || l.same(u)
+}
+
+// Rule 1 at arc j, t, by the supplies.
+pub(crate) fn closed_at(supply: [Fraction; 33], j: usize, t: Arc) -> Tried
+    ensures { λ x. ⌜ x ≡ closedArc j t (getD supply (t .from) noFigure) (getD supply (t .to) noFigure) ⌝ }
+{
+    let r = network::supply_of(supply, t.from);
+    let s = network::supply_of(supply, t.to);
+    closed_arc(j, t, r, s)
+}
+
 // Rule 1 at arc j.
 pub fn rule_one(net: Net, j: usize) -> Tried
     ensures { λ x. ⌜ x ≡ ruleOne net j ⌝ }
 {
     let t = network::arc_at(net, j);
-    let r = network::supply_at(net, t.from);
-    let s = network::supply_at(net, t.to);
-    closed_arc(j, t, r, s)
+    let supply = net.supply;
+    closed_at(supply, j, t)
 }
 
-fn bare_node(i: usize, d: usize, r: Fraction) -> Tried
+pub(crate) fn bare_node(i: usize, d: usize, r: Fraction) -> Tried
     ensures { λ x. ⌜ x ≡ bareNode i d r ⌝ }
 {
     if d != 0 {
@@ -86,6 +111,19 @@ fn single_arc(i: usize, j: usize, t: Arc, r: Fraction, s: Fraction) -> Tried
     }
 }
 
+// Rule 3 at node i of degree 1.
+pub(crate) fn single_at(net: Net, i: usize) -> Tried
+    ensures { λ x. ⌜ x ≡ singleWhere true net i (touchingAfter net i 0) ⌝ }
+{
+    let j = network::touching(net, i, 0);
+    let t = net.arcs[j];
+    let supply = net.supply;
+    let w = network::side_at(t, i);
+    let r = network::supply_of(supply, i);
+    let s = network::supply_of(supply, w.other);
+    single_arc(i, j, t, r, s)
+}
+
 // Rule 3 at node i.
 pub fn rule_three(net: Net, i: usize) -> Tried
     ensures { λ x. ⌜ x ≡ ruleThree net i ⌝ }
@@ -94,10 +132,5 @@ pub fn rule_three(net: Net, i: usize) -> Tried
     if d != 1 {
         return network::passes();
     }
-    let j = network::touching(net, i, 0);
-    let t = network::arc_at(net, j);
-    let w = network::side_at(t, i);
-    let r = network::supply_at(net, i);
-    let s = network::supply_at(net, w.other);
-    single_arc(i, j, t, r, s)
+    single_at(net, i)
 }

@@ -1,17 +1,20 @@
 // The search for the next step, and steps until there is none.
 ghost use mathlib.Core.Path.{_≡_};
+ghost use mathlib.Core.Bool.{true, false};
+ghost use lib.Dec.{eqb, leb};
+ghost use Rattle.network.specs.Network.{isHere, degreeOf, AreDegrees};
 ghost use Rattle.reduction.specs.Rules.{nodeRule, ruleAt};
-ghost use Rattle.reduction.specs.Seen.{Known};
+ghost use Rattle.reduction.specs.Filter.{wantedOf};
+ghost use Rattle.reduction.specs.Seen.{Known, markedAll};
 ghost use Prim.Native.Nat.{_≤_, _<_};
-ghost use lib.Dec.{leb};
 ghost use lib.ListN.{length};
 ghost use Rattle.network.specs.ArcList.{arcsIn, joined};
-ghost use Rattle.reduction.specs.Seen.{markedAll};
-ghost use Rattle.reduction.specs.Search.{noStep, answered, stepAt, lastPlace, ranked, nextOf, ranOf};
+ghost use Rattle.reduction.specs.Search.{noStep, answered, ranked, nextOf, ranOf};
 ghost use Rattle.reduction.specs.ListRun.{begun, takenOn, stopped, Advanced, Turned, netIn, ranIn, ranBy, concluded};
 use crate::costly::Seen;
 use network::Arc;
 use network::Change;
+use network::Degrees;
 use network::Kind;
 use network::Net;
 use network::Nodes;
@@ -91,32 +94,67 @@ fn answer(k: usize, i: usize, t: Tried) -> Step
     }
 }
 
-fn step_at(net: Net, k: usize, i: usize) -> Step
-    ensures { λ r. ⌜ r ≡ stepAt net k i ⌝ }
+// Rule 1 at its places upward.
+fn scan_one(net: Net) -> Step
+    ensures { λ r. ⌜ r ≡ ranked net 1 ⌝ }
 {
-    answer(k, i, try_rule(net, k, i))
+    let supply = net.supply;
+    let mut j = 1;
+    while j <= 96 {
+        let t = net.arcs[j];
+        if crate::removal::is_closed(t) {
+            let x = crate::removal::closed_at(supply, j, t);
+            let kind = x.kind;
+            if let Kind::Passes = kind {} else {
+                return answer(1, j, x);
+            }
+        }
+        j += 1;
+    }
+    no_step()
 }
 
-fn last_place(k: usize) -> usize
-    ensures { λ r. ⌜ r ≡ lastPlace k ⌝ }
+// The degree that rule k asks for.
+fn wanted(k: usize) -> usize
+    ensures { λ r. ⌜ r ≡ wantedOf k ⌝ }
 {
     match k {
-        1 => 96,
-        4 => 96,
-        _ => 32,
+        3 => 1,
+        5 => 2,
+        6 => 4,
+        _ => 0,
     }
 }
 
-fn scan_rule(net: Net, k: usize) -> Step
+// Rule k, of nodes, at node i in use that has the rule's degree.
+fn at_node(net: Net, k: usize, i: usize) -> Tried
+    requires { ⌜ (isHere net i ≡ true) × (degreeOf net i ≡ wantedOf k) ⌝ }
+    ensures { λ x. ⌜ x ≡ nodeRule net k i ⌝ }
+{
+    let supply = net.supply;
+    match k {
+        2 => crate::removal::bare_node(i, 0, network::supply_of(supply, i)),
+        3 => crate::removal::single_at(net, i),
+        5 => crate::two_arcs::merge_at(net, i),
+        6 => crate::crossing::cross_at(net, i),
+        _ => network::passes(),
+    }
+}
+
+// Rule k, of nodes, at its places upward.
+fn scan_nodes(net: Net, degrees: Degrees, k: usize) -> Step
+    requires { ⌜ AreDegrees net (degrees .at) × (eqb k 1 ≡ false) × (eqb k 4 ≡ false) ⌝ }
     ensures { λ r. ⌜ r ≡ ranked net k ⌝ }
 {
-    let last = last_place(k);
+    let d = wanted(k);
     let mut i = 1;
-    while i <= last {
-        let s = step_at(net, k, i);
-        let kind = s.kind;
-        if let Kind::Passes = kind {} else {
-            return s;
+    while i <= 32 {
+        if net.here[i] && degrees.at[i] == d {
+            let x = at_node(net, k, i);
+            let kind = x.kind;
+            if let Kind::Passes = kind {} else {
+                return answer(k, i, x);
+            }
         }
         i += 1;
     }
@@ -134,18 +172,25 @@ fn scan_four(net: Net, seen: Seen, now: u8) -> Found
     requires { ⌜ Known net now seen ⌝ }
     ensures { λ r. ⌜ (r .step ≡ ranked net 4) × Known net now (r .seen) ⌝ }
 {
+    let times = crate::costly::all_times(net, seen);
+    let at = times.at;
+    let supply = net.supply;
     let mut known = seen;
     let mut i = 1;
     while i <= 96 {
-        let s = crate::costly::seek(net, known, i, now);
-        known = s.seen;
-        let t = s.tried;
-        let kind = t.kind;
-        if let Kind::Passes = kind {} else {
-            return Found {
-                step: answer(4, i, t),
-                seen: known,
-            };
+        let t = net.arcs[i];
+        let w = known.sought[i];
+        if crate::costly::is_due(&at, w, t) {
+            let x = crate::costly::at_lower(supply, i, t);
+            if crate::costly::is_dropped(x) {
+                if crate::costly::has_pair(net, known, w, t) {
+                    return Found {
+                        step: answer(4, i, x),
+                        seen: known,
+                    };
+                }
+                known = crate::costly::mark_sought(known, i, now);
+            }
         }
         i += 1;
     }
@@ -155,15 +200,21 @@ fn scan_four(net: Net, seen: Seen, now: u8) -> Found
     }
 }
 
-fn scan_known(net: Net, seen: Seen, k: usize, now: u8) -> Found
-    requires { ⌜ Known net now seen ⌝ }
+fn scan_known(net: Net, degrees: Degrees, seen: Seen, k: usize, now: u8) -> Found
+    requires { ⌜ Known net now seen × AreDegrees net (degrees .at) ⌝ }
     ensures { λ r. ⌜ (r .step ≡ ranked net k) × Known net now (r .seen) ⌝ }
 {
-    if k == 4 {
-        return scan_four(net, seen, now);
+    match k {
+        1 => Found {
+            step: scan_one(net),
+            seen,
+        },
+        4 => scan_four(net, seen, now),
+        _ => Found {
+            step: scan_nodes(net, degrees, k),
+            seen,
+        },
     }
-    let step = scan_rule(net, k);
-    Found { step, seen }
 }
 
 // The next step, by what is known.
@@ -171,9 +222,10 @@ fn next_known(net: Net, seen: Seen, now: u8) -> Found
     requires { ⌜ Known net now seen ⌝ }
     ensures { λ r. ⌜ (r .step ≡ nextOf net) × Known net now (r .seen) ⌝ }
 {
+    let degrees = network::all_degrees(net);
     let mut known = seen;
     for k in 1..7 {
-        let f = scan_known(net, known, k, now);
+        let f = scan_known(net, degrees, known, k, now);
         known = f.seen;
         let s = f.step;
         let kind = s.kind;

@@ -1,6 +1,8 @@
 // Rule 5: two arcs.
 ghost use mathlib.Core.Path.{_≡_};
-ghost use Rattle.reduction.specs.Rules.{sameSign, farMultiplier, farSupply, keptCost, boundFrom, tighterLower, tighterUpper, keptLower, keptUpper, lowerSource, upperSource, keptArc, allFit, madeOf, keptOf, changeTwo, mergedOf, twoArcs, keepFirst, keepOne, ruleFive};
+ghost use mathlib.Core.Bool.{true};
+ghost use Rattle.reduction.specs.Rules.{sameSign, farMultiplier, farSupply, keptCost, boundFrom, tighterLower, tighterUpper, keptLower, keptUpper, lowerSource, upperSource, keptArc, allFit, madeOf, keptOf, changeTwo, mergedOf, twoArcs, twoWhere, ruleFive};
+ghost use Rattle.reduction.specs.Filter.{keptFirst};
 use crate::figures::Made;
 use crate::figures::is_finite;
 use crate::figures::larger;
@@ -218,31 +220,33 @@ fn two_arcs(i: usize, j: usize, t: Arc, k: usize, u: Arc, r: Fraction, s: Fracti
     merged(i, j, k, x, m, g)
 }
 
-// Arc j is kept and arc k goes, where their other ends differ.
-fn keep_first(net: Net, i: usize, j: usize, k: usize) -> Tried
-    ensures { λ x. ⌜ x ≡ keepFirst net i j k ⌝ }
+// Arc j, t, is kept and arc k, u, goes, where their other ends differ.
+fn keep_first(supply: [Fraction; 33], i: usize, j: usize, t: Arc, k: usize, u: Arc) -> Tried
+    ensures { λ x. ⌜ x ≡ keptFirst supply i j t k u ⌝ }
 {
-    let t = network::arc_at(net, j);
-    let u = network::arc_at(net, k);
     let w = network::side_at(t, i);
     let x = network::side_at(u, i);
     if w.other == x.other {
         return network::passes();
     }
-    let r = network::supply_at(net, i);
-    let s = network::supply_at(net, x.other);
+    let r = network::supply_of(supply, i);
+    let s = network::supply_of(supply, x.other);
     two_arcs(i, j, t, k, u, r, s)
 }
 
-// The lower number is kept unless it is a root arc.
-fn keep_one(net: Net, i: usize, low: usize, high: usize) -> Tried
-    ensures { λ x. ⌜ x ≡ keepOne net i low high ⌝ }
+// Rule 5 at node i of degree 2: the lower number is kept unless it is a root arc.
+pub(crate) fn merge_at(net: Net, i: usize) -> Tried
+    ensures { λ x. ⌜ x ≡ twoWhere true net i ⌝ }
 {
-    let t = network::arc_at(net, low);
+    let j = network::touching(net, i, 0);
+    let k = network::touching(net, i, j);
+    let t = net.arcs[j];
+    let u = net.arcs[k];
+    let supply = net.supply;
     if network::is_root(t) {
-        return keep_first(net, i, high, low);
+        return keep_first(supply, i, k, u, j, t);
     }
-    keep_first(net, i, low, high)
+    keep_first(supply, i, j, t, k, u)
 }
 
 // Rule 5 at node i.
@@ -253,7 +257,5 @@ pub fn rule_five(net: Net, i: usize) -> Tried
     if d != 2 {
         return network::passes();
     }
-    let j = network::touching(net, i, 0);
-    let k = network::touching(net, i, j);
-    keep_one(net, i, j, k)
+    merge_at(net, i)
 }

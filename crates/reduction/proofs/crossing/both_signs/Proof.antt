@@ -1,5 +1,5 @@
 -- `reduction::crossing::both_signs` meets its contract. Assumes nothing.
-use Rattle.reduction.specs.Rules.{bothSigns}
+use Rattle.reduction.specs.Rules.{bothSigns, crossingOf}
 use borrow.Author.Needs.{needs}
 use borrow.Author.Tests.{eq-eqb, ne-eqb}
 use Rattle.reduction.proofs.crossing.both_signs.Statement.{statement}
@@ -14,8 +14,12 @@ unfolding bothSigns
 returns-2 c = rw (ne-eqb _ _ (c .before .before .if1 .left), eq-eqb _ _ (c .before .if2 .taken)) (c .passes2 .ensures)
 
 returns-3 : tie.Need-returns-3
-unfolding bothSigns
-returns-3 c = rw (ne-eqb _ _ (c .before .before .before .before .before .before .if1 .left), ne-eqb _ _ (c .before .before .before .before .before .if2 .left), c .crossing-of .ensures, c .before .arc-at4 .ensures, c .before .before .arc-at3 .ensures, c .before .before .before .arc-at2 .ensures, c .before .before .before .before .arc-at .ensures)
+unfolding bothSigns crossingOf
+returns-3 c = rw (ne-eqb _ _ (c .before .before .before .before .before .before .before .before .before .if1 .left), ne-eqb _ _ (c .before .before .before .before .before .before .before .before .if2 .left), ← c .before .before .before .is-crossing .ensures, c .before .before .if3 .taken, ← c .before .all-four .ensures) (c .with-numbers .ensures)
+
+returns-4 : tie.Need-returns-4
+unfolding bothSigns crossingOf
+returns-4 c = rw (ne-eqb _ _ (c .before .before .before .before .before .before .before .before .if1 .left), ne-eqb _ _ (c .before .before .before .before .before .before .before .if2 .left), ← c .before .before .is-crossing .ensures, c .before .if3 .left) (c .passes3 .ensures)
 
 pub both-signs-spec : {M : Type 1} → statement M
 both-signs-spec =
@@ -25,9 +29,17 @@ both-signs-spec =
     returns
     (λ c κs. search needs)
     returns-2
+    (λ c. search needs)
+    (λ c. search needs)
+    (λ c. search needs)
+    (λ c. search needs)
+    (λ c. search needs)
+    (λ c. search needs)
+    (λ c. search needs)
+    (λ c. search needs)
     (λ c κs. search needs)
     (λ c κs. search needs)
     (λ c κs. search needs)
+    returns-3
     (λ c κs. search needs)
-    (λ c κs. search needs)
-    returns-3)
+    returns-4)

@@ -11,11 +11,7 @@ returns c = rw (← c .before .before .degree .ensures, ne-eqb _ _ (c .before .i
 
 returns-2 : tie.Need-returns-2
 unfolding ruleSix
-returns-2 c = rw (← c .before .before .before .before .before .degree .ensures, eq-eqb _ _ (c .before .before .before .before .if1 .left), ← c .before .before .before .supply-at .ensures, ← c .before .before .is-zero .ensures, c .before .if2 .taken) (c .signs .ensures)
-
-returns-3 : tie.Need-returns-3
-unfolding ruleSix
-returns-3 c = rw (← c .before .before .before .before .before .degree .ensures, eq-eqb _ _ (c .before .before .before .before .if1 .left), ← c .before .before .before .supply-at .ensures, ← c .before .before .is-zero .ensures, c .before .if2 .left) (c .passes2 .ensures)
+returns-2 c = rw (← c .before .before .degree .ensures, eq-eqb _ _ (c .before .if1 .left)) (c .cross-at .ensures)
 
 pub rule-six-spec : {M : Type 1} → statement M
 rule-six-spec =
@@ -25,8 +21,4 @@ rule-six-spec =
     (λ c κs. search needs)
     returns
     (λ c κs. search needs)
-    (λ c κs. search needs)
-    (λ c κs. search needs)
-    returns-2
-    (λ c κs. search needs)
-    returns-3)
+    returns-2)

@@ -1,8 +1,12 @@
 -- `reduction::crossing::signs` meets its contract. Assumes nothing.
+use Rattle.reduction.proofs.Touch.{signed-first}
 use Rattle.reduction.specs.Rules.{signsOf}
 use borrow.Author.Needs.{needs}
 use Rattle.reduction.proofs.crossing.signs.Statement.{statement}
 use Rattle.reduction.proofs.crossing.signs.Tie as tie
+
+both-signs-requires : tie.Need-both-signs-requires
+both-signs-requires c κs = (rw (c .before .before .before .signed-after .ensures) (signed-first _ _ _ _ .within), rw (c .before .signed-after3 .ensures) (signed-first _ _ _ _ .within), rw (c .before .before .signed-after2 .ensures) (signed-first _ _ _ _ .within), rw (c .signed-after4 .ensures) (signed-first _ _ _ _ .within))
 
 returns : tie.Need-returns
 unfolding signsOf
@@ -16,5 +20,5 @@ signs-spec =
     (λ c κs. search needs)
     (λ c κs. search needs)
     (λ c κs. search needs)
-    (λ c κs. search needs)
+    both-signs-requires
     returns)

@@ -6,9 +6,12 @@ use Rattle.reduction.proofs.removal.rule_one.Tie as tie
 
 returns : tie.Need-returns
 unfolding ruleOne
-returns c = rw (c .closed-arc .ensures, c .before .supply-at2 .ensures, c .before .before .supply-at .ensures, c .before .before .before .arc-at .ensures)
+returns c = rw (← c .before .before .arc-at .ensures) (c .closed-at .ensures)
 
 pub rule-one-spec : {M : Type 1} → statement M
 rule-one-spec =
     tie.close
-    (tie.spec (λ c κs. search needs) (λ c κs. search needs) (λ c κs. search needs) (λ c κs. search needs) returns)
+    (tie.spec
+    (λ c κs. search needs)
+    (λ c κs. search needs)
+    returns)

@@ -11,7 +11,7 @@ returns c = rw (← c .before .before .degree .ensures, ne-eqb _ _ (c .before .i
 
 returns-2 : tie.Need-returns-2
 unfolding ruleThree
-returns-2 c = rw (← c .before .before .before .before .before .before .before .degree .ensures, eq-eqb _ _ (c .before .before .before .before .before .before .if1 .left), c .single-arc .ensures, c .before .supply-at2 .ensures, c .before .before .supply-at .ensures, c .before .before .before .side-at .ensures, c .before .before .before .before .arc-at .ensures, c .before .before .before .before .before .touching .ensures)
+returns-2 c = rw (← c .before .before .degree .ensures, eq-eqb _ _ (c .before .if1 .left)) (c .single-at .ensures)
 
 pub rule-three-spec : {M : Type 1} → statement M
 rule-three-spec =
@@ -20,10 +20,5 @@ rule-three-spec =
     (λ c κs. search needs)
     (λ c κs. search needs)
     returns
-    (λ c κs. search needs)
-    (λ c κs. search needs)
-    (λ c κs. search needs)
-    (λ c κs. search needs)
-    (λ c κs. search needs)
     (λ c κs. search needs)
     returns-2)

@@ -10,13 +10,16 @@ use Rattle.reduction.proofs.search.next_known.Statement.{statement}
 use Rattle.reduction.proofs.search.next_known.Tie as tie
 
 abbrev Inv-loop : tie.InvT-loop
-Inv-loop net now known₀ k₀ known k = Scanned orElse noStep (ranked net) 6 1 k × Known net now known
+Inv-loop net now degrees known₀ k₀ known k = Scanned orElse noStep (ranked net) 6 1 k × Known net now known
 
 abbrev μ-loop : tie.MeasureT-loop
-μ-loop net now known₀ k₀ known k = 7 - k
+μ-loop net now degrees known₀ k₀ known k = 7 - k
 
 loop-holds : tie.Need-loop-holds Inv-loop μ-loop
-loop-holds c = (scanned-none _ _ _ _ _, c .pre)
+loop-holds c = (scanned-none _ _ _ _ _, c .before .pre)
+
+scan-known-requires : tie.Need-scan-known-requires Inv-loop μ-loop
+scan-known-requires c κs = (c .before .loop .inv .1, c .before .before .all-degrees .ensures)
 
 returns : tie.Need-returns Inv-loop μ-loop
 unfolding nextOf
@@ -35,8 +38,9 @@ next-known-spec =
     (tie.spec
     Inv-loop
     μ-loop
-    loop-holds
     (λ c κs. search needs)
+    loop-holds
+    scan-known-requires
     (λ c. search needs)
     returns
     (λ c. search needs)

@@ -11,7 +11,7 @@ returns c = rw (← c .before .before .degree .ensures, ne-eqb _ _ (c .before .i
 
 returns-2 : tie.Need-returns-2
 unfolding ruleFive
-returns-2 c = rw (← c .before .before .before .before .degree .ensures, eq-eqb _ _ (c .before .before .before .if1 .left), ← c .before .before .touching .ensures, ← c .before .touching2 .ensures) (c .keep-one .ensures)
+returns-2 c = rw (← c .before .before .degree .ensures, eq-eqb _ _ (c .before .if1 .left)) (c .merge-at .ensures)
 
 pub rule-five-spec : {M : Type 1} → statement M
 rule-five-spec =
@@ -20,7 +20,5 @@ rule-five-spec =
     (λ c κs. search needs)
     (λ c κs. search needs)
     returns
-    (λ c κs. search needs)
-    (λ c κs. search needs)
     (λ c κs. search needs)
     returns-2)
