@@ -9,8 +9,8 @@
  *
  * A caller must keep to this: pointers are aligned and never null, not even where the length is 0; all words given are
  * initialized; lent slices overlap neither each other nor what is given; nothing else uses them during a call.
- * No function allocates, keeps anything or has any other condition: it ends for any words and any lengths. Give a
- * thread 1 MB of stack.
+ * There is no other condition: a call ends for any words and any lengths. It allocates nothing, keeps nothing and needs
+ * less than 1 MB of stack.
  *
  * Every word of a lent slice is written. After a refusal all are zero; after success those behind a record are.
  * Scratch is always zero afterwards. */
