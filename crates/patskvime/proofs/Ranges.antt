@@ -18,11 +18,12 @@ use Rattle.network.specs.declared.record.Asked.{Asked}
 use Rattle.network.specs.declared.record.Asked.the-variants.{Go, No}
 use Rattle.network.specs.Record.{word, figures, sizeOf, sized, sizesOf, isInForm, hasEnds, isWeightedAt, byFigures, figuresAsked, onSizes, askedOf, readOf}
 use Rattle.reduction.specs.declared.Answer.{Answer}
+use Rattle.reduction.specs.declared.Answer.the-variants.{Reduced, NoFlow, Refused}
 use Rattle.reduction.specs.Search.{started, moveOf, ranOf}
 use Rattle.reduction.specs.Reduce.{roomBy, isRoomy, questions, answerBy, answerOf, Reduction}
 use Rattle.reduction.proofs.Order.{next-first}
 use Rattle.reduction.proofs.RunLaws.{last-place-le}
-use Rattle.patskvime.specs.Codes.{Within, Ranged}
+use Rattle.patskvime.specs.Codes.{Within, codeOf, Ranged}
 
 -- a refusal of a network is 1 to 5
 abbrev Refuses : Asked → Type 0
@@ -85,3 +86,18 @@ module _ (xs : List ℤ) (o s w : ℕ) where
 
   pub ranged : {r : Answer} {out stack scratch : List ℤ} → Reduction xs o s w r out stack scratch → Ranged r
   ranged h = rw (h .result) answer-ranged
+
+-- a code tells the answer
+pub code-tells : (a b : Answer) → Ranged a → Ranged b → codeOf a ≡ codeOf b → a ≡ b
+code-tells Reduced Reduced h k e = refl
+code-tells Reduced (NoFlow rule place) h k e = absurd (omega (arith, k .0 .0))
+code-tells Reduced (Refused q) h k e = absurd (omega (arith, k .0))
+code-tells (NoFlow rule place) Reduced h k e = absurd (omega (arith, h .0 .0))
+code-tells (NoFlow rule place) (NoFlow other elsewhere) h k e =
+    let r : rule ≡ other = omega (arith, h .1 .1, k .1 .1) in
+    let p : place ≡ elsewhere = omega (arith, h .1 .1, k .1 .1) in
+    rw (r, p)
+code-tells (NoFlow rule place) (Refused q) h k e = absurd (omega (arith, h .0 .0, k .1))
+code-tells (Refused q) Reduced h k e = absurd (omega (arith, h .0))
+code-tells (Refused q) (NoFlow rule place) h k e = absurd (omega (arith, h .1, k .0 .0))
+code-tells (Refused q) (Refused other) h k e = rw e
