@@ -1,4 +1,5 @@
-//! Times calls of the library for other languages against this implementation, called directly, in one process.
+//! Times calls of the library for other languages against this implementation, called directly, in one process; processor
+//! time, so that other processes disturb little.
 //! Without arguments: all sizes and kinds. With TASK KIND N M COUNT (reduce or restore; long, stuck or mixed): so many calls of
 //! the library alone, on one network, for a profiler.
 
@@ -7,7 +8,6 @@ use second::calls::{reduce_call, restore_call, REDUCING_ROOM, RESTORING_ROOM};
 use second::draw::Draw;
 use second::trips::Words;
 use std::hint::black_box;
-use std::time::{Duration, Instant};
 
 #[path = "../../../include/patskvime.rs"]
 mod patskvime;
@@ -16,7 +16,7 @@ mod patskvime;
 const NETWORKS: usize = 10;
 /// Times measured of each network, task and implementation; so many calls in each.
 const ROUNDS: usize = 15;
-const CALLS: u32 = 4;
+const CALLS: usize = 4;
 const SEED: u64 = 0x5EC0_4D07;
 
 #[derive(Clone, Copy)]
@@ -70,18 +70,29 @@ impl Lent {
     }
 }
 
+/// The processor time that this process has used so far, in microseconds: POSIX's `clock_gettime`, on Linux's clock 2.
+fn processor_time() -> f64 {
+    extern "C" {
+        fn clock_gettime(clock: i32, time: *mut [i64; 2]) -> i32;
+    }
+    let mut time = [0; 2];
+    let status = unsafe { clock_gettime(2, &mut time) };
+    assert_eq!(status, 0, "the clock is there");
+    time[0] as f64 * 1e6 + time[1] as f64 / 1e3
+}
+
 /// The time of one call, as the mean of a few.
-fn time(mut call: impl FnMut() -> usize) -> Duration {
-    let start = Instant::now();
+fn time(mut call: impl FnMut() -> usize) -> f64 {
+    let start = processor_time();
     for _ in 0..CALLS {
         assert_eq!(call(), 0, "the networks are reduced, and their pairs restored");
     }
-    start.elapsed() / CALLS
+    (processor_time() - start) / CALLS as f64
 }
 
-fn median(mut times: Vec<Duration>) -> f64 {
-    times.sort();
-    times[times.len() / 2].as_secs_f64() * 1e6
+fn median(mut times: Vec<f64>) -> f64 {
+    times.sort_by(f64::total_cmp);
+    times[times.len() / 2]
 }
 
 /// The median times of the library and of this implementation, in microseconds. They take turns.
