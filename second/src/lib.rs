@@ -1,6 +1,8 @@
 //! Second implementation of the network presolver, written from document 01 alone.
 //! It exists to be compared with the verified one.
 
+pub mod bench_networks;
+pub mod calls;
 pub mod compare;
 pub mod draw;
 pub mod exact;

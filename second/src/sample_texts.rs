@@ -103,8 +103,8 @@ pub fn damage_length(draw: &mut Draw, words: &mut Vec<i32>) {
         }
         1 => words.push(draw.within(0, 1) as i32),
         2 => words.truncate(draw.below(words.len() + 1)),
-        3 => words[0] += draw.sign() as i32,
-        _ => words[1] += draw.sign() as i32,
+        3 => words[0] = words[0].wrapping_add(draw.sign() as i32),
+        _ => words[1] = words[1].wrapping_add(draw.sign() as i32),
     }
 }
 
@@ -123,7 +123,7 @@ pub fn damaged_record(draw: &mut Draw) -> Vec<i32> {
 }
 
 /// Records with sizes at and past the limits, some of the length that the sizes ask for.
-fn limit_record(draw: &mut Draw) -> Vec<i32> {
+pub fn limit_record(draw: &mut Draw) -> Vec<i32> {
     let n = draw.of(&[0, 1, 31, 32, 32, 33, 34, -1, 2147483647, -2147483648, 2]);
     let m = draw.of(&[0, 1, 2, 95, 96, 96, 97, 98, -1, 2147483647, -2147483648]);
     let mut words = vec![n, m];

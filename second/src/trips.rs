@@ -180,7 +180,7 @@ fn looser_bounds(draw: &mut Draw, network: &Network) -> Network {
 }
 
 /// A pair that is optimal in a changed network.
-fn nearly_right_pair(draw: &mut Draw, trip: &Trip) -> Option<Pair> {
+pub fn nearly_right_pair(draw: &mut Draw, trip: &Trip) -> Option<Pair> {
     let reduced = trip.reduced()?;
     let changed = if draw.chance(50) { other_costs(draw, reduced) } else { looser_bounds(draw, reduced) };
     match solve(&changed, draw.chance(50)) {
@@ -266,7 +266,8 @@ fn damage_original(draw: &mut Draw, words: &mut Words) {
     }
 }
 
-fn damage_any(draw: &mut Draw, words: &mut Words) {
+/// Damages the original, the stack or the pair.
+pub fn damage_any(draw: &mut Draw, words: &mut Words) {
     match draw.below(5) {
         0 => damage_original(draw, words),
         1 => damage_stack(draw, words),
