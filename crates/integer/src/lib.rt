@@ -1,7 +1,6 @@
 // Whole numbers of the machine: the greatest common divisor, size and sign, exact products.
 ghost use mathlib.Core.Path.{_≡_};
 ghost use lib.IntN.{pos, natAbs, _*ℤ_};
-ghost use Prim.Native.Nat.{_<_};
 ghost use Rattle.integer.specs.Gcd.{gcd as gcdOf, DivisorFrom};
 ghost use Rattle.integer.specs.Whole.{signed};
 
@@ -21,20 +20,19 @@ pub fn gcd(a: u64, b: u64) -> u64
 
 // The greatest common divisor of two numbers; where it is below a limit, a number between the two.
 pub fn divisor(a: u64, b: u64, limit: u64) -> u64
-    requires { ⌜ 0 < b ⌝ }
     ensures { λ r. ⌜ DivisorFrom limit a b r ⌝ }
 {
-    let mut x = a;
-    let mut y = b;
-    while y != 0 {
-        if y < limit {
-            return y;
+    let mut high = a;
+    let mut low = b;
+    while low != 0 {
+        if low < limit {
+            return low;
         }
-        let z = x % y;
-        x = y;
-        y = z;
+        let rest = high % low;
+        high = low;
+        low = rest;
     }
-    x
+    high
 }
 
 // The size of a number, the least of its type too.

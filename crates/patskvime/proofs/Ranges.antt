@@ -9,6 +9,7 @@ use lib.IntN.{ℤ}
 use lib.ListN.{length}
 use Rattle.fraction.specs.Laws.{never}
 use Rattle.loops.specs.Loops.{all, runs}
+use Rattle.network.specs.declared.Arc.{Arc}
 use Rattle.network.specs.declared.Net.{Net}
 use Rattle.network.specs.declared.Kind.{Kind}
 use Rattle.network.specs.declared.Kind.the-variants.{Passes, NoFlow as NoFlow·kind, Changes}
@@ -58,10 +59,10 @@ asked-refuses xs = by (sizesOf xs) (sized-refuses (length xs) (sizeOf (word xs 0
     by (No q) h = h
     by (Go n m) h = figures-refuses xs n m
 
-module _ (xs : List ℤ) (o s w : ℕ) where
-  questions-refuse : Refuses (questions xs o s w)
+module _ (xs : List ℤ) (o s w k : ℕ) where
+  questions-refuse : Refuses (questions xs o s w k)
   unfolding questions
-  questions-refuse = by (isRoomy o s w)
+  questions-refuse = by (isRoomy o s w k)
     where
       by : (b : Bool) → Refuses (roomBy b xs)
       by true = asked-refuses xs
@@ -77,14 +78,14 @@ module _ (xs : List ℤ) (o s w : ℕ) where
       by Changes e = tt
       by NoFlow·kind e = let f = next-first (runs moveOf 128 (started net) .net) (λ q. never cc) in ((f .rule-low, f .rule-high), (f .place-low, omega (arith, f .place-high, last-place-le (ranOf net .last .rule))))
 
-  answer-ranged : Ranged (answerOf xs (questions xs o s w))
-  answer-ranged = by (questions xs o s w) questions-refuse
+  answer-ranged : Ranged (answerOf xs (questions xs o s w k))
+  answer-ranged = by (questions xs o s w k) questions-refuse
     where
       by : (q : Asked) → Refuses q → Ranged (answerOf xs q)
       by (No q) h = h
       by (Go n m) h = ran-ranged (readOf xs)
 
-  pub ranged : {r : Answer} {out stack scratch : List ℤ} → Reduction xs o s w r out stack scratch → Ranged r
+  pub ranged : {r : Answer} {out stack scratch : List ℤ} {arcs : List Arc} → Reduction xs o s w k r out stack scratch arcs → Ranged r
   ranged h = rw (h .result) answer-ranged
 
 -- a code tells the answer

@@ -12,7 +12,7 @@ pub extern "C" fn patskvime_reduce(
 ) -> usize
     ensures { λ r. ⌜ ReductionCode (now (network .entry)) (length (now (out .entry))) (length (now (stack .entry))) (length (now (scratch .entry))) r (now (out .exit)) (now (stack .exit)) (now (scratch .exit)) ⌝ }
 {
-    match reduction::reduce(network, out, stack, scratch) {
+    match reduction::plain::reduce(network, out, stack, scratch) {
         reduction::Answer::Reduced => 0,
         reduction::Answer::NoFlow(rule, place) => 256 * rule + place,
         reduction::Answer::Refused(q) => q,
@@ -42,7 +42,7 @@ pub extern "C" fn patskvime_restore(
 ) -> usize
     ensures { λ r. ⌜ RestorationCode (now (network .entry)) (now (stack .entry)) (now (pair .entry)) (length (now (out .entry))) (length (now (values .entry))) (length (now (scratch .entry))) r (now (out .exit)) (now (values .exit)) (now (scratch .exit)) ⌝ }
 {
-    match restoration::restore(network, stack, pair, out, values, scratch) {
+    match restoration::plain::restore(network, stack, pair, out, values, scratch) {
         restoration::Answer::Restored => 0,
         restoration::Answer::Refused(q) => q,
     }

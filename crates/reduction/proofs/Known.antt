@@ -29,7 +29,7 @@ use Rattle.network.specs.declared.Kind.{Kind}
 use Rattle.network.specs.declared.Kind.the-variants.{Passes, NoFlow, Changes}
 use Rattle.reduction.specs.declared.search.Step.{Step}
 use Rattle.reduction.specs.declared.search.Ran.{Ran}
-use Rattle.reduction.specs.Search.{answered, stepAt, orOn, stepped}
+use Rattle.reduction.specs.Search.{answered, stepAt, orOn}
 use Rattle.reduction.specs.declared.costly.Seen.{Seen}
 use Rattle.reduction.specs.Seen.{wayBy, wayOf, wayAt, waysOf, isOld, dueBy, isDueUnder, barOf, isDueFrom, isPair, Searched, Known, nothingSeen, marked, markedAll, soughtAt, isStep, isDropped}
 use Rattle.reduction.specs.Filter.{Covers, isTimely, isDue}

@@ -49,7 +49,7 @@ answer : (c : tie.After-divisor) → c .before .before .before .args .d / c .div
 answer c h = reduce-by _ _ _ _ (c .before .before .if1 .left) (size-is c) (by (ltb (c .divisor .result) (c .before .before .before .args .d / 2147483648)) refl)
   where
     by : (b : Bool) → ltb (c .divisor .result) (c .before .before .before .args .d / 2147483648) ≡ b → c .divisor .result ≡ gcd (c .before .size .result) (c .before .before .before .args .d)
-    by true e = absurd (omega (arith, beyond _ _ (c .divisor .ensures .positive) (ltb-true _ _ e)))
+    by true e = absurd (omega (arith, beyond _ _ (c .divisor .ensures .positive (omega arith)) (ltb-true _ _ e)))
     by false e = c .divisor .ensures .is (ltb-false _ _ e)
 
 made : (c : tie.After-with-sign) → c .with-sign .result ≡ signed (c .before .before .before .before .before .before .args .z) (c .before .before .before .before .size .result / c .before .before .before .divisor .result)
@@ -59,10 +59,10 @@ returns : tie.Need-returns
 returns c = sym (reduce-zero _ _ (c .if1 .taken))
 
 div-n : tie.Need-div-n
-div-n c = c .divisor .ensures .positive
+div-n c = c .divisor .ensures .positive (omega arith)
 
 div-m : tie.Need-div-m
-div-m c = c .divisor .ensures .positive
+div-m c = c .divisor .ensures .positive (omega arith)
 
 returns-2 : tie.Need-returns-2
 returns-2 c = sym (lowest (c .before) ∙ fitted-no-num _ _ (rw natAbs-signed (omega (arith, c .if2 .taken, less (c .before) (c .before .before .size .result)))))
