@@ -1,10 +1,12 @@
 // A network (01, "The problem and its figures") as a reduction works on it, its record read and written.
 ghost use mathlib.Core.Path.{_≡_};
 ghost use Prim.Native.Nat.{_≤_};
+ghost use mathlib.Core.List.{List};
 ghost use lib.ListN.{getD};
+ghost use Rattle.network.specs.declared.Arc.{Arc};
 ghost use Rattle.fraction.specs.Exact.{noFigure};
 ghost use Rattle.network.specs.ArcList.{nodesOf, joined};
-ghost use Rattle.network.specs.Network.{noArc, emptyNet, arcAt, supplyAt, isHere, withArc, withSupply, setHere, without, withPut, withLevel, applied};
+ghost use Rattle.network.specs.Network.{noArc, emptyNet, arcAt, supplyAt, isHere, withSupply, without, applied};
 ghost use Rattle.network.specs.Network.{isTouching, degreeOf, raised, AreDegrees, touchingAfter, isRoot, farEnd, sideOf, noPut, noLevel, noChange, changeOne, passed, refuted, changed};
 use fraction::Fraction;
 
@@ -199,84 +201,42 @@ pub fn is_here(net: Net, i: usize) -> bool
     false
 }
 
-// The arc of number j replaced.
-pub fn put_arc(mut net: Net, j: usize, a: Arc) -> Net
-    ensures { λ r. ⌜ r ≡ withArc net j a ⌝ }
-{
-    if j < 1 {
-        return net;
-    }
-    if j < 97 {
-        net.arcs[j] = a;
-        return net;
-    }
-    net
-}
-
 // The supply of node i replaced.
-pub fn put_supply(mut net: Net, i: usize, f: Fraction) -> Net
-    ensures { λ r. ⌜ r ≡ withSupply net i f ⌝ }
+fn put_supply(mut nodes: Nodes, i: usize, f: Fraction) -> Nodes
+    ensures { λ r. ⌜ ((xs : List Arc) → r ≡ nodesOf (withSupply (joined nodes xs) i f)) ⌝ }
 {
     if i < 1 {
-        return net;
+        return nodes;
     }
     if i < 33 {
-        net.supply[i] = f;
-        return net;
+        nodes.supply[i] = f;
+        return nodes;
     }
-    net
-}
-
-// Whether node i is in use, replaced.
-fn set_here(mut net: Net, i: usize, h: bool) -> Net
-    ensures { λ r. ⌜ r ≡ setHere net i h ⌝ }
-{
-    if i < 1 {
-        return net;
-    }
-    if i < 33 {
-        net.here[i] = h;
-        return net;
-    }
-    net
+    nodes
 }
 
 // Node i dropped.
-pub fn drop_node(net: Net, i: usize) -> Net
-    ensures { λ r. ⌜ r ≡ without net i ⌝ }
+fn drop_node(mut nodes: Nodes, i: usize) -> Nodes
+    ensures { λ r. ⌜ ((xs : List Arc) → r ≡ nodesOf (without (joined nodes xs) i)) ⌝ }
 {
-    set_here(net, i, false)
+    if i < 1 {
+        return nodes;
+    }
+    if i < 33 {
+        nodes.here[i] = false;
+        return nodes;
+    }
+    nodes
 }
 
-// An arc put at its number.
-fn put_one(net: Net, p: Put) -> Net
-    ensures { λ r. ⌜ r ≡ withPut net p ⌝ }
+// The nodes after a step's change, whatever the arcs.
+pub fn settle(nodes: Nodes, c: Change) -> Nodes
+    ensures { λ r. ⌜ ((xs : List Arc) → r ≡ nodesOf (applied (joined nodes xs) c)) ⌝ }
 {
-    let a = p.arc;
-    put_arc(net, p.number, a)
-}
-
-// A supply put at its node.
-fn put_level(net: Net, l: Level) -> Net
-    ensures { λ r. ⌜ r ≡ withLevel net l ⌝ }
-{
-    let f = l.supply;
-    put_supply(net, l.node, f)
-}
-
-// A step's change made.
-pub fn apply(net: Net, c: Change) -> Net
-    ensures { λ r. ⌜ r ≡ applied net c ⌝ }
-{
-    let one = c.one;
-    let two = c.two;
-    let three = c.three;
-    let four = c.four;
     let left = c.left;
     let right = c.right;
-    let a = put_one(put_one(put_one(put_one(net, one), two), three), four);
-    let b = put_level(put_level(a, left), right);
-    drop_node(b, c.gone)
+    let a = put_supply(nodes, left.node, left.supply);
+    drop_node(put_supply(a, right.node, right.supply), c.gone)
 }
 
 // Whether an arc touches node i.

@@ -1,19 +1,16 @@
--- A step that is found, and the run from where its loop ends. Assumes nothing.
-use mathlib.Core.Path.{_≡_, refl, ap, _∙_}
+-- A step that is found, and the places of a rule. Assumes nothing.
+use mathlib.Core.Path.{_≡_, refl}
 use mathlib.Core.Bool.{Bool, true, false, cond}
 use mathlib.Core.Logic.{⊎-elim, _⊎_}
 use Prim.Native.Nat.{ℕ, _≤_}
 use native.Mathlib.Omega.{arith}
 use denote.Enum.Declared.{tagOf}
 use lib.Dec.{eqb}
-use Rattle.loops.specs.Loops.{runs}
 use Rattle.network.proofs.Kind.{the-type}
 use Rattle.network.specs.declared.Kind.{Kind}
 use Rattle.network.specs.declared.Kind.the-variants.{Passes, NoFlow, Changes}
-use Rattle.network.specs.declared.Net.{Net}
 use Rattle.reduction.specs.declared.search.Step.{Step}
-use Rattle.reduction.specs.declared.search.Ran.{Ran}
-use Rattle.reduction.specs.Search.{orOn, lastPlace, nextOf, started, ended, moveOf, finished, ranOf}
+use Rattle.reduction.specs.Search.{orOn, lastPlace}
 
 -- a step that is found: no later one counts
 pub step-stays : (k : Kind) → (tagOf the-type k ≡ 1) ⊎ (tagOf the-type k ≡ 2) → (s : Step) (g : ℕ → Step) (j : ℕ) → orOn k s g j ≡ s
@@ -29,8 +26,3 @@ last-place-le k = by (eqb k 1) (eqb k 4)
     by true t = omega arith
     by false true = omega arith
     by false false = omega arith
-
--- the run, from where its loop ends
-pub ran-is : (net : Net) (at₀ at r : Ran) (s : Step) → at ≡ runs moveOf 128 at₀ → at₀ ≡ started net → s ≡ nextOf (at .net) → r ≡ ended at s → r ≡ ranOf net
-unfolding ranOf
-ran-is net at₀ at r s h e n q = q ∙ ap (ended at) n ∙ ap finished (h ∙ ap (runs moveOf 128) e)

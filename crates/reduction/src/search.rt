@@ -1,6 +1,7 @@
 // The search for the next step, and steps until there is none.
 ghost use mathlib.Core.Path.{_≡_};
 ghost use mathlib.Core.Bool.{true, false};
+ghost use mathlib.Core.List.{List};
 ghost use lib.Dec.{eqb, leb};
 ghost use Rattle.network.specs.Network.{isHere, degreeOf, AreDegrees};
 ghost use Rattle.reduction.specs.Rules.{nodeRule, ruleAt};
@@ -8,6 +9,7 @@ ghost use Rattle.reduction.specs.Filter.{wantedOf};
 ghost use Rattle.reduction.specs.Seen.{Known, markedAll};
 ghost use Prim.Native.Nat.{_≤_, _<_};
 ghost use lib.ListN.{length};
+ghost use Rattle.network.specs.declared.Arc.{Arc};
 ghost use Rattle.network.specs.ArcList.{arcsIn, joined};
 ghost use Rattle.reduction.specs.Search.{noStep, answered, ranked, nextOf, ranOf};
 ghost use Rattle.reduction.specs.ListRun.{begun, takenOn, stopped, Advanced, Turned, netIn, ranIn, ranBy, concluded};
@@ -217,7 +219,7 @@ fn scan_known(net: Net, degrees: Degrees, seen: Seen, k: usize, now: u8) -> Foun
     }
 }
 
-// The next step, by what is known.
+// The next step: the first that applies, by the rules in order and the places upward; by what is known.
 fn next_known(net: Net, seen: Seen, now: u8) -> Found
     requires { ⌜ Known net now seen ⌝ }
     ensures { λ r. ⌜ (r .step ≡ nextOf net) × Known net now (r .seen) ⌝ }
@@ -235,14 +237,6 @@ fn next_known(net: Net, seen: Seen, now: u8) -> Found
     }
     let step = no_step();
     Found { step, seen: known }
-}
-
-// The next step: the first that applies, by the rules in order and the places upward.
-pub fn next(net: Net) -> Step
-    ensures { λ r. ⌜ r ≡ nextOf net ⌝ }
-{
-    let f = next_known(net, crate::costly::unseen(), 0);
-    f.step
 }
 
 // A run under way, beside its arcs, which stand in the lent list: what it has come to, what is known, what is to be put into the
@@ -276,9 +270,9 @@ pub(crate) fn start(nodes: Nodes) -> Progress
 }
 
 // A step taken, at a time.
-fn take(at: Progress, net: Net, s: Step, seen: Seen, time: u8) -> Progress
+fn take(at: Progress, s: Step, seen: Seen, time: u8) -> Progress
     requires { ⌜ at .steps < 128 ⌝ }
-    ensures { λ r. ⌜ r ≡ takenOn at net s (markedAll seen (s .change) time) ⌝ }
+    ensures { λ r. ⌜ ((xs : List Arc) → r ≡ takenOn at (joined (at .nodes) xs) s (markedAll seen (s .change) time)) ⌝ }
 {
     let put = s.change;
     let last = at.last;
@@ -288,7 +282,7 @@ fn take(at: Progress, net: Net, s: Step, seen: Seen, time: u8) -> Progress
         rule: s.rule,
         place: s.place,
     };
-    let nodes = network::nodes_of(network::apply(net, put));
+    let nodes = network::settle(at.nodes, put);
     let known = crate::costly::mark_all(seen, put, time);
     Progress {
         nodes,
@@ -336,7 +330,7 @@ pub(crate) fn advance(at: Progress, view: [Arc; 97]) -> Progress
     match kind {
         Kind::Passes => stop(at, s),
         Kind::NoFlow => stop(at, s),
-        Kind::Changes => take(at, net, s, found.seen, time),
+        Kind::Changes => take(at, s, found.seen, time),
     }
 }
 

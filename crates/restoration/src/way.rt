@@ -92,7 +92,7 @@ pub(crate) fn log_step(
     crate::log::store_trace(words, 80 * k, t);
     let x = reduction::search::try_rule(net, s.rule, s.place);
     let put = x.change;
-    let to = network::nodes_of(network::apply(net, put));
+    let to = network::settle(nodes, put);
     Moved { nodes: to, put }
 }
 

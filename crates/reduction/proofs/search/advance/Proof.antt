@@ -20,7 +20,7 @@ returns-3 : tie.Need-returns-3
 returns-3 c = let e = rw (c .before .before .before .before .before .before .before .before .join .ensures) at (c .before .before .before .before .before .before .next-known .ensures .0) in advanced-ends _ _ _ e (inl (rw (← e, c .before .enum-told2 .given .1))) (c .stop3 .ensures)
 
 returns-4 : tie.Need-returns-4
-returns-4 c = let e = rw (c .before .before .before .before .before .before .before .before .join .ensures) at (c .before .before .before .before .before .before .next-known .ensures .0) in advanced-on _ _ _ e (omega arith) (c .before .enum-told3 .given .1) (rw (c .before .before .before .before .before .before .before .before .join .ensures) at (c .before .before .before .before .before .before .next-known .ensures .1)) (rw (c .before .before .before .before .before .before .before .before .join .ensures) at (c .take .ensures))
+returns-4 c = let e = rw (c .before .before .before .before .before .before .before .before .join .ensures) at (c .before .before .before .before .before .before .next-known .ensures .0) in advanced-on _ _ _ e (omega arith) (c .before .enum-told3 .given .1) (rw (c .before .before .before .before .before .before .before .before .join .ensures) at (c .before .before .before .before .before .before .next-known .ensures .1)) (c .take .ensures _)
 
 pub advance-spec : {M : Type 1} → statement M
 advance-spec =

@@ -4,7 +4,7 @@ use Rattle.reduction.proofs.search.take.Statement.{statement}
 use Rattle.reduction.proofs.search.take.Tie as tie
 
 returns : tie.Need-returns
-returns c = rw (c .before .nodes-of .ensures, c .before .before .apply .ensures, c .mark-all .ensures)
+returns c = λ xs. rw (c .before .settle .ensures xs, c .mark-all .ensures)
 
 pub take-spec : {M : Type 1} → statement M
 take-spec =
@@ -12,7 +12,6 @@ take-spec =
     (tie.spec
     (λ c. search needs)
     (λ c. search needs)
-    (λ c κs. search needs)
     (λ c κs. search needs)
     (λ c κs. search needs)
     (λ c. search needs)

@@ -4,7 +4,7 @@ use Rattle.restoration.proofs.way.log_step.Statement.{statement}
 use Rattle.restoration.proofs.way.log_step.Tie as tie
 
 returns : tie.Need-returns
-returns c = (rw (c .nodes-of .ensures, c .before .apply .ensures, c .before .before .before .try-rule .ensures, c .before .before .before .before .before .before .before .before .join .ensures), rw (c .before .before .before .before .before .store-trace .ensures, c .before .before .before .before .before .before .before .trace-step .ensures, c .before .before .before .before .before .before .before .before .join .ensures))
+returns c = (rw (c .settle .ensures (c .before .before .before .before .before .before .before .before .args .view), c .before .before .try-rule .ensures, c .before .before .before .before .before .before .before .join .ensures), rw (c .before .before .before .before .store-trace .ensures, c .before .before .before .before .before .before .trace-step .ensures, c .before .before .before .before .before .before .before .join .ensures))
 
 pub log-step-spec : {M : Type 1} → statement M
 log-step-spec =
@@ -13,7 +13,6 @@ log-step-spec =
     (λ c κs. search needs)
     (λ c κs. search needs)
     (λ c. search needs)
-    (λ c κs. search needs)
     (λ c κs. search needs)
     (λ c κs. search needs)
     (λ c κs. search needs)
