@@ -31,7 +31,7 @@ use Rattle.reduction.specs.declared.search.Step.{Step}
 use Rattle.reduction.specs.declared.search.Ran.{Ran}
 use Rattle.reduction.specs.Search.{answered, stepAt, orOn}
 use Rattle.reduction.specs.declared.costly.Seen.{Seen}
-use Rattle.reduction.specs.Seen.{wayBy, wayOf, wayAt, waysOf, isOld, dueBy, isDueUnder, barOf, isDueFrom, isPair, Searched, Known, nothingSeen, marked, markedAll, soughtAt, isStep, isDropped}
+use Rattle.reduction.specs.Seen.{wayBy, wayOf, dueWay, wayAt, waysOf, isOld, dueBy, isDueAt, isDueUnder, barOf, barAt, isDueFrom, isPair, Searched, Known, nothingSeen, marked, markedAll, soughtAt, isStep, isDropped}
 use Rattle.reduction.specs.Filter.{Covers, isTimely, isDue}
 use Rattle.reduction.proofs.Frame.{arc-left}
 
@@ -72,15 +72,15 @@ none-left : (y c : Fraction) (q : Fraction) → q .den ≡ 0 → isUnder (sumOf 
 unfolding sumOf isOperand
 none-left y c q e = rw (e, and-false)
 
+due-false : (b s : Bool) → s ≡ false → dueBy b s ≡ false
+due-false true s e = refl
+due-false false s e = e
+
 -- nor with a way that is none
 pub none-from : (seen : Seen) (w : ℕ) (q : Fraction) (to : List Fraction) (c : Fraction) → isFinite q ≡ false → any (isDueUnder seen w q to c) 97 ≡ false
 unfolding isFinite
-none-from seen w q to c e = any-none _ 97 (λ k l. by (isOld seen w k) _ (none-left _ c q (zero (eqb (q .den) 0) refl e)))
+none-from seen w q to c e = any-none _ 97 (λ k l. due-false (isOld seen w k) _ (none-left _ c q (zero (eqb (q .den) 0) refl e)))
   where
-    by : (b s : Bool) → s ≡ false → dueBy b s ≡ false
-    by true s f = refl
-    by false s f = f
-
     zero : (b : Bool) → eqb (q .den) 0 ≡ b → not b ≡ false → q .den ≡ 0
     zero true f g = eqb-true _ _ f
     zero false f g = never (let h = sym g in cc)
@@ -147,15 +147,51 @@ module _ (net : Net) (seen : Seen) (w : ℕ) (t : Arc) (h : Searched net seen w 
       by false f = refl
   due-one x y l m false e = rw (le-ltb (getD (seen .put) y 0) 0 (omega arith))
 
-  way-at : (i : ℕ) (e : Fraction) (k : ℕ) → k < 97 → getD (waysOf net i e) k noFigure ≡ wayAt net i e k
+  -- x is before the bar of node i: both it and y are old, or y is no root arc there
+  barred : (i x y : ℕ) → y < 97 → isOld seen (barAt net seen w i) x ≡ true → (p : Bool) → (isOld seen w x ≡ true → isOld seen w y ≡ true → p ≡ false) → (isOpenRoot (arcAt net y) i ≡ false → p ≡ false) → p ≡ false
+  unfolding barAt
+  barred i x y m e p old other = by (any (isDueAt net seen w i) 97) refl e
+    where
+      each : isOld seen w x ≡ true → (b : Bool) → isOld seen w y ≡ b → (r : Bool) → isOpenRoot (arcAt net y) i ≡ r → dueBy b r ≡ false → p ≡ false
+      each d true f r g z = old d f
+      each d false f true g z = never (let u = sym z in cc)
+      each d false f false g z = other g
+
+      by : (b : Bool) → any (isDueAt net seen w i) 97 ≡ b → isOld seen (barOf (not b) w) x ≡ true → p ≡ false
+      by true f d = absurd (omega (arith, ltb-true (getD (seen .put) x 0) 0 d))
+      by false f d = each d (isOld seen w y) refl (isOpenRoot (arcAt net y) i) refl (none-any _ 97 f y m)
+
+  -- so a way that is left out is of no pair
+  barred-from : (x y : ℕ) → x < 97 → y < 97 → isOld seen (barAt net seen w (t .to)) x ≡ true → pairAt net t x y ≡ false
+  unfolding isPair
+  barred-from x y l m e = barred (t .to) x y m e (pairAt net t x y) (λ f g. h x y l m f g) (λ g. rw (g, and-false))
+
+  barred-to : (x y : ℕ) → x < 97 → y < 97 → isOld seen (barAt net seen w (t .from)) y ≡ true → pairAt net t x y ≡ false
+  unfolding isPair
+  barred-to x y l m e = barred (t .from) y x l e (pairAt net t x y) (λ f g. h x y l m g f) (λ g. rw g)
+
+  way-at : (v i : ℕ) (e : Fraction) (k : ℕ) → k < 97 → getD (waysOf net seen v i e) k noFigure ≡ wayAt net seen v i e k
   unfolding waysOf
-  way-at i e k l = getD-build 97 (wayAt net i e) noFigure k l
+  way-at v i e k l = getD-build 97 (wayAt net seen v i e) noFigure k l
 
-  due-under : (x y : ℕ) → x < 97 → y < 97 → isDueUnder seen (barOf (isOld seen w x) w) (getD (waysOf net (t .from) (t .a)) x noFigure) (waysOf net (t .to) (t .b)) (t .cost) y ≡ pairAt net t x y
-  due-under x y l m =
-      rw (way-at (t .from) (t .a) x l, way-at (t .to) (t .b) y m, pair-way t (arcAt net x) (arcAt net y)) (due-one x y l m (isOld seen w x) refl)
+  abbrev fromWays : List Fraction
+  fromWays = waysOf net seen (barAt net seen w (t .to)) (t .from) (t .a)
 
-  pub due-is : any (isDueFrom seen w (waysOf net (t .from) (t .a)) (waysOf net (t .to) (t .b)) (t .cost)) 97 ≡ hasPair net t
+  abbrev toWays : List Fraction
+  toWays = waysOf net seen (barAt net seen w (t .from)) (t .to) (t .b)
+
+  due-under : (x y : ℕ) → x < 97 → y < 97 → isDueUnder seen (barOf (isOld seen w x) w) (getD fromWays x noFigure) toWays (t .cost) y ≡ pairAt net t x y
+  due-under x y l m = rw (way-at _ (t .from) (t .a) x l, way-at _ (t .to) (t .b) y m) (by _ refl _ refl)
+    where
+      none : (s : Bool) → s ≡ false → pairAt net t x y ≡ false → dueBy (isOld seen (barOf (isOld seen w x) w) y) s ≡ pairAt net t x y
+      none s f g = due-false (isOld seen (barOf (isOld seen w x) w) y) s f ∙ sym g
+
+      by : (p : Bool) → isOld seen (barAt net seen w (t .to)) x ≡ p → (q : Bool) → isOld seen (barAt net seen w (t .from)) y ≡ q → dueBy (isOld seen (barOf (isOld seen w x) w) y) (isUnder (sumOf (dueWay p (arcAt net x) (t .from) (t .a)) (dueWay q (arcAt net y) (t .to) (t .b))) (t .cost)) ≡ pairAt net t x y
+      by true e q f = none _ (none-left _ (t .cost) noFigure refl) (barred-from x y l m e)
+      by false e true f = none _ (none-right _ (t .cost)) (barred-to x y l m f)
+      by false e false f = rw (pair-way t (arcAt net x) (arcAt net y)) (due-one x y l m (isOld seen w x) refl)
+
+  pub due-is : any (isDueFrom seen w fromWays toWays (t .cost)) 97 ≡ hasPair net t
   due-is = any-same _ _ 97 (λ x l. any-same _ _ 97 (λ y m. due-under x y l m)) ∙ sym (pair-is net t)
 
 -- where the search finds no pair due

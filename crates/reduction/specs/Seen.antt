@@ -1,6 +1,6 @@
 -- What rule 4 keeps of earlier searches, so that no pair of root arcs is tried again, and the figures that it works once for each root arc. Assumes nothing.
 use mathlib.Core.Path.{_≡_}
-use mathlib.Core.Bool.{Bool, true, false, cond, _&&_}
+use mathlib.Core.Bool.{Bool, true, false, cond, _&&_, not}
 use mathlib.Core.List.{List}
 use Prim.Native.Nat.{ℕ, _≤_, _<_}
 use lib.Dec.{ltb}
@@ -30,13 +30,6 @@ wayBy true x e = figureOf (Fits (x .cost) ⊗ Fits e ⊘ Fits (x .a))
 unfoldable pub wayOf : Arc → ℕ → Fraction → Fraction
 wayOf x i e = wayBy (isOpenRoot x i && isPositive (Fits e ⊘ Fits (x .a))) x e
 
-abbrev pub wayAt : Net → ℕ → Fraction → ℕ → Fraction
-wayAt net i e k = wayOf (arcAt net k) i e
-
--- the ways by each arc's number
-unfoldable pub waysOf : Net → ℕ → Fraction → List Fraction
-waysOf net i e = build 97 (wayAt net i e)
-
 -- ---- what is due: what was put at the time w or later
 
 abbrev pub isOld : Seen → ℕ → ℕ → Bool
@@ -46,6 +39,17 @@ abbrev pub dueBy : Bool → Bool → Bool
 dueBy true b = false
 dueBy false b = b
 
+abbrev pub dueWay : Bool → Arc → ℕ → Fraction → Fraction
+dueWay true x i e = noFigure
+dueWay false x i e = wayOf x i e
+
+abbrev pub wayAt : Net → Seen → ℕ → ℕ → Fraction → ℕ → Fraction
+wayAt net seen w i e k = dueWay (isOld seen w k) (arcAt net k) i e
+
+-- the due ways by each arc's number
+unfoldable pub waysOf : Net → Seen → ℕ → ℕ → Fraction → List Fraction
+waysOf net seen w i e = build 97 (wayAt net seen w i e)
+
 -- of the ways `to`, a due one makes with q a sum that fits and is below c
 abbrev pub isDueUnder : Seen → ℕ → Fraction → List Fraction → Fraction → ℕ → Bool
 isDueUnder seen w q to c k = dueBy (isOld seen w k) (isUnder (sumOf q (getD to k noFigure)) c)
@@ -53,6 +57,14 @@ isDueUnder seen w q to c k = dueBy (isOld seen w k) (isUnder (sumOf q (getD to k
 -- a due pair does: of two that are not both old
 abbrev pub barOf : Bool → ℕ → ℕ
 barOf old w = cond old w 0
+
+-- arc k is a due root arc at node i
+abbrev pub isDueAt : Net → Seen → ℕ → ℕ → ℕ → Bool
+isDueAt net seen w i k = dueBy (isOld seen w k) (isOpenRoot (arcAt net k) i)
+
+-- the time from which what was put at one end of an arc may be of a due pair, where node i is the other end: 0 if a root arc there is due
+unfoldable pub barAt : Net → Seen → ℕ → ℕ → ℕ
+barAt net seen w i = barOf (not (any (isDueAt net seen w i) 97)) w
 
 abbrev pub isDueFrom : Seen → ℕ → List Fraction → List Fraction → Fraction → ℕ → Bool
 isDueFrom seen w from to c k = any (isDueUnder seen (barOf (isOld seen w k) w) (getD from k noFigure) to c) 97

@@ -7,7 +7,7 @@ ghost use lib.Dec.{ltb};
 ghost use lib.ListN.{getD};
 ghost use Rattle.reduction.specs.Rules.{isOpenRoot, isCandidate, hasPair, atFlow, ruleFour};
 ghost use Rattle.reduction.specs.Filter.{later, Covers, isTimely, isDue};
-ghost use Rattle.reduction.specs.Seen.{wayOf, waysOf, barOf, isDueUnder, isDueFrom, Searched, nothingSeen, marked, markedAll, soughtAt, isDropped};
+ghost use Rattle.reduction.specs.Seen.{wayOf, dueWay, waysOf, isDueAt, barOf, barAt, isDueUnder, isDueFrom, Searched, nothingSeen, marked, markedAll, soughtAt, isDropped};
 use crate::figures::at_flow;
 use crate::figures::is_finite;
 use crate::figures::is_positive;
@@ -111,16 +111,50 @@ fn way(x: Arc, i: usize, e: Fraction) -> Fraction
     network::no_figure()
 }
 
-fn all_ways(net: Net, i: usize, e: Fraction) -> Ways
-    ensures { λ r. ⌜ r .at ≡ waysOf net i e ⌝ }
+// The way of the root arc x, put at p; none where that is before the time w.
+fn due_way(p: u8, w: u8, x: Arc, i: usize, e: Fraction) -> Fraction
+    ensures { λ r. ⌜ r ≡ dueWay (ltb p w) x i e ⌝ }
+{
+    if p < w {
+        network::no_figure()
+    } else {
+        way(x, i, e)
+    }
+}
+
+// The ways at node i that were put at the time w or later.
+fn all_ways(net: Net, seen: Seen, w: u8, i: usize, e: Fraction) -> Ways
+    ensures { λ r. ⌜ r .at ≡ waysOf net seen w i e ⌝ }
 {
     let z = network::no_figure();
     let mut at = [z; 97];
     for k in 0..97 {
         let x = net.arcs[k];
-        at[k] = way(x, i, e);
+        at[k] = due_way(seen.put[k], w, x, i, e);
     }
     Ways { at }
+}
+
+// Whether a root arc without upper bound was put at node i at the time w or later.
+fn any_due_at(net: Net, seen: Seen, w: u8, i: usize) -> bool
+    ensures { λ r. ⌜ r ≡ any (isDueAt net seen w i) 97 ⌝ }
+{
+    for k in 0..97 {
+        if seen.put[k] >= w {
+            let x = net.arcs[k];
+            if is_open_root(x, i) {
+                return true;
+            }
+        }
+    }
+    false
+}
+
+// The time from which what was put at one end of an arc may be of a due pair, where node i is the other end.
+fn bar_at(net: Net, seen: Seen, w: u8, i: usize) -> u8
+    ensures { λ r. ⌜ r ≡ barAt net seen w i ⌝ }
+{
+    if any_due_at(net, seen, w, i) { 0 } else { w }
 }
 
 // Whether a way put at the time w or later makes with q a sum below c.
@@ -235,8 +269,8 @@ pub(crate) fn has_pair(net: Net, seen: Seen, w: u8, t: Arc) -> bool
     let a = t.a;
     let b = t.b;
     let c = t.cost;
-    let from = all_ways(net, t.from, a);
-    let to = all_ways(net, t.to, b);
+    let from = all_ways(net, seen, bar_at(net, seen, w, t.to), t.from, a);
+    let to = all_ways(net, seen, bar_at(net, seen, w, t.from), t.to, b);
     any_due_pair(seen, w, from, to, c)
 }
 

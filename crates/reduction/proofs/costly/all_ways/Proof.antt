@@ -1,6 +1,5 @@
 -- `reduction::costly::all_ways` meets its contract. Assumes nothing.
 use Prim.Native.Nat.{_-_}
-use Rattle.algebra.specs.Solver.{at}
 use Rattle.loops.proofs.Laws.{Filled, filled-more, filled-none, filled-whole}
 use Rattle.reduction.specs.Seen.{wayAt, waysOf}
 use borrow.Author.Needs.{needs}
@@ -9,16 +8,16 @@ use Rattle.reduction.proofs.costly.all_ways.Statement.{statement}
 use Rattle.reduction.proofs.costly.all_ways.Tie as tie
 
 abbrev Inv-loop : tie.InvT-loop
-Inv-loop i e net at₀ k₀ at k = Filled (wayAt net i e) 97 at₀ at k
+Inv-loop w i e net seen at₀ k₀ at k = Filled (wayAt net seen w i e) 97 at₀ at k
 
 abbrev μ-loop : tie.MeasureT-loop
-μ-loop i e net at₀ k₀ at k = 97 - k
+μ-loop w i e net seen at₀ k₀ at k = 97 - k
 
 loop-holds : tie.Need-loop-holds Inv-loop μ-loop
 loop-holds c = filled-none _ _ _
 
 loop-again : tie.Need-loop-again Inv-loop μ-loop
-loop-again c = filled-more (c .before .before .before .loop .inv) (omega arith) (search needs) (c .way .ensures)
+loop-again c = filled-more (c .before .before .before .before .loop .inv) (omega arith) (search needs) (c .due-way .ensures)
 
 returns : tie.Need-returns Inv-loop μ-loop
 unfolding waysOf
@@ -32,6 +31,7 @@ all-ways-spec =
     μ-loop
     (λ c κs. search needs)
     loop-holds
+    (λ c. search needs)
     (λ c. search needs)
     (λ c. search needs)
     (λ c κs. search needs)
