@@ -4,7 +4,7 @@
 --     loaded-net                      a cleared list, loaded, has the network of the record
 --     changed-net                     the records of a step's change replaced: the network after the step
 -- Assumes nothing.
-use mathlib.Core.Bool.{Bool, true, false, cond}
+use mathlib.Core.Bool.{Bool, true, false}
 use mathlib.Core.List.{List, _∷_, [], _++_}
 use mathlib.Core.Path.{_≡_, refl, sym, ap, _∙_}
 use Prim.Native.Nat.{ℕ, zero, suc, _+_, _-_, _<_, _≤_}
@@ -13,8 +13,8 @@ use native.Mathlib.Omega.{arith}
 use lib.Dec.{leb}
 use lib.IntN.{ℤ}
 use lib.ListN.{length, getD, set, take, replicate, length-set, length-replicate, List·getD-eq-default}
-use lib.Seq.{set-out, take-suc, take-set-lt, take-set-le, take-all}
-use borrow.Author.Tests.{le-leb, lt-leb, leb-true, leb-false}
+use lib.Seq.{set-out, take-suc, take-set-lt, take-set-le}
+use borrow.Author.Tests.{le-leb, leb-true, leb-false}
 use Rattle.loops.specs.Loops.{build, upto}
 use Rattle.loops.proofs.Laws.{Filled, filled-more, build-const, build-same, upto-keeps}
 use Rattle.network.specs.declared.Arc.{Arc}
@@ -24,7 +24,7 @@ use Rattle.network.specs.declared.Put.{Put}
 use Rattle.network.specs.declared.Change.{Change}
 use Rattle.network.specs.declared.record.Asked.{Asked}
 use Rattle.network.specs.declared.record.Asked.the-variants.{Go, No}
-use Rattle.network.specs.Network.{noArc, emptyNet, isNumber, withArc, withPut, withSupply, withNode, without, applied}
+use Rattle.network.specs.Network.{noArc, emptyNet, withArc, withPut, withSupply, withNode, without, applied}
 use Rattle.network.specs.Record.{figures, arcIn, sizesOf, nodeTurn, arcTurn, netOf, netBy, readOf}
 use Rattle.network.specs.ArcList.{recordAt, replaced, replacedAll, noArcs, loadTurn, loadedBy, loaded, arcsIn, nodesOf, joined}
 

@@ -3,7 +3,7 @@ use mathlib.Core.Path.{_≡_, refl, sym, _∙_}
 use mathlib.Core.List.{List, [], _∷_}
 use mathlib.Core.Bool.{Bool, true, false, cond, _&&_, _||_, not, and-false}
 use mathlib.Core.Logic.{⊎-elim}
-use Prim.Native.Nat.{ℕ, zero, suc, _+_, _≤_, _<_}
+use Prim.Native.Nat.{ℕ, zero, suc, _≤_, _<_}
 use native.Mathlib.Nat.{not-suc-le-zero, eq-or-lt-of-le, le-of-suc-le-suc}
 use native.Mathlib.Numerals.{add-one}
 use native.Mathlib.Omega.{arith}
@@ -28,7 +28,6 @@ use Rattle.network.specs.declared.Tried.{Tried}
 use Rattle.network.specs.declared.Kind.{Kind}
 use Rattle.network.specs.declared.Kind.the-variants.{Passes, NoFlow, Changes}
 use Rattle.reduction.specs.declared.search.Step.{Step}
-use Rattle.reduction.specs.declared.search.Ran.{Ran}
 use Rattle.reduction.specs.Search.{answered, stepAt, orOn}
 use Rattle.reduction.specs.declared.costly.Seen.{Seen}
 use Rattle.reduction.specs.Seen.{wayBy, wayOf, dueWay, wayAt, waysOf, isOld, dueBy, isDueAt, isDueUnder, barOf, barAt, isDueFrom, isPair, Searched, Known, nothingSeen, marked, markedAll, soughtAt, isStep, isDropped}

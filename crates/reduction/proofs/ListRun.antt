@@ -5,7 +5,7 @@
 -- Assumes nothing.
 use mathlib.Core.Bool.{Bool, true, false, cond}
 use mathlib.Core.List.{List}
-use mathlib.Core.Logic.{_⊎_, inl, inr, ⊎-elim}
+use mathlib.Core.Logic.{_⊎_, ⊎-elim}
 use mathlib.Core.Option.{some, none}
 use mathlib.Core.Path.{_≡_, refl, sym, ap, subst⁻¹, _∙_}
 use Prim.Native.Nat.{ℕ, _+_, _-_, _<_, _≤_}
@@ -15,24 +15,20 @@ use lib.IntN.{ℤ}
 use lib.ListN.{length}
 use borrow.Author.Tests.{lt-ltb, le-leb}
 use Rattle.fraction.specs.Laws.{never}
-use Rattle.loops.specs.Loops.{runs}
 use Rattle.loops.proofs.Laws.{Running, running-none, running-more, running-ends, running-all}
 use Rattle.network.specs.declared.Arc.{Arc}
 use Rattle.network.specs.declared.Net.{Net}
 use Rattle.network.specs.declared.Nodes.{Nodes}
-use Rattle.network.specs.declared.Change.{Change}
-use Rattle.network.specs.declared.Kind.{Kind}
-use Rattle.network.specs.declared.Kind.the-variants.{Passes, NoFlow, Changes}
-use Rattle.network.specs.Network.{noChange, applied, without, withSupply, withArc}
+use Rattle.network.specs.declared.Kind.the-variants.{Changes}
+use Rattle.network.specs.Network.{applied, without, withSupply, withArc}
 use Rattle.network.specs.ArcList.{arcsIn, nodesOf, joined, replaced, replacedAll, noArcs, loaded}
 use Rattle.network.specs.Record.{readOf}
 use Rattle.network.proofs.Lists.{changed-net, length-replaced-all, length-loaded, loaded-net}
 use Rattle.reduction.specs.declared.costly.Seen.{Seen}
 use Rattle.reduction.specs.declared.search.Step.{Step}
-use Rattle.reduction.specs.declared.search.Ran.{Ran}
 use Rattle.reduction.specs.declared.search.Progress.{Progress}
-use Rattle.reduction.specs.Search.{nextOf, started, stepped, ended, moved, moveOf, finished, ranOf}
-use Rattle.reduction.specs.Seen.{Known, nothingSeen, markedAll}
+use Rattle.reduction.specs.Search.{nextOf, started, stepped, ended, moveOf, finished, ranOf}
+use Rattle.reduction.specs.Seen.{Known, markedAll}
 use Rattle.reduction.specs.ListRun.{netIn, ranWith, concluded, ranIn, ranBy, begun, takenOn, stopped, Advanced, Turned}
 use Rattle.reduction.proofs.Known.{known-nothing, known-after}
 

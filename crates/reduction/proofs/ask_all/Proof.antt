@@ -6,8 +6,6 @@ use Rattle.reduction.proofs.Entry.{long-list}
 use borrow.Author.Needs.{needs}
 use Rattle.reduction.proofs.ask_all.Statement.{statement}
 use Rattle.reduction.proofs.ask_all.Proof.Tie as tie
-use Rattle.reduction.proofs.Lent.ask_all.Reads as reads
-use Rattle.reduction.proofs.Lent.ask_all.Lts as lts
 
 count-requires : tie.Need-count-requires
 count-requires c κs = search needs

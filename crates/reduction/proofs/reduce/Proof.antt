@@ -1,7 +1,6 @@
 -- `reduction::reduce` meets its contract. The part that follows the code is `Proof/Tie.antt`, made by tools/lift.py.
 -- Assumes nothing.
 mod Tie
-use lib.ListN.{length}
 use Rattle.network.specs.ArcList.{noArcs}
 use Rattle.loops.specs.Loops.{zeros}
 use mathlib.Core.Path.{_∙_, ap, sym}
@@ -9,8 +8,6 @@ use Rattle.reduction.proofs.Entry.{no-flow-given}
 use borrow.Author.Needs.{needs}
 use Rattle.reduction.proofs.reduce.Statement.{statement}
 use Rattle.reduction.proofs.reduce.Proof.Tie as tie
-use Rattle.reduction.proofs.Lent.reduce.Reads as reads
-use Rattle.reduction.proofs.Lent.reduce.Lts as lts
 
 clear-requires : tie.Need-clear-requires
 clear-requires c κs = search needs

@@ -5,8 +5,6 @@ use Rattle.reduction.proofs.ListRun.{ran-loaded}
 use borrow.Author.Needs.{needs}
 use Rattle.reduction.proofs.reduce_in.Statement.{statement}
 use Rattle.reduction.proofs.reduce_in.Proof.Tie as tie
-use Rattle.reduction.proofs.Lent.reduce_in.Reads as reads
-use Rattle.reduction.proofs.Lent.reduce_in.Lts as lts
 
 load-requires : tie.Need-load-requires
 load-requires c κs = search needs

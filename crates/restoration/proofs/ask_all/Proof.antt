@@ -6,8 +6,6 @@ use Rattle.restoration.proofs.Asked.{asked-go, ready, long-list, go-on,
 use borrow.Author.Needs.{needs}
 use Rattle.restoration.proofs.ask_all.Statement.{statement}
 use Rattle.restoration.proofs.ask_all.Proof.Tie as tie
-use Rattle.restoration.proofs.Lent.ask_all.Reads as reads
-use Rattle.restoration.proofs.Lent.ask_all.Lts as lts
 
 count-requires : tie.Need-count-requires
 count-requires c κs = search needs

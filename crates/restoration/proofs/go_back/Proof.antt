@@ -8,8 +8,6 @@ use Rattle.restoration.proofs.Replay.{replayed-same}
 use borrow.Author.Needs.{needs}
 use Rattle.restoration.proofs.go_back.Statement.{statement}
 use Rattle.restoration.proofs.go_back.Proof.Tie as tie
-use Rattle.restoration.proofs.Lent.go_back.Reads as reads
-use Rattle.restoration.proofs.Lent.go_back.Lts as lts
 
 read-offer-requires : tie.Need-read-offer-requires
 read-offer-requires c κs = search needs

@@ -8,8 +8,6 @@ use Rattle.restoration.proofs.Optimum.{restored-optimum}
 use borrow.Author.Needs.{needs}
 use Rattle.restoration.proofs.restore.Statement.{statement}
 use Rattle.restoration.proofs.restore.Proof.Tie as tie
-use Rattle.restoration.proofs.Lent.restore.Reads as reads
-use Rattle.restoration.proofs.Lent.restore.Lts as lts
 
 clear-requires : tie.Need-clear-requires
 clear-requires c κs = search needs

@@ -1,16 +1,13 @@
 -- `restoration::restore_in` meets its contract. The part that follows the code is `Proof/Tie.antt`, made by tools/lift.py.
 -- Assumes nothing.
 mod Tie
-use lib.ListN.{length}
 use Rattle.network.proofs.Lists.{length-loaded}
-use mathlib.Core.Path.{_∙_, sym, ap}
+use mathlib.Core.Path.{_∙_, sym}
 use Rattle.restoration.proofs.Asked.{refused, run-passed, run-refused}
 use Rattle.restoration.proofs.ListWay.{run-is}
 use borrow.Author.Needs.{needs}
 use Rattle.restoration.proofs.restore_in.Statement.{statement}
 use Rattle.restoration.proofs.restore_in.Proof.Tie as tie
-use Rattle.restoration.proofs.Lent.restore_in.Reads as reads
-use Rattle.restoration.proofs.Lent.restore_in.Lts as lts
 
 load-requires : tie.Need-load-requires
 load-requires c κs = search needs

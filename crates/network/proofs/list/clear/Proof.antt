@@ -11,10 +11,6 @@ use Rattle.loops.proofs.Laws.{Filled, filled-none, filled-whole, build-const}
 use borrow.Author.Needs.{needs}
 use Rattle.network.proofs.list.clear.Statement.{statement}
 use Rattle.network.proofs.list.clear.Proof.Tie as tie
-use Rattle.network.proofs.Lent.list_clear.Reads as reads
-use Rattle.network.proofs.Lent.list_clear.Lts as lts
-use Rattle.network.proofs.Lent.list_replace.Reads as replace-reads
-use Rattle.network.proofs.no_arc.Reads as no-arc-reads
 
 abbrev Inv-loop : tie.InvT-loop
 Inv-loop arcs₀ i₀ arcs i = Filled (λ _. noArc) (length arcs₀) arcs₀ arcs i

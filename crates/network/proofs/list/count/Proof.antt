@@ -4,8 +4,6 @@ mod Tie
 use borrow.Author.Needs.{needs}
 use Rattle.network.proofs.list.count.Statement.{statement}
 use Rattle.network.proofs.list.count.Proof.Tie as tie
-use Rattle.network.proofs.Lent.list_count.Reads as reads
-use Rattle.network.proofs.Lent.list_count.Lts as lts
 
 returns : tie.Need-returns
 returns c = search needs

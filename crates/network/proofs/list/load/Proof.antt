@@ -2,16 +2,11 @@
 -- Assumes nothing.
 mod Tie
 use mathlib.Core.Path.{_∙_, sym}
-use native.Mathlib.Omega.{arith}
 use Rattle.network.specs.ArcList.{loaded}
 use Rattle.network.proofs.Questions.{sizes-go}
 use borrow.Author.Needs.{needs}
 use Rattle.network.proofs.list.load.Statement.{statement}
 use Rattle.network.proofs.list.load.Proof.Tie as tie
-use Rattle.network.proofs.Lent.list_load.Reads as reads
-use Rattle.network.proofs.Lent.list_load.Lts as lts
-use Rattle.network.proofs.Lent.list_load_arcs.Reads as load-arcs-reads
-use Rattle.network.proofs.record.sizes.Reads as sizes-reads
 
 sizes-requires : tie.Need-sizes-requires
 sizes-requires c κs = search needs

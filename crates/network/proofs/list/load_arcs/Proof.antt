@@ -9,10 +9,6 @@ use Rattle.loops.proofs.Laws.{Folded, folded-all, folded-more, folded-none}
 use borrow.Author.Needs.{needs}
 use Rattle.network.proofs.list.load_arcs.Statement.{statement}
 use Rattle.network.proofs.list.load_arcs.Proof.Tie as tie
-use Rattle.network.proofs.Lent.list_load_arcs.Reads as reads
-use Rattle.network.proofs.Lent.list_load_arcs.Lts as lts
-use Rattle.network.proofs.Lent.list_replace.Reads as replace-reads
-use Rattle.network.proofs.record.arc_in.Reads as arc-in-reads
 
 abbrev Inv-loop : tie.InvT-loop
 Inv-loop arcs₀ network n t m j₀ arcs j = Folded (loadTurn network n t) m arcs₀ j arcs

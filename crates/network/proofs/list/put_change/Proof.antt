@@ -5,8 +5,6 @@ use Rattle.network.specs.ArcList.{replacedAll}
 use borrow.Author.Needs.{needs}
 use Rattle.network.proofs.list.put_change.Statement.{statement}
 use Rattle.network.proofs.list.put_change.Proof.Tie as tie
-use Rattle.network.proofs.Lent.list_put_change.Reads as reads
-use Rattle.network.proofs.Lent.list_put_change.Lts as lts
 
 put-record-requires : tie.Need-put-record-requires
 put-record-requires c κs = search needs

@@ -4,8 +4,6 @@ mod Tie
 use borrow.Author.Needs.{needs}
 use Rattle.network.proofs.list.put_record.Statement.{statement}
 use Rattle.network.proofs.list.put_record.Proof.Tie as tie
-use Rattle.network.proofs.Lent.list_put_record.Reads as reads
-use Rattle.network.proofs.Lent.list_put_record.Lts as lts
 
 arc-of-requires : tie.Need-arc-of-requires
 arc-of-requires c κs = search needs

@@ -7,8 +7,6 @@ use Rattle.network.proofs.Lists.{record-low, record-in, record-past}
 use borrow.Author.Needs.{needs}
 use Rattle.network.proofs.list.read.Statement.{statement}
 use Rattle.network.proofs.list.read.Proof.Tie as tie
-use Rattle.network.proofs.Lent.list_read.Reads as reads
-use Rattle.network.proofs.Lent.list_read.Lts as lts
 
 no-arc-requires : tie.Need-no-arc-requires
 no-arc-requires c κs = search needs

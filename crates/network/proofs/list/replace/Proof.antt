@@ -6,8 +6,6 @@ use Rattle.network.proofs.Lists.{replaced-low, replaced-in, replaced-pa
 use borrow.Author.Needs.{needs}
 use Rattle.network.proofs.list.replace.Statement.{statement}
 use Rattle.network.proofs.list.replace.Proof.Tie as tie
-use Rattle.network.proofs.Lent.list_replace.Reads as reads
-use Rattle.network.proofs.Lent.list_replace.Lts as lts
 
 returns : tie.Need-returns
 returns c = replaced-low _ _ _ (c .if1 .taken)

@@ -8,10 +8,6 @@ use Rattle.loops.proofs.Laws.{Filled, filled-none, filled-more, filled-whole}
 use borrow.Author.Needs.{needs}
 use Rattle.network.proofs.list.view.Statement.{statement}
 use Rattle.network.proofs.list.view.Proof.Tie as tie
-use Rattle.network.proofs.Lent.list_view.Reads as reads
-use Rattle.network.proofs.Lent.list_view.Lts as lts
-use Rattle.network.proofs.Lent.list_read.Reads as read-reads
-use Rattle.network.proofs.no_arc.Reads as no-arc-reads
 
 abbrev Inv-loop : tie.InvT-loop
 Inv-loop arcs at₀ j₀ at j = Filled (recordAt arcs) 97 at₀ at j

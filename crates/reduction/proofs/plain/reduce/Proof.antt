@@ -4,8 +4,6 @@ mod Tie
 use borrow.Author.Needs.{needs}
 use Rattle.reduction.proofs.plain.reduce.Statement.{statement}
 use Rattle.reduction.proofs.plain.reduce.Proof.Tie as tie
-use Rattle.reduction.proofs.Lent.plain_reduce.Reads as reads
-use Rattle.reduction.proofs.Lent.plain_reduce.Lts as lts
 
 no-arc-requires : tie.Need-no-arc-requires
 no-arc-requires c κs = search needs

@@ -6,8 +6,6 @@ use borrow.Author.Tests.{le-leb, lt-leb}
 use borrow.Author.Needs.{needs}
 use Rattle.reduction.proofs.search.run.Statement.{statement}
 use Rattle.reduction.proofs.search.run.Proof.Tie as tie
-use Rattle.reduction.proofs.Lent.search_run.Reads as reads
-use Rattle.reduction.proofs.Lent.search_run.Lts as lts
 
 count-requires : tie.Need-count-requires
 count-requires c κs = search needs

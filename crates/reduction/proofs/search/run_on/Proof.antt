@@ -1,18 +1,12 @@
 -- `reduction::search::run_on` meets its contract. The part that follows the code is `Proof/Tie.antt`, made by tools/lift.py.
 -- Assumes nothing.
 mod Tie
-use mathlib.Core.Bool.{true}
-use mathlib.Core.Path.{_∙_, ap, sym}
 use Rattle.reduction.specs.ListRun.{netIn}
 use lib.ListN.{length}
 use Rattle.reduction.proofs.ListRun.{Underway, underway-none, underway-more, left, left-less}
 use borrow.Author.Needs.{needs}
 use Rattle.reduction.proofs.search.run_on.Statement.{statement}
 use Rattle.reduction.proofs.search.run_on.Proof.Tie as tie
-use Rattle.reduction.proofs.Lent.search_run_on.Reads as reads
-use Rattle.reduction.proofs.Lent.search_run_on.Lts as lts
-use Rattle.reduction.proofs.search.start.Reads as start-reads
-use Rattle.reduction.proofs.Lent.search_turn.Reads as turn-reads
 
 abbrev Inv-loop : tie.InvT-loop
 Inv-loop arcs₀ at₀ arcs at = Underway (netIn (at₀ .nodes) arcs₀) (length arcs₀) at arcs

@@ -1,13 +1,10 @@
 -- `reduction::search::turn` meets its contract. The part that follows the code is `Proof/Tie.antt`, made by tools/lift.py.
 -- Assumes nothing.
 mod Tie
-use mathlib.Core.Path.{_∙_, ap}
 use Rattle.reduction.proofs.ListRun.{turned}
 use borrow.Author.Needs.{needs}
 use Rattle.reduction.proofs.search.turn.Statement.{statement}
 use Rattle.reduction.proofs.search.turn.Proof.Tie as tie
-use Rattle.reduction.proofs.Lent.search_turn.Reads as reads
-use Rattle.reduction.proofs.Lent.search_turn.Lts as lts
 
 view-requires : tie.Need-view-requires
 view-requires c κs = search needs

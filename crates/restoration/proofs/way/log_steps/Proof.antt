@@ -9,10 +9,6 @@ use Rattle.restoration.proofs.Replay.{Logging, logging-none, logging-mo
 use borrow.Author.Needs.{needs}
 use Rattle.restoration.proofs.way.log_steps.Statement.{statement}
 use Rattle.restoration.proofs.way.log_steps.Proof.Tie as tie
-use Rattle.restoration.proofs.Lent.way_log_steps.Reads as reads
-use Rattle.restoration.proofs.Lent.way_log_steps.Lts as lts
-use Rattle.restoration.proofs.Lent.way_log_turn.Reads as log-turn-reads
-use Rattle.restoration.proofs.way.step_at.Reads as step-at-reads
 
 abbrev Inv-loop : tie.InvT-loop
 Inv-loop at words₀ arcs₀ steps there₀ k₀ words arcs there k = Logging (netIn there₀ arcs₀) (ranWith at (netIn there₀ arcs₀)) words₀ (length arcs₀) k there words arcs

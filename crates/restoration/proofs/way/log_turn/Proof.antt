@@ -5,8 +5,6 @@ use Rattle.restoration.proofs.ListWay.{logged-turn}
 use borrow.Author.Needs.{needs}
 use Rattle.restoration.proofs.way.log_turn.Statement.{statement}
 use Rattle.restoration.proofs.way.log_turn.Proof.Tie as tie
-use Rattle.restoration.proofs.Lent.way_log_turn.Reads as reads
-use Rattle.restoration.proofs.Lent.way_log_turn.Lts as lts
 
 view-requires : tie.Need-view-requires
 view-requires c κs = search needs

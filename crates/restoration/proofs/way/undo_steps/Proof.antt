@@ -10,9 +10,6 @@ use Rattle.restoration.proofs.Logs.{Descended, descended-none, descende
 use borrow.Author.Needs.{needs}
 use Rattle.restoration.proofs.way.undo_steps.Statement.{statement}
 use Rattle.restoration.proofs.way.undo_steps.Proof.Tie as tie
-use Rattle.restoration.proofs.Lent.way_undo_steps.Reads as reads
-use Rattle.restoration.proofs.Lent.way_undo_steps.Lts as lts
-use Rattle.restoration.proofs.Lent.way_undo_turn.Reads as undo-turn-reads
 
 abbrev Inv-loop : tie.InvT-loop
 Inv-loop words steps arcs₀ at₀ k₀ arcs at k = Descended (backTurn words) steps at₀ k at × Descended (arcsTurn words) steps arcs₀ k arcs × (length arcs ≡ length arcs₀)

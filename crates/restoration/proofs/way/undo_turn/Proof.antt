@@ -4,12 +4,6 @@ mod Tie
 use borrow.Author.Needs.{needs}
 use Rattle.restoration.proofs.way.undo_turn.Statement.{statement}
 use Rattle.restoration.proofs.way.undo_turn.Proof.Tie as tie
-use Rattle.restoration.proofs.Lent.way_undo_turn.Reads as reads
-use Rattle.restoration.proofs.Lent.way_undo_turn.Lts as lts
-use Rattle.restoration.proofs.Lent.network_list_put_change.Reads as put-change-reads
-use Rattle.restoration.proofs.back.undo.Reads as undo-reads
-use Rattle.restoration.proofs.log.trace_in.Reads as trace-in-reads
-use Rattle.restoration.proofs.way.old_arcs.Reads as old-arcs-reads
 
 mul-trace-in : tie.Need-mul-trace-in
 mul-trace-in c = search needs

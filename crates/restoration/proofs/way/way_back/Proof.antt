@@ -5,14 +5,12 @@ use lib.ListN.{length}
 use Rattle.network.specs.ArcList.{arcsIn}
 use Rattle.network.proofs.Lists.{length-loaded}
 use native.Mathlib.Omega.{arith}
-use mathlib.Core.Path.{_∙_, ap, sym}
+use mathlib.Core.Path.{_∙_, ap}
 use Rattle.restoration.proofs.Logs.{back-logged}
 use Rattle.restoration.proofs.ListWay.{loaded-is, arcs-back}
 use borrow.Author.Needs.{needs}
 use Rattle.restoration.proofs.way.way_back.Statement.{statement}
 use Rattle.restoration.proofs.way.way_back.Proof.Tie as tie
-use Rattle.restoration.proofs.Lent.way_way_back.Reads as reads
-use Rattle.restoration.proofs.Lent.way_way_back.Lts as lts
 
 clear-requires : tie.Need-clear-requires
 clear-requires c κs = search needs
