@@ -66,6 +66,7 @@ abbrev pub stackWords : List ℤ → ℕ → Asked → List ℤ
 stackWords xs s (No q) = zeros s
 stackWords xs s (Go n m) = stackOf (ranOf (readOf xs)) s
 
+-- what is given back and written, by what the questions answer
 pub record Asking (xs : List ℤ) (o s : ℕ) (q : Asked) (r : Answer) (out stack : List ℤ) : Type 0 where
   pub result : r ≡ answerOf xs q
   pub out-is : out ≡ outputOf xs o q
