@@ -356,7 +356,7 @@ with tempfile.TemporaryDirectory() as tmp:
     for d in ('rlib', 'stamp'): os.makedirs(os.path.join(tmp, 'target', d))
     low = [c for c in USES if c in ALL and c not in NAMED and c != crate and not set(USES[c]) & set(NAMED)]
     with open(os.path.join(tmp, 'crates.txt'), 'w') as f:
-        for c in [c for c in USES if c in low + [*NAMED, crate]]: f.write('%s: %s\n' % (c, ' '.join(d for d in USES[c] if d in low or d in NAMED)))
+        for c in [c for c in USES if c in low + [*NAMED, crate]]: f.write(' '.join([c + ':'] + [d for d in USES[c] if d in low or d in NAMED]) + '\n')
     for c in low:
         os.symlink(os.path.join(repo, 'crates', c), os.path.join(tmp, 'crates', c))
         for d in ('rlib', 'stamp'):
