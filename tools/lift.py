@@ -103,20 +103,22 @@ class Crate:
             else: out.add((self.name if at[0] == 'crate' else at[0], tuple(at[1:]) + (name,)))
         return {(c, q) for c, q in out if c in ALL and q in ALL[c].fns}
 
-    def default(self, ty):
-        ty = ty.strip()
+    def default(self, ty, scope=None):
+        """A value of a type, as a crate (scope, or this one) names it."""
+        ty, scope = ty.strip(), scope or self
         name = ty.split('::')[-1]
         if name == S: return '[0; %s]' % K
         if ty == 'bool': return 'false'
         if re.match(r'[iu](8|16|32|64|size)$', ty): return '0'
         mm = re.match(r'\[(.*);\s*([^;\]]+)\]$', ty)
-        if mm: return '[%s; %s]' % (self.default(mm.group(1)), mm.group(2))
-        at, mp, k, t = type_of(name, self)
-        name = '::'.join(('crate' if at == self.name else at,) + mp + (name,))
+        if mm: return '[%s; %s]' % (self.default(mm.group(1), scope), mm.group(2))
+        at = declares(name, scope)
+        mp, k, t = at.types[name]
+        name = '::'.join(('crate' if at is self else at.name,) + mp + (name,))
         if k == 'struct':
-            return name + ' { ' + ', '.join('%s: %s' % (f, self.default(y)) for f, y in re.findall(r'(?:pub )?(\w+)\s*:\s*(\[[^\]]*\]|[^,}]+)', t[t.index('{'):])) + ' }'
+            return name + ' { ' + ', '.join('%s: %s' % (f, self.default(y, at)) for f, y in re.findall(r'(?:pub )?(\w+)\s*:\s*(\[[^\]]*\]|[^,}]+)', t[t.index('{'):])) + ' }'
         mm = re.match(r'\s*(\w+)\s*(\(([^)]*)\))?', t[t.index('{') + 1:])
-        return name + '::' + mm.group(1) + ('(' + ', '.join(self.default(y) for y in mm.group(3).split(',') if y.strip()) + ')' if mm.group(2) else '')
+        return name + '::' + mm.group(1) + ('(' + ', '.join(self.default(y, at) for y in mm.group(3).split(',') if y.strip()) + ')' if mm.group(2) else '')
 
     def twin(self, into, kept, target=None):
         """The twin's source: the target as it stands, of the other functions kept a stub, and the types that they name."""
@@ -171,9 +173,10 @@ def named_types():
 TYPES = named_types()
 
 
-def type_of(name, here):
-    """The crate that declares a type, this one or another, its module, kind and text."""
-    return next((c.name,) + c.types[name] for c in [here, *ALL.values()] if name in c.types)
+def declares(name, scope):
+    """The crate that declares a type which a crate names: itself, or the one that a `use` line has."""
+    if name in scope.types: return scope
+    return ALL[next(t.split()[1].split('::')[0] for _, its in scope.files.values() for k, n, t, b in its if k == 'use' and re.findall(r'\w+', t)[-1] == name)]
 
 
 # ---- what Rattle made of the twin
@@ -332,13 +335,14 @@ def write(path, text):
     if not os.path.exists(path) or open(path).read() != text: open(path, 'w').write(text)
 
 
-def none_of(name):
-    at, mp, k, t = type_of(name, HOME)
+def none_of(name, scope):
+    at = declares(name, scope)
+    t = at.types[name][2]
     def one(ty):
         if ty == 'bool': return 'false'
         if re.match(r'i\d|isize', ty): return 'pos 0'
         if re.match(r'u\d|usize', ty): return '0'
-        return none_of(ty)
+        return none_of(ty, at)
     return 'record { ' + '; '.join('%s = %s' % (f, one(y)) for f, y in re.findall(r'(?:pub )?(\w+)\s*:\s*(\w+)', t[t.index('{'):])) + ' }'
 
 
@@ -437,7 +441,7 @@ abbrev pub row : RattleType
 row = T.the-row
 
 abbrev pub none : row .Denot
-none = {none_of(S)}
+none = {none_of(S, HOME)}
 
 abbrev pub by-value : Ty
 by-value = T′.mir
