@@ -6,7 +6,7 @@ ghost use mathlib.Core.Bool.{_&&_};
 ghost use Prim.Native.Nat.{_*_};
 ghost use lib.IntN.{pos, natAbs, _+ℤ_, _*ℤ_};
 ghost use lib.Signed.{ltZ};
-ghost use Rattle.fraction.specs.Exact.{noLower, noUpper, Operand, isOperand, isProper, isSame, isZero, isLess, reduceOf, sumOf, differenceOf, productOf, quotientOf, negationOf, reciprocalOf, fromWords, denWord};
+ghost use Rattle.fraction.specs.Exact.{noLower, noUpper, Operand, isOperand, isProper, isSame, isZero, isLess, fitted, reduceOf, sumOf, differenceOf, productOf, quotientOf, negationOf, reciprocalOf, fromWords, denWord};
 ghost use Rattle.fraction.specs.Formula.{pairOf, isFit, figureOf, _⊕_, _⊖_, _⊗_, _⊘_, ⊝_};
 
 // A figure: a numerator over a denominator, or a mark, which is written over 0.
@@ -38,6 +38,9 @@ impl Fraction {
     {
         if d == 0 {
             return Worked::Misfit;
+        }
+        if d == 1 {
+            return whole(z);
         }
         let size = integer::size(z);
         // with a lower divisor d / g is beyond range
@@ -81,6 +84,9 @@ impl Fraction {
     pub fn is_proper(self) -> bool
         ensures { λ r. ⌜ r ≡ isProper self ⌝ }
     {
+        if self.den == 1 {
+            return -2147483648 < self.num;
+        }
         if self.is_operand() {
             return integer::gcd(num_size(self), self.den as u64) == 1;
         }
@@ -219,6 +225,22 @@ impl Fraction {
             -1
         }
     }
+}
+
+// z over 1.
+fn whole(z: i64) -> Worked
+    ensures { λ r. ⌜ r ≡ fitted z 1 ⌝ }
+{
+    if z < -2147483647 {
+        return Worked::Misfit;
+    }
+    if z > 2147483647 {
+        return Worked::Misfit;
+    }
+    Worked::Fits(Fraction {
+        num: z as i32,
+        den: 1,
+    })
 }
 
 // The size of the numerator.

@@ -179,7 +179,7 @@ module _ {net : Net} (g : Legal net) (h : Gapless net) (pair : Pair) (form : (j 
     where
       gone : (i ≡ 0) ⊎ (net .n < i) → isHere net i ≡ false
       gone (inl q) = rw q (g .no-node)
-      gone (inr l) = h .node-out i l
+      gone (inr l) = g .nodes-beyond i l
 
       absent : ¬ (T (isHere net i))
       absent t = subst T (gone o) t

@@ -1,13 +1,13 @@
 -- The balances of all nodes in one list, and an arc's flow added to them. Assumes nothing.
 use mathlib.Core.Path.{_≡_, refl, sym, ap, _∙_}
-use mathlib.Core.Bool.{Bool, true, false}
+use mathlib.Core.Bool.{Bool, true, false, not, _&&_, and-false}
 use mathlib.Core.List.{List}
 use Prim.Native.Nat.{ℕ, _<_}
 use native.Mathlib.Omega.{arith}
 use lib.Dec.{eqb}
 use lib.ListN.{length, getD, set, length-set}
 use lib.Seq.{getD-set-same, getD-set-other}
-use borrow.Author.Tests.{eqb-true, eqb-false}
+use borrow.Author.Tests.{eqb-true, eqb-false, eq-eqb}
 use Rattle.fraction.specs.declared.Fraction.{Fraction}
 use Rattle.fraction.specs.declared.Worked.{Worked}
 use Rattle.fraction.specs.declared.Worked.the-variants.{Fits}
@@ -27,33 +27,40 @@ module _ (s r : Sums) (k : ℕ) (v : Worked) (e : r .at ≡ set (s .at) k (recor
   at-other : (i : ℕ) → (i ≡ k → ⊥) → sumAt r i ≡ sumAt s i
   at-other i ne = ap (λ (l : List Sum). getD l i (record { w = Fits noFigure }) .w) e ∙ ap (λ (z : Sum). z .w) (getD-set-other (s .at) k i _ _ ne)
 
--- a root arc touches one node
-module _ (s one : Sums) (t : Arc) (x : Fraction) (n : length (s .at) ≡ 33) (e : one .at ≡ set (s .at) (t .from) (record { w = sumAt s (t .from) ⊕ Fits (t .a) ⊗ Fits x })) where
-  pub root-added : isRoot t ≡ true → (i : ℕ) → i < 33 → sumAt one i ≡ balanceBy (isTouching t i) (sideOf t i .e) x (sumAt s i)
-  unfolding isTouching isRoot sideOf
-  root-added q i h = by (eqb (t .from) i) refl
-    where
-      by : (b : Bool) → eqb (t .from) i ≡ b → sumAt one i ≡ balanceBy (isTouching t i) (sideOf t i .e) x (sumAt s i)
-      by true p = let f = eqb-true (t .from) i p in rw p (rw (← f) (at-same s one (t .from) _ e (omega (arith, n, f, h))))
-      by false p =
-          let m : eqb (t .to) i ≡ false = rw (← eqb-true (t .from) (t .to) q) p in
-          rw (p, m) (at-other s one (t .from) _ e i (λ z. eqb-false (t .from) i p (sym z)))
+abbrev pub put : Sums → ℕ → Worked → Sums
+put s k v = record { at = set (s .at) k (record { w = v }) }
 
-  -- any other arc two
-  pub both-added : (r : Sums) → r .at ≡ set (one .at) (t .to) (record { w = sumAt one (t .to) ⊕ Fits (t .b) ⊗ Fits x }) → isRoot t ≡ false → (i : ℕ) → i < 33 → sumAt r i ≡ balanceBy (isTouching t i) (sideOf t i .e) x (sumAt s i)
+-- an arc adds at the places of its nodes: at the last where there is no such node
+module _ (s : Sums) (t : Arc) (x : Fraction) (p q : ℕ) (v w : Worked) (n : length (s .at) ≡ 34) (from : (i : ℕ) → i < 33 → eqb p i ≡ eqb (t .from) i) (to : (i : ℕ) → i < 33 → eqb q i ≡ (not (isRoot t) && eqb (t .to) i)) (d : v ≡ sumAt s p ⊕ Fits (t .a) ⊗ Fits x) (e : w ≡ sumAt (put s p v) q ⊕ Fits (t .b) ⊗ Fits x) where
+  pub added : (i : ℕ) → i < 33 → sumAt (put (put s p v) q w) i ≡ balanceBy (isTouching t i) (sideOf t i .e) x (sumAt s i)
   unfolding isTouching isRoot sideOf
-  both-added r d q i h = by (eqb (t .from) i) refl (eqb (t .to) i) refl
+  added i h = by (eqb (t .from) i) refl (eqb (t .to) i) refl
     where
-      apart : t .from ≡ t .to → ⊥
-      apart = eqb-false (t .from) (t .to) q
+      one : Sums
+      one = put s p v
 
-      by : (b : Bool) → eqb (t .from) i ≡ b → (c : Bool) → eqb (t .to) i ≡ c → sumAt r i ≡ balanceBy (isTouching t i) (sideOf t i .e) x (sumAt s i)
-      by true p c m =
-          let f = eqb-true (t .from) i p in
-          rw p (at-other one r (t .to) _ d i (λ z. apart (f ∙ z)) ∙ rw (← f) (at-same s one (t .from) _ e (omega (arith, n, f, h))))
-      by false p true m =
-          let g = eqb-true (t .to) i m in
-          let long : length (one .at) ≡ 33 = ap length e ∙ length-set (s .at) _ _ ∙ n in
-          rw (p, m) (rw (← g) (at-same one r (t .to) _ d (omega (arith, long, g, h)) ∙ rw (at-other s one (t .from) _ e (t .to) (λ z. apart (sym z)))))
-      by false p false m =
-          rw (p, m) (at-other one r (t .to) _ d i (λ z. eqb-false (t .to) i m (sym z)) ∙ at-other s one (t .from) _ e i (λ z. eqb-false (t .from) i p (sym z)))
+      two : Sums
+      two = put one q w
+
+      -- at another place than the two
+      off-from : eqb p i ≡ false → sumAt one i ≡ sumAt s i
+      off-from f = at-other s one p v refl i (λ z. eqb-false p i f (sym z))
+
+      off-to : eqb q i ≡ false → sumAt two i ≡ sumAt one i
+      off-to f = at-other one two q w refl i (λ z. eqb-false q i f (sym z))
+
+      by : (b : Bool) → eqb (t .from) i ≡ b → (c : Bool) → eqb (t .to) i ≡ c → sumAt two i ≡ balanceBy (isTouching t i) (sideOf t i .e) x (sumAt s i)
+      by true f c g =
+          let k = eqb-true p i (from i h ∙ f) in
+          rw f (off-to (to i h ∙ apart c g) ∙ rw (← k) (at-same s one p v refl (omega (arith, n, k, h)) ∙ d))
+        where
+          apart : (c : Bool) → eqb (t .to) i ≡ c → (not (eqb (t .from) (t .to)) && eqb (t .to) i) ≡ false
+          apart true g = rw (eq-eqb (t .from) (t .to) (eqb-true (t .from) i f ∙ sym (eqb-true (t .to) i g)))
+          apart false g = rw (g, and-false)
+      by false f true g =
+          let j = eqb-true (t .to) i g in
+          let r : eqb (t .from) (t .to) ≡ false = rw j f in
+          let k = eqb-true q i (to i h ∙ rw (r, g)) in
+          let m : sumAt two i ≡ (sumAt one i ⊕ Fits (t .b) ⊗ Fits x) = rw (← k) (at-same one two q w refl (rw length-set (omega (arith, n, k, h))) ∙ e) in
+          rw (f, g) (m ∙ rw (off-from (from i h ∙ f)))
+      by false f false g = rw (f, g) (off-to (to i h ∙ rw (g, and-false)) ∙ off-from (from i h ∙ f))

@@ -118,7 +118,7 @@ module _ {net : Net} (g : Legal net) (h : Gapless net) (pair : Pair) where
     where
       from : (j ≡ 0) ⊎ (net .m < j) → arcAt net j .from ≡ 0
       from (inl q) = rw q (g .no-arc)
-      from (inr l) = h .arc-out j l
+      from (inr l) = g .arcs-beyond j l
 
   -- a column in use, and one that is out
   pub column-used : (j : ℕ) → 1 ≤ j → j ≤ net .m → columnAt (exactOf net) j ≡ column (exactArc (arcAt net j))

@@ -77,7 +77,7 @@ isWithin t x = not (isLess x (t .lower)) && not (isLess (t .upper) x)
 abbrev pub isWithinAt : Net → Pair → ℕ → Bool
 isWithinAt net pair j = isWithin (arcAt net (j + 1)) (flowAt pair (j + 1))
 
--- ---- 12. "Price rule kept?" "d > 0 only where l is finite and flow = l; d < 0 only where u is finite and flow = u"
+-- ---- 12. "Price rule kept?" (complementary slackness) "d > 0 only where l is finite and flow = l; d < 0 only where u is finite and flow = u"
 
 unfoldable pub isAt : Fraction → Fraction → Bool
 isAt bound x = isFinite bound && isSame x bound

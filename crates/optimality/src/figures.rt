@@ -1,9 +1,10 @@
 // The figures of the test: balances, reduced costs and the value; and its questions 9 to 12. The loops read an arc in place,
 // so that no network is copied for one; beyond the last number there is none.
 ghost use mathlib.Core.Path.{_≡_};
-ghost use mathlib.Core.Bool.{_&&_};
+ghost use mathlib.Core.Bool.{_&&_, not};
 ghost use Prim.Native.Nat.{ℕ, _<_};
-ghost use lib.ListN.{getD, set};
+ghost use lib.Dec.{eqb};
+ghost use lib.ListN.{getD};
 ghost use Rattle.loops.specs.Loops.{all};
 ghost use Rattle.fraction.specs.Exact.{noFigure, isSame};
 ghost use Rattle.fraction.specs.Formula.{isFit, figureOf, _⊕_, _⊗_};
@@ -20,9 +21,9 @@ struct Sum {
     w: Worked,
 }
 
-// The balances of the nodes 0 to 32.
+// The balances of the nodes 0 to 32; the last is no node's.
 struct Sums {
-    at: [Sum; 33],
+    at: [Sum; 34],
 }
 
 // Whether all balances fit, and whether every node is balanced.
@@ -126,39 +127,33 @@ pub fn value(net: Net, pair: Pair) -> Worked
     w
 }
 
-// The balance of node i, and one term more.
-fn add_at(mut s: Sums, i: usize, e: Fraction, x: Fraction) -> Sums
-    ensures { λ r. ⌜ r .at ≡ set (s .at) i (record { w = sumAt s i ⊕ Worked.Fits e ⊗ Worked.Fits x }) ⌝ }
+// The place of node k among the balances; the last where it has none.
+fn place_of(k: usize) -> usize
+    ensures { λ r. ⌜ (r < 34) × ((i : ℕ) → i < 33 → eqb r i ≡ eqb k i) ⌝ }
 {
-    if i < 33 {
-        let z = s.at[i];
-        let v = z.w;
-        let w = with_term(v, e, x);
-        s.at[i] = Sum { w };
+    if k < 33 {
+        return k;
     }
-    s
+    33
 }
 
-// The balances of all nodes, and the flow of one arc more.
-fn add_arc(s: Sums, t: Arc, x: Fraction) -> Sums
-    ensures { λ r. ⌜ ((i : ℕ) → i < 33 → sumAt r i ≡ balanceBy (isTouching t i) (sideOf t i .e) x (sumAt s i)) ⌝ }
+// The place of an arc's to node; the last for a root arc.
+fn to_place(t: Arc) -> usize
+    ensures { λ r. ⌜ (r < 34) × ((i : ℕ) → i < 33 → eqb r i ≡ (not (isRoot t) && eqb (t .to) i)) ⌝ }
 {
-    let a = t.a;
-    let b = t.b;
-    let one = add_at(s, t.from, a, x);
     if network::is_root(t) {
-        return one;
+        return 33;
     }
-    add_at(one, t.to, b, x)
+    place_of(t.to)
 }
 
 // The balances of the nodes 0 to 32, arcs upward.
 fn balances(net: Net, pair: Pair) -> Sums
     ensures { λ r. ⌜ ((i : ℕ) → i < 33 → sumAt r i ≡ balanceOf net pair i) ⌝ }
 {
-    let w = Fraction::ZERO.fit();
-    let z = Sum { w };
-    let mut s = Sums { at: [z; 33] };
+    let zero = Fraction::ZERO.fit();
+    let none = Sum { w: zero };
+    let mut s = Sums { at: [none; 34] };
     for j in 0..net.m {
         let mut t = network::no_arc();
         let mut x = network::no_figure();
@@ -166,7 +161,18 @@ fn balances(net: Net, pair: Pair) -> Sums
             t = net.arcs[j + 1];
             x = pair.flow[j + 1];
         }
-        s = add_arc(s, t, x);
+        let from = place_of(t.from);
+        let to = to_place(t);
+        let a = t.a;
+        let b = t.b;
+        let y = s.at[from];
+        let v = y.w;
+        let one = with_term(v, a, x);
+        s.at[from] = Sum { w: one };
+        let z = s.at[to];
+        let w = z.w;
+        let two = with_term(w, b, x);
+        s.at[to] = Sum { w: two };
     }
     s
 }

@@ -1,6 +1,7 @@
 -- `fraction::Fraction::reduced` meets its contract. Assumes nothing.
 use Prim.Native.Nat.{ℕ, _*_, _/_, _<_, _≤_}
 use Rattle.fraction.proofs.Machine.{narrow-fits, narrow-is}
+use Rattle.fraction.proofs.OverOne.{reduce-whole}
 use Rattle.fraction.specs.Exact.{fitted, over, reduceOf}
 use Rattle.fraction.specs.Laws.{fitted-no-den, fitted-no-num, fitted-yes, reduce-by, reduce-zero}
 use Rattle.fraction.specs.declared.Worked.the-variants.{Fits}
@@ -34,29 +35,32 @@ beyond d r h l =
     let q : 2147483648 ≤ d / r = le-div-iff-mul-le h .1 (omega arith) in
     omega arith
 
-size-is : (c : tie.After-divisor) → c .before .size .result ≡ natAbs (c .before .before .before .args .z)
-size-is c = c .before .size .ensures ∙ ap natAbs (read (c .before .before .before))
+size-is : (c : tie.After-divisor) → c .before .size .result ≡ natAbs (c .before .before .before .before .args .z)
+size-is c = c .before .size .ensures ∙ ap natAbs (read (c .before .before .before .before))
 
 -- over the divisor
-lowest : (c : tie.After-divisor) → reduceOf (c .before .before .before .args .z) (c .before .before .before .args .d) ≡ fitted (signed (c .before .before .before .args .z) (c .before .size .result / gcd (c .before .size .result) (c .before .before .before .args .d))) (c .before .before .before .args .d / gcd (c .before .size .result) (c .before .before .before .args .d))
-lowest c = reduce-by _ _ _ _ (c .before .before .if1 .left) (size-is c) refl
+lowest : (c : tie.After-divisor) → reduceOf (c .before .before .before .before .args .z) (c .before .before .before .before .args .d) ≡ fitted (signed (c .before .before .before .before .args .z) (c .before .size .result / gcd (c .before .size .result) (c .before .before .before .before .args .d))) (c .before .before .before .before .args .d / gcd (c .before .size .result) (c .before .before .before .before .args .d))
+lowest c = reduce-by _ _ _ _ (c .before .before .before .if1 .left) (size-is c) refl
 
-less : (c : tie.After-divisor) (x : ℕ) → x / c .divisor .result ≤ x / gcd (c .before .size .result) (c .before .before .before .args .d)
-less c x = div-mono x _ _ (gcd-pos (c .before .size .result) (c .before .before .before .args .d) (omega arith)) (c .divisor .ensures .enough)
+less : (c : tie.After-divisor) (x : ℕ) → x / c .divisor .result ≤ x / gcd (c .before .size .result) (c .before .before .before .before .args .d)
+less c x = div-mono x _ _ (gcd-pos (c .before .size .result) (c .before .before .before .before .args .d) (omega arith)) (c .divisor .ensures .enough)
 
 -- over what was found, where the denominator is within range
-answer : (c : tie.After-divisor) → c .before .before .before .args .d / c .divisor .result ≤ 2147483647 → reduceOf (c .before .before .before .args .z) (c .before .before .before .args .d) ≡ fitted (signed (c .before .before .before .args .z) (c .before .size .result / c .divisor .result)) (c .before .before .before .args .d / c .divisor .result)
-answer c h = reduce-by _ _ _ _ (c .before .before .if1 .left) (size-is c) (by (ltb (c .divisor .result) (c .before .before .before .args .d / 2147483648)) refl)
+answer : (c : tie.After-divisor) → c .before .before .before .before .args .d / c .divisor .result ≤ 2147483647 → reduceOf (c .before .before .before .before .args .z) (c .before .before .before .before .args .d) ≡ fitted (signed (c .before .before .before .before .args .z) (c .before .size .result / c .divisor .result)) (c .before .before .before .before .args .d / c .divisor .result)
+answer c h = reduce-by _ _ _ _ (c .before .before .before .if1 .left) (size-is c) (by (ltb (c .divisor .result) (c .before .before .before .before .args .d / 2147483648)) refl)
   where
-    by : (b : Bool) → ltb (c .divisor .result) (c .before .before .before .args .d / 2147483648) ≡ b → c .divisor .result ≡ gcd (c .before .size .result) (c .before .before .before .args .d)
+    by : (b : Bool) → ltb (c .divisor .result) (c .before .before .before .before .args .d / 2147483648) ≡ b → c .divisor .result ≡ gcd (c .before .size .result) (c .before .before .before .before .args .d)
     by true e = absurd (omega (arith, beyond _ _ (c .divisor .ensures .positive (omega arith)) (ltb-true _ _ e)))
     by false e = c .divisor .ensures .is (ltb-false _ _ e)
 
-made : (c : tie.After-with-sign) → c .with-sign .result ≡ signed (c .before .before .before .before .before .before .args .z) (c .before .before .before .before .size .result / c .before .before .before .divisor .result)
-made c = c .with-sign .ensures ∙ ap (λ (z : ℤ). signed z (c .before .before .before .before .size .result / c .before .before .before .divisor .result)) (read (c .before .before .before .before .before .before))
+made : (c : tie.After-with-sign) → c .with-sign .result ≡ signed (c .before .before .before .before .before .before .before .args .z) (c .before .before .before .before .size .result / c .before .before .before .divisor .result)
+made c = c .with-sign .ensures ∙ ap (λ (z : ℤ). signed z (c .before .before .before .before .size .result / c .before .before .before .divisor .result)) (read (c .before .before .before .before .before .before .before))
 
 returns : tie.Need-returns
 returns c = sym (reduce-zero _ _ (c .if1 .taken))
+
+returns-2 : tie.Need-returns-2
+returns-2 c = c .whole .ensures ∙ ap (λ (z : ℤ). fitted z 1) (read (c .before .before .before)) ∙ sym (reduce-whole _ _ (c .before .if2 .taken))
 
 div-n : tie.Need-div-n
 div-n c = c .divisor .ensures .positive (omega arith)
@@ -64,17 +68,17 @@ div-n c = c .divisor .ensures .positive (omega arith)
 div-m : tie.Need-div-m
 div-m c = c .divisor .ensures .positive (omega arith)
 
-returns-2 : tie.Need-returns-2
-returns-2 c = sym (lowest (c .before) ∙ fitted-no-num _ _ (rw natAbs-signed (omega (arith, c .if2 .taken, less (c .before) (c .before .before .size .result)))))
-
 returns-3 : tie.Need-returns-3
-returns-3 c = sym (lowest (c .before .before) ∙ fitted-no-den _ _ (omega (arith, c .if3 .taken, less (c .before .before) (c .before .before .before .before .before .args .d))))
-
-cast-t11 : tie.Need-cast-t11
-cast-t11 c = narrow-fits (c .before .before .before .before .before .before .args .z) _ (made c) (c .before .before .if2 .left)
+returns-3 c = sym (lowest (c .before) ∙ fitted-no-num _ _ (rw natAbs-signed (omega (arith, c .if3 .taken, less (c .before) (c .before .before .size .result)))))
 
 returns-4 : tie.Need-returns-4
-returns-4 c = ap (λ (n : ℤ). Fits (over n (c .before .before .before .before .before .before .args .d / c .before .before .before .divisor .result))) (narrow-is (c .before .before .before .before .before .before .args .z) _ (made c) (c .before .before .if2 .left)) ∙ sym (answer (c .before .before .before) (c .before .if3 .left) ∙ fitted-yes _ _ (rw natAbs-signed (c .before .before .if2 .left)) (c .before .if3 .left))
+returns-4 c = sym (lowest (c .before .before) ∙ fitted-no-den _ _ (omega (arith, c .if4 .taken, less (c .before .before) (c .before .before .before .before .before .before .args .d))))
+
+cast-t11 : tie.Need-cast-t11
+cast-t11 c = narrow-fits (c .before .before .before .before .before .before .before .args .z) _ (made c) (c .before .before .if3 .left)
+
+returns-5 : tie.Need-returns-5
+returns-5 c = ap (λ (n : ℤ). Fits (over n (c .before .before .before .before .before .before .before .args .d / c .before .before .before .divisor .result))) (narrow-is (c .before .before .before .before .before .before .before .args .z) _ (made c) (c .before .before .if3 .left)) ∙ sym (answer (c .before .before .before) (c .before .if4 .left) ∙ fitted-yes _ _ (rw natAbs-signed (c .before .before .if3 .left)) (c .before .if4 .left))
 
 pub reduced-spec : {M : Type 1} → statement M
 reduced-spec =
@@ -82,13 +86,15 @@ reduced-spec =
     (tie.spec
     returns
     (λ c κs. search needs)
+    returns-2
+    (λ c κs. search needs)
     (λ c κs. search needs)
     div-n
     div-m
-    returns-2
     returns-3
+    returns-4
     (λ c. search needs)
     (λ c κs. search needs)
     cast-t11
     (λ c. search needs)
-    returns-4)
+    returns-5)
