@@ -3,10 +3,10 @@ use mathlib.Core.Path.{_≡_, refl, sym, ap, _∙_}
 use mathlib.Core.Bool.{Bool, true, false, cond, _||_}
 use mathlib.Core.List.{List}
 use mathlib.Core.Logic.{_⊎_, inl, inr, ⊎-elim}
-use Prim.Native.Nat.{ℕ, _≤_}
+use Prim.Native.Nat.{ℕ, _≤_, _<_}
 use native.Mathlib.Omega.{arith}
 use lib.Dec.{eqb, ltb, leb}
-use lib.ListN.{List·getD-eq-default, length, getD, set, length-set}
+use lib.ListN.{length, getD, set, length-set}
 use lib.Seq.{getD-set-same, getD-set-other, set-out}
 use borrow.Author.Tests.{leb-true, ltb-true, ltb-false, eqb-true, eqb-false, ne-eqb}
 use Rattle.fraction.specs.declared.Fraction.{Fraction}
@@ -39,21 +39,27 @@ module _ {A : Type 0} (d v : A) (l : List A) (j : ℕ) where
 -- ---- numbers in use
 
 module _ {net : Net} (g : Legal net) where
-  pub here-number : (i : ℕ) → isHere net i ≡ true → (1 ≤ i) × (i ≤ 32)
-  here-number i e = by (ltb i 1) refl (ltb 32 i) refl
+  pub here-within : (i : ℕ) → isHere net i ≡ true → (1 ≤ i) × (i ≤ net .n)
+  here-within i e = by (ltb i 1) refl (ltb (net .n) i) refl
     where
-      by : (s : Bool) → ltb i 1 ≡ s → (t : Bool) → ltb 32 i ≡ t → (1 ≤ i) × (i ≤ 32)
+      by : (s : Bool) → ltb i 1 ≡ s → (t : Bool) → ltb (net .n) i ≡ t → (1 ≤ i) × (i ≤ net .n)
       by true a t b = let z : i ≡ 0 = omega (arith, ltb-true i 1 a) in never (let f = sym (rw z at e) ∙ g .no-node in cc)
-      by false a true b = never (let f = sym e ∙ List·getD-eq-default (net .here) false {n = i} (omega (arith, g .here-long, ltb-true 32 i b)) in cc)
-      by false a false b = (ltb-false i 1 a, ltb-false 32 i b)
+      by false a true b = never (let f = sym e ∙ g .nodes-beyond i (ltb-true (net .n) i b) in cc)
+      by false a false b = (ltb-false i 1 a, ltb-false (net .n) i b)
+
+  pub used-within : (j : ℕ) → 1 ≤ arcAt net j .from → (1 ≤ j) × (j ≤ net .m)
+  used-within j e = by (ltb j 1) refl (ltb (net .m) j) refl
+    where
+      by : (s : Bool) → ltb j 1 ≡ s → (t : Bool) → ltb (net .m) j ≡ t → (1 ≤ j) × (j ≤ net .m)
+      by true a t b = let z : j ≡ 0 = omega (arith, ltb-true j 1 a) in absurd (omega (arith, rw z at e, g .no-arc))
+      by false a true b = absurd (omega (arith, g .arcs-beyond j (ltb-true (net .m) j b)))
+      by false a false b = (ltb-false j 1 a, ltb-false (net .m) j b)
+
+  pub here-number : (i : ℕ) → isHere net i ≡ true → (1 ≤ i) × (i ≤ 32)
+  here-number i e = let h = here-within i e in (h .0, omega (arith, h .1, g .few-nodes))
 
   pub used-number : (j : ℕ) → 1 ≤ arcAt net j .from → (1 ≤ j) × (j ≤ 96)
-  used-number j e = by (ltb j 1) refl (ltb 96 j) refl
-    where
-      by : (s : Bool) → ltb j 1 ≡ s → (t : Bool) → ltb 96 j ≡ t → (1 ≤ j) × (j ≤ 96)
-      by true a t b = let z : j ≡ 0 = omega (arith, ltb-true j 1 a) in absurd (omega (arith, rw z at e, g .no-arc))
-      by false a true b = absurd (omega (arith, ap (λ (t : Arc). t .from) (List·getD-eq-default (net .arcs) noArc {n = j} (omega (arith, g .arcs-long, ltb-true 96 j b)))))
-      by false a false b = (ltb-false j 1 a, ltb-false 96 j b)
+  used-number j e = let h = used-within j e in (h .0, omega (arith, h .1, g .few-arcs))
 
   -- an arc that touches a node is in use
   pub touching-used : (j i : ℕ) → 1 ≤ i → isTouching (arcAt net j) i ≡ true → 1 ≤ arcAt net j .from
@@ -93,7 +99,7 @@ module _ {net : Net} (g : Legal net) where
   from-pos : {t : Arc} → LegalArc net t → 1 ≤ t .from
   from-pos h = here-number g _ (h .from-here) .0
 
-  pub arc-kept : (j : ℕ) (t : Arc) → MayPut net t → Legal (withArc net j t)
+  pub arc-kept : (j : ℕ) (t : Arc) → MayPut net j t → Legal (withArc net j t)
   unfolding withArc
   arc-kept j t ok =
       record {
@@ -104,18 +110,24 @@ module _ {net : Net} (g : Legal net) where
         few-arcs = g .few-arcs;
         no-node = g .no-node;
         no-arc = ⊎-elim (λ e. ap (λ (t : Arc). t .from) e ∙ g .no-arc) (λ w. absurd (omega (arith, w .0, w .1))) (arc-either net j t 0);
+        nodes-beyond = g .nodes-beyond;
+        arcs-beyond = λ i l. ⊎-elim (λ e. ap (λ (t : Arc). t .from) e ∙ g .arcs-beyond i l) (λ w. ap (λ (t : Arc). t .from) (w .2) ∙ beyond (rw (w .1) at l) ok) (arc-either net j t i);
         supply-proper = g .supply-proper;
         unused = λ i z. ⊎-elim (λ e. e ∙ g .unused i (rw e at z)) (λ w. w .2 ∙ none (rw (w .2) at z) ok) (arc-either net j t i);
         used = λ i l. ⊎-elim (λ e. rw e (let h = g .used i (rw e at l) in moved h (h .from-here) (h .to-here))) (λ w. rw (w .2) (some (rw (w .2) at l) ok)) (arc-either net j t i);
       }
     where
-      none : t .from ≡ 0 → MayPut net t → t ≡ noArc
-      none z (inl e) = e
-      none z (inr h) = absurd (omega (arith, from-pos h))
+      beyond : net .m < j → MayPut net j t → t .from ≡ 0
+      beyond l (inl e) = ap (λ (t : Arc). t .from) e
+      beyond l (inr h) = absurd (omega (arith, h .0))
 
-      some : 1 ≤ t .from → MayPut net t → LegalArc (withArc net j t) t
+      none : t .from ≡ 0 → MayPut net j t → t ≡ noArc
+      none z (inl e) = e
+      none z (inr h) = absurd (omega (arith, from-pos (h .1)))
+
+      some : 1 ≤ t .from → MayPut net j t → LegalArc (withArc net j t) t
       some l (inl e) = absurd (omega (arith, ap (λ (t : Arc). t .from) e))
-      some l (inr h) = moved h (h .from-here) (h .to-here)
+      some l (inr h) = moved (h .1) (h .1 .from-here) (h .1 .to-here)
 
   pub supply-kept : (j : ℕ) (r : Fraction) → (1 ≤ j → Proper r) → Legal (withSupply net j r)
   unfolding withSupply
@@ -128,6 +140,8 @@ module _ {net : Net} (g : Legal net) where
         few-arcs = g .few-arcs;
         no-node = g .no-node;
         no-arc = g .no-arc;
+        nodes-beyond = g .nodes-beyond;
+        arcs-beyond = g .arcs-beyond;
         supply-proper = λ i e. ⊎-elim (λ q. rw q (g .supply-proper i e)) (λ w. rw (w .2) (ok (w .0))) (supply-either net j r i);
         unused = g .unused;
         used = λ i l. let h = g .used i l in moved h (h .from-here) (h .to-here);
@@ -145,6 +159,8 @@ module _ {net : Net} (g : Legal net) where
         few-arcs = g .few-arcs;
         no-node = ⊎-elim (λ e. e ∙ g .no-node) (λ w. w .2) (here-either net j 0);
         no-arc = g .no-arc;
+        nodes-beyond = λ i l. ⊎-elim (λ e. e ∙ g .nodes-beyond i l) (λ w. w .2) (here-either net j i);
+        arcs-beyond = g .arcs-beyond;
         supply-proper = λ i e. ⊎-elim (λ q. g .supply-proper i (sym q ∙ e)) (λ w. never (let f = sym e ∙ w .2 in cc)) (here-either net j i);
         unused = g .unused;
         used = λ i l. let h = g .used i l in moved h (stays _ (h .from-here) (λ k. apart i k .0)) (stays _ (h .to-here) (λ k. apart i k .1));

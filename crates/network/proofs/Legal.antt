@@ -225,6 +225,8 @@ module _ (xs : List ℤ) (n m : ℕ) (s : Sized xs n m) (g : Formed xs n m) wher
         few-arcs = rw is (s .few-arcs);
         no-node = not-here xs n m (s .few-nodes) (s .few-arcs) 0 (inl refl);
         no-arc = ap (λ (t : Arc). t .from) (no-arc-read xs n m (s .few-nodes) (s .few-arcs) 0 (inl refl));
+        nodes-beyond = λ i l. not-here xs n m (s .few-nodes) (s .few-arcs) i (inr (omega (arith, ap (λ (t : Net). t .n) is)));
+        arcs-beyond = λ j l. ap (λ (t : Arc). t .from) (no-arc-read xs n m (s .few-nodes) (s .few-arcs) j (inr (omega (arith, ap (λ (t : Net). t .m) is))));
         supply-proper = supply-legal;
         unused = λ j e. ⊎-elim (λ z. z) (λ w. absurd (omega (arith, w .0))) (arc-at j);
         used = λ j l. ⊎-elim (λ z. absurd (omega (arith, ap (λ (t : Arc). t .from) z))) (λ w. w .1) (arc-at j);
@@ -237,12 +239,10 @@ module _ (xs : List ℤ) (n m : ℕ) (s : Sized xs n m) (g : Formed xs n m) wher
       let arcs : netOf xs n m .m ≡ m = ap (λ (t : Net). t .m) (net-is xs n m (s .few-nodes) (s .few-arcs)) in
       record {
         node-in = λ i a b. node-here i a (omega arith);
-        node-out = λ i l. not-here xs n m (s .few-nodes) (s .few-arcs) i (inr (omega arith));
         arc-in = λ j a b.
             let e : j - 1 + 1 ≡ j = omega arith in
             let q : arcAt (netOf xs n m) j ≡ arcIn xs n (figures n m) (j - 1) = rw e at (arc-read xs n m (s .few-nodes) (s .few-arcs) (j - 1) (omega arith)) in
             rw q (arc-legal (j - 1) (omega arith) .0);
-        arc-out = λ j l. ap (λ (t : Arc). t .from) (no-arc-read xs n m (s .few-nodes) (s .few-arcs) j (inr (omega arith)));
       }
 
 pub read-legal : (xs : List ℤ) (n m : ℕ) → askedOf xs ≡ Go n m → Legal (netOf xs n m)

@@ -2,10 +2,12 @@
 pub mod Rec
 pub mod list_clear
 pub mod list_count
+pub mod list_degrees
 pub mod list_load
 pub mod list_load_arcs
-pub mod list_put_change
-pub mod list_put_record
+pub mod list_put_edit
+pub mod list_put_update
 pub mod list_read
 pub mod list_replace
+pub mod list_touching
 pub mod list_view

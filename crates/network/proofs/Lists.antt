@@ -1,7 +1,9 @@
 -- Laws of the lent list of arc records.
 --     record-low .. replaced-past     a record by its number
+--     arc-is                          a record is an arc
 --     arcs-put                        a record replaced is an arc replaced
 --     loaded-net                      a cleared list, loaded, has the network of the record
+--     updates-put                     arcs replaced one after the other
 --     changed-net                     the records of a step's change replaced: the network after the step
 -- Assumes nothing.
 use mathlib.Core.Bool.{Bool, true, false}
@@ -16,17 +18,17 @@ use lib.ListN.{length, getD, set, take, replicate, length-set, length-replicate,
 use lib.Seq.{set-out, take-suc, take-set-lt, take-set-le}
 use borrow.Author.Tests.{le-leb, leb-true, leb-false}
 use Rattle.loops.specs.Loops.{build, upto}
-use Rattle.loops.proofs.Laws.{Filled, filled-more, build-const, build-same, upto-keeps}
+use Rattle.loops.proofs.Laws.{Filled, filled-more, getD-build, build-const, build-same, upto-keeps}
 use Rattle.network.specs.declared.Arc.{Arc}
 use Rattle.network.specs.declared.Net.{Net}
 use Rattle.network.specs.declared.Nodes.{Nodes}
-use Rattle.network.specs.declared.Put.{Put}
-use Rattle.network.specs.declared.Change.{Change}
+use Rattle.network.specs.declared.ArcUpdate.{ArcUpdate}
+use Rattle.network.specs.declared.Edit.{Edit}
 use Rattle.network.specs.declared.record.Asked.{Asked}
 use Rattle.network.specs.declared.record.Asked.the-variants.{Go, No}
-use Rattle.network.specs.Network.{noArc, emptyNet, withArc, withPut, withSupply, withNode, without, applied}
+use Rattle.network.specs.Network.{noArc, emptyNet, arcAt, withArc, withUpdate, withUpdates, updatesOf, withSupply, withNode, without, applied}
 use Rattle.network.specs.Record.{figures, arcIn, sizesOf, nodeTurn, arcTurn, netOf, netBy, readOf}
-use Rattle.network.specs.ArcList.{recordAt, replaced, replacedAll, noArcs, loadTurn, loadedBy, loaded, arcsIn, nodesOf, joined}
+use Rattle.network.specs.ArcList.{recordAt, replaced, replacedBy, replacedAll, noArcs, loadTurn, loadedBy, loaded, arcsIn, nodesOf, joined, netIn}
 
 -- ---- a record by its number
 
@@ -83,6 +85,11 @@ build-taken ys (suc n) l = ap (λ (h : List Arc). h ++ (getD ys n noArc ∷ []))
 pub arcs-are : (xs : List Arc) → 96 ≤ length xs → arcsIn xs ≡ noArc ∷ take 96 xs
 unfolding arcsIn recordAt
 arcs-are xs l = build-taken (noArc ∷ xs) 97 (omega (arith, l))
+
+-- the arc of number j
+pub arc-is : (nodes : Nodes) (xs : List Arc) (j : ℕ) → j < 97 → recordAt xs j ≡ arcAt (netIn nodes xs) j
+unfolding arcsIn
+arc-is nodes xs j l = sym (getD-build 97 (recordAt xs) noArc j l)
 
 pub arcs-put : (net : Net) (xs : List Arc) (j : ℕ) (t : Arc) → 96 ≤ length xs → net .arcs ≡ arcsIn xs → withArc net j t .arcs ≡ arcsIn (replaced xs j t)
 unfolding withArc replaced
@@ -147,46 +154,18 @@ loaded-net words k l = by-sizes (sizesOf words)
 
 -- ---- a step's change
 
-pub length-replaced-all : (xs : List Arc) (c : Change) → length (replacedAll xs c) ≡ length xs
+pub length-replaced-by : (xs : List Arc) (ps : List ArcUpdate) → length (replacedBy xs ps) ≡ length xs
+length-replaced-by xs [] = refl
+length-replaced-by xs (p ∷ ps) = length-replaced-by (replaced xs (p .number) (p .arc)) ps ∙ length-replaced xs (p .number) (p .arc)
+
+pub length-replaced-all : (xs : List Arc) (c : Edit) → length (replacedAll xs c) ≡ length xs
 unfolding replacedAll
-length-replaced-all xs c = length-replaced _ _ _ ∙ length-replaced _ _ _ ∙ length-replaced _ _ _ ∙ length-replaced xs _ _
+length-replaced-all xs c = length-replaced-by xs (updatesOf c)
 
-pub changed-net : (nodes : Nodes) (xs : List Arc) (c : Change) → 96 ≤ length xs → joined (nodesOf (applied (joined nodes (arcsIn xs)) c)) (arcsIn (replacedAll xs c)) ≡ applied (joined nodes (arcsIn xs)) c
+pub updates-put : (net : Net) (xs : List Arc) (ps : List ArcUpdate) → 96 ≤ length xs → net .arcs ≡ arcsIn xs → withUpdates net ps .arcs ≡ arcsIn (replacedBy xs ps)
+updates-put net xs [] l e = e
+updates-put net xs (p ∷ ps) l e = updates-put (withUpdate net p) _ ps (rw (length-replaced xs (p .number) (p .arc)) l) (arcs-put net xs (p .number) (p .arc) l e)
+
+pub changed-net : (nodes : Nodes) (xs : List Arc) (c : Edit) → 96 ≤ length xs → joined (nodesOf (applied (joined nodes (arcsIn xs)) c)) (arcsIn (replacedAll xs c)) ≡ applied (joined nodes (arcsIn xs)) c
 unfolding replacedAll applied without withSupply
-changed-net nodes xs c l = ap (joined (nodesOf (applied net₀ c))) (sym (step net₃ xs₃ (c .four) (rw (long xs₂ (c .three), long xs₁ (c .two), long xs (c .one)) l) e₃))
-  where
-    long : (ys : List Arc) (p : Put) → length (replaced ys (p .number) (p .arc)) ≡ length ys
-    long ys p = length-replaced ys (p .number) (p .arc)
-
-    step : (net : Net) (ys : List Arc) (p : Put) → 96 ≤ length ys → net .arcs ≡ arcsIn ys → withPut net p .arcs ≡ arcsIn (replaced ys (p .number) (p .arc))
-    step net ys p = arcs-put net ys (p .number) (p .arc)
-
-    net₀ : Net
-    net₀ = joined nodes (arcsIn xs)
-
-    net₁ : Net
-    net₁ = withPut net₀ (c .one)
-
-    net₂ : Net
-    net₂ = withPut net₁ (c .two)
-
-    net₃ : Net
-    net₃ = withPut net₂ (c .three)
-
-    xs₁ : List Arc
-    xs₁ = replaced xs (c .one .number) (c .one .arc)
-
-    xs₂ : List Arc
-    xs₂ = replaced xs₁ (c .two .number) (c .two .arc)
-
-    xs₃ : List Arc
-    xs₃ = replaced xs₂ (c .three .number) (c .three .arc)
-
-    e₁ : net₁ .arcs ≡ arcsIn xs₁
-    e₁ = step net₀ xs (c .one) l refl
-
-    e₂ : net₂ .arcs ≡ arcsIn xs₂
-    e₂ = step net₁ xs₁ (c .two) (rw (long xs (c .one)) l) e₁
-
-    e₃ : net₃ .arcs ≡ arcsIn xs₃
-    e₃ = step net₂ xs₂ (c .three) (rw (long xs₁ (c .two), long xs (c .one)) l) e₂
+changed-net nodes xs c l = ap (joined (nodesOf (applied (joined nodes (arcsIn xs)) c))) (sym (updates-put (joined nodes (arcsIn xs)) xs (updatesOf c) l refl))

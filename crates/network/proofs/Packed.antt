@@ -85,13 +85,16 @@ empty-legal =
       few-arcs = omega arith;
       no-node = refl;
       no-arc = refl;
+      nodes-beyond = λ i l. getD-all 33 i false;
+      arcs-beyond = λ j l. ap (λ (t : Arc). t .from) (getD-all 97 j noArc);
       supply-proper = λ i e. never (let f = sym e ∙ getD-all 33 i false in cc);
       unused = λ j e. getD-all 97 j noArc;
       used = λ j l. absurd (omega (arith, ap (λ (t : Arc). t .from) (getD-all 97 j noArc)));
     }
 
-sizes-legal : {p : Net} → Legal p → (n m : ℕ) → n ≤ 32 → m ≤ 96 → Legal (withSizes p n m)
-sizes-legal g n m h k =
+-- sizes may grow
+sizes-legal : {p : Net} → Legal p → (n m : ℕ) → p .n ≤ n → p .m ≤ m → n ≤ 32 → m ≤ 96 → Legal (withSizes p n m)
+sizes-legal g n m a b h k =
     record {
       here-long = g .here-long;
       supply-long = g .supply-long;
@@ -100,6 +103,8 @@ sizes-legal g n m h k =
       few-arcs = k;
       no-node = g .no-node;
       no-arc = g .no-arc;
+      nodes-beyond = λ i l. g .nodes-beyond i (omega (arith, a, l));
+      arcs-beyond = λ j l. g .arcs-beyond j (omega (arith, b, l));
       supply-proper = g .supply-proper;
       unused = g .unused;
       used = λ j l. let h = g .used j l in moved h (h .from-here) (h .to-here);
@@ -121,9 +126,9 @@ module _ {p : Net} (g : Legal p) (j : ℕ) (r : Fraction) (h : j < 32) where
       by true q = rw (eqb-true i (j + 1) q) here-new
       by false q = here-old i (eqb-false i (j + 1) q) ∙ e
 
-  node-legal : Proper r → Legal (withNode p (j + 1) r)
+  node-legal : j < p .n → Proper r → Legal (withNode p (j + 1) r)
   unfolding withNode withSupply
-  node-legal ok =
+  node-legal l ok =
       record {
         here-long = rw (number 32 j h) (length-set (p .here) (j + 1) true ∙ g .here-long);
         supply-long = rw (number 32 j h) (length-set (p .supply) (j + 1) r ∙ g .supply-long);
@@ -132,6 +137,8 @@ module _ {p : Net} (g : Legal p) (j : ℕ) (r : Fraction) (h : j < 32) where
         few-arcs = g .few-arcs;
         no-node = here-old 0 (λ q. omega arith) ∙ g .no-node;
         no-arc = g .no-arc;
+        nodes-beyond = λ i q. here-old i (λ e. omega (arith, l, q, e)) ∙ g .nodes-beyond i q;
+        arcs-beyond = g .arcs-beyond;
         supply-proper = λ i e. supplied i e (eqb i (j + 1)) refl;
         unused = g .unused;
         used = λ i l. let t = g .used i l in moved t (here-still _ (t .from-here)) (here-still _ (t .to-here));
@@ -161,7 +168,7 @@ module _ {net : Net} (g : Legal net) where
       room = omega (arith, k .0, count-le (λ k. isHere net (k + 1)) i)
 
       sized : Legal (withSizes p (p .n + 1) (p .m))
-      sized = sizes-legal (k .1 .legal) (p .n + 1) (p .m) (omega (arith, room)) (k .1 .legal .few-arcs)
+      sized = sizes-legal (k .1 .legal) (p .n + 1) (p .m) (omega arith) (omega arith) (omega (arith, room)) (k .1 .legal .few-arcs)
 
       at : (j : ℕ) → 1 ≤ j → j ≤ count (λ k. isHere net (k + 1)) i + 1 → (s : Bool) → eqb j (p .n + 1) ≡ s → isHere (withNode (withSizes p (p .n + 1) (p .m)) (p .n + 1) (supplyAt net (i + 1))) j ≡ true
       at j a b true q = rw (eqb-true j (p .n + 1) q) (here-new sized (p .n) (supplyAt net (i + 1)) room)
@@ -170,7 +177,7 @@ module _ {net : Net} (g : Legal net) where
       grown : isHere net (i + 1) ≡ true → Numbered (withNode (withSizes p (p .n + 1) (p .m)) (p .n + 1) (supplyAt net (i + 1))) (count (λ k. isHere net (k + 1)) i + 1)
       grown e =
           record {
-            legal = node-legal sized (p .n) (supplyAt net (i + 1)) room (g .supply-proper (i + 1) e);
+            legal = node-legal sized (p .n) (supplyAt net (i + 1)) room (omega arith) (g .supply-proper (i + 1) e);
             here = λ j a b. at j a b (eqb j (p .n + 1)) refl;
           }
 
@@ -210,9 +217,9 @@ module _ {net : Net} (g : Legal net) where
       by true a t b = k
       by false a false b = k
       by false a true b =
-          let sized = sizes-legal (k .legal) (p .n) (p .m + 1) (k .legal .few-nodes) (omega (arith, ltb-true (p .m) 96 b)) in
+          let sized = sizes-legal (k .legal) (p .n) (p .m + 1) (omega arith) (omega arith) (k .legal .few-nodes) (omega (arith, ltb-true (p .m) 96 b)) in
           let fresh = renumbered-legal (record { legal = sized; here = k .here }) (g .used (j + 1) (ltb-false (arcAt net (j + 1) .from) 1 a)) in
-          record { legal = arc-kept sized (p .m + 1) (renumbered net (arcAt net (j + 1))) (inr fresh); here = k .here }
+          record { legal = arc-kept sized (p .m + 1) (renumbered net (arcAt net (j + 1))) (inr (omega arith, fresh)); here = k .here }
 
   pub packed-numbered : Numbered (packedOf net) (total g)
   unfolding packedOf

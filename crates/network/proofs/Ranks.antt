@@ -2,7 +2,7 @@
 use mathlib.Core.Path.{_≡_, refl, sym, _∙_, subst}
 use mathlib.Core.Bool.{Bool, true, false, cond, _&&_, and-false}
 use mathlib.Core.List.{List, [], _∷_, List·Memᴰ, List·Memᴰ·head, List·Memᴰ·tail}
-use mathlib.Core.Logic.{_⊎_, inl, inr, ⊎-elim}
+use mathlib.Core.Logic.{⊎-elim}
 use Prim.Native.Nat.{ℕ, zero, suc, _+_, _-_, _≤_, _<_}
 use native.Mathlib.Nat.{eq-or-lt-of-le, le-of-suc-le-suc}
 use native.Mathlib.Numerals.{add-one}
@@ -135,17 +135,6 @@ module _ {A : Type 0} (p : ℕ → Bool) (f : ℕ → A) (l : List A) where
       by : (b : Bool) → length (packs n) ≡ length l → length (cond b (set (packs n) (count (λ k. p (k + 1)) n + 1) (f (n + 1))) (packs n)) ≡ length l
       by true q = length-set (packs n) _ _ ∙ q
       by false q = q
-
-  pub packs-out : (d : A) (n k : ℕ) → (k ≡ 0) ⊎ (count (λ k. p (k + 1)) n < k) → getD (packs n) k d ≡ getD l k d
-  unfolding packs count
-  packs-out d zero k h = refl
-  packs-out d (suc n) k h = by (p (n + 1)) (packs-out d n k) h
-    where
-      by : (b : Bool) → ((k ≡ 0) ⊎ (count (λ k. p (k + 1)) n < k) → getD (packs n) k d ≡ getD l k d) → (k ≡ 0) ⊎ (tally b (count (λ k. p (k + 1)) n) < k) → getD (cond b (set (packs n) (count (λ k. p (k + 1)) n + 1) (f (n + 1))) (packs n)) k d ≡ getD l k d
-      by true rest h =
-          getD-set-other (packs n) _ k _ d (λ e. ⊎-elim (λ (z : k ≡ 0). omega arith) (λ (l : count (λ k. p (k + 1)) n + 1 < k). omega arith) h)
-          ∙ rest (⊎-elim (λ (z : k ≡ 0). inl z) (λ (l : count (λ k. p (k + 1)) n + 1 < k). inr (omega arith)) h)
-      by false rest h = rest h
 
   packs-in : (d : A) (n j : ℕ) → j < n → n < length l → p (j + 1) ≡ true → getD (packs n) (count (λ k. p (k + 1)) j + 1) d ≡ f (j + 1)
   unfolding packs

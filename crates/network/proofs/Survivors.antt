@@ -2,13 +2,12 @@
 use mathlib.Core.Path.{_≡_, refl, sym, ap, ap₂, _∙_, subst}
 use mathlib.Core.Bool.{Bool, true, false, cond}
 use mathlib.Core.List.{List}
-use mathlib.Core.Logic.{inr}
 use Prim.Native.Nat.{ℕ, zero, suc, _+_, _-_, _≤_, _<_}
 use native.Mathlib.Numerals.{add-one}
 use native.Mathlib.Omega.{arith}
 use lib.Dec.{T, ltb}
 use lib.ListN.{set, replicate}
-use borrow.Author.Tests.{lt-ltb, ltb-true, ltb-false, eq-eqb, ne-eqb, eqb-true, not-false}
+use borrow.Author.Tests.{lt-ltb, ltb-true, ltb-false, eq-eqb, ne-eqb}
 use Rattle.loops.specs.Loops.{upto, tally, count}
 use Rattle.loops.proofs.Laws.{count-le, count-shift}
 use Rattle.algebra.specs.Solver.{_:+_, _:-_, :0, _:=_, ring1}
@@ -21,7 +20,6 @@ use Rattle.presolve.specs.Spare.{listed, Spare, spare-sound}
 use Rattle.presolve.specs.Net.{column, columnAt, rhsAt, column-in, gone-out, rhs-in, rhs-out, row-out}
 use Rattle.fraction.specs.declared.Fraction.{Fraction}
 use Rattle.fraction.specs.Exact.{noFigure}
-use Rattle.fraction.specs.Laws.{never}
 use Rattle.fraction.specs.Value.{value}
 use Rattle.network.specs.declared.Arc.{Arc}
 use Rattle.network.specs.declared.Net.{Net}
@@ -29,11 +27,11 @@ use Rattle.network.specs.Network.{noArc, emptyNet, arcAt, supplyAt, isHe
 use Rattle.network.specs.Output.{rankOf, isUsed, arcRank, renumbered, behindNodes, behindArcs, packNode, packArc, packedOf}
 use Rattle.network.specs.Legal.{Legal, Gapless}
 use Rattle.network.specs.Program.{exactArc, exactOf, programOf}
-use Rattle.network.proofs.Legal.{number, getD-all}
-use Rattle.network.proofs.Kept.{here-number, used-number}
+use Rattle.network.proofs.Legal.{number}
+use Rattle.network.proofs.Kept.{here-within, used-within, here-number, used-number}
 use Rattle.network.proofs.Packed.{rank-root, packed-legal}
 use Rattle.network.proofs.Sane.{is-true, used-from, sane}
-use Rattle.network.proofs.Ranks.{rank-is, count-more, found, one-rank, numbers, numbering, mem-numbers, run-numbering, packs, packs-out, packs-at}
+use Rattle.network.proofs.Ranks.{rank-is, count-more, found, one-rank, numbers, numbering, mem-numbers, run-numbering, packs, packs-at}
 
 -- ---- the survivors, list by list
 
@@ -158,9 +156,7 @@ module _ {net : Net} (g : Legal net) where
   node-within k a b = let v = node-of k a b in rw (v .2) (node-there (v .0) (v .1))
 
   pub node-beyond : (k : ℕ) → packedOf net .n < k → isHere (packedOf net) k ≡ false
-  node-beyond k l =
-      let e = count-shift (isHere net) 32 (g .no-node) in
-      rw (packed-is net) (packs-out (isHere net) (λ _. true) (replicate 33 false) false 32 k (inr (omega (arith, nodes-left))) ∙ getD-all 33 k false)
+  node-beyond = packed-legal g .nodes-beyond
 
   pub arc-within : (k : ℕ) → 1 ≤ k → k ≤ packedOf net .m → isUsed (packedOf net) k ≡ true
   arc-within k a b =
@@ -169,32 +165,20 @@ module _ {net : Net} (g : Legal net) where
       rw (v .2, arc-there (v .0) (v .1), ne-eqb (rankOf net (arcAt net (v .0) .from)) 0 (λ q. omega (arith, rank-node _ f)))
 
   pub arc-beyond : (k : ℕ) → packedOf net .m < k → isUsed (packedOf net) k ≡ false
-  arc-beyond k l =
-      let e = count-shift (isUsed net) 96 unused-0 in
-      rw (packed-is net, packs-out (isUsed net) (λ k. renumbered net (arcAt net k)) (replicate 97 noArc) noArc 96 k (inr (omega (arith, arcs-left))), getD-all 97 k noArc)
+  arc-beyond k l = rw (eq-eqb (arcAt (packedOf net) k .from) 0 (packed-legal g .arcs-beyond k l))
 
   pub packed-gapless : Gapless (packedOf net)
   packed-gapless =
       record {
         node-in = node-within;
-        node-out = node-beyond;
         arc-in = λ k a b. used-from (packed-legal g) k (arc-within k a b);
-        arc-out = λ k l. eqb-true _ _ (not-false _ (arc-beyond k l));
       }
 
   pub node-up : (k : ℕ) → isHere (packedOf net) k ≡ true → (1 ≤ k) × (k ≤ packedOf net .n)
-  node-up k e = by (ltb (packedOf net .n) k) refl
-    where
-      by : (b : Bool) → ltb (packedOf net .n) k ≡ b → (1 ≤ k) × (k ≤ packedOf net .n)
-      by true q = never (let f = sym e ∙ node-beyond k (ltb-true _ _ q) in cc)
-      by false q = (here-number (packed-legal g) k e .0, ltb-false _ _ q)
+  node-up = here-within (packed-legal g)
 
   pub arc-up : (k : ℕ) → isUsed (packedOf net) k ≡ true → (1 ≤ k) × (k ≤ packedOf net .m)
-  arc-up k e = by (ltb (packedOf net .m) k) refl
-    where
-      by : (b : Bool) → ltb (packedOf net .m) k ≡ b → (1 ≤ k) × (k ≤ packedOf net .m)
-      by true q = never (let f = sym e ∙ arc-beyond k (ltb-true _ _ q) in cc)
-      by false q = let h = packed-legal g in (used-number h k (used-from h k e) .0, ltb-false _ _ q)
+  arc-up k e = let h = packed-legal g in used-within h k (used-from h k e)
 
 -- ---- a pair of the survivors, read at their new numbers; 0 elsewhere
 

@@ -2,6 +2,7 @@
 use mathlib.Core.Path.{_≡_, refl, sym, ap, _∙_}
 use mathlib.Core.Bool.{Bool, true, false, cond, _||_}
 use mathlib.Core.List.{List}
+use mathlib.Core.Logic.{_⊎_, inl, inr}
 use Prim.Native.Nat.{ℕ, zero, suc, _+_, _≤_, _<_}
 use native.Mathlib.Numerals.{add-one}
 use native.Mathlib.Omega.{arith}
@@ -11,8 +12,9 @@ use lib.ListN.{List·getD-eq-default, length, getD, set, replicate, length-set, 
 use lib.Seq.{getD-set-same, getD-set-other}
 use Rattle.loops.specs.Loops.{tally, count}
 use Rattle.loops.proofs.Laws.{count-le}
+use Rattle.network.specs.declared.Arc.{Arc}
 use Rattle.network.specs.declared.Net.{Net}
-use Rattle.network.specs.Network.{arcAt, isTouching, degreeOf, raised, AreDegrees}
+use Rattle.network.specs.Network.{arcAt, isTouching, isRoot, raised, countedAt, Countable, numbersTo, AreDegreesTo}
 
 raised-long : (ds : List ℕ) (f : ℕ) → length (raised ds f) ≡ length ds
 raised-long ds f = by (ltb f 33)
@@ -99,6 +101,29 @@ tallied-root {net} {ds} {to} {j} h l n e =
     by true x = refl
     by false x = refl
 
-pub tallied-all : {net : Net} {ds : List ℕ} {j : ℕ} → Tallied net ds j → 97 ≤ j → AreDegrees net ds
-unfolding degreeOf
-tallied-all {net} {ds} {j} h l i m = let e : j ≡ 97 = omega (arith, h .upto) in h .is i m ∙ rw e refl
+-- the same by both ends at once
+pub tallied-more : {net : Net} {ds to : List ℕ} {j : ℕ} {t : Arc} → Tallied net ds j → j < 97 → t ≡ arcAt net j → to ≡ countedAt ds t → Tallied net to (j + 1)
+unfolding isRoot
+tallied-more {net} {ds} {to} {j} {t} h l q e = by (eqb (arcAt net j .from) (arcAt net j .to)) refl (rw q at e)
+  where
+    by : (b : Bool) → eqb (arcAt net j .from) (arcAt net j .to) ≡ b → to ≡ cond b (raised ds (arcAt net j .from)) (raised (raised ds (arcAt net j .from)) (arcAt net j .to)) → Tallied net to (j + 1)
+    by true p e = tallied-root h l (eqb-true _ _ p) e
+    by false p e = tallied-two h l (eqb-false _ _ p) refl e
+
+-- as far as number m
+pub record TalliedTo (net : Net) (m : ℕ) (ds : List ℕ) (j : ℕ) : Type 0 where
+  pub tallied : Tallied net ds j
+  pub few : j ≤ m + 1
+
+pub tallied-to : {net : Net} {m : ℕ} {ds : List ℕ} {j : ℕ} → TalliedTo net m ds j → (m < j) ⊎ (97 ≤ j) → AreDegreesTo net m ds
+tallied-to {net} {m} {ds} {j} h w i l = h .tallied .is i l ∙ ap (count (λ k. isTouching (arcAt net k) i)) (by (ltb m 96) refl w)
+  where
+    by : (b : Bool) → ltb m 96 ≡ b → (m < j) ⊎ (97 ≤ j) → j ≡ cond b (m + 1) 97
+    by true e (inl f) = omega (arith, h .few)
+    by true e (inr f) = let g = ltb-true m 96 e in absurd (omega (arith, h .few))
+    by false e (inl f) = let g = ltb-false m 96 e in omega (arith, h .tallied .upto)
+    by false e (inr f) = omega (arith, h .tallied .upto)
+
+-- after one end, at the other
+pub raised-few : {ds to : List ℕ} {f t : ℕ} → Countable ds → to ≡ raised ds f → (f ≡ t → ⊥) → getD to t 0 ≤ 97
+raised-few {ds} {to} {f} {t} h e n = rw (e, raised-other ds f t (λ q. n (sym q))) (h .few t)

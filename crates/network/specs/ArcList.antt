@@ -1,5 +1,5 @@
 -- The lent list of arc records (01, "Records": "the working arcs stand as a lent list of arc records, one for each number"), and the network whose arcs stand in it. Assumes nothing.
-use mathlib.Core.List.{List, _∷_}
+use mathlib.Core.List.{List, [], _∷_}
 use Prim.Native.Nat.{ℕ, zero, suc, _+_}
 use lib.IntN.{ℤ}
 use lib.ListN.{getD, set, replicate}
@@ -7,10 +7,11 @@ use Rattle.loops.specs.Loops.{build, upto}
 use Rattle.network.specs.declared.Arc.{Arc}
 use Rattle.network.specs.declared.Net.{Net}
 use Rattle.network.specs.declared.Nodes.{Nodes}
-use Rattle.network.specs.declared.Change.{Change}
+use Rattle.network.specs.declared.ArcUpdate.{ArcUpdate}
+use Rattle.network.specs.declared.Edit.{Edit}
 use Rattle.network.specs.declared.record.Asked.{Asked}
 use Rattle.network.specs.declared.record.Asked.the-variants.{Go, No}
-use Rattle.network.specs.Network.{noArc}
+use Rattle.network.specs.Network.{noArc, updatesOf}
 use Rattle.network.specs.Record.{figures, arcIn, sizesOf}
 
 -- the record of number j, from 1; zeros where there is none
@@ -22,10 +23,13 @@ unfoldable pub replaced : List Arc → ℕ → Arc → List Arc
 replaced xs zero t = xs
 replaced xs (suc j) t = set xs j t
 
--- by the arcs of a step's change
-unfoldable pub replacedAll : List Arc → Change → List Arc
-replacedAll xs c =
-    replaced (replaced (replaced (replaced xs (c .one .number) (c .one .arc)) (c .two .number) (c .two .arc)) (c .three .number) (c .three .arc)) (c .four .number) (c .four .arc)
+-- one after the other, and by the arcs of a step's change
+abbrev pub replacedBy : List Arc → List ArcUpdate → List Arc
+replacedBy xs [] = xs
+replacedBy xs (p ∷ ps) = replacedBy (replaced xs (p .number) (p .arc)) ps
+
+unfoldable pub replacedAll : List Arc → Edit → List Arc
+replacedAll xs c = replacedBy xs (updatesOf c)
 
 -- "every figure in it zero": k records all of whose numbers are 0
 abbrev pub noArcs : ℕ → List Arc
@@ -54,3 +58,6 @@ nodesOf net = record { n = net .n; m = net .m; here = net .here; supply = net .s
 
 abbrev pub joined : Nodes → List Arc → Net
 joined nodes arcs = record { n = nodes .n; m = nodes .m; here = nodes .here; supply = nodes .supply; arcs = arcs }
+
+abbrev pub netIn : Nodes → List Arc → Net
+netIn nodes xs = joined nodes (arcsIn xs)

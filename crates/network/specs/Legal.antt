@@ -36,18 +36,19 @@ pub record Legal (net : Net) : Type 0 where
   -- numbers begin at 1
   pub no-node : isHere net 0 ≡ false
   pub no-arc : arcAt net 0 .from ≡ 0
+  -- and end at n and m: numbers above are not in use
+  pub nodes-beyond : (i : ℕ) → net .n < i → isHere net i ≡ false
+  pub arcs-beyond : (j : ℕ) → net .m < j → arcAt net j .from ≡ 0
   pub supply-proper : (i : ℕ) → isHere net i ≡ true → Proper (supplyAt net i)
   -- a number not in use has the zero record
   pub unused : (j : ℕ) → arcAt net j .from ≡ 0 → arcAt net j ≡ noArc
   pub used : (j : ℕ) → 1 ≤ arcAt net j .from → LegalArc net (arcAt net j)
 
--- an arc that may be put at a number: none, or one in use
-abbrev pub MayPut : Net → Arc → Type 0
-MayPut net t = (t ≡ noArc) ⊎ LegalArc net t
+-- an arc that may be put at number j: none, or one in use at a number up to m
+abbrev pub MayPut : Net → ℕ → Arc → Type 0
+MayPut net j t = (t ≡ noArc) ⊎ ((j ≤ net .m) × LegalArc net t)
 
--- the numbers have no gaps: the nodes in use are exactly 1 to n, and the arcs in use exactly 1 to m
+-- the numbers have no gaps: all nodes 1 to n and all arcs 1 to m are in use
 pub record Gapless (net : Net) : Type 0 where
   pub node-in : (i : ℕ) → 1 ≤ i → i ≤ net .n → isHere net i ≡ true
-  pub node-out : (i : ℕ) → net .n < i → isHere net i ≡ false
   pub arc-in : (j : ℕ) → 1 ≤ j → j ≤ net .m → 1 ≤ arcAt net j .from
-  pub arc-out : (j : ℕ) → net .m < j → arcAt net j .from ≡ 0

@@ -1,8 +1,8 @@
 -- The network that a reduction works on (01, "The problem and its figures"), and what a step changes in it. Assumes nothing.
 use mathlib.Core.Path.{_≡_}
-use mathlib.Core.List.{List}
+use mathlib.Core.List.{List, [], _∷_}
 use mathlib.Core.Bool.{Bool, true, false, cond, _||_, _&&_}
-use Prim.Native.Nat.{ℕ, zero, suc, _+_, _-_, _<_}
+use Prim.Native.Nat.{ℕ, zero, suc, _+_, _-_, _<_, _≤_}
 use lib.Dec.{eqb, leb, ltb}
 use lib.ListN.{getD, set, replicate}
 use Rattle.loops.specs.Loops.{count, scan}
@@ -10,12 +10,10 @@ use Rattle.fraction.specs.declared.Fraction.{Fraction}
 use Rattle.fraction.specs.Exact.{noFigure}
 use Rattle.network.specs.declared.Arc.{Arc}
 use Rattle.network.specs.declared.Net.{Net}
-use Rattle.network.specs.declared.Put.{Put}
-use Rattle.network.specs.declared.Level.{Level}
-use Rattle.network.specs.declared.Change.{Change}
+use Rattle.network.specs.declared.ArcUpdate.{ArcUpdate}
+use Rattle.network.specs.declared.SupplyUpdate.{SupplyUpdate}
+use Rattle.network.specs.declared.Edit.{Edit}
 use Rattle.network.specs.declared.Side.{Side}
-use Rattle.network.specs.declared.Kind.the-variants.{Passes, NoFlow, Changes}
-use Rattle.network.specs.declared.Tried.{Tried}
 
 -- what stands where there is nothing: every number is 0
 abbrev pub noArc : Arc
@@ -58,19 +56,28 @@ without net i = setHere net i false
 
 -- ---- a step's change
 
-abbrev pub withPut : Net → Put → Net
-withPut net p = withArc net (p .number) (p .arc)
+abbrev pub withUpdate : Net → ArcUpdate → Net
+withUpdate net p = withArc net (p .number) (p .arc)
 
-abbrev pub withLevel : Net → Level → Net
-withLevel net l = withSupply net (l .node) (l .supply)
+abbrev pub withSupplyUpdate : Net → SupplyUpdate → Net
+withSupplyUpdate net l = withSupply net (l .node) (l .supply)
 
-abbrev pub withPuts : Net → Change → Net
-withPuts net c = withPut (withPut (withPut (withPut net (c .one)) (c .two)) (c .three)) (c .four)
+-- arcs replaced one after the other, and those of an edit
+abbrev pub withUpdates : Net → List ArcUpdate → Net
+withUpdates net [] = net
+withUpdates net (p ∷ ps) = withUpdates (withUpdate net p) ps
 
-unfoldable pub applied : Net → Change → Net
-applied net c = without (withLevel (withLevel (withPuts net c) (c .left)) (c .right)) (c .gone)
+abbrev pub updatesOf : Edit → List ArcUpdate
+updatesOf c = c .one ∷ c .two ∷ c .three ∷ c .four ∷ []
+
+unfoldable pub applied : Net → Edit → Net
+applied net c = without (withSupplyUpdate (withSupplyUpdate (withUpdates net (updatesOf c)) (c .left)) (c .right)) (c .gone)
 
 -- ---- an arc as it is seen from a node
+
+-- a root arc "touches one node: b is zero and from equals to"
+unfoldable pub isRoot : Arc → Bool
+isRoot t = eqb (t .from) (t .to)
 
 unfoldable pub isTouching : Arc → ℕ → Bool
 isTouching t i = eqb (t .from) i || eqb (t .to) i
@@ -83,8 +90,19 @@ degreeOf net i = count (λ j. isTouching (arcAt net j) i) 97
 abbrev pub raised : List ℕ → ℕ → List ℕ
 raised ds f = cond (ltb f 33) (set ds f (getD ds f 0 + 1)) ds
 
-abbrev pub AreDegrees : Net → List ℕ → Type 0
-AreDegrees net ds = (i : ℕ) → i < 33 → getD ds i 0 ≡ degreeOf net i
+pub record Countable (ds : List ℕ) : Type 0 where
+  pub few : (i : ℕ) → getD ds i 0 ≤ 97
+
+-- one more at each end of an arc
+abbrev pub countedAt : List ℕ → Arc → List ℕ
+countedAt ds t = cond (isRoot t) (raised ds (t .from)) (raised (raised ds (t .from)) (t .to))
+
+-- the degrees by the arcs of the numbers up to m
+abbrev pub numbersTo : ℕ → ℕ
+numbersTo m = cond (ltb m 96) (m + 1) 97
+
+abbrev pub AreDegreesTo : Net → ℕ → List ℕ → Type 0
+AreDegreesTo net m ds = (i : ℕ) → i < 33 → getD ds i 0 ≡ count (λ j. isTouching (arcAt net j) i) (numbersTo m)
 
 -- the first arc after number k that touches node i; 0 where there is none
 abbrev pub orNext : ℕ → (ℕ → ℕ) → ℕ → ℕ
@@ -97,10 +115,6 @@ touchAt net i j = cond (isTouching (arcAt net j) i) j 0
 unfoldable pub touchingAfter : Net → ℕ → ℕ → ℕ
 touchingAfter net i k = scan orNext 0 (touchAt net i) (96 - k) (k + 1)
 
--- a root arc "touches one node: b is zero and from equals to"
-unfoldable pub isRoot : Arc → Bool
-isRoot t = eqb (t .from) (t .to)
-
 -- the end that is not the from node; 0 for a root arc, which has none
 unfoldable pub farEnd : Arc → ℕ
 farEnd t = cond (isRoot t) 0 (t .to)
@@ -109,27 +123,17 @@ farEnd t = cond (isRoot t) 0 (t .to)
 unfoldable pub sideOf : Arc → ℕ → Side
 sideOf t i = cond (eqb (t .from) i) (record { e = t .a; o = t .b; other = farEnd t }) (record { e = t .b; o = t .a; other = t .from })
 
--- ---- what a rule answers at a place
+-- ---- edits
 
-abbrev pub noPut : Put
-noPut = record { number = 0; arc = noArc }
+abbrev pub noUpdate : ArcUpdate
+noUpdate = record { number = 0; arc = noArc }
 
-abbrev pub noLevel : Level
-noLevel = record { node = 0; supply = noFigure }
+abbrev pub noSupplyUpdate : SupplyUpdate
+noSupplyUpdate = record { node = 0; supply = noFigure }
 
 -- a change of one arc, two supplies and a node
-abbrev pub changeOne : Put → Level → Level → ℕ → Change
-changeOne one left right gone = record { one = one; two = noPut; three = noPut; four = noPut; left = left; right = right; gone = gone }
+abbrev pub editOne : ArcUpdate → SupplyUpdate → SupplyUpdate → ℕ → Edit
+editOne one left right gone = record { one = one; two = noUpdate; three = noUpdate; four = noUpdate; left = left; right = right; gone = gone }
 
-abbrev pub noChange : Change
-noChange = changeOne noPut noLevel noLevel 0
-
--- it doesn't apply; it shows that there is no flow; it is the next step, with this change
-abbrev pub passed : Tried
-passed = record { kind = Passes; change = noChange }
-
-abbrev pub refuted : Tried
-refuted = record { kind = NoFlow; change = noChange }
-
-abbrev pub changed : Change → Tried
-changed c = record { kind = Changes; change = c }
+abbrev pub noEdit : Edit
+noEdit = editOne noUpdate noSupplyUpdate noSupplyUpdate 0

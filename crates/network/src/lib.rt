@@ -7,7 +7,7 @@ ghost use Rattle.network.specs.declared.Arc.{Arc};
 ghost use Rattle.fraction.specs.Exact.{noFigure};
 ghost use Rattle.network.specs.ArcList.{nodesOf, joined};
 ghost use Rattle.network.specs.Network.{noArc, emptyNet, arcAt, supplyAt, isHere, withSupply, without, applied};
-ghost use Rattle.network.specs.Network.{isTouching, degreeOf, raised, AreDegrees, touchingAfter, isRoot, farEnd, sideOf, noPut, noLevel, noChange, changeOne, passed, refuted, changed};
+ghost use Rattle.network.specs.Network.{isTouching, degreeOf, raised, countedAt, Countable, touchingAfter, isRoot, farEnd, sideOf, noUpdate, noSupplyUpdate, noEdit, editOne};
 use fraction::Fraction;
 
 pub mod list;
@@ -45,39 +45,26 @@ pub struct Nodes {
 }
 
 // An arc for a number; none where the number is 0.
-pub struct Put {
+pub struct ArcUpdate {
     pub number: usize,
     pub arc: Arc,
 }
 
 // A supply for a node; none where the node is 0.
-pub struct Level {
+pub struct SupplyUpdate {
     pub node: usize,
     pub supply: Fraction,
 }
 
 // What a step changes: at most four arcs, two supplies, and the node that is dropped, or 0.
-pub struct Change {
-    pub one: Put,
-    pub two: Put,
-    pub three: Put,
-    pub four: Put,
-    pub left: Level,
-    pub right: Level,
+pub struct Edit {
+    pub one: ArcUpdate,
+    pub two: ArcUpdate,
+    pub three: ArcUpdate,
+    pub four: ArcUpdate,
+    pub left: SupplyUpdate,
+    pub right: SupplyUpdate,
     pub gone: usize,
-}
-
-// A rule doesn't apply, shows no flow, or is the next step.
-pub enum Kind {
-    Passes,
-    NoFlow,
-    Changes,
-}
-
-// What a rule answers at a place; only a step has a change.
-pub struct Tried {
-    pub kind: Kind,
-    pub change: Change,
 }
 
 // An arc at node i: its multiplier e there, the multiplier o at its other end, and that end, which is 0 for a root arc.
@@ -155,7 +142,7 @@ pub fn join(nodes: Nodes, arcs: [Arc; 97]) -> Net
 }
 
 // The arc to be put.
-pub fn arc_of(p: Put) -> Arc
+pub fn arc_of(p: ArcUpdate) -> Arc
     ensures { λ r. ⌜ r ≡ p .arc ⌝ }
 {
     p.arc
@@ -230,7 +217,7 @@ fn drop_node(mut nodes: Nodes, i: usize) -> Nodes
 }
 
 // The nodes after a step's change, whatever the arcs.
-pub fn settle(nodes: Nodes, c: Change) -> Nodes
+pub fn settle(nodes: Nodes, c: Edit) -> Nodes
     ensures { λ r. ⌜ ((xs : List Arc) → r ≡ nodesOf (applied (joined nodes xs) c)) ⌝ }
 {
     let left = c.left;
@@ -275,19 +262,15 @@ fn add_one(at: &mut [usize; 33], i: usize)
     }
 }
 
-// The degrees of all nodes.
-pub fn all_degrees(net: Net) -> Degrees
-    ensures { λ r. ⌜ AreDegrees net (r .at) ⌝ }
+// One more at each end of an arc.
+pub(crate) fn count_ends(at: &mut [usize; 33], t: Arc)
+    requires { ⌜ Countable (now at) ⌝ }
+    ensures { λ _. ⌜ now (at .exit) ≡ countedAt (now (at .entry)) t ⌝ }
 {
-    let mut at: [usize; 33] = [0; 33];
-    for j in 0..97 {
-        let t = net.arcs[j];
-        add_one(&mut at, t.from);
-        if t.from != t.to {
-            add_one(&mut at, t.to);
-        }
+    add_one(at, t.from);
+    if t.from != t.to {
+        add_one(at, t.to);
     }
-    Degrees { at }
 }
 
 // The first arc after number k that touches node i; 0 where there is none.
@@ -346,27 +329,27 @@ pub fn side_at(t: Arc, i: usize) -> Side
 }
 
 // No arc to be put.
-pub fn no_put() -> Put
-    ensures { λ r. ⌜ r ≡ noPut ⌝ }
+pub fn no_update() -> ArcUpdate
+    ensures { λ r. ⌜ r ≡ noUpdate ⌝ }
 {
     let arc = no_arc();
-    Put { number: 0, arc }
+    ArcUpdate { number: 0, arc }
 }
 
 // No supply to be put.
-pub fn no_level() -> Level
-    ensures { λ r. ⌜ r ≡ noLevel ⌝ }
+pub fn no_supply_update() -> SupplyUpdate
+    ensures { λ r. ⌜ r ≡ noSupplyUpdate ⌝ }
 {
     let supply = no_figure();
-    Level { node: 0, supply }
+    SupplyUpdate { node: 0, supply }
 }
 
 // A change of one arc, two supplies and a node.
-pub fn change_one(one: Put, left: Level, right: Level, gone: usize) -> Change
-    ensures { λ r. ⌜ r ≡ changeOne one left right gone ⌝ }
+pub fn edit_one(one: ArcUpdate, left: SupplyUpdate, right: SupplyUpdate, gone: usize) -> Edit
+    ensures { λ r. ⌜ r ≡ editOne one left right gone ⌝ }
 {
-    let z = no_put();
-    Change {
+    let z = no_update();
+    Edit {
         one,
         two: z,
         three: z,
@@ -378,40 +361,8 @@ pub fn change_one(one: Put, left: Level, right: Level, gone: usize) -> Change
 }
 
 // Nothing changed.
-pub fn no_change() -> Change
-    ensures { λ r. ⌜ r ≡ noChange ⌝ }
+pub fn no_edit() -> Edit
+    ensures { λ r. ⌜ r ≡ noEdit ⌝ }
 {
-    change_one(no_put(), no_level(), no_level(), 0)
-}
-
-// The rule doesn't apply.
-pub fn passes() -> Tried
-    ensures { λ r. ⌜ r ≡ passed ⌝ }
-{
-    let change = no_change();
-    Tried {
-        kind: Kind::Passes,
-        change,
-    }
-}
-
-// The rule shows that there is no flow.
-pub fn no_flow() -> Tried
-    ensures { λ r. ⌜ r ≡ refuted ⌝ }
-{
-    let change = no_change();
-    Tried {
-        kind: Kind::NoFlow,
-        change,
-    }
-}
-
-// The rule is the next step.
-pub fn changes(change: Change) -> Tried
-    ensures { λ r. ⌜ r ≡ changed change ⌝ }
-{
-    Tried {
-        kind: Kind::Changes,
-        change,
-    }
+    edit_one(no_update(), no_supply_update(), no_supply_update(), 0)
 }

@@ -3,13 +3,16 @@
 // The next line is for tools/lift.py:
 // lent: Arc [i8; 56]
 ghost use mathlib.Core.Path.{_≡_};
-ghost use Prim.Native.Nat.{_≤_};
+ghost use Prim.Native.Nat.{_+_, _*_, _≤_};
 ghost use lib.ListN.{length};
 ghost use Rattle.loops.specs.Loops.{upto};
-ghost use Rattle.network.specs.ArcList.{recordAt, replaced, replacedAll, noArcs, arcsIn, loadTurn, loaded};
+ghost use Rattle.network.specs.declared.Nodes.{Nodes};
+ghost use Rattle.network.specs.ArcList.{recordAt, replaced, replacedAll, noArcs, arcsIn, netIn, loadTurn, loaded};
+ghost use Rattle.network.specs.Network.{AreDegreesTo, touchingAfter};
 use crate::Arc;
-use crate::Change;
-use crate::Put;
+use crate::ArcUpdate;
+use crate::Degrees;
+use crate::Edit;
 use crate::record::Asked;
 
 // How many records there are.
@@ -70,26 +73,61 @@ pub fn view(arcs: &[Arc]) -> [Arc; 97]
     at
 }
 
+// The first arc after number k that touches node i; 0 where there is none.
+pub fn touching(arcs: &[Arc], i: usize, k: usize) -> usize
+    ensures { λ r. ⌜ ((nodes : Nodes) → r ≡ touchingAfter (netIn nodes (now (arcs .entry))) i k) ⌝ }
+{
+    if 96 <= k {
+        return 0;
+    }
+    let mut j = k + 1;
+    while j < 97 {
+        let t = read(arcs, j);
+        if crate::touches(t, i) {
+            return j;
+        }
+        j += 1;
+    }
+    0
+}
+
+// How many arcs of the numbers up to m touch each node.
+pub fn degrees(arcs: &[Arc], m: usize) -> Degrees
+    ensures { λ r. ⌜ ((nodes : Nodes) → AreDegreesTo (netIn nodes (now (arcs .entry))) m (r .at)) ⌝ }
+{
+    let mut at: [usize; 33] = [0; 33];
+    let mut j = 0;
+    while j < 97 {
+        if m < j {
+            return Degrees { at };
+        }
+        let t = read(arcs, j);
+        crate::count_ends(&mut at, t);
+        j += 1;
+    }
+    Degrees { at }
+}
+
 // An arc put at its number.
-pub(crate) fn put_record(arcs: &mut [Arc], p: Put)
+pub(crate) fn put_update(arcs: &mut [Arc], p: ArcUpdate)
     ensures { λ _. ⌜ now (arcs .exit) ≡ replaced (now (arcs .entry)) (p .number) (p .arc) ⌝ }
 {
     replace(arcs, p.number, crate::arc_of(p));
 }
 
 // The arcs of a step's change put at their numbers.
-pub fn put_change(arcs: &mut [Arc], c: Change)
+pub fn put_edit(arcs: &mut [Arc], c: Edit)
     ensures { λ _. ⌜ now (arcs .exit) ≡ replacedAll (now (arcs .entry)) c ⌝ }
 {
-    put_record(arcs, c.one);
-    put_record(arcs, c.two);
-    put_record(arcs, c.three);
-    put_record(arcs, c.four);
+    put_update(arcs, c.one);
+    put_update(arcs, c.two);
+    put_update(arcs, c.three);
+    put_update(arcs, c.four);
 }
 
 // The arcs 1 to m of a network's record.
 pub(crate) fn load_arcs(arcs: &mut [Arc], network: &[i32], n: usize, t: usize, m: usize)
-    requires { ⌜ (n ≤ 32) × (m ≤ 96) ⌝ }
+    requires { ⌜ (2 + 2 * t ≤ length (now network)) × (n + 7 * m ≤ t) ⌝ }
     ensures { λ _. ⌜ now (arcs .exit) ≡ upto (loadTurn (now (network .entry)) n t) m (now (arcs .entry)) ⌝ }
 {
     let mut j = 0;

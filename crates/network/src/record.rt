@@ -1,9 +1,14 @@
 // A network's record: the questions 2 to 5 before work, and the network that it holds.
 ghost use mathlib.Core.Path.{_≡_};
-ghost use Prim.Native.Nat.{_+_, _*_, _≤_};
+ghost use mathlib.Core.List.{List};
+ghost use Prim.Native.Nat.{_+_, _*_, _≤_, _<_};
+ghost use lib.ListN.{length};
 ghost use Rattle.loops.specs.Loops.{all, upto};
-ghost use Rattle.network.specs.ArcList.{nodesOf};
-ghost use Rattle.network.specs.Record.{word, figureAt, sizeOf, sizesOf, roleOf, isPermitted, isInForm, endOf, isEnd, hasEnds, arcIn, isWeighted, isWeightedAt, figuresAsked, askedOf, nodeTurn, arcTurn, netOf, readOf};
+ghost use Rattle.network.specs.declared.Arc.{Arc};
+ghost use Rattle.network.specs.declared.Nodes.{Nodes};
+ghost use Rattle.network.specs.Network.{emptyNet};
+ghost use Rattle.network.specs.ArcList.{noArcs, nodesOf, joined};
+ghost use Rattle.network.specs.Record.{word, figureAt, sizeOf, sizesOf, roleOf, isPermitted, isInForm, endOf, isEnd, hasEnds, arcIn, isWeightedAt, figuresAsked, askedOf, nodeTurn, arcTurn, netOf, readOf};
 use crate::Arc;
 use crate::Net;
 use crate::Nodes;
@@ -42,6 +47,16 @@ pub fn figure_at(xs: &[i32], t: usize, k: usize) -> Fraction
     ensures { λ r. ⌜ r ≡ figureAt (now (xs .entry)) t k ⌝ }
 {
     Fraction::from_words(word_behind(xs, 0, k), word_behind(xs, t, k))
+}
+
+// The same, of a record that is long enough.
+fn figure_in(xs: &[i32], t: usize, k: usize) -> Fraction
+    requires { ⌜ (2 + 2 * t ≤ length (now xs)) × (k < t) ⌝ }
+    ensures { λ r. ⌜ r ≡ figureAt (now (xs .entry)) t k ⌝ }
+{
+    let num = xs[2 + k];
+    let den = xs[2 + t + k];
+    Fraction::from_words(num, den)
 }
 
 // A word as a size, up to a limit; 0 outside.
@@ -86,13 +101,14 @@ fn role_of(n: usize, k: usize) -> usize
     if k < n { 0 } else { (k - n) % 7 }
 }
 
-// Whether a figure is a fraction in form, or the mark that its place permits.
-fn permitted(role: usize, f: Fraction) -> bool
-    ensures { λ r. ⌜ r ≡ isPermitted role f ⌝ }
+// Whether figure k is a fraction in form, or the mark that its place permits.
+fn permitted(n: usize, k: usize, f: Fraction) -> bool
+    ensures { λ r. ⌜ r ≡ isPermitted (roleOf n k) f ⌝ }
 {
     if f.is_proper() {
         return true;
     }
+    let role = role_of(n, k);
     match role {
         3 => f.same(Fraction::NO_LOWER),
         4 => f.same(Fraction::NO_UPPER),
@@ -102,11 +118,12 @@ fn permitted(role: usize, f: Fraction) -> bool
 
 // Question 3: whether each figure is a fraction in form or a permitted mark.
 fn all_in_form(xs: &[i32], n: usize, t: usize) -> bool
+    requires { ⌜ 2 + 2 * t ≤ length (now xs) ⌝ }
     ensures { λ r. ⌜ r ≡ all (isInForm (now (xs .entry)) n t) t ⌝ }
 {
     for k in 0..t {
-        let f = figure_at(xs, t, k);
-        if permitted(role_of(n, k), f) {} else {
+        let f = figure_in(xs, t, k);
+        if permitted(n, k, f) {} else {
             return false;
         }
     }
@@ -136,16 +153,16 @@ fn is_end(n: usize, f: Fraction) -> bool
 
 // Whether both ends of the arc of number j + 1 are right.
 fn has_ends(xs: &[i32], n: usize, t: usize, j: usize) -> bool
-    requires { ⌜ (n ≤ 32) × (j ≤ 96) ⌝ }
+    requires { ⌜ (2 + 2 * t ≤ length (now xs)) × (n + 7 * j + 7 ≤ t) ⌝ }
     ensures { λ r. ⌜ r ≡ hasEnds (now (xs .entry)) n t j ⌝ }
 {
     let k = n + 7 * j;
-    is_end(n, figure_at(xs, t, k)) && is_end(n, figure_at(xs, t, k + 1))
+    is_end(n, figure_in(xs, t, k)) && is_end(n, figure_in(xs, t, k + 1))
 }
 
 // Question 4: whether all ends are whole and from 1 to n.
 fn all_ends(xs: &[i32], n: usize, t: usize, m: usize) -> bool
-    requires { ⌜ (n ≤ 32) × (m ≤ 96) ⌝ }
+    requires { ⌜ (2 + 2 * t ≤ length (now xs)) × (n + 7 * m ≤ t) ⌝ }
     ensures { λ r. ⌜ r ≡ all (hasEnds (now (xs .entry)) n t) m ⌝ }
 {
     for j in 0..m {
@@ -158,17 +175,17 @@ fn all_ends(xs: &[i32], n: usize, t: usize, m: usize) -> bool
 
 // The arc of number j + 1.
 pub(crate) fn arc_in(xs: &[i32], n: usize, t: usize, j: usize) -> Arc
-    requires { ⌜ (n ≤ 32) × (j ≤ 96) ⌝ }
+    requires { ⌜ (2 + 2 * t ≤ length (now xs)) × (n + 7 * j + 7 ≤ t) ⌝ }
     ensures { λ r. ⌜ r ≡ arcIn (now (xs .entry)) n t j ⌝ }
 {
     let k = n + 7 * j;
-    let from = end_of(figure_at(xs, t, k));
-    let to = end_of(figure_at(xs, t, k + 1));
-    let cost = figure_at(xs, t, k + 2);
-    let lower = figure_at(xs, t, k + 3);
-    let upper = figure_at(xs, t, k + 4);
-    let a = figure_at(xs, t, k + 5);
-    let b = figure_at(xs, t, k + 6);
+    let from = end_of(figure_in(xs, t, k));
+    let to = end_of(figure_in(xs, t, k + 1));
+    let cost = figure_in(xs, t, k + 2);
+    let lower = figure_in(xs, t, k + 3);
+    let upper = figure_in(xs, t, k + 4);
+    let a = figure_in(xs, t, k + 5);
+    let b = figure_in(xs, t, k + 6);
     Arc {
         from,
         to,
@@ -180,17 +197,19 @@ pub(crate) fn arc_in(xs: &[i32], n: usize, t: usize, j: usize) -> Arc
     }
 }
 
-// Whether a is nonzero, and b zero exactly where from = to.
-fn is_weighted(t: Arc) -> bool
-    ensures { λ r. ⌜ r ≡ isWeighted t ⌝ }
+// Whether of the arc of number j + 1 a is nonzero, and b zero exactly where from = to.
+fn has_weights(xs: &[i32], n: usize, t: usize, j: usize) -> bool
+    requires { ⌜ (2 + 2 * t ≤ length (now xs)) × (n + 7 * j + 7 ≤ t) ⌝ }
+    ensures { λ r. ⌜ r ≡ isWeightedAt (now (xs .entry)) n t j ⌝ }
 {
-    let a = t.a;
-    let b = t.b;
-    if a.is_zero() {
+    let k = n + 7 * j;
+    if figure_in(xs, t, k + 5).is_zero() {
         return false;
     }
-    let z = b.is_zero();
-    if crate::is_root(t) {
+    let z = figure_in(xs, t, k + 6).is_zero();
+    let from = end_of(figure_in(xs, t, k));
+    let to = end_of(figure_in(xs, t, k + 1));
+    if from == to {
         return z;
     }
     !z
@@ -198,11 +217,11 @@ fn is_weighted(t: Arc) -> bool
 
 // Question 5: whether every a is nonzero, and b zero exactly where from = to.
 fn all_weighted(xs: &[i32], n: usize, t: usize, m: usize) -> bool
-    requires { ⌜ (n ≤ 32) × (m ≤ 96) ⌝ }
+    requires { ⌜ (2 + 2 * t ≤ length (now xs)) × (n + 7 * m ≤ t) ⌝ }
     ensures { λ r. ⌜ r ≡ all (isWeightedAt (now (xs .entry)) n t) m ⌝ }
 {
     for j in 0..m {
-        if is_weighted(arc_in(xs, n, t, j)) {} else {
+        if has_weights(xs, n, t, j) {} else {
             return false;
         }
     }
@@ -211,7 +230,7 @@ fn all_weighted(xs: &[i32], n: usize, t: usize, m: usize) -> bool
 
 // Questions 3 to 5.
 fn ask_figures(xs: &[i32], n: usize, m: usize) -> Asked
-    requires { ⌜ (n ≤ 32) × (m ≤ 96) ⌝ }
+    requires { ⌜ (n ≤ 32) × (m ≤ 96) × (2 + 2 * (n + 7 * m) ≤ length (now xs)) ⌝ }
     ensures { λ r. ⌜ r ≡ figuresAsked (now (xs .entry)) n m ⌝ }
 {
     let t = n + 7 * m;
@@ -237,42 +256,54 @@ pub fn ask(network: &[i32]) -> Asked
     }
 }
 
-// Nodes 1 to n, with their supplies.
-fn read_nodes(net: Net, xs: &[i32], t: usize, n: usize) -> Net
-    requires { ⌜ n ≤ 32 ⌝ }
-    ensures { λ r. ⌜ r ≡ upto (nodeTurn (now (xs .entry)) t) n net ⌝ }
+// No node in use yet, of n nodes and m arcs.
+fn no_nodes(n: usize, m: usize) -> Nodes
+    ensures { λ r. ⌜ r ≡ nodesOf (emptyNet n m) ⌝ }
 {
-    let mut at = net;
+    let f = crate::no_figure();
+    Nodes {
+        n,
+        m,
+        here: [false; 33],
+        supply: [f; 33],
+    }
+}
+
+// Nodes 1 to n, with their supplies, whatever the arcs.
+fn read_nodes(xs: &[i32], n: usize, m: usize) -> Nodes
+    requires { ⌜ (n ≤ 32) × (m ≤ 96) × (2 + 2 * (n + 7 * m) ≤ length (now xs)) ⌝ }
+    ensures { λ r. ⌜ ((arcs : List Arc) → joined r arcs ≡ upto (nodeTurn (now (xs .entry)) (n + 7 * m)) n (joined (nodesOf (emptyNet n m)) arcs)) ⌝ }
+{
+    let t = n + 7 * m;
+    let mut at = no_nodes(n, m);
     for i in 0..n {
-        let f = figure_at(xs, t, i);
+        let f = figure_in(xs, t, i);
         at.supply[i + 1] = f;
         at.here[i + 1] = true;
     }
     at
 }
 
-// Arcs 1 to m.
-fn read_arcs(net: Net, xs: &[i32], n: usize, t: usize, m: usize) -> Net
-    requires { ⌜ (n ≤ 32) × (m ≤ 96) ⌝ }
-    ensures { λ r. ⌜ r ≡ upto (arcTurn (now (xs .entry)) n t) m net ⌝ }
+// Arcs 1 to m, whatever the nodes.
+fn read_arcs(xs: &[i32], n: usize, t: usize, m: usize) -> [Arc; 97]
+    requires { ⌜ (m ≤ 96) × (2 + 2 * t ≤ length (now xs)) × (n + 7 * m ≤ t) ⌝ }
+    ensures { λ r. ⌜ ((nodes : Nodes) → joined nodes r ≡ upto (arcTurn (now (xs .entry)) n t) m (joined nodes (noArcs 97))) ⌝ }
 {
-    let mut at = net;
+    let z = crate::no_arc();
+    let mut at = [z; 97];
     for j in 0..m {
         let a = arc_in(xs, n, t, j);
-        at.arcs[j + 1] = a;
+        at[j + 1] = a;
     }
     at
 }
 
 // The network of a record with these sizes.
 fn read_sized(xs: &[i32], n: usize, m: usize) -> Net
-    requires { ⌜ (n ≤ 32) × (m ≤ 96) ⌝ }
+    requires { ⌜ (n ≤ 32) × (m ≤ 96) × (2 + 2 * (n + 7 * m) ≤ length (now xs)) ⌝ }
     ensures { λ r. ⌜ r ≡ netOf (now (xs .entry)) n m ⌝ }
 {
-    let t = n + 7 * m;
-    let z = crate::empty_net(n, m);
-    let a = read_nodes(z, xs, t, n);
-    read_arcs(a, xs, n, t, m)
+    crate::join(read_nodes(xs, n, m), read_arcs(xs, n, n + 7 * m, m))
 }
 
 // The network of a record; one without nodes and arcs where question 2 is answered by no.
@@ -289,5 +320,8 @@ pub fn read(network: &[i32]) -> Net
 pub fn read_beside(network: &[i32]) -> Nodes
     ensures { λ r. ⌜ r ≡ nodesOf (readOf (now (network .entry))) ⌝ }
 {
-    crate::nodes_of(read(network))
+    match sizes(network) {
+        Asked::No(_) => no_nodes(0, 0),
+        Asked::Go(n, m) => read_nodes(network, n, m),
+    }
 }

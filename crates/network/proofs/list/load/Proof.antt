@@ -2,6 +2,7 @@
 -- Assumes nothing.
 mod Tie
 use mathlib.Core.Path.{_∙_, sym}
+use native.Mathlib.Omega.{arith}
 use Rattle.network.specs.ArcList.{loaded}
 use Rattle.network.proofs.Questions.{sizes-go}
 use borrow.Author.Needs.{needs}
@@ -24,7 +25,7 @@ add-load-arcs : tie.Need-add-load-arcs
 add-load-arcs c = let h = sizes-go _ _ _ (sym (c .before .before .before .before .sizes .ensures) ∙ c .before .before .n .given .1) in let a = h .few-nodes in let b = h .few-arcs in search needs
 
 load-arcs-requires : tie.Need-load-arcs-requires
-load-arcs-requires c κs = let h = sizes-go _ _ _ (sym (c .before .before .before .before .sizes .ensures) ∙ c .before .before .n .given .1) in (h .few-nodes, h .few-arcs)
+load-arcs-requires c κs = let h = sizes-go _ _ _ (sym (c .before .before .before .before .sizes .ensures) ∙ c .before .before .n .given .1) in (omega arith, omega arith)
 
 returns : tie.Need-returns
 unfolding loaded

@@ -20,13 +20,13 @@ loop-holds c = passed-none _ _
 
 returns : tie.Need-returns Inv-loop μ-loop
 returns c =
-    let e = rw (c .before .before .role-of .ensures, c .before .before .before .figure-at .ensures) at (c .before .permitted .ensures) in
-    passed-fails (c .before .before .before .before .before .loop .inv) (omega arith) (sym e ∙ c .if1 .left)
+    let e = rw (c .before .before .figure-in .ensures) at (c .before .permitted .ensures) in
+    passed-fails (c .before .before .before .before .loop .inv) (omega arith) (sym e ∙ c .if1 .left)
 
 loop-again : tie.Need-loop-again Inv-loop μ-loop
 loop-again c =
-    let e = rw (c .before .before .role-of .ensures, c .before .before .before .figure-at .ensures) at (c .before .permitted .ensures) in
-    passed-more (c .before .before .before .before .before .loop .inv) (omega arith) (sym e ∙ c .if1 .taken)
+    let e = rw (c .before .before .figure-in .ensures) at (c .before .permitted .ensures) in
+    passed-more (c .before .before .before .before .loop .inv) (omega arith) (sym e ∙ c .if1 .taken)
 
 returns-2 : tie.Need-returns-2 Inv-loop μ-loop
 returns-2 c = passed-all (c .before .loop .inv) (omega arith)
@@ -38,7 +38,6 @@ all-in-form-spec =
     Inv-loop
     μ-loop
     loop-holds
-    (λ c κs. search needs)
     (λ c κs. search needs)
     (λ c κs. search needs)
     returns

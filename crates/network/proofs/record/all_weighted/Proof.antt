@@ -1,6 +1,5 @@
 -- `network::record::all_weighted` meets its contract. Assumes nothing.
 use Prim.Native.Nat.{_-_}
-use Rattle.algebra.specs.Solver.{at}
 use Rattle.loops.proofs.Laws.{Passed, passed-all, passed-fails, passed-more, passed-none}
 use Rattle.network.specs.Record.{isWeightedAt}
 use borrow.Author.Needs.{needs}
@@ -19,14 +18,10 @@ loop-holds : tie.Need-loop-holds Inv-loop μ-loop
 loop-holds c = passed-none _ _
 
 returns : tie.Need-returns Inv-loop μ-loop
-returns c =
-    let e = rw (c .before .before .arc-in .ensures) at (c .before .is-weighted .ensures) in
-    passed-fails (c .before .before .before .before .loop .inv) (omega arith) (sym e ∙ c .if1 .left)
+returns c = passed-fails (c .before .before .before .loop .inv) (omega arith) (sym (c .before .has-weights .ensures) ∙ c .if1 .left)
 
 loop-again : tie.Need-loop-again Inv-loop μ-loop
-loop-again c =
-    let e = rw (c .before .before .arc-in .ensures) at (c .before .is-weighted .ensures) in
-    passed-more (c .before .before .before .before .loop .inv) (omega arith) (sym e ∙ c .if1 .taken)
+loop-again c = passed-more (c .before .before .before .loop .inv) (omega arith) (sym (c .before .has-weights .ensures) ∙ c .if1 .taken)
 
 returns-2 : tie.Need-returns-2 Inv-loop μ-loop
 returns-2 c = passed-all (c .before .loop .inv) (omega arith)
@@ -38,7 +33,6 @@ all-weighted-spec =
     Inv-loop
     μ-loop
     loop-holds
-    (λ c κs. search needs)
     (λ c κs. search needs)
     returns
     (λ c. search needs)

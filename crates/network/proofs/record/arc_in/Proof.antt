@@ -6,7 +6,7 @@ use Rattle.network.proofs.record.arc_in.Tie as tie
 
 returns : tie.Need-returns
 unfolding arcIn
-returns c = rw (c .figure-at7 .ensures, c .before .figure-at6 .ensures, c .before .before .figure-at5 .ensures, c .before .before .before .figure-at4 .ensures, c .before .before .before .before .figure-at3 .ensures, c .before .before .before .before .before .end-of2 .ensures, c .before .before .before .before .before .before .figure-at2 .ensures, c .before .before .before .before .before .before .before .end-of .ensures, c .before .before .before .before .before .before .before .before .figure-at .ensures)
+returns c = rw (c .figure-in7 .ensures, c .before .figure-in6 .ensures, c .before .before .figure-in5 .ensures, c .before .before .before .figure-in4 .ensures, c .before .before .before .before .figure-in3 .ensures, c .before .before .before .before .before .end-of2 .ensures, c .before .before .before .before .before .before .figure-in2 .ensures, c .before .before .before .before .before .before .before .end-of .ensures, c .before .before .before .before .before .before .before .before .figure-in .ensures)
 
 pub arc-in-spec : {M : Type 1} → statement M
 arc-in-spec =

@@ -3,13 +3,14 @@ use Rattle.network.proofs.Questions.{sizes-go}
 use Rattle.network.specs.Record.{askedOf}
 use borrow.Author.Needs.{needs}
 use mathlib.Core.Path.{_∙_, sym}
+use native.Mathlib.Omega.{arith}
 use Rattle.network.proofs.record.ask.Statement.{statement}
 use Rattle.network.proofs.record.ask.Tie as tie
 
 ask-figures-requires : tie.Need-ask-figures-requires
 ask-figures-requires c κs =
     let h = sizes-go _ _ _ (sym (c .before .before .before .sizes .ensures) ∙ c .before .n .given .1) in
-    (h .few-nodes, h .few-arcs)
+    (h .few-nodes, h .few-arcs, omega arith)
 
 returns : tie.Need-returns
 unfolding askedOf

@@ -8,13 +8,13 @@ use Rattle.network.proofs.record.has_ends.Tie as tie
 returns : tie.Need-returns
 unfolding hasEnds
 returns c =
-    let e = rw (c .before .before .before .before .figure-at .ensures) at (c .before .before .before .is-end .ensures) in
-    rw (← e, c .before .before .if1 .taken, c .is-end2 .ensures, c .before .figure-at2 .ensures)
+    let e = rw (c .before .before .before .before .figure-in .ensures) at (c .before .before .before .is-end .ensures) in
+    rw (← e, c .before .before .if1 .taken, c .is-end2 .ensures, c .before .figure-in2 .ensures)
 
 returns-2 : tie.Need-returns-2
 unfolding hasEnds
 returns-2 c =
-    let e = rw (c .before .before .figure-at .ensures) at (c .before .is-end .ensures) in
+    let e = rw (c .before .before .figure-in .ensures) at (c .before .is-end .ensures) in
     rw (← e, c .if1 .left)
 
 pub has-ends-spec : {M : Type 1} → statement M

@@ -3,13 +3,14 @@ use Rattle.network.proofs.Questions.{sizes-go}
 use Rattle.network.specs.Record.{readOf}
 use borrow.Author.Needs.{needs}
 use mathlib.Core.Path.{_∙_, sym}
+use native.Mathlib.Omega.{arith}
 use Rattle.network.proofs.record.read.Statement.{statement}
 use Rattle.network.proofs.record.read.Tie as tie
 
 read-sized-requires : tie.Need-read-sized-requires
 read-sized-requires c κs =
     let h = sizes-go _ _ _ (sym (c .before .before .before .sizes .ensures) ∙ c .before .n .given .1) in
-    (h .few-nodes, h .few-arcs)
+    (h .few-nodes, h .few-arcs, omega arith)
 
 returns : tie.Need-returns
 unfolding readOf

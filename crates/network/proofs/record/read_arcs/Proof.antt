@@ -1,8 +1,10 @@
--- `network::record::read_arcs` meets its contract. Assumes nothing.
+-- `network::record::read_arcs` meets its contract.
 use Prim.Native.Nat.{_-_}
 use Rattle.loops.proofs.Laws.{Folded, folded-all, folded-more, folded-none}
 use Rattle.network.proofs.Legal.{number}
+use Rattle.network.specs.declared.Nodes.{Nodes}
 use Rattle.network.specs.Network.{withArc}
+use Rattle.network.specs.ArcList.{joined, noArcs}
 use Rattle.network.specs.Record.{arcTurn}
 use borrow.Author.Needs.{needs}
 use native.Mathlib.Omega.{arith}
@@ -10,20 +12,20 @@ use Rattle.network.proofs.record.read_arcs.Statement.{statement}
 use Rattle.network.proofs.record.read_arcs.Tie as tie
 
 abbrev Inv-loop : tie.InvT-loop
-Inv-loop xs n t m at₀ j₀ at j = Folded (arcTurn xs n t) m at₀ j at
+Inv-loop xs n t m at₀ j₀ at j = (nodes : Nodes) → Folded (arcTurn xs n t) m (joined nodes (noArcs 97)) j (joined nodes at)
 
 abbrev μ-loop : tie.MeasureT-loop
 μ-loop xs n t m at₀ j₀ at j = m - j
 
 loop-holds : tie.Need-loop-holds Inv-loop μ-loop
-loop-holds c = folded-none _ _ _
+loop-holds c = λ nodes. rw (c .no-arc .ensures) (folded-none _ _ _)
 
 loop-again : tie.Need-loop-again Inv-loop μ-loop
 unfolding withArc
-loop-again c = folded-more _ (c .before .before .loop .inv) (omega arith) (rw (number 96 (c .before .before .loop .j) (omega arith), c .arc-in .ensures))
+loop-again c = λ nodes. folded-more _ (c .before .before .loop .inv nodes) (omega arith) (rw (number 96 (c .before .before .loop .j) (omega arith), c .arc-in .ensures))
 
 returns : tie.Need-returns Inv-loop μ-loop
-returns c = folded-all _ (c .before .loop .inv) (omega arith)
+returns c = λ nodes. folded-all _ (c .before .loop .inv nodes) (omega arith)
 
 pub read-arcs-spec : {M : Type 1} → statement M
 read-arcs-spec =
@@ -31,6 +33,7 @@ read-arcs-spec =
     (tie.spec
     Inv-loop
     μ-loop
+    (λ c κs. search needs)
     loop-holds
     (λ c κs. search needs)
     (λ c. search needs)

@@ -1,8 +1,11 @@
--- `network::record::read_nodes` meets its contract. Assumes nothing.
+-- `network::record::read_nodes` meets its contract.
+use mathlib.Core.List.{List}
 use Prim.Native.Nat.{_-_}
 use Rattle.loops.proofs.Laws.{Folded, folded-all, folded-more, folded-none}
 use Rattle.network.proofs.Legal.{number}
-use Rattle.network.specs.Network.{withNode, withSupply}
+use Rattle.network.specs.declared.Arc.{Arc}
+use Rattle.network.specs.Network.{emptyNet, withNode, withSupply}
+use Rattle.network.specs.ArcList.{joined, nodesOf}
 use Rattle.network.specs.Record.{nodeTurn}
 use borrow.Author.Needs.{needs}
 use native.Mathlib.Omega.{arith}
@@ -10,20 +13,20 @@ use Rattle.network.proofs.record.read_nodes.Statement.{statement}
 use Rattle.network.proofs.record.read_nodes.Tie as tie
 
 abbrev Inv-loop : tie.InvT-loop
-Inv-loop xs t n at₀ i₀ at i = Folded (nodeTurn xs t) n at₀ i at
+Inv-loop xs n m t at₀ i₀ at i = (arcs : List Arc) → Folded (nodeTurn xs t) n (joined (nodesOf (emptyNet n m)) arcs) i (joined at arcs)
 
 abbrev μ-loop : tie.MeasureT-loop
-μ-loop xs t n at₀ i₀ at i = n - i
+μ-loop xs n m t at₀ i₀ at i = n - i
 
 loop-holds : tie.Need-loop-holds Inv-loop μ-loop
-loop-holds c = folded-none _ _ _
+loop-holds c = λ arcs. rw (c .no-nodes .ensures) (folded-none _ _ _)
 
 loop-again : tie.Need-loop-again Inv-loop μ-loop
 unfolding withNode withSupply
-loop-again c = folded-more _ (c .before .before .loop .inv) (omega arith) (rw (number 32 (c .before .before .loop .i) (omega arith), c .figure-at .ensures))
+loop-again c = λ arcs. folded-more _ (c .before .before .loop .inv arcs) (omega arith) (rw (number 32 (c .before .before .loop .i) (omega arith), c .figure-in .ensures))
 
 returns : tie.Need-returns Inv-loop μ-loop
-returns c = folded-all _ (c .before .loop .inv) (omega arith)
+returns c = λ arcs. folded-all _ (c .before .loop .inv arcs) (omega arith)
 
 pub read-nodes-spec : {M : Type 1} → statement M
 read-nodes-spec =
@@ -31,6 +34,9 @@ read-nodes-spec =
     (tie.spec
     Inv-loop
     μ-loop
+    (λ c. search needs)
+    (λ c. search needs)
+    (λ c κs. search needs)
     loop-holds
     (λ c κs. search needs)
     (λ c. search needs)

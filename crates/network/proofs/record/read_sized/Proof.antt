@@ -1,14 +1,16 @@
--- `network::record::read_sized` meets its contract. Assumes nothing.
-use Rattle.network.specs.Record.{netOf}
+-- `network::record::read_sized` meets its contract.
+use mathlib.Core.Path.{_∙_, ap}
+use Rattle.loops.specs.Loops.{upto}
+use Rattle.network.specs.Record.{arcTurn, netOf}
 use borrow.Author.Needs.{needs}
 use Rattle.network.proofs.record.read_sized.Statement.{statement}
 use Rattle.network.proofs.record.read_sized.Tie as tie
 
 returns : tie.Need-returns
 unfolding netOf
-returns c = rw (c .read-arcs .ensures, c .before .read-nodes .ensures, c .before .before .empty-net .ensures)
+returns c = c .join .ensures ∙ c .before .read-arcs .ensures _ ∙ ap (upto (arcTurn _ _ _) _) (c .before .before .read-nodes .ensures _)
 
 pub read-sized-spec : {M : Type 1} → statement M
 read-sized-spec =
     tie.close
-    (tie.spec (λ c. search needs) (λ c. search needs) (λ c κs. search needs) (λ c κs. search needs) (λ c κs. search needs) returns)
+    (tie.spec (λ c κs. search needs) (λ c. search needs) (λ c. search needs) (λ c κs. search needs) (λ c κs. search needs) returns)
