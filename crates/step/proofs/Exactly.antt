@@ -1,0 +1,186 @@
+-- A legal network in exact numbers: its arcs as they are seen from their nodes, and what a sound change is.
+use mathlib.Core.Path.{_≡_, refl, sym, ap, _∙_, subst}
+use mathlib.Core.Bool.{Bool, true, false, cond, not, _||_}
+use Prim.Native.Nat.{ℕ, _≤_, _<_}
+use native.Mathlib.Omega.{arith}
+use lib.Dec.{T, eqb}
+use borrow.Author.Tests.{eqb-false, ne-eqb, not-true}
+use Rattle.algebra.specs.Rat.{ℚ, 0ℚ, _+ℚ_}
+use Rattle.algebra.specs.Sum.{Once, only, range-once}
+use Rattle.presolve.specs.LP.{LP, Pair, Solved, NoFlow}
+use Rattle.presolve.specs.Step.{SoundStep, with-constant, feasible-constant, solved-constant, stay, then, shifted, no-flow}
+use Rattle.presolve.specs.Price.{root, only-zero}
+use Rattle.presolve.specs.Spoke.{Spoke, SpokeAt}
+use Rattle.presolve.specs.Net.{columnAt, tail-of, head-of, column-in, column-out, column-same, touch-off, rhs-in, rhs-out}
+use Rattle.presolve.specs.Net as Exact
+use Rattle.fraction.specs.declared.Fraction.{Fraction}
+use Rattle.fraction.specs.Exact.{zeroFraction, isZero}
+use Rattle.fraction.specs.Value.{value, same-is}
+use Rattle.fraction.specs.Worked.{zero-is}
+use Rattle.fraction.specs.Laws.{never}
+use Rattle.network.specs.declared.Arc.{Arc}
+use Rattle.network.specs.declared.Net.{Net}
+use Rattle.network.specs.declared.Edit.{Edit}
+use Rattle.network.specs.Network.{noArc, arcAt, supplyAt, isHere, isTouching, isRoot, farEnd, sideOf, updatesOf, applied}
+use Rattle.network.specs.Legal.{Legal}
+use Rattle.network.specs.Program.{exactArc, exactOf, programOf}
+use Rattle.network.proofs.Sane.{sane}
+use Rattle.network.proofs.Kept.{here-number, used-number, touching-used}
+use Rattle.step.proofs.Frame.{Unnamed, arc-same}
+use Rattle.step.proofs.Sides.{Seen, at-from, at-to, seen}
+
+-- ---- what is in
+
+pub is-true : {b : Bool} → b ≡ true → T b
+is-true e = subst T (sym e) tt
+
+pub true-is : (b : Bool) → T b → b ≡ true
+true-is true t = refl
+true-is false t = absurd t
+
+pub false-not : {b : Bool} → b ≡ false → ¬ (T b)
+false-not {b} e t = never (let f = sym e ∙ true-is b t in cc)
+
+-- arc j is in, where it is in use
+pub arc-in : (net : Net) (j : ℕ) → 1 ≤ arcAt net j .from → T (exactOf net .arc? j)
+unfolding exactOf
+arc-in net j l = is-true {b = not (eqb (arcAt net j .from) 0)} (rw (ne-eqb (arcAt net j .from) 0 (λ e. omega arith)))
+
+pub in-use : (net : Net) (j : ℕ) → T (exactOf net .arc? j) → 1 ≤ arcAt net j .from
+unfolding exactOf
+in-use net j t = let n = eqb-false (arcAt net j .from) 0 (not-true _ (true-is _ t)) in omega arith
+
+pub arc-off : (net : Net) (j : ℕ) → arcAt net j ≡ noArc → ¬ (T (exactOf net .arc? j))
+arc-off net j e t = absurd (omega (arith, in-use net j t, ap (λ (t : Arc). t .from) e))
+
+-- a figure that is zero has the value 0
+pub zero-figure : (x : Fraction) → isZero x ≡ true → value x ≡ 0ℚ
+unfolding isZero
+zero-figure x e = ap value (same-is x zeroFraction e) ∙ zero-is
+
+module _ (net : Net) (g : Legal net) where
+  node-place : (i : ℕ) → isHere net i ≡ true → (i < 33) × T (isHere net i)
+  node-place i e = (omega (arith, here-number g i e .1), is-true e)
+
+  -- the places of arcs and of nodes
+  pub arc-place : (j : ℕ) → 1 ≤ arcAt net j .from → j < 97
+  arc-place j l = omega (arith, used-number g j l .1)
+
+  pub listed-arc : (j : ℕ) → 1 ≤ arcAt net j .from → Once j (programOf net .cols)
+  unfolding exactOf
+  listed-arc j l = range-once j 97 (arc-place j l)
+
+  pub listed-node : (i : ℕ) → isHere net i ≡ true → Once i (programOf net .rows)
+  unfolding exactOf
+  listed-node i e = range-once i 33 (node-place i e .0)
+
+  -- the column of an arc in use, and the right-hand side of a node in use
+  pub column-is : (j : ℕ) → 1 ≤ arcAt net j .from → programOf net .col j ≡ Exact.column (exactArc (arcAt net j))
+  unfolding exactOf
+  column-is j l = column-in (exactOf net) j (arc-in net j l)
+
+  pub rhs-is : (i : ℕ) → isHere net i ≡ true → programOf net .rhs i ≡ value (supplyAt net i)
+  unfolding exactOf
+  rhs-is i e = rhs-in (exactOf net) i (is-true e)
+
+-- ---- an arc as it is seen from a node
+
+abbrev pub spokeOf : Net → ℕ → ℕ → Spoke
+spokeOf net i j = record { arc = j; e = value (sideOf (arcAt net j) i .e); far = sideOf (arcAt net j) i .other; o = value (sideOf (arcAt net j) i .o) }
+
+-- the other end of a root arc may be any number
+spoke-root : {N : LP} {i : ℕ} {a : Spoke} (t : ℕ) → a .o ≡ 0ℚ → SpokeAt N i a → SpokeAt N i (record { arc = a .arc; e = a .e; far = t; o = a .o })
+spoke-root {N} {i} {a} t z s =
+    record {
+      listed = s .listed;
+      ends = λ k. s .ends k ∙ ap (λ v. only i (a .e) k +ℚ v) (none (a .far) k ∙ sym (none t k));
+      other = root z;
+      nonzero = s .nonzero;
+    }
+  where
+    none : (t k : ℕ) → only t (a .o) k ≡ 0ℚ
+    none t k = ap (λ v. only t v k) z ∙ only-zero t k
+
+module _ (net : Net) (g : Legal net) where
+  pub spoke-at : (i j : ℕ) → isHere net i ≡ true → isTouching (arcAt net j) i ≡ true → SpokeAt (programOf net) i (spokeOf net i j)
+  unfolding exactOf isRoot farEnd
+  spoke-at i j here touches = by (seen t i touches)
+    where
+      t : Arc
+      t = arcAt net j
+
+      used : 1 ≤ t .from
+      used = touching-used g j i (here-number g i here .0) touches
+
+      tail : SpokeAt (programOf net) (t .from) (Exact.tail-spoke j (exactArc t))
+      tail = tail-of (exactOf net) (sane g) j (arc-place net g j used) (arc-in net j used)
+
+      head : (t .from ≡ t .to → ⊥) → SpokeAt (programOf net) (t .to) (Exact.head-spoke j (exactArc t))
+      head n = head-of (exactOf net) (sane g) j (arc-place net g j used) (arc-in net j used) n
+
+      far : (b : Bool) → isRoot t ≡ b → SpokeAt (programOf net) (t .from) (record { arc = j; e = value (t .a); far = cond b 0 (t .to); o = value (t .b) })
+      far false e = tail
+      far true e = spoke-root 0 (zero-figure (t .b) (g .used j used .b-zero ∙ e)) tail
+
+      by : Seen t i → SpokeAt (programOf net) i (spokeOf net i j)
+      by (at-from a is) = rw is (subst (λ k. SpokeAt (programOf net) k (record { arc = j; e = value (t .a); far = farEnd t; o = value (t .b) })) a (far (isRoot t) refl))
+      by (at-to a b is) = rw is (subst (λ k. SpokeAt (programOf net) k (Exact.head-spoke j (exactArc t))) b (head (λ e. a (e ∙ b))))
+
+  -- an arc that does not touch a node has no coefficient there
+  pub unseen : (i c : ℕ) → isTouching (arcAt net c) i ≡ false → columnAt (exactOf net) c .coef i ≡ 0ℚ
+  unfolding exactOf isTouching
+  unseen i c e = by (eqb (arcAt net c .from) i) refl (eqb (arcAt net c .to) i) refl e
+    where
+      in-or-out : (b : Bool) → exactOf net .arc? c ≡ b → (arcAt net c .from ≡ i → ⊥) → (arcAt net c .to ≡ i → ⊥) → columnAt (exactOf net) c .coef i ≡ 0ℚ
+      in-or-out true k n m = ap (λ k. k .coef i) (column-in (exactOf net) c (is-true k)) ∙ touch-off (exactArc (arcAt net c)) i n m
+      in-or-out false k n m = ap (λ k. k .coef i) (column-out (exactOf net) c (false-not k))
+
+      by : (s : Bool) → eqb (arcAt net c .from) i ≡ s → (r : Bool) → eqb (arcAt net c .to) i ≡ r → (s || r) ≡ false → columnAt (exactOf net) c .coef i ≡ 0ℚ
+      by true a r b e = never cc
+      by false a true b e = never cc
+      by false a false b e = in-or-out (exactOf net .arc? c) refl (eqb-false _ _ a) (eqb-false _ _ b)
+
+  -- the one arc that touches a node: no other column sees it
+  pub alone : (i j : ℕ) → ((c : ℕ) → isTouching (arcAt net c) i ≡ true → c ≡ j) → (c : ℕ) → (c ≡ j → ⊥) → columnAt (exactOf net) c .coef i ≡ 0ℚ
+  alone i j all c n = unseen i c (by (isTouching (arcAt net c) i) refl)
+    where
+      by : (b : Bool) → isTouching (arcAt net c) i ≡ b → isTouching (arcAt net c) i ≡ false
+      by true e = absurd (n (all c e))
+      by false e = e
+
+-- ---- before and after a change
+
+module _ (net : Net) (c : Edit) where
+  -- a column that it does not name
+  pub column-kept : (j : ℕ) → Unnamed (updatesOf c) j → columnAt (exactOf (applied net c)) j ≡ columnAt (exactOf net) j
+  unfolding exactOf
+  column-kept j u = let e = arc-same net c j u in column-same (exactOf net) (exactOf (applied net c)) j (ap (λ (t : Arc). not (eqb (t .from) 0)) e) (ap exactArc e)
+
+  -- the right-hand side of a node that is not in use, or is dropped
+  pub rhs-off : (i : ℕ) → isHere (applied net c) i ≡ false → programOf (applied net c) .rhs i ≡ 0ℚ
+  unfolding exactOf
+  rhs-off i e = rhs-out (exactOf (applied net c)) i (false-not e)
+
+  pub rhs-on : (i : ℕ) → isHere (applied net c) i ≡ true → programOf (applied net c) .rhs i ≡ value (supplyAt (applied net c) i)
+  unfolding exactOf
+  rhs-on i e = rhs-in (exactOf (applied net c)) i (is-true e)
+
+-- ---- sound steps between networks, whatever constant they add
+
+pub record SoundTo (net net′ : Net) (back : Pair → Pair) : Type 0 where
+  pub shift : ℚ
+  pub sound : SoundStep (programOf net) (with-constant (programOf net′) shift) back
+
+pub sound-stay : (net : Net) → SoundTo net net (λ s. s)
+sound-stay net = record { shift = programOf net .constant; sound = stay (programOf net) }
+
+pub sound-then : {a b c : Net} {back back′ : Pair → Pair} → SoundTo a b back → SoundTo b c back′ → SoundTo a c (λ s. back (back′ s))
+sound-then x y = record { shift = _; sound = then (x .sound) (shifted (y .sound) (x .shift)) }
+
+-- an optimal pair after it, brought back, is optimal before it
+pub sound-solved : {a b : Net} {back : Pair → Pair} → SoundTo a b back → (s : Pair) → Solved (programOf b) s → Solved (programOf a) (back s)
+sound-solved {b = b} x s h = x .sound .solved s (solved-constant (programOf b) (x .shift) s .0 h)
+
+-- no flow after it: none before it
+pub sound-no-flow : {a b : Net} {back : Pair → Pair} → SoundTo a b back → NoFlow (programOf b) → NoFlow (programOf a)
+sound-no-flow {a} {b} x n = no-flow (x .sound) (λ y f. n y (feasible-constant (programOf b) (x .shift) y .1 f))

@@ -1,0 +1,10 @@
+-- `step::no_flow` meets its contract.
+use borrow.Author.Needs.{needs}
+use Rattle.step.proofs.no_flow.Statement.{statement}
+use Rattle.step.proofs.no_flow.Tie as tie
+
+returns : tie.Need-returns
+returns c = rw (c .no-figure .ensures)
+
+pub no-flow-spec : {M : Type 1} → statement M
+no-flow-spec = tie.close (tie.spec (λ c κs. search needs) returns)
