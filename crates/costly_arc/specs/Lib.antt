@@ -1,0 +1,3 @@
+pub mod CostlyArc
+pub mod Seen
+pub mod internal

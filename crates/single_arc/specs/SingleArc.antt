@@ -1,0 +1,52 @@
+-- Rule 3, single arc (01, "The six reductions"): a singleton row.
+use Prim.Native.Nat.{ℕ}
+use lib.Dec.{eqb}
+use Rattle.fraction.specs.declared.Fraction.{Fraction}
+use Rattle.fraction.specs.declared.Worked.the-variants.{Fits}
+use Rattle.fraction.specs.Exact.{noFigure, isLess}
+use Rattle.fraction.specs.Formula.{_⊘_}
+use Rattle.network.specs.declared.Arc.{Arc}
+use Rattle.network.specs.declared.Net.{Net}
+use Rattle.network.specs.declared.Side.{Side}
+use Rattle.network.specs.declared.pair.Pair.{Pair}
+use Rattle.network.specs.Network.{arcAt, supplyAt, isHere, degreeOf, touchingAfter, sideOf}
+use Rattle.step.specs.declared.Old.{Old}
+use Rattle.step.specs.declared.Outcome.{Outcome}
+use Rattle.step.specs.declared.Outcome.the-variants.{Changes}
+use Rattle.step.specs.declared.Undone.{Undone}
+use Rattle.step.specs.declared.Undone.the-variants.{Restores}
+use Rattle.step.specs.Outcome.{_>>=_, _>>_, onlyWhere, noFlowWhere, fits}
+use Rattle.step.specs.Dropped.{supplyLess, dropping}
+use Rattle.step.specs.Back.{figure, oldOne, flowAndPrice, quoteOf}
+use Rattle.step.specs.Run.{Rule}
+
+-- "Flow v = r ÷ e; outside the bounds: no flow. Otherwise the other end's supply becomes r' - o × v; arc and node dropped."
+-- j, t, is the arc at node i of supply r, w its side there, and r′ the supply at its other end
+unfoldable pub forcedOut : ℕ → ℕ → Arc → Side → Fraction → Fraction → Outcome
+forcedOut i j t w r r′ = do
+  v ← fits (Fits r ⊘ Fits (w .e))
+  noFlowWhere (isLess v (t .lower))
+  noFlowWhere (isLess (t .upper) v)
+  s ← fits (supplyLess (w .other) r′ (w .o) v)
+  Changes (record { edit = dropping j (w .other) s 0 noFigure i; old = oldOne i r (record { number = j; arc = t }) })
+
+-- "degree 1"
+unfoldable pub singleArc : Net → ℕ → Outcome
+singleArc net i = do
+  onlyWhere (isHere net i)
+  onlyWhere (eqb (degreeOf net i) 1)
+  let j = touchingAfter net i 0
+  let w = sideOf (arcAt net j) i
+  forcedOut i j (arcAt net j) w (supplyAt net i) (supplyAt net (w .other))
+
+-- "Back: flow v, price (c - o × other price) ÷ e."
+unfoldable pub singleBack : Old → Pair → Undone
+singleBack old pair = do
+  let i = old .node
+  let t = old .one .arc
+  v ← figure (Fits (old .supply) ⊘ Fits (sideOf t i .e))
+  p ← figure (quoteOf t i pair)
+  Restores (flowAndPrice (old .one .number) v i p)
+
+abbrev pub rule : Rule
+rule = record { last = 32; at = singleArc; back = singleBack }
