@@ -1,0 +1,22 @@
+// The table of the rules, in code: the way back of each, by its number.
+ghost use mathlib.Core.Path.{_≡_};
+ghost use Rattle.step.specs.Run.{backFrom};
+ghost use Rattle.rules.specs.Table.{rules};
+use network::pair::Pair;
+use step::Old;
+use step::Undone;
+
+// What the way back over a step of a rule restores.
+pub fn undo(rule: usize, old: Old, pair: Pair) -> Undone
+    ensures { λ r. ⌜ r ≡ backFrom 1 rules rule old pair ⌝ }
+{
+    match rule {
+        1 => step::lower_back(old),
+        2 => bare_node::bare_back(old),
+        3 => single_arc::single_back(old, pair),
+        4 => step::lower_back(old),
+        5 => two_arcs::two_back(old, pair),
+        6 => crossing::crossing_back(old, pair),
+        _ => Undone::Wide,
+    }
+}
