@@ -1,0 +1,17 @@
+-- `log::store` meets its contract.
+use Rattle.log.specs.Log.{withStep}
+use borrow.Author.Needs.{needs}
+use borrow.Author.Tests.{le-ltb, lt-ltb}
+use Rattle.log.proofs.store.Statement.{statement}
+use Rattle.log.proofs.store.Tie as tie
+
+returns : tie.Need-returns
+unfolding withStep
+returns c = rw (lt-ltb _ _ (c .before .before .before .before .before .if1 .taken), c .before .put-old .ensures)
+
+returns-2 : tie.Need-returns-2
+unfolding withStep
+returns-2 c = rw (le-ltb _ _ (c .if1 .left))
+
+pub store-spec : {M : Type 1} → statement M
+store-spec = tie.close (tie.spec (λ c. search needs) (λ c κs. search needs) (λ c. search needs) returns returns-2)

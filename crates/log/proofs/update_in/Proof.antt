@@ -1,0 +1,30 @@
+-- `log::update_in` meets its contract.
+use Rattle.log.specs.Log.{updateIn}
+use borrow.Author.Needs.{needs}
+use Rattle.log.proofs.update_in.Statement.{statement}
+use Rattle.log.proofs.update_in.Tie as tie
+
+returns : tie.Need-returns
+unfolding updateIn
+returns c = rw (c .figure-in5 .ensures, c .before .figure-in4 .ensures, c .before .before .figure-in3 .ensures, c .before .before .before .figure-in2 .ensures, c .before .before .before .before .figure-in .ensures, c .before .before .before .before .before .number-in3 .ensures, c .before .before .before .before .before .before .number-in2 .ensures, c .before .before .before .before .before .before .before .number-in .ensures)
+
+pub update-in-spec : {M : Type 1} → statement M
+update-in-spec =
+    tie.close
+    (tie.spec
+    (λ c κs. search needs)
+    (λ c. search needs)
+    (λ c κs. search needs)
+    (λ c. search needs)
+    (λ c κs. search needs)
+    (λ c. search needs)
+    (λ c κs. search needs)
+    (λ c. search needs)
+    (λ c κs. search needs)
+    (λ c. search needs)
+    (λ c κs. search needs)
+    (λ c. search needs)
+    (λ c κs. search needs)
+    (λ c. search needs)
+    (λ c κs. search needs)
+    returns)
