@@ -1,0 +1,11 @@
+-- Made by tools/lift.py: not to be edited. Kinds of network list.clear
+use borrow.Fn.Kinds as FnKinds
+use borrow.Kind.MutSlice
+use mathlib.Core.List as L
+use Rattle.search.proofs.Lent.Rec
+
+abbrev pub ps : L.List (FnKinds.PK 1)
+ps = L._∷_ (MutSlice.pMutS Rec.row 0 tt) L.[]
+
+abbrev pub r : FnKinds.RK 1
+r = FnKinds.rUnit

@@ -1,0 +1,7 @@
+pub mod Lent
+pub mod Tests
+pub mod Scans
+pub mod Questions
+pub mod Behind
+pub mod Runs
+pub mod Left

@@ -1,0 +1,26 @@
+-- `search::scan::answer` meets its contract.
+use borrow.Author.Needs.{needs}
+use Rattle.search.proofs.scan.answer.Statement.{statement}
+use Rattle.search.proofs.scan.answer.Tie as tie
+
+returns : tie.Need-returns
+returns c = rw (c .before .enum-told .given .1) (c .nothing .ensures)
+
+returns-2 : tie.Need-returns-2
+returns-2 c = rw (c .before .enum-told2 .given .1, c .no-change .ensures)
+
+returns-3 : tie.Need-returns-3
+returns-3 c = rw (c .before .x .given .1)
+
+pub answer-spec : {M : Type 1} → statement M
+answer-spec =
+    tie.close
+    (tie.spec
+    (λ c. search needs)
+    (λ c κs. search needs)
+    (λ c. search needs)
+    (λ c κs. search needs)
+    (λ c. search needs)
+    returns
+    returns-2
+    returns-3)

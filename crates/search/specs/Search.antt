@@ -1,0 +1,54 @@
+-- A run, from a network's record to what is left of it: the steps in the log, the arcs in the lent list.
+use mathlib.Core.Path.{_≡_}
+use mathlib.Core.Bool.{cond, _&&_}
+use mathlib.Core.List.{List, _++_}
+use Prim.Native.Nat.{ℕ, _-_, _≤_}
+use lib.Dec.{leb}
+use lib.IntN.{ℤ}
+use lib.ListN.{length, drop}
+use Rattle.network.specs.declared.Arc.{Arc}
+use Rattle.network.specs.declared.Net.{Net}
+use Rattle.network.specs.declared.record.Asked.{Asked}
+use Rattle.network.specs.declared.record.Asked.the-variants.{Go, No}
+use Rattle.network.specs.Network.{emptyNet}
+use Rattle.network.specs.ArcList.{noArcs, nodesOf}
+use Rattle.network.specs.Record.{askedOf, readOf}
+use Rattle.step.specs.declared.Next.{Next}
+use Rattle.step.specs.declared.Next.the-variants as Next
+use Rattle.rules.specs.Table.{reduced}
+use Rattle.log.specs.Log.{logged}
+use Rattle.search.specs.declared.Ends.{Ends}
+use Rattle.search.specs.declared.Ends.the-variants.{Stops, NoFlow}
+use Rattle.search.specs.declared.Ran.{Ran}
+
+-- the question that is answered by no, and 0 where none is: 1 is room for the log's words and for the arcs, 2 to 5 are those of the record
+abbrev pub askedNumber : Asked → ℕ
+askedNumber (No q) = q
+askedNumber (Go n m) = 0
+
+unfoldable pub refusalOf : List ℤ → ℕ → ℕ → ℕ
+refusalOf xs log arcs = cond (leb 10240 log && leb 96 arcs) (askedNumber (askedOf xs)) 1
+
+abbrev pub refusedBy : ℕ → Ran
+refusedBy q = record { refused = q; nodes = nodesOf (emptyNet 0 0); steps = 0; ends = Stops }
+
+-- what the search finds in what is left
+abbrev pub endsOf : Ends → Next
+endsOf Stops = Next.Stops
+endsOf (NoFlow k i) = Next.Refuted k i
+
+-- a list of k records: the arcs of a network at their numbers, and zeros behind them
+unfoldable pub listOf : Net → ℕ → List Arc
+listOf net k = drop 1 (net .arcs) ++ noArcs (k - 96)
+
+-- the record xs, with the log zs and the list ks before, log and arcs after
+pub record Searched (xs zs : List ℤ) (ks : List Arc) (r : Ran) (log : List ℤ) (arcs : List Arc) : Type 0 where
+  pub refused-is : r .refused ≡ refusalOf xs (length zs) (length ks)
+  -- a refusal leaves all as it is
+  pub left : 1 ≤ r .refused → (r ≡ refusedBy (r .refused)) × (log ≡ zs) × (arcs ≡ ks)
+  -- else the network is reduced
+  pub steps-is : r .refused ≡ 0 → r .steps ≡ length (reduced (readOf xs) .steps)
+  pub ends-is : r .refused ≡ 0 → reduced (readOf xs) .ends ≡ endsOf (r .ends)
+  pub nodes-is : r .refused ≡ 0 → r .nodes ≡ nodesOf (reduced (readOf xs) .net)
+  pub log-is : r .refused ≡ 0 → log ≡ logged 0 (reduced (readOf xs) .steps) zs
+  pub list-is : r .refused ≡ 0 → arcs ≡ listOf (reduced (readOf xs) .net) (length ks)
