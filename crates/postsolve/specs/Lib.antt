@@ -1,0 +1,2 @@
+pub mod Postsolve
+pub mod internal
