@@ -1,89 +1,88 @@
--- What an answer of `reduce` says of the words that it was given, whatever they are. Assumes nothing.
-use mathlib.Core.Path.{_≡_, refl}
-use mathlib.Core.Bool.{Bool, true, false, _&&_}
+-- What an answer of `reduce` says of the words that it was given, whatever they are.
+use mathlib.Core.Path.{_≡_, refl, sym, ap, _∙_}
+use mathlib.Core.Bool.{Bool, true, false, cond, _&&_}
 use mathlib.Core.List.{List}
-use Prim.Native.Nat.{ℕ, _+_, _≤_}
+use Prim.Native.Nat.{ℕ, zero, suc, _+_, _≤_, _<_}
+use native.Mathlib.Numerals.{add-one}
+use native.Mathlib.Omega.{arith}
 use lib.Dec.{leb}
 use lib.IntN.{ℤ}
-use borrow.Author.Tests.{leb-true}
-use Rattle.network.specs.declared.Kind.{Kind}
-use Rattle.network.specs.declared.Kind.the-variants.{Passes, NoFlow as NoFlow·kind, Changes}
-use Rattle.network.specs.declared.record.Asked.{Asked}
-use Rattle.network.specs.declared.record.Asked.the-variants.{Go, No}
+use lib.ListN.{length}
+use borrow.Author.Tests.{leb-true, le-leb, lt-leb}
+use Rattle.presolve.specs.LP as LP
+use Rattle.fraction.specs.Laws.{never, and-both}
 use Rattle.network.specs.Record.{askedOf, readOf}
 use Rattle.network.specs.Legal.{Legal}
 use Rattle.network.specs.Program.{programOf}
-use Rattle.presolve.specs.LP as LP
-use Rattle.fraction.specs.Laws.{never}
-use Rattle.network.proofs.Legal.{read-legal, read-is}
-use Rattle.reduction.specs.declared.Answer.the-variants.{Reduced, NoFlow}
-use Rattle.reduction.specs.Search.{ranOf}
-use Rattle.reduction.specs.Reduce.{roomBy, isRoomy, questions, answerBy, answerOf}
-use Rattle.reduction.proofs.Order.{NoneApplies}
-use Rattle.reduction.proofs.Answers.{Shown}
-use Rattle.reduction.proofs.Done.{ran-none, ran-shown, read-steps}
-use Rattle.reduction.proofs.Sound.{ran-flowless}
-use Rattle.reduction.proofs.Whole.{node-steps}
+use Rattle.step.specs.declared.Next.{Next}
+use Rattle.step.specs.declared.Next.the-variants.{Stops, Refuted, Takes}
+use Rattle.step.specs.Run.{backOf}
+use Rattle.step.proofs.RunLaws.{NoneApplies, run-ends}
+use Rattle.rules.specs.Table.{rules, nextOf, reduced}
+use Rattle.rules.proofs.Whole as Whole
+use Rattle.search.specs.Search.{askedNumber}
+use Rattle.search.specs.Search as Search
+use Rattle.search.proofs.Questions.{AllYes, all-yes, legal-read}
+use Rattle.reduction.specs.declared.Answer.the-variants.{Reduced, NoFlow, Refused}
+use Rattle.reduction.specs.Questions.{question, _⊳_}
+use Rattle.reduction.specs.Reduce.{isRoomy, refusalOf, endAnswer, answerOf}
+use Rattle.reduction.proofs.Named.{Shown, next-shown}
+use Rattle.reduction.proofs.Sizes.{read-sizes}
+
+-- none of two questions is answered by no; one is answered by yes
+pub both-none : (p q : ℕ) → p ⊳ q ≡ 0 → (p ≡ 0) × (q ≡ 0)
+both-none zero q e = (refl, e)
+both-none (suc p) q e = absurd (omega (arith, add-one p))
+
+pub is-yes : (q : ℕ) (b : Bool) → 1 ≤ q → question q b ≡ 0 → b ≡ true
+is-yes q true l e = refl
+is-yes q false l e = absurd (omega arith)
+
+-- the room that the search asks for, among others
+pub searched-room : (a b c : Bool) (q : ℕ) → question 1 (a && (b && c)) ⊳ q ≡ question 1 (a && b) ⊳ cond c q 1
+searched-room true true true q = refl
+searched-room true true false q = refl
+searched-room true false c q = refl
+searched-room false b c q = refl
 
 module _ (xs : List ℤ) (o s w k : ℕ) where
-  asked : {n m : ℕ} → questions xs o s w k ≡ Go n m → askedOf xs ≡ Go n m
-  unfolding questions
-  asked {n} {m} e = by (isRoomy o s w k) e
-    where
-      by : (b : Bool) → roomBy b xs ≡ Go n m → askedOf xs ≡ Go n m
-      by true e = e
-      by false e = never cc
+  -- room for the outputs, then the questions of the search
+  pub room-is : refusalOf xs o s w k ≡ question 1 (leb 1410 o && leb 257 s) ⊳ Search.refusalOf xs w k
+  unfolding refusalOf isRoomy Search.refusalOf
+  room-is = searched-room (leb 1410 o) (leb 257 s) (leb 10240 w && leb 96 k) (askedNumber (askedOf xs))
 
-  -- the list is long enough
-  pub long-list : {n m : ℕ} → questions xs o s w k ≡ Go n m → 96 ≤ k
-  unfolding questions isRoomy
-  long-list {n} {m} e = by (leb 1410 o) (leb 257 s) (leb 10240 w) (leb 96 k) refl e
-    where
-      by : (a b c d : Bool) → leb 96 k ≡ d → roomBy (a && (b && (c && d))) xs ≡ Go n m → 96 ≤ k
-      by true true true true f e = leb-true 96 k f
-      by true true true false f e = never cc
-      by true true false d f e = never cc
-      by true false c d f e = never cc
-      by false b c d f e = never cc
-
-  legal : {n m : ℕ} → questions xs o s w k ≡ Go n m → Legal (readOf xs)
-  legal {n} {m} e = rw (read-is xs n m (asked e)) (read-legal xs n m (asked e))
+  pub allowed : refusalOf xs o s w k ≡ 0 → AllYes xs w k
+  allowed e = all-yes xs w k (both-none (question 1 (leb 1410 o && leb 257 s)) _ (sym room-is ∙ e) .1)
 
   -- reduced: no rule applies to what is left, at any place
-  pub reduced-none : answerOf xs (questions xs o s w k) ≡ Reduced → NoneApplies (ranOf (readOf xs) .net)
-  reduced-none e = by (questions xs o s w k) refl e
+  pub reduced-none : answerOf (refusalOf xs o s w k) (reduced (readOf xs)) ≡ Reduced → NoneApplies 6 rules (reduced (readOf xs) .net)
+  reduced-none e = by (refusalOf xs o s w k) refl e
     where
-      by : (q : Asked) → questions xs o s w k ≡ q → answerOf xs q ≡ Reduced → NoneApplies (ranOf (readOf xs) .net)
-      by (No q) f e = never cc
-      by (Go n m) f e =
-          ran-none (readOf xs) (legal f) (λ z. never (let c : NoFlow (ranOf (readOf xs) .last .rule) (ranOf (readOf xs) .last .place) ≡ Reduced = rw z at e in cc))
+      by : (q : ℕ) → refusalOf xs o s w k ≡ q → answerOf q (reduced (readOf xs)) ≡ Reduced → NoneApplies 6 rules (reduced (readOf xs) .net)
+      by (suc q) f e = never cc
+      by zero f e =
+          Whole.none-applies (readOf xs) (legal-read (allowed f)) (λ k i z. never (let c : NoFlow k i ≡ Reduced = rw z at e in cc))
 
   -- no flow: the run ends in it, at that rule and place
-  record Ends (rule i : ℕ) : Type 0 where
-    is-legal : Legal (readOf xs)
-    kind-is : ranOf (readOf xs) .last .kind ≡ NoFlow·kind
-    rule-is : ranOf (readOf xs) .last .rule ≡ rule
-    place-is : ranOf (readOf xs) .last .place ≡ i
-
-  ends : (rule i : ℕ) → answerOf xs (questions xs o s w k) ≡ NoFlow rule i → Ends rule i
-  ends rule i e = by (questions xs o s w k) refl e
+  ends : (rule i : ℕ) → answerOf (refusalOf xs o s w k) (reduced (readOf xs)) ≡ NoFlow rule i → Legal (readOf xs) × (reduced (readOf xs) .ends ≡ Refuted rule i)
+  ends rule i e = by (refusalOf xs o s w k) refl e
     where
-      on : (t : Kind) {n m : ℕ} → questions xs o s w k ≡ Go n m → ranOf (readOf xs) .last .kind ≡ t → answerBy t (ranOf (readOf xs)) ≡ NoFlow rule i → Ends rule i
-      on Passes f z e = never cc
-      on Changes f z e = never cc
-      on NoFlow·kind f z e = record { is-legal = legal f; kind-is = z; rule-is = cc; place-is = cc }
+      on : (t : Next) → endAnswer t ≡ NoFlow rule i → t ≡ Refuted rule i
+      on Stops e = never cc
+      on (Takes s) e = never cc
+      on (Refuted a b) e = cc
 
-      by : (q : Asked) → questions xs o s w k ≡ q → answerOf xs q ≡ NoFlow rule i → Ends rule i
-      by (No q) f e = never cc
-      by (Go n m) f e = on (ranOf (readOf xs) .last .kind) f refl e
+      by : (q : ℕ) → refusalOf xs o s w k ≡ q → answerOf q (reduced (readOf xs)) ≡ NoFlow rule i → Legal (readOf xs) × (reduced (readOf xs) .ends ≡ Refuted rule i)
+      by (suc q) f e = never cc
+      by zero f e = (legal-read (allowed f), on _ e)
 
-  -- the figures of that rule at that place show it, and the network given has no feasible flow
-  pub no-flow-named : (rule i : ℕ) → answerOf xs (questions xs o s w k) ≡ NoFlow rule i → Shown (ranOf (readOf xs) .net) rule i
-  no-flow-named rule i e = let h = ends rule i e in rw (h .rule-is, h .place-is) at (ran-shown (readOf xs) (h .is-legal) (h .kind-is))
+  -- that rule answers no flow at that place, and the network given has no feasible flow
+  pub no-flow-named : (rule i : ℕ) → answerOf (refusalOf xs o s w k) (reduced (readOf xs)) ≡ NoFlow rule i → Shown 1 rules (reduced (readOf xs) .net) rule i
+  no-flow-named rule i e = next-shown 6 rules _ rule i (sym (run-ends nextOf (backOf rules) Whole.next-right 128 (readOf xs)) ∙ ends rule i e .1)
 
-  pub no-flow-given : (rule i : ℕ) → answerOf xs (questions xs o s w k) ≡ NoFlow rule i → LP.NoFlow (programOf (readOf xs))
-  no-flow-given rule i e = let h = ends rule i e in ran-flowless node-steps (readOf xs) (h .is-legal) (h .kind-is)
+  pub no-flow-given : (rule i : ℕ) → answerOf (refusalOf xs o s w k) (reduced (readOf xs)) ≡ NoFlow rule i → LP.NoFlow (programOf (readOf xs))
+  no-flow-given rule i e = let h = ends rule i e in Whole.flowless (readOf xs) (h .0) rule i (h .1)
 
-  -- "there are at most n + m steps"
-  pub few-steps : (n m : ℕ) → questions xs o s w k ≡ Go n m → ranOf (readOf xs) .steps ≤ n + m
-  few-steps n m e = rw (read-is xs n m (asked e)) (read-steps xs n m (asked e))
+-- "there are at most n + m steps"
+pub few-steps : (xs : List ℤ) (w k : ℕ) (a : AllYes xs w k) → length (reduced (readOf xs) .steps) ≤ a .n + a .m
+few-steps xs w k a = let s = read-sizes xs (a .n) (a .m) (a .go) in omega (arith, Whole.few-steps (readOf xs) (legal-read a), s .0, s .1)

@@ -1,7 +1,4 @@
-pub mod Rules
-pub mod Seen
-pub mod Filter
-pub mod Search
-pub mod ListRun
+pub mod Questions
 pub mod Stack
 pub mod Reduce
+pub mod Logged

@@ -1,82 +1,76 @@
--- What reducing answers, and the words that it writes. Assumes nothing.
+-- What reducing answers, and the words that it writes.
 use mathlib.Core.Path.{_≡_}
-use mathlib.Core.Bool.{Bool, true, false, _&&_}
+use mathlib.Core.Bool.{Bool, _&&_}
 use mathlib.Core.List.{List, [], _∷_}
-use Prim.Native.Nat.{ℕ}
+use Prim.Native.Nat.{ℕ, zero, suc}
 use lib.Dec.{leb}
 use lib.IntN.{ℤ}
 use Rattle.loops.specs.Loops.{zeros}
 use Rattle.presolve.specs.LP as LP
 use Rattle.network.specs.declared.Arc.{Arc}
-use Rattle.network.specs.declared.Kind.{Kind}
-use Rattle.network.specs.declared.Kind.the-variants.{Passes, NoFlow as NoFlow·kind, Changes}
-use Rattle.network.specs.declared.record.Asked.{Asked}
-use Rattle.network.specs.declared.record.Asked.the-variants.{Go, No}
+use Rattle.network.specs.declared.Net.{Net}
 use Rattle.network.specs.Record.{askedOf, readOf}
 use Rattle.network.specs.Output.{packedOf, networkOf}
 use Rattle.network.specs.Program.{programOf}
 use Rattle.network.specs.ArcList.{noArcs}
+use Rattle.step.specs.declared.Next.{Next}
+use Rattle.step.specs.declared.Next.the-variants.{Stops, Refuted, Takes}
+use Rattle.step.specs.Run.{Run}
+use Rattle.search.specs.Search.{askedNumber}
+use Rattle.rules.specs.Table.{reduced}
 use Rattle.reduction.specs.declared.Answer.{Answer}
 use Rattle.reduction.specs.declared.Answer.the-variants.{Reduced, NoFlow, Refused}
-use Rattle.reduction.specs.declared.search.Ran.{Ran}
-use Rattle.reduction.specs.Search.{ranOf}
-use Rattle.reduction.specs.Stack.{stackOf}
+use Rattle.reduction.specs.Questions.{question, _⊳_}
+use Rattle.reduction.specs.Stack as Stack
 
--- 1. "Are the lent outputs and scratch long enough?" Then the questions of the network
-abbrev pub roomBy : Bool → List ℤ → Asked
-roomBy false xs = No 1
-roomBy true xs = askedOf xs
+-- ---- the questions, in order, of the network's words and of the lengths of the lent output, stack, scratch and arc list
 
+-- "network 1410 words, stack 257, .. scratch 10240", and an arc list of "at least 96 records"
 unfoldable pub isRoomy : ℕ → ℕ → ℕ → ℕ → Bool
 isRoomy out stack scratch arcs = leb 1410 out && (leb 257 stack && (leb 10240 scratch && leb 96 arcs))
 
-unfoldable pub questions : List ℤ → ℕ → ℕ → ℕ → ℕ → Asked
-questions xs out stack scratch arcs = roomBy (isRoomy out stack scratch arcs) xs
+-- "Are the lent outputs and scratch long enough? 1"; then 2 to 5
+unfoldable pub refusalOf : List ℤ → ℕ → ℕ → ℕ → ℕ → ℕ
+refusalOf xs out stack scratch arcs = question 1 (isRoomy out stack scratch arcs) ⊳ askedNumber (askedOf xs)
 
--- ---- the end of a run: by the answer after the last step
+-- ---- the answer and the words written, by the number of the first question that is answered by no, and by the run
 
--- "no flow comes with its rule, its place and the steps before it; the network output is then zero"
-abbrev pub answerBy : Kind → Ran → Answer
-answerBy NoFlow·kind ran = NoFlow (ran .last .rule) (ran .last .place)
-answerBy Passes ran = Reduced
-answerBy Changes ran = Reduced
+-- "no flow comes with its rule, its place and the steps before it"
+abbrev pub endAnswer : Next → Answer
+endAnswer Stops = Reduced
+endAnswer (Takes s) = Reduced
+endAnswer (Refuted rule place) = NoFlow rule place
 
-abbrev pub outputBy : Kind → Ran → ℕ → List ℤ
-outputBy NoFlow·kind ran room = zeros room
-outputBy Passes ran room = networkOf (packedOf (ran .net)) room
-outputBy Changes ran room = networkOf (packedOf (ran .net)) room
+abbrev pub answerOf : ℕ → Run → Answer
+answerOf zero run = endAnswer (run .ends)
+answerOf (suc q) run = Refused (suc q)
 
--- what is given back and written: the answer, and the words of the output and the stack, in so many words each
-pub record Written (ran : Ran) (o s : ℕ) (r : Answer) (out stack : List ℤ) : Type 0 where
-  pub result : r ≡ answerBy (ran .last .kind) ran
-  pub out-is : out ≡ outputBy (ran .last .kind) ran o
-  pub stack-is : stack ≡ stackOf ran s
+-- "the network output is then zero"
+abbrev pub endOutput : Next → Net → ℕ → List ℤ
+endOutput Stops net room = networkOf (packedOf net) room
+endOutput (Takes s) net room = networkOf (packedOf net) room
+endOutput (Refuted rule place) net room = zeros room
 
--- ---- a call, by what the questions answer
+abbrev pub outputOf : ℕ → Run → ℕ → List ℤ
+outputOf zero run room = endOutput (run .ends) (run .net) room
+outputOf (suc q) run room = zeros room
 
-abbrev pub answerOf : List ℤ → Asked → Answer
-answerOf xs (No q) = Refused q
-answerOf xs (Go n m) = answerBy (ranOf (readOf xs) .last .kind) (ranOf (readOf xs))
+abbrev pub stackOf : ℕ → Run → ℕ → List ℤ
+stackOf zero run room = Stack.stackOf (run .steps) room
+stackOf (suc q) run room = zeros room
 
-abbrev pub outputOf : List ℤ → ℕ → Asked → List ℤ
-outputOf xs o (No q) = zeros o
-outputOf xs o (Go n m) = outputBy (ranOf (readOf xs) .last .kind) (ranOf (readOf xs)) o
+-- what is given back and written where the first refusal is q
+pub record Written (q : ℕ) (run : Run) (r : Answer) (out stack : List ℤ) (o s : ℕ) : Type 0 where
+  pub result : r ≡ answerOf q run
+  pub out-is : out ≡ outputOf q run o
+  pub stack-is : stack ≡ stackOf q run s
 
-abbrev pub stackWords : List ℤ → ℕ → Asked → List ℤ
-stackWords xs s (No q) = zeros s
-stackWords xs s (Go n m) = stackOf (ranOf (readOf xs)) s
+-- ---- a call: the network's words, the lengths of the lent output, stack, scratch and arc list; the result, all words written, and the records
 
--- what is given back and written, by what the questions answer
-pub record Asking (xs : List ℤ) (o s : ℕ) (q : Asked) (r : Answer) (out stack : List ℤ) : Type 0 where
-  pub result : r ≡ answerOf xs q
-  pub out-is : out ≡ outputOf xs o q
-  pub stack-is : stack ≡ stackWords xs s q
-
--- the network's words, the lengths of the lent output, stack, scratch and arc list; the result, all words written, and the records
 pub record Reduction (xs : List ℤ) (o s w k : ℕ) (r : Answer) (out stack scratch : List ℤ) (arcs : List Arc) : Type 0 where
-  pub result : r ≡ answerOf xs (questions xs o s w k)
-  pub out-is : out ≡ outputOf xs o (questions xs o s w k)
-  pub stack-is : stack ≡ stackWords xs s (questions xs o s w k)
+  pub result : r ≡ answerOf (refusalOf xs o s w k) (reduced (readOf xs))
+  pub out-is : out ≡ outputOf (refusalOf xs o s w k) (reduced (readOf xs)) o
+  pub stack-is : stack ≡ stackOf (refusalOf xs o s w k) (reduced (readOf xs)) s
   pub scratch-is : scratch ≡ zeros w
   pub arcs-is : arcs ≡ noArcs k
   -- no flow: the network given has no feasible flow, in fractions of any width

@@ -1,30 +1,25 @@
--- The stack's record (01, "Records"): s, the number of steps; then s rule numbers; then s places. Assumes nothing.
-use mathlib.Core.Bool.{Bool, true, false}
-use mathlib.Core.List.{List, _∷_}
+-- The stack's record (01, "Records").
+use mathlib.Core.Bool.{Bool, true, false, _&&_}
+use mathlib.Core.List.{List, [], _∷_, _++_, map}
 use Prim.Native.Nat.{ℕ, _-_}
-use lib.Dec.{leb}
 use lib.IntN.{ℤ}
-use lib.ListN.{getD}
+use lib.ListN.{length}
+use Rattle.integer.specs.Whole.{eqZ}
 use Rattle.loops.specs.Loops.{zeros}
-use Rattle.network.specs.Output.{wordOf, arraysOf}
-use Rattle.reduction.specs.declared.search.Taken.{Taken}
-use Rattle.reduction.specs.declared.search.Ran.{Ran}
+use Rattle.network.specs.Output.{wordOf}
+use Rattle.step.specs.declared.Step.{Step}
 
--- step k, from 0
-abbrev pub takenAt : Ran → ℕ → Taken
-takenAt ran k = getD (ran .taken) k (record { rule = 0; place = 0 })
+-- "s, the number of steps; then s rule numbers; then s places (a node or arc number of the original)"
+unfoldable pub stackRecord : List Step → List ℤ
+stackRecord steps = wordOf (length steps) ∷ map (λ (s : Step). wordOf (s .rule)) steps ++ map (λ (s : Step). wordOf (s .place)) steps
 
-abbrev pub ruleWord : Ran → ℕ → ℤ
-ruleWord ran k = wordOf (takenAt ran k .rule)
+-- "words behind a record are zero": so many words in all
+unfoldable pub stackOf : List Step → ℕ → List ℤ
+stackOf steps room = stackRecord steps ++ zeros (room - length (stackRecord steps))
 
-abbrev pub placeWord : Ran → ℕ → ℤ
-placeWord ran k = wordOf (takenAt ran k .place)
-
--- by whether there are few enough steps, and whether there is room
-abbrev pub stackBy : Bool → Bool → Ran → ℕ → List ℤ
-stackBy true true ran room = wordOf (ran .steps) ∷ arraysOf (ruleWord ran) (placeWord ran) (ran .steps) (room - 1)
-stackBy true false ran room = zeros room
-stackBy false enough ran room = zeros room
-
-unfoldable pub stackOf : Ran → ℕ → List ℤ
-stackOf ran room = stackBy (leb (ran .steps) 128) (leb 257 room) ran room
+-- the same words, as many
+unfoldable pub sameWords : List ℤ → List ℤ → Bool
+sameWords [] [] = true
+sameWords [] (y ∷ ys) = false
+sameWords (x ∷ xs) [] = false
+sameWords (x ∷ xs) (y ∷ ys) = eqZ x y && sameWords xs ys

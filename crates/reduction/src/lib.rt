@@ -1,29 +1,24 @@
-// Reducing a network: the six rules, the order of search, steps until none applies, and the entry.
+// Reducing a network: the entry.
 // The next line is for tools/lift.py:
 // lent: network::Arc [i8; 56]
 ghost use mathlib.Core.Path.{_≡_};
+ghost use mathlib.Core.Bool.{_&&_};
+ghost use Prim.Native.Nat.{_+_, _*_, _≤_};
+ghost use lib.Dec.{leb};
 ghost use lib.ListN.{length};
-ghost use Prim.Native.Nat.{_≤_};
-ghost use Rattle.loops.specs.Loops.{zeros};
-ghost use Rattle.network.specs.ArcList.{noArcs};
+ghost use Rattle.loops.specs.Loops.{written, zeros};
+ghost use Rattle.network.specs.ArcList.{joined};
 ghost use Rattle.network.specs.Record.{readOf};
-ghost use Rattle.reduction.specs.Search.{ranOf};
-ghost use Rattle.reduction.specs.ListRun.{concluded};
-ghost use Rattle.reduction.specs.Reduce.{isRoomy, questions, Written, Asking, Reduction};
-use crate::search::Progress;
-use crate::search::Ran;
+ghost use Rattle.rules.specs.Table.{reduced};
+ghost use Rattle.search.specs.Search.{endsOf};
+ghost use Rattle.reduction.specs.Logged.{stackWord};
+ghost use Rattle.reduction.specs.Reduce.{refusalOf, endAnswer, endOutput, Written, Reduction};
 use network::Arc;
-use network::Kind;
-use network::record::Asked;
+use search::Ends;
+use search::Ran;
 
-pub mod costly;
-pub mod crossing;
-pub mod figures;
 pub mod plain;
-pub mod removal;
-pub mod search;
 pub mod stack;
-pub mod two_arcs;
 
 // A reduced network; no flow, with the rule and the place that show it; or the number of the question that is answered by no.
 pub enum Answer {
@@ -32,86 +27,46 @@ pub enum Answer {
     Refused(usize),
 }
 
-fn is_roomy(out: usize, stack: usize, scratch: usize, arcs: usize) -> bool
-    ensures { λ r. ⌜ r ≡ isRoomy out stack scratch arcs ⌝ }
+// The end of a run whose steps stand in the log and whose arcs are `view`, into slices of zeros.
+fn finish(ran: Ran, view: [Arc; 97], log: &[i32], out: &mut [i32], stack: &mut [i32]) -> Answer
+    requires { ⌜ (ran .steps ≤ 128) × (257 ≤ length (now stack)) × (now out ≡ zeros (length (now out))) ⌝ }
+    ensures { λ r. ⌜ (r ≡ endAnswer (endsOf (ran .ends))) × (now (out .exit) ≡ endOutput (endsOf (ran .ends)) (joined (ran .nodes) view) (length (now (out .entry)))) × (now (stack .exit) ≡ written (1 + 2 * ran .steps) (stackWord (now (log .entry)) (ran .steps)) (now (stack .entry))) ⌝ }
 {
-    if 1410 <= out {
-        if 257 <= stack {
-            return 10240 <= scratch && 96 <= arcs;
-        }
-        return false;
-    }
-    false
-}
-
-// Questions 1 to 5.
-fn ask(network: &[i32], out: usize, stack: usize, scratch: usize, arcs: usize) -> Asked
-    ensures { λ r. ⌜ r ≡ questions (now (network .entry)) out stack scratch arcs ⌝ }
-{
-    if is_roomy(out, stack, scratch, arcs) {
-        return network::record::ask(network);
-    }
-    Asked::No(1)
-}
-
-// The end of a run, into slices of zeros.
-fn write(ran: Ran, out: &mut [i32], stack: &mut [i32]) -> Answer
-    requires { ⌜ now out ≡ zeros (length (now out)) ⌝ }
-    ensures { λ r. ⌜ Written ran (length (now (out .entry))) (length (now (stack .entry))) r (now (out .exit)) (now (stack .exit)) ⌝ }
-{
-    crate::stack::write_stack(ran, stack);
-    let net = ran.net;
-    let last = ran.last;
-    let kind = last.kind;
-    match kind {
-        Kind::NoFlow => Answer::NoFlow(last.rule, last.place),
-        Kind::Passes => {
-            network::output::write_network(network::output::pack(net), out);
-            Answer::Reduced
-        },
-        Kind::Changes => {
+    crate::stack::write(log, ran.steps, stack);
+    let ends = ran.ends;
+    match ends {
+        Ends::NoFlow(rule, place) => Answer::NoFlow(rule, place),
+        Ends::Stops => {
+            let net = network::join(ran.nodes, view);
             network::output::write_network(network::output::pack(net), out);
             Answer::Reduced
         },
     }
 }
 
-// The end of a run whose arcs are `view`.
-fn finish(at: Progress, view: [Arc; 97], out: &mut [i32], stack: &mut [i32]) -> Answer
-    requires { ⌜ now out ≡ zeros (length (now out)) ⌝ }
-    ensures { λ r. ⌜ Written (concluded at view) (length (now (out .entry))) (length (now (stack .entry))) r (now (out .exit)) (now (stack .exit)) ⌝ }
-{
-    write(crate::search::conclude(at, view), out, stack)
-}
-
-// A network that the questions let pass, reduced in a list of zeros.
-fn reduce_in(network: &[i32], out: &mut [i32], stack: &mut [i32], arcs: &mut [Arc]) -> Answer
-    requires { ⌜ (now out ≡ zeros (length (now out))) × (now arcs ≡ noArcs (length (now arcs))) × (96 ≤ length (now arcs)) ⌝ }
-    ensures { λ r. ⌜ Written (ranOf (readOf (now (network .entry)))) (length (now (out .entry))) (length (now (stack .entry))) r (now (out .exit)) (now (stack .exit)) ⌝ }
-{
-    network::list::load(arcs, network);
-    let nodes = network::record::read_beside(network);
-    let at = crate::search::run(nodes, arcs);
-    let view = network::list::view(arcs);
-    finish(at, view, out, stack)
-}
-
-// All questions, and the work, into slices and a list of zeros.
-fn ask_all(
+// The questions, the run, and its words into slices of zeros.
+fn reduce_in(
     network: &[i32],
     out: &mut [i32],
     stack: &mut [i32],
-    scratch: usize,
+    scratch: &mut [i32],
     arcs: &mut [Arc],
 ) -> Answer
-    requires { ⌜ (now out ≡ zeros (length (now out))) × (now stack ≡ zeros (length (now stack))) × (now arcs ≡ noArcs (length (now arcs))) ⌝ }
-    ensures { λ r. ⌜ Asking (now (network .entry)) (length (now (out .entry))) (length (now (stack .entry))) (questions (now (network .entry)) (length (now (out .entry))) (length (now (stack .entry))) scratch (length (now (arcs .entry)))) r (now (out .exit)) (now (stack .exit)) ⌝ }
+    requires { ⌜ (now out ≡ zeros (length (now out))) × (now stack ≡ zeros (length (now stack))) ⌝ }
+    ensures { λ r. ⌜ Written (refusalOf (now (network .entry)) (length (now (out .entry))) (length (now (stack .entry))) (length (now (scratch .entry))) (length (now (arcs .entry)))) (reduced (readOf (now (network .entry)))) r (now (out .exit)) (now (stack .exit)) (length (now (out .entry))) (length (now (stack .entry))) ⌝ }
 {
-    let many = network::list::count(arcs);
-    match ask(network, out.len(), stack.len(), scratch, many) {
-        Asked::No(q) => Answer::Refused(q),
-        Asked::Go(_, _) => reduce_in(network, out, stack, arcs),
+    if out.len() < 1410 {
+        return Answer::Refused(1);
     }
+    if stack.len() < 257 {
+        return Answer::Refused(1);
+    }
+    let ran = search::run(network, scratch, arcs);
+    if ran.refused == 0 {
+        let view = network::list::view(arcs);
+        return finish(ran, view, scratch, out, stack);
+    }
+    Answer::Refused(ran.refused)
 }
 
 // Reduces a network until no rule applies: the reduced network into `out`, the steps into `stack`. Every other word of the
@@ -127,9 +82,8 @@ pub fn reduce(
 {
     loops::clear(out);
     loops::clear(stack);
+    let r = reduce_in(network, out, stack, scratch, arcs);
     loops::clear(scratch);
-    network::list::clear(arcs);
-    let r = ask_all(network, out, stack, scratch.len(), arcs);
     network::list::clear(arcs);
     r
 }

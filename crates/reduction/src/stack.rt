@@ -1,57 +1,30 @@
-// The reduction stack: the step count, the rules, the places.
+// The stack's record, word by word, from the log.
 ghost use mathlib.Core.Path.{_≡_};
-ghost use mathlib.Core.List.{_∷_};
-ghost use Prim.Native.Nat.{_-_, _≤_};
+ghost use Prim.Native.Nat.{_+_, _*_, _≤_};
 ghost use lib.ListN.{length};
-ghost use Rattle.network.specs.Output.{wordOf, arraysOf};
-ghost use Rattle.reduction.specs.Stack.{takenAt, ruleWord, placeWord, stackOf};
-use crate::search::Ran;
-use crate::search::Taken;
+ghost use Rattle.loops.specs.Loops.{written};
+ghost use Rattle.reduction.specs.Logged.{stackWord};
 
-// Step k, from 0; zeros where there is none.
-pub fn taken_at(ran: Ran, k: usize) -> Taken
-    ensures { λ r. ⌜ r ≡ takenAt ran k ⌝ }
+// Word k of the record of s steps.
+pub fn word_at(log: &[i32], s: usize, k: usize) -> i32
+    ensures { λ r. ⌜ r ≡ stackWord (now (log .entry)) s k ⌝ }
 {
-    if k < 128 {
-        return ran.taken[k];
+    if k == 0 {
+        return network::output::word_of(s);
     }
-    Taken { rule: 0, place: 0 }
-}
-
-// The rules of the steps, as many places, and zeros behind them.
-fn write_steps(ran: Ran, out: &mut [i32])
-    requires { ⌜ (ran .steps ≤ 128) × (256 ≤ length (now out)) ⌝ }
-    ensures { λ _. ⌜ now (out .exit) ≡ arraysOf (ruleWord ran) (placeWord ran) (ran .steps) (length (now (out .entry))) ⌝ }
-{
-    let s = ran.steps;
-    for k in 0..s {
-        let t = ran.taken[k];
-        loops::put(out, k, network::output::word_of(t.rule));
-        loops::put(out, s + k, network::output::word_of(t.place));
+    if k <= s {
+        return network::output::word_of(log::rule_at(log, k - 1));
     }
-    let end = s + s;
-    loops::clear(&mut out[end..]);
+    network::output::word_of(log::place_at(log, k - 1 - s))
 }
 
-fn write_sized(ran: Ran, out: &mut [i32])
-    requires { ⌜ (ran .steps ≤ 128) × (257 ≤ length (now out)) ⌝ }
-    ensures { λ _. ⌜ now (out .exit) ≡ wordOf (ran .steps) ∷ arraysOf (ruleWord ran) (placeWord ran) (ran .steps) (length (now (out .entry)) - 1) ⌝ }
+// The record of s steps, over the first words of a slice.
+pub(crate) fn write(log: &[i32], s: usize, out: &mut [i32])
+    requires { ⌜ (s ≤ 128) × (257 ≤ length (now out)) ⌝ }
+    ensures { λ _. ⌜ now (out .exit) ≡ written (1 + 2 * s) (stackWord (now (log .entry)) s) (now (out .entry)) ⌝ }
 {
-    loops::put(out, 0, network::output::word_of(ran.steps));
-    write_steps(ran, &mut out[1..]);
-}
-
-// The stack's record, and zeros behind it; zeros alone where it has no room.
-pub fn write_stack(ran: Ran, out: &mut [i32])
-    ensures { λ _. ⌜ now (out .exit) ≡ stackOf ran (length (now (out .entry))) ⌝ }
-{
-    if ran.steps <= 128 {
-        if 257 <= out.len() {
-            write_sized(ran, out);
-        } else {
-            loops::clear(out);
-        }
-    } else {
-        loops::clear(out);
+    let end = 1 + 2 * s;
+    for k in 0..end {
+        loops::put(out, k, word_at(log, s, k));
     }
 }

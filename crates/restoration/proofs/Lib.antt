@@ -1,14 +1,6 @@
-pub mod Stacks
+pub mod Spread
 pub mod Words
-pub mod Logs
-pub mod Small
-pub mod Figures
-pub mod Undone
-pub mod Reput
-pub mod Whole
-pub mod Replay
-pub mod ListWay
-pub mod Asked
+pub mod Parts
 pub mod Optimum
 pub mod Passed
 pub mod Lent

@@ -1,13 +1,15 @@
--- Demand 3: a pair that is restored is optimal on the network given, and the value written is its cost. Assumes nothing.
+-- Demand 3: a pair that is restored is optimal on the network given, and the value written is its cost.
 use mathlib.Core.Path.{_≡_, refl, sym, ap, _∙_, subst}
-use mathlib.Core.Bool.{Bool, true, false}
+use mathlib.Core.Bool.{Bool, true, false, _&&_}
 use mathlib.Core.List.{List, List·Memᴰ}
 use mathlib.Core.Logic.{_⊎_, inl, inr, ⊎-elim}
 use Prim.Native.Nat.{ℕ, zero, suc, _+_, _-_, _≤_, _<_}
 use native.Mathlib.Nat.{not-suc-le-zero, eq-or-lt-of-le, le-of-suc-le-suc}
 use native.Mathlib.Numerals.{add-one}
 use native.Mathlib.Omega.{arith}
+use lib.Dec.{leb}
 use lib.IntN.{ℤ}
+use borrow.Author.Tests.{leb-true}
 use Rattle.loops.specs.Loops.{upto}
 use Rattle.algebra.specs.Rat.{ℚ, _+ℚ_, _*ℚ_, _≤ℚ_, 0ℚ, ≤ℚ-antisym}
 use Rattle.algebra.specs.Sum.{sum-congr}
@@ -22,36 +24,33 @@ use Rattle.fraction.specs.Laws.{never, and-both}
 use Rattle.fraction.specs.Value.{value}
 use Rattle.fraction.specs.Worked.{plus-fits, times-fits}
 use Rattle.network.specs.declared.Net.{Net}
-use Rattle.network.specs.declared.Kind.{Kind}
-use Rattle.network.specs.declared.Kind.the-variants.{Passes, NoFlow, Changes}
 use Rattle.network.specs.declared.pair.Pair.{Pair}
-use Rattle.network.specs.declared.record.Asked.{Asked}
-use Rattle.network.specs.declared.record.Asked.the-variants.{Go, No}
-use Rattle.network.specs.Record.{word, askedOf, readOf}
+use Rattle.network.specs.Record.{word, readOf}
 use Rattle.network.specs.Pair.{flowAt, exactPair}
 use Rattle.network.specs.Legal.{Legal, Gapless}
 use Rattle.network.specs.Program.{exactOf, programOf}
-use Rattle.network.proofs.Questions.{asked-no}
 use Rattle.network.proofs.Legal.{by-number, read-gapless}
 use Rattle.network.proofs.Survivors.{packed-gapless}
 use Rattle.network.proofs.Packed.{packed-legal}
-use Rattle.network.proofs.Paired.{price-proper, no-price-read, flow-proper, no-flow-read}
-use Rattle.reduction.specs.declared.search.Ran.{Ran}
-use Rattle.reduction.specs.Search.{ranOf}
-use Rattle.reduction.proofs.Done.{ran-legal}
+use Rattle.network.proofs.Paired.{no-flow-read}
+use Rattle.step.specs.Run.{Run, backOf, Way, wide, at, wayBack}
+use Rattle.rules.specs.Table.{rules, reduced}
+use Rattle.rules.proofs.Whole as Whole
 use Rattle.optimality.specs.Figures.{valueTurn, valueOf}
 use Rattle.optimality.specs.Test.{pairIn, examined, Proven}
 use Rattle.optimality.proofs.Values.{value-exactly, column-unused}
 use Rattle.optimality.proofs.Exactly.{exactly-proven}
+use Rattle.search.proofs.Questions.{AllYes, all-yes, legal-read}
+use Rattle.search.specs.Search as Search
+use Rattle.reduction.specs.Questions.{question, _⊳_}
+use Rattle.reduction.proofs.Entry.{both-none, is-yes}
 use Rattle.restoration.specs.declared.Answer.{Answer}
 use Rattle.restoration.specs.declared.Answer.the-variants.{Restored}
-use Rattle.restoration.specs.declared.back.Back.{Back}
-use Rattle.restoration.specs.Restore.{isStack, reducedNet, backFrom, originalValue, reducedValue, isBack, backAsked, pairAsked, ranRefusal, roomAsked, isRoomy, refusalOf, answerOf, pairWords, fourWords, writtenPair, Optimum}
-use Rattle.restoration.specs.Entry.{afterStack, afterRun, earlier, Answered}
-use Rattle.restoration.proofs.Figures.{no-value, InForm, all-formed}
-use Rattle.restoration.proofs.Whole.{way-optimal}
+use Rattle.postsolve.specs.Postsolve.{spreadOf}
+use Rattle.restoration.specs.Restore.{isReduced, isStack, reducedNet, broughtBack, pairBack, originalValue, reducedValue, isBack, runRefusal, refusalOf, answerOf, pairWords, fourWords, writtenPair, Written, Optimum}
+use Rattle.restoration.proofs.Parts.{room-is}
+use Rattle.restoration.proofs.Spread.{no-value, read-sized, read-solved}
 use Rattle.restoration.proofs.Words.{flow-written, value-written}
-use Rattle.restoration.proofs.Asked.{run-asked, ready}
 
 -- ---- an optimal flow is known by its figures at the columns
 
@@ -120,7 +119,7 @@ module _ {net : Net} (g : Legal net) (gap : Gapless net) (pair : Pair) (o : ℕ)
 
   pub optimal-written : Optimal (programOf net) (exactPair pair .flow) → Optimal (programOf net) (exactPair back .flow)
   unfolding exactOf
-  optimal-written h = optimal-same (programOf net) (exactPair pair .flow) (exactPair back .flow) (λ c k. at c k (by-number (net .m) c)) h
+  optimal-written h = optimal-same (programOf net) (exactPair pair .flow) (exactPair back .flow) (λ c k. at-column c k (by-number (net .m) c)) h
     where
       -- a column that is out has flow 0
       none : (c : ℕ) → List·Memᴰ c (programOf net .cols) → (c ≡ 0) ⊎ (net .m < c) → exactPair pair .flow c ≡ 0ℚ
@@ -128,96 +127,65 @@ module _ {net : Net} (g : Legal net) (gap : Gapless net) (pair : Pair) (o : ℕ)
           let w = subst (λ (t : Column). InBounds t (exactPair pair .flow c)) (column-unused g gap pair c l) (h .feasible .within c k) in
           ≤ℚ-antisym (exactPair pair .flow c) 0ℚ (w .below 0ℚ refl) (w .above 0ℚ refl)
 
-      at : (c : ℕ) → List·Memᴰ c (programOf net .cols) → ((c ≡ 0) ⊎ (net .m < c)) ⊎ ((c - 1 + 1 ≡ c) × (c - 1 < net .m)) → exactPair pair .flow c ≡ exactPair back .flow c
-      at c k (inl l) = none c k l ∙ sym (ap value (no-flow-read (pairWords (net .n) (net .m) pair o) (net .n) (net .m) (g .few-nodes) (g .few-arcs) c l) ∙ no-value)
-      at c k (inr l) = sym (ap value (rw (l .0) at (flow-same (c - 1) (l .1))))
+      at-column : (c : ℕ) → List·Memᴰ c (programOf net .cols) → ((c ≡ 0) ⊎ (net .m < c)) ⊎ ((c - 1 + 1 ≡ c) × (c - 1 < net .m)) → exactPair pair .flow c ≡ exactPair back .flow c
+      at-column c k (inl l) = none c k l ∙ sym (ap value (no-flow-read (pairWords (net .n) (net .m) pair o) (net .n) (net .m) (g .few-nodes) (g .few-arcs) c l) ∙ no-value)
+      at-column c k (inr l) = sym (ap value (rw (l .0) at (flow-same (c - 1) (l .1))))
 
 -- ---- where none of 1 to 13 is answered by no
 
-pub record AllYes (xs zs ys : List ℤ) (o v w k : ℕ) : Type 0 where
-  pub n : ℕ
-  pub m : ℕ
-  pub roomy : isRoomy o v w k ≡ true
-  pub asked : askedOf xs ≡ Go n m
-  pub tested : examined (reducedNet (ranOf (readOf xs))) ys ≡ 0
-  pub fits : isBack (readOf xs) (backFrom (readOf xs) (ranOf (readOf xs)) ys) ≡ true
-
-module _ (net : Net) (ran : Ran) (zs ys : List ℤ) where
-  run-yes : ranRefusal net ran zs ys ≡ 0 → (earlier ran zs ys ≡ 0) × (isBack net (backFrom net ran ys) ≡ true)
-  run-yes e = by (earlier ran zs ys) refl (sym (run-asked net ran zs ys) ∙ e)
-    where
-      on : (b : Bool) → backAsked b ≡ 0 → b ≡ true
-      on true e = refl
-      on false e = absurd (omega arith)
-
-      by : (q : ℕ) → earlier ran zs ys ≡ q → pairAsked (earlier ran zs ys) net ran ys ≡ 0 → (earlier ran zs ys ≡ 0) × (isBack net (backFrom net ran ys) ≡ true)
-      by zero f e = (f, on _ (rw f at e))
-      by (suc q) f e = absurd (let z : suc q ≡ 0 = rw f at e in omega (arith, add-one q))
-
-  tested-yes : earlier ran zs ys ≡ 0 → examined (reducedNet ran) ys ≡ 0
-  unfolding earlier
-  tested-yes e = by (ran .last .kind) e
-    where
-      on : (b : Bool) → afterStack b ran ys ≡ 0 → examined (reducedNet ran) ys ≡ 0
-      on true e = e
-      on false e = absurd (omega arith)
-
-      by : (k : Kind) → afterRun k ran zs ys ≡ 0 → examined (reducedNet ran) ys ≡ 0
-      by NoFlow e = absurd (omega arith)
-      by Passes e = on (isStack ran zs) e
-      by Changes e = on (isStack ran zs) e
+-- the way arrived, and the value there fits
+arrived : (net : Net) (way : Way) → isBack net way ≡ true → (way ≡ at (pairBack way)) × (isFit (valueOf net (pairBack way)) ≡ true)
+arrived net wide e = never cc
+arrived net (at pair) e = (refl, e)
 
 module _ (xs zs ys : List ℤ) (o v w k : ℕ) where
-  all-yes : refusalOf xs zs ys o v w k ≡ 0 → AllYes xs zs ys o v w k
-  unfolding refusalOf
-  all-yes e = by (isRoomy o v w k) refl (askedOf xs) refl e
-    where
-      by : (b : Bool) → isRoomy o v w k ≡ b → (a : Asked) → askedOf xs ≡ a → roomAsked b xs zs ys ≡ 0 → AllYes xs zs ys o v w k
-      by false r a f e = absurd (omega arith)
-      by true r (No q) f e = absurd (let k : q ≡ 0 = rw f at e in omega (arith, asked-no xs q f))
-      by true r (Go n m) f e =
-          let t = run-yes (readOf xs) (ranOf (readOf xs)) zs ys (rw f at e) in
-          record { n = n; m = m; roomy = r; asked = f; tested = tested-yes (readOf xs) (ranOf (readOf xs)) zs ys (t .0); fits = t .1 }
+  abbrev net : Net
+  net = readOf xs
 
-  module _ (y : AllYes xs zs ys o v w k) where
-    abbrev net : Net
-    net = readOf xs
+  abbrev run : Run
+  run = reduced (readOf xs)
 
-    abbrev ran : Ran
-    ran = ranOf (readOf xs)
+  abbrev way : Way
+  way = broughtBack run ys
 
-    abbrev b : Back
-    b = backFrom net ran ys
+  record Restores : Type 0 where
+    room : 258 ≤ o
+    asked : AllYes xs w k
+    tested : examined (reducedNet run) ys ≡ 0
+    fits : isBack net way ≡ true
 
-    legal : Legal net
-    legal = ready xs o v w k (y .roomy) (y .asked) .legal
+  restores : refusalOf xs zs ys o v w k ≡ 0 → Restores
+  unfolding runRefusal
+  restores e =
+      let a = both-none (question 1 (leb 258 o && leb 4 v)) _ (sym (room-is xs zs ys o v w k) ∙ e) in
+      let b = both-none (Search.refusalOf xs w k) _ (a .1) in
+      let c = both-none (question 6 (isReduced (run .ends))) _ (b .1) in
+      let d = both-none (question 7 (isStack run zs)) _ (c .1) in
+      let f = both-none (examined (reducedNet run) ys) _ (d .1) in
+      record { room = leb-true 258 o (and-both (leb 258 o) _ (is-yes 1 _ (omega arith) (a .0)) .0); asked = all-yes xs w k (b .0); tested = f .0; fits = is-yes 13 _ (omega arith) (f .1) }
 
-    reduced-legal : Legal (reducedNet ran)
-    reduced-legal = packed-legal (ran-legal net legal)
+  module _ (y : Restores) where
+    left-legal : Legal (run .net)
+    left-legal = Whole.whole net (legal-read (y .asked)) .legal
 
-    proven : Proven (reducedNet ran) ys
-    proven = exactly-proven reduced-legal (packed-gapless (ran-legal net legal)) ys .0 (y .tested)
+    proven : Proven (reducedNet run) ys
+    proven = exactly-proven (packed-legal left-legal) (packed-gapless left-legal) ys .0 (y .tested)
 
-    back-fits : (b .fits ≡ true) × (isFit (valueOf net (b .pair)) ≡ true)
-    back-fits = and-both (b .fits) _ (y .fits)
-
-    optimal : Optimal (programOf net) (exactPair (b .pair) .flow)
-    unfolding backFrom
+    optimal : Optimal (programOf net) (exactPair (pairBack way) .flow)
+    unfolding broughtBack
     optimal =
-        let h = reduced-legal .few-nodes in
-        let k = reduced-legal .few-arcs in
-        let f : InForm (reducedNet ran .n) (reducedNet ran .m) (pairIn (reducedNet ran) ys) = record { price-proper = price-proper ys _ _ h k (proven .in-form); no-price = no-price-read ys _ _ h k; flow-proper = flow-proper ys _ _ h k (proven .in-form); no-flow = no-flow-read ys _ _ h k } in
-        way-optimal net legal (pairIn (reducedNet ran) ys) (all-formed f) (proven .solved) (back-fits .0)
+        let h = packed-legal left-legal in
+        Whole.optimal net (legal-read (y .asked)) (spreadOf (run .net) (pairIn (reducedNet run) ys)) (read-sized (run .net) left-legal ys _ _ (h .few-nodes) (h .few-arcs) (proven .in-form)) (read-solved (run .net) left-legal ys _ _ (h .few-nodes) (h .few-arcs) (proven .in-form) (proven .solved)) (arrived net way (y .fits) .0) .1
 
-    optimum : Optimum net ran ys (pairWords (net .n) (net .m) (b .pair) o) (fourWords (reducedValue ran ys) (originalValue net b) v)
+    optimum : Optimum net run ys (pairWords (net .n) (net .m) (pairBack way) o) (fourWords (reducedValue run ys) (originalValue net way) v)
     optimum =
-        let gap = read-gapless xs (y .n) (y .m) (y .asked) in
-        let room = ready xs o v w k (y .roomy) (y .asked) .out-room in
+        let gap = read-gapless xs (y .asked .n) (y .asked .m) (y .asked .go) in
+        let fits = arrived net way (y .fits) .1 in
         record {
           tested = y .tested;
           proven = proven;
-          optimal = optimal-written legal gap (b .pair) o room (back-fits .1) optimal;
-          cost = cost-written legal gap (b .pair) o room (back-fits .1) (reducedValue ran ys) v;
+          optimal = optimal-written (legal-read (y .asked)) gap (pairBack way) o (y .room) fits optimal;
+          cost = cost-written (legal-read (y .asked)) gap (pairBack way) o (y .room) fits (reducedValue run ys) v;
         }
 
   restored-is : (q : ℕ) → answerOf q ≡ Restored → q ≡ 0
@@ -225,7 +193,7 @@ module _ (xs zs ys : List ℤ) (o v w k : ℕ) where
   restored-is (suc q) e = never cc
 
   -- the words of a call that answers so
-  pub restored-optimum : {r : Answer} {out values : List ℤ} → Answered (refusalOf xs zs ys o v w k) (readOf xs) (ranOf (readOf xs)) ys o v r out values → r ≡ Restored → Optimum (readOf xs) (ranOf (readOf xs)) ys out values
+  pub restored-optimum : {r : Answer} {out values : List ℤ} → Written (refusalOf xs zs ys o v w k) net run ys r out values o v → r ≡ Restored → Optimum net run ys out values
   restored-optimum a p =
       let z = restored-is (refusalOf xs zs ys o v w k) (sym (a .result) ∙ p) in
-      rw (rw z at (a .out-is), rw z at (a .values-is)) (optimum (all-yes z))
+      rw (rw z at (a .out-is), rw z at (a .values-is)) (optimum (restores z))

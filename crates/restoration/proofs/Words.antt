@@ -1,4 +1,4 @@
--- The pair and the values read back from the words written are those written. Assumes nothing.
+-- The pair and the values read back from the words written are those written.
 use mathlib.Core.Path.{_≡_, refl, ap, _∙_}
 use mathlib.Core.List.{List, _∷_, _++_}
 use Prim.Native.Nat.{ℕ, zero, suc, _+_, _-_, _≤_, _<_}

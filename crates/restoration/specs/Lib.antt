@@ -1,6 +1,2 @@
-pub mod Trace
-pub mod Back
-pub mod Way
-pub mod Log
 pub mod Restore
-pub mod Entry
+pub mod internal

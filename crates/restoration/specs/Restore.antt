@@ -1,13 +1,11 @@
--- What restoring answers, the words that it writes, and what that says in exact numbers. Assumes nothing.
+-- What restoring answers, the words that it writes, and what that says in exact numbers.
 use mathlib.Core.Path.{_≡_}
-use mathlib.Core.Bool.{Bool, true, false, _&&_}
+use mathlib.Core.Bool.{Bool, true, false, cond, _&&_}
 use mathlib.Core.List.{List, _∷_}
-use Prim.Native.Nat.{ℕ, zero, suc, _+_, _-_, _*_}
-use lib.Dec.{eqb, leb}
+use Prim.Native.Nat.{ℕ, zero, suc, _+_, _-_}
+use lib.Dec.{leb}
 use lib.IntN.{ℤ}
-use lib.ListN.{length}
-use Rattle.integer.specs.Whole.{eqZ}
-use Rattle.loops.specs.Loops.{all, zeros}
+use Rattle.loops.specs.Loops.{zeros}
 use Rattle.presolve.specs.LP.{Optimal, total}
 use Rattle.fraction.specs.declared.Fraction.{Fraction}
 use Rattle.fraction.specs.Exact.{fromWords, denWord}
@@ -15,92 +13,74 @@ use Rattle.fraction.specs.Formula.{isFit, figureOf}
 use Rattle.fraction.specs.Value.{value}
 use Rattle.network.specs.declared.Arc.{Arc}
 use Rattle.network.specs.declared.Net.{Net}
-use Rattle.network.specs.declared.Kind.{Kind}
-use Rattle.network.specs.declared.Kind.the-variants.{Passes, NoFlow, Changes}
 use Rattle.network.specs.declared.pair.Pair.{Pair}
-use Rattle.network.specs.declared.record.Asked.{Asked}
-use Rattle.network.specs.declared.record.Asked.the-variants.{Go, No}
 use Rattle.network.specs.Record.{word, askedOf, readOf}
 use Rattle.network.specs.Output.{packedOf, wordOf, arraysOf}
-use Rattle.network.specs.Pair.{priceAt, flowAt, pairOf, exactPair}
+use Rattle.network.specs.Pair.{noPair, priceAt, flowAt, pairOf, exactPair}
 use Rattle.network.specs.ArcList.{noArcs}
 use Rattle.network.specs.Program.{programOf}
-use Rattle.reduction.specs.declared.search.Ran.{Ran}
-use Rattle.reduction.specs.Search.{ranOf}
-use Rattle.reduction.specs.Stack.{ruleWord, placeWord}
+use Rattle.step.specs.declared.Next.{Next}
+use Rattle.step.specs.declared.Next.the-variants.{Stops, Refuted, Takes}
+use Rattle.step.specs.Run.{Run, backOf, Way, wide, at, wayBack}
+use Rattle.search.specs.Search.{askedNumber}
+use Rattle.rules.specs.Table.{rules, reduced}
 use Rattle.optimality.specs.Figures.{valueOf}
 use Rattle.optimality.specs.Test.{pairIn, examined, Proven}
+use Rattle.reduction.specs.Questions.{question, _⊳_}
+use Rattle.reduction.specs.Stack.{stackRecord, sameWords}
 use Rattle.restoration.specs.declared.Answer.{Answer}
 use Rattle.restoration.specs.declared.Answer.the-variants.{Restored, Refused}
-use Rattle.restoration.specs.declared.back.Back.{Back}
-use Rattle.restoration.specs.Way.{wayBack}
+use Rattle.postsolve.specs.Postsolve.{spreadOf}
 
--- ---- 7. "Is the stack offered the one that it gives, length included?"
+-- ---- what a call works on: a run, the reduced network, and the pair that words hold there, brought back over the steps
 
-abbrev pub isStep : Ran → List ℤ → ℕ → Bool
-isStep ran zs k = eqZ (word zs (1 + k)) (ruleWord ran k) && eqZ (word zs (1 + ran .steps + k)) (placeWord ran k)
+abbrev pub reducedNet : Run → Net
+reducedNet run = packedOf (run .net)
 
-unfoldable pub isStack : Ran → List ℤ → Bool
-isStack ran zs = eqb (length zs) (1 + 2 * ran .steps) && (eqZ (word zs 0) (wordOf (ran .steps)) && all (isStep ran zs) (ran .steps))
+unfoldable pub broughtBack : Run → List ℤ → Way
+broughtBack run ys = wayBack (backOf rules) (run .steps) (at (spreadOf (run .net) (pairIn (reducedNet run) ys)))
 
--- ---- what a call works on: the reduction of the network, the pair on the reduced network, the way back, the two values
+-- the pair at the end of the way
+abbrev pub pairBack : Way → Pair
+pairBack wide = noPair
+pairBack (at pair) = pair
 
-abbrev pub reducedNet : Ran → Net
-reducedNet ran = packedOf (ran .net)
+-- "the reduced value, then the original's"
+abbrev pub reducedValue : Run → List ℤ → Fraction
+reducedValue run ys = figureOf (valueOf (reducedNet run) (pairIn (reducedNet run) ys))
 
-unfoldable pub backFrom : Net → Ran → List ℤ → Back
-backFrom net ran ys = wayBack net ran (pairIn (reducedNet ran) ys)
+abbrev pub originalValue : Net → Way → Fraction
+originalValue net way = figureOf (valueOf net (pairBack way))
 
-abbrev pub reducedValue : Ran → List ℤ → Fraction
-reducedValue ran ys = figureOf (valueOf (reducedNet ran) (pairIn (reducedNet ran) ys))
+-- ---- the questions, in order, of the words of the network, the stack and the pair, and of the lengths of the lent pair, values, scratch and arc list
 
-abbrev pub originalValue : Net → Back → Fraction
-originalValue net b = figureOf (valueOf net (b .pair))
-
--- 13. "Does every figure of the way back fit, the original's value included?"
-abbrev pub isBack : Net → Back → Bool
-isBack net b = b .fits && isFit (valueOf net (b .pair))
-
--- ---- the first question that is answered by no; 0 where none is
-
-abbrev pub backAsked : Bool → ℕ
-backAsked true = 0
-backAsked false = 13
-
-abbrev pub pairAsked : ℕ → Net → Ran → List ℤ → ℕ
-pairAsked zero net ran ys = backAsked (isBack net (backFrom net ran ys))
-pairAsked (suc q) net ran ys = suc q
-
-abbrev pub stackAsked : Bool → Net → Ran → List ℤ → ℕ
-stackAsked false net ran ys = 7
-stackAsked true net ran ys = pairAsked (examined (reducedNet ran) ys) net ran ys
-
--- 6. "Did the reduction end in a reduced network?" Then 7, 8 to 12 on the reduced network, and 13
-abbrev pub ranAsked : Kind → Net → Ran → List ℤ → List ℤ → ℕ
-ranAsked NoFlow net ran zs ys = 6
-ranAsked Passes net ran zs ys = stackAsked (isStack ran zs) net ran ys
-ranAsked Changes net ran zs ys = stackAsked (isStack ran zs) net ran ys
-
-unfoldable pub ranRefusal : Net → Ran → List ℤ → List ℤ → ℕ
-ranRefusal net ran zs ys = ranAsked (ran .last .kind) net ran zs ys
-
--- 2 to 5
-abbrev pub askedBy : Asked → List ℤ → List ℤ → List ℤ → ℕ
-askedBy (No q) xs zs ys = q
-askedBy (Go n m) xs zs ys = ranRefusal (readOf xs) (ranOf (readOf xs)) zs ys
-
--- 1: "pair 258, values 4 .., scratch 10240", and an arc list of "at least 96 records"
-abbrev pub roomAsked : Bool → List ℤ → List ℤ → List ℤ → ℕ
-roomAsked false xs zs ys = 1
-roomAsked true xs zs ys = askedBy (askedOf xs) xs zs ys
-
+-- "pair 258, values 4 .., scratch 10240", and an arc list of "at least 96 records"
 unfoldable pub isRoomy : ℕ → ℕ → ℕ → ℕ → Bool
 isRoomy out values scratch arcs = leb 258 out && (leb 4 values && (leb 10240 scratch && leb 96 arcs))
 
-unfoldable pub refusalOf : List ℤ → List ℤ → List ℤ → ℕ → ℕ → ℕ → ℕ → ℕ
-refusalOf xs zs ys o v w k = roomAsked (isRoomy o v w k) xs zs ys
+abbrev pub isReduced : Next → Bool
+isReduced Stops = true
+isReduced (Takes s) = true
+isReduced (Refuted rule place) = false
 
--- ---- the answer, and the words written
+abbrev pub isStack : Run → List ℤ → Bool
+isStack run zs = sameWords zs (stackRecord (run .steps))
+
+abbrev pub isBack : Net → Way → Bool
+isBack net wide = false
+isBack net (at pair) = isFit (valueOf net pair)
+
+-- "Did the reduction end in a reduced network? 6", "Is the stack offered the one that it gives, length included? 7", 8 to 12 on the
+-- reduced network, "Does every figure of the way back fit, the original's value included? 13"
+unfoldable pub runRefusal : Net → Run → List ℤ → List ℤ → ℕ
+runRefusal net run zs ys = question 6 (isReduced (run .ends)) ⊳ question 7 (isStack run zs) ⊳ examined (reducedNet run) ys ⊳ question 13 (isBack net (broughtBack run ys))
+
+-- "Are the lent outputs and scratch long enough? 1"; then 2 to 5
+unfoldable pub refusalOf : List ℤ → List ℤ → List ℤ → ℕ → ℕ → ℕ → ℕ → ℕ
+refusalOf xs zs ys out values scratch arcs =
+    question 1 (isRoomy out values scratch arcs) ⊳ askedNumber (askedOf xs) ⊳ runRefusal (readOf xs) (reduced (readOf xs)) zs ys
+
+-- ---- the answer and the words written, by the number of the first question that is answered by no
 
 abbrev pub answerOf : ℕ → Answer
 answerOf zero = Restored
@@ -112,12 +92,8 @@ numberOf Restored = 0
 numberOf (Refused q) = q
 
 -- figure k of a pair's record: "node prices p, then flows"
-abbrev pub figureBy : Bool → ℕ → Pair → ℕ → Fraction
-figureBy true n pair k = priceAt pair (k + 1)
-figureBy false n pair k = flowAt pair (k - n + 1)
-
 unfoldable pub pairFigure : ℕ → Pair → ℕ → Fraction
-pairFigure n pair k = figureBy (leb (k + 1) n) n pair k
+pairFigure n pair k = cond (leb (k + 1) n) (priceAt pair (k + 1)) (flowAt pair (k - n + 1))
 
 abbrev pub pairNum : ℕ → Pair → ℕ → ℤ
 pairNum n pair k = pairFigure n pair k .num
@@ -133,13 +109,19 @@ pairWords n m pair room = wordOf n ∷ wordOf m ∷ arraysOf (pairNum n pair) (p
 abbrev pub fourWords : Fraction → Fraction → ℕ → List ℤ
 fourWords x y room = x .num ∷ denWord (x .den) ∷ y .num ∷ denWord (y .den) ∷ zeros (room - 4)
 
-abbrev pub outBy : ℕ → Net → Back → ℕ → List ℤ
-outBy zero net b o = pairWords (net .n) (net .m) (b .pair) o
-outBy (suc q) net b o = zeros o
+abbrev pub outOf : ℕ → Net → Way → ℕ → List ℤ
+outOf zero net way o = pairWords (net .n) (net .m) (pairBack way) o
+outOf (suc q) net way o = zeros o
 
-abbrev pub valuesBy : ℕ → Net → Ran → List ℤ → Back → ℕ → List ℤ
-valuesBy zero net ran ys b v = fourWords (reducedValue ran ys) (originalValue net b) v
-valuesBy (suc q) net ran ys b v = zeros v
+abbrev pub valuesOf : ℕ → Net → Run → List ℤ → Way → ℕ → List ℤ
+valuesOf zero net run ys way v = fourWords (reducedValue run ys) (originalValue net way) v
+valuesOf (suc q) net run ys way v = zeros v
+
+-- what is given back and written where the first refusal is q
+pub record Written (q : ℕ) (net : Net) (run : Run) (ys : List ℤ) (r : Answer) (out values : List ℤ) (o v : ℕ) : Type 0 where
+  pub result : r ≡ answerOf q
+  pub out-is : out ≡ outOf q net (broughtBack run ys) o
+  pub values-is : values ≡ valuesOf q net run ys (broughtBack run ys) v
 
 -- ---- demand 3, in exact numbers, on the network given
 
@@ -147,10 +129,10 @@ valuesBy (suc q) net ran ys b v = zeros v
 abbrev pub writtenPair : Net → List ℤ → Pair
 writtenPair net out = pairOf out (net .n) (net .m)
 
-pub record Optimum (net : Net) (ran : Ran) (ys out values : List ℤ) : Type 0 where
+pub record Optimum (net : Net) (run : Run) (ys out values : List ℤ) : Type 0 where
   -- the pair passed the test on the reduced network
-  pub tested : examined (reducedNet ran) ys ≡ 0
-  pub proven : Proven (reducedNet ran) ys
+  pub tested : examined (reducedNet run) ys ≡ 0
+  pub proven : Proven (reducedNet run) ys
   -- the flow written is feasible, every feasible flow costs at least as much, and the cost written is its cost
   pub optimal : Optimal (programOf net) (exactPair (writtenPair net out) .flow)
   pub cost : value (fromWords (word values 2) (word values 3)) ≡ total (programOf net) (exactPair (writtenPair net out) .flow)
@@ -159,8 +141,8 @@ pub record Optimum (net : Net) (ran : Ran) (ys out values : List ℤ) : Type 0 w
 
 pub record Restoration (xs zs ys : List ℤ) (o v w k : ℕ) (r : Answer) (out values scratch : List ℤ) (arcs : List Arc) : Type 0 where
   pub result : r ≡ answerOf (refusalOf xs zs ys o v w k)
-  pub out-is : out ≡ outBy (refusalOf xs zs ys o v w k) (readOf xs) (backFrom (readOf xs) (ranOf (readOf xs)) ys) o
-  pub values-is : values ≡ valuesBy (refusalOf xs zs ys o v w k) (readOf xs) (ranOf (readOf xs)) ys (backFrom (readOf xs) (ranOf (readOf xs)) ys) v
+  pub out-is : out ≡ outOf (refusalOf xs zs ys o v w k) (readOf xs) (broughtBack (reduced (readOf xs)) ys) o
+  pub values-is : values ≡ valuesOf (refusalOf xs zs ys o v w k) (readOf xs) (reduced (readOf xs)) ys (broughtBack (reduced (readOf xs)) ys) v
   pub scratch-is : scratch ≡ zeros w
   pub arcs-is : arcs ≡ noArcs k
-  pub optimum : r ≡ Restored → Optimum (readOf xs) (ranOf (readOf xs)) ys out values
+  pub optimum : r ≡ Restored → Optimum (readOf xs) (reduced (readOf xs)) ys out values

@@ -1,19 +1,26 @@
 -- `restoration::restore_in` meets its contract. The part that follows the code is `Proof/Tie.antt`, made by tools/lift.py.
--- Assumes nothing.
 mod Tie
-use Rattle.network.proofs.Lists.{length-loaded}
-use mathlib.Core.Path.{_∙_, sym}
-use Rattle.restoration.proofs.Asked.{refused, run-passed, run-refused}
-use Rattle.restoration.proofs.ListWay.{run-is}
+use mathlib.Core.Path.{_∙_, sym, refl, ap}
+use native.Mathlib.Omega.{arith}
+use Rattle.network.specs.ArcList.{arcsIn}
+use Rattle.reduction.proofs.Found.{found}
+use Rattle.restoration.proofs.Parts.{has-room, no-out, no-values, first-none, first-some, then-back, refused, sizes, arcs-first, offered, went-back}
 use borrow.Author.Needs.{needs}
 use Rattle.restoration.proofs.restore_in.Statement.{statement}
 use Rattle.restoration.proofs.restore_in.Proof.Tie as tie
+use Rattle.restoration.proofs.Lent.restore_in.Reads as reads
+use Rattle.restoration.proofs.Lent.restore_in.Lts as lts
+use Rattle.restoration.proofs.Lent.network_list_view.Reads as view-reads
+use Rattle.restoration.proofs.Lent.postsolve_undo_steps.Reads as undo-steps-reads
+use Rattle.restoration.proofs.ask_run.Reads as ask-run-reads
+use Rattle.restoration.proofs.finish_at.Reads as finish-at-reads
+use Rattle.restoration.proofs.Lent.search_run.Reads as run-reads
 
-load-requires : tie.Need-load-requires
-load-requires c κs = search needs
+returns : tie.Need-returns
+returns c = refused _ 1 (no-out _ _ _ _ _ _ _ (c .if1 .taken)) (λ z. omega arith) (c .before .pre .0) (c .before .pre .1)
 
-read-beside-requires : tie.Need-read-beside-requires
-read-beside-requires c κs = search needs
+returns-2 : tie.Need-returns-2
+returns-2 c = refused _ 1 (no-values _ _ _ _ _ _ _ (omega (arith, c .before .if1 .left)) (c .if2 .taken)) (λ z. omega arith) (c .before .before .pre .0) (c .before .before .pre .1)
 
 run-requires : tie.Need-run-requires
 run-requires c κs = search needs
@@ -22,10 +29,16 @@ view-requires : tie.Need-view-requires
 view-requires c κs = search needs
 
 ask-run-requires : tie.Need-ask-run-requires
-ask-run-requires c κs = search needs
+ask-run-requires c κs = found (c .before .before .before .before .before .before .before .run .ensures) (c .before .before .before .if3 .taken) .few
 
-go-back-requires : tie.Need-go-back-requires
-go-back-requires c κs = let r = run-is _ (c .before .before .before .before .before .before .before .before .before .run .result) _ (c .before .before .before .before .before .before .before .before .before .before .before .before .before .before .before .pre .3) (c .before .before .before .before .before .before .before .before .before .before .before .before .before .before .before .pre .2) (c .before .before .before .before .before .before .before .before .before .before .before .before .before .load .ensures) (c .before .before .before .before .before .before .before .before .before .before .before .read-beside .ensures) (c .before .before .before .before .before .before .before .before .before .run .ensures .0) (c .before .before .before .before .before .before .view .ensures) in (c .before .before .before .before .before .before .before .before .before .before .before .before .before .before .before .pre .0, rw r (c .before .before .before .before .before .before .before .before .before .before .before .before .before .before .before .pre .1), rw (c .before .before .before .before .before .before .before .before .before .run .ensures .1, c .before .before .before .before .before .before .before .before .before .before .before .before .before .load .ensures, length-loaded _ _) (c .before .before .before .before .before .before .before .before .before .before .before .before .before .before .before .pre .3))
+undo-steps-requires : tie.Need-undo-steps-requires
+undo-steps-requires c κs = search needs
+
+view-requires-2 : tie.Need-view-requires-2
+view-requires-2 c κs = search needs
+
+finish-at-requires : tie.Need-finish-at-requires
+finish-at-requires c κs = let f = found (c .before .before .before .before .before .before .before .before .before .before .before .before .before .before .before .before .before .before .run .ensures) (c .before .before .before .before .before .before .before .before .before .before .before .before .before .before .if3 .taken) in (record { no-pair = c .before .before .before .before .before .before .before .before .before .before .before .before .before .before .before .before .before .before .before .before .before .before .before .pre .0; no-values = c .before .before .before .before .before .before .before .before .before .before .before .before .before .before .before .before .before .before .before .before .before .before .before .pre .1; out-room = omega (arith, c .before .before .before .before .before .before .before .before .before .before .before .before .before .before .before .before .before .before .before .before .before .before .if1 .left); values-room = omega (arith, c .before .before .before .before .before .before .before .before .before .before .before .before .before .before .before .before .before .before .before .before .before .if2 .left) }, sizes f .0, sizes f .1)
 
 same-length : tie.Need-same-length
 same-length c = search needs
@@ -34,34 +47,61 @@ same-length-2 : tie.Need-same-length-2
 same-length-2 c = search needs
 
 same-length-3 : tie.Need-same-length-3
-same-length-3 c = search needs
+same-length-3 c = c .before .before .before .before .before .before .before .before .before .before .before .before .before .before .before .before .before .before .before .before .before .run .kept .1 .0
 
 same-length-4 : tie.Need-same-length-4
-same-length-4 c = search needs
+same-length-4 c = c .before .before .before .before .before .before .before .before .undo-steps .kept .1 .1 .1 .0 ∙ c .before .before .before .before .before .before .before .before .before .before .before .before .before .before .before .before .before .before .before .before .before .run .kept .1 .1 .0
 
-returns : tie.Need-returns
-returns c = let r = run-is _ (c .before .before .before .before .before .before .before .before .before .before .before .before .before .before .run .result) _ (c .before .before .before .before .before .before .before .before .before .before .before .before .before .before .before .before .before .before .before .before .pre .3) (c .before .before .before .before .before .before .before .before .before .before .before .before .before .before .before .before .before .before .before .before .pre .2) (c .before .before .before .before .before .before .before .before .before .before .before .before .before .before .before .before .before .before .load .ensures) (c .before .before .before .before .before .before .before .before .before .before .before .before .before .before .before .before .read-beside .ensures) (c .before .before .before .before .before .before .before .before .before .before .before .before .before .before .run .ensures .0) (c .before .before .before .before .before .before .before .before .before .before .before .view .ensures) in rw (run-passed _ _ _ _ (sym (rw r at (c .before .before .before .before .before .before .before .before .before .before .ask-run .ensures)) ∙ c .before .before .before .before .before .before .before .before .before .if1 .taken)) (rw r at (c .before .before .before .before .go-back .ensures))
+returns-3 : tie.Need-returns-3
+returns-3 c =
+    let f = found (c .before .before .before .before .before .before .before .before .before .before .before .before .before .before .before .before .before .before .before .before .before .run .ensures) (c .before .before .before .before .before .before .before .before .before .before .before .before .before .before .before .before .before .if3 .taken) in
+    let u = c .before .before .before .before .before .before .before .before .undo-steps .ensures in
+    went-back f _ _ (offered f _ _ (c .before .before .before .before .before .before .before .before .before .before .before .before .before .before .before .view .ensures) (c .before .before .before .before .before .before .before .before .before .before .before .before .before .ask-run .ensures)) (c .before .before .before .before .before .before .before .before .before .before .before .if4 .taken) (u .0 _ (f .steps-is) (f .holds)) refl refl
+    (c .before .before .before .before .before .view2 .ensures ∙ ap arcsIn (u .1) ∙ arcs-first f (sym (c .before .before .before .before .before .before .before .before .before .before .before .before .before .before .before .before .before .before .before .before .before .run .kept .1 .1 .0))) (c .before .before .finish-at .ensures) _
+    (has-room _ _ _ _ _ _ _ (omega (arith, c .before .before .before .before .before .before .before .before .before .before .before .before .before .before .before .before .before .before .before .before .before .before .before .before .before .if1 .left)) (omega (arith, c .before .before .before .before .before .before .before .before .before .before .before .before .before .before .before .before .before .before .before .before .before .before .before .before .if2 .left)) ∙ first-none _ _ _ (sym (c .before .before .before .before .before .before .before .before .before .before .before .before .before .before .before .before .before .before .before .before .before .run .ensures .refused-is)) (c .before .before .before .before .before .before .before .before .before .before .before .before .before .before .before .before .before .if3 .taken))
 
 same-length-5 : tie.Need-same-length-5
 same-length-5 c = search needs
 
-returns-2 : tie.Need-returns-2
-returns-2 c = let r = run-is _ (c .before .before .before .before .before .run .result) _ (c .before .before .before .before .before .before .before .before .before .before .before .pre .3) (c .before .before .before .before .before .before .before .before .before .before .before .pre .2) (c .before .before .before .before .before .before .before .before .before .load .ensures) (c .before .before .before .before .before .before .before .read-beside .ensures) (c .before .before .before .before .before .run .ensures .0) (c .before .before .view .ensures) in refused _ _ (run-refused _ _ _ _ _ (sym (rw r at (c .before .ask-run .ensures))) (c .if1 .left)) (c .if1 .left) (c .before .before .before .before .before .before .before .before .before .before .before .pre .0 .no-pair) (c .before .before .before .before .before .before .before .before .before .before .before .pre .0 .no-values)
+same-length-6 : tie.Need-same-length-6
+same-length-6 c = search needs
+
+returns-4 : tie.Need-returns-4
+returns-4 c =
+    let f = found (c .before .before .before .before .before .before .before .before .before .before .run .ensures) (c .before .before .before .before .before .before .if3 .taken) in
+    let h = offered f _ _ (c .before .before .before .before .view .ensures) (c .before .before .ask-run .ensures) in
+    refused _ _
+    (has-room _ _ _ _ _ _ _ (omega (arith, c .before .before .before .before .before .before .before .before .before .before .before .before .before .before .if1 .left)) (omega (arith, c .before .before .before .before .before .before .before .before .before .before .before .before .before .if2 .left)) ∙ first-none _ _ _ (sym (c .before .before .before .before .before .before .before .before .before .before .run .ensures .refused-is)) (c .before .before .before .before .before .before .if3 .taken) ∙ then-back _ _ _ _ ∙ first-some _ _ _ (sym (h .refused-is)) (c .if4 .left)) (c .if4 .left) (c .before .before .before .before .before .before .before .before .before .before .before .before .before .before .before .pre .0) (c .before .before .before .before .before .before .before .before .before .before .before .before .before .before .before .pre .1)
+
+same-length-7 : tie.Need-same-length-7
+same-length-7 c = search needs
+
+same-length-8 : tie.Need-same-length-8
+same-length-8 c = search needs
+
+returns-5 : tie.Need-returns-5
+returns-5 c = refused _ _ (has-room _ _ _ _ _ _ _ (omega (arith, c .before .before .before .before .before .before .before .before .if1 .left)) (omega (arith, c .before .before .before .before .before .before .before .if2 .left)) ∙ first-some _ _ _ (sym (c .before .before .before .before .run .ensures .refused-is)) (c .if3 .left)) (c .if3 .left) (c .before .before .before .before .before .before .before .before .before .pre .0) (c .before .before .before .before .before .before .before .before .before .pre .1)
 
 pub restore-in-spec : {M : Type 1} → statement M
 restore-in-spec =
     tie.close
     (tie.spec
-    load-requires
-    read-beside-requires
+    returns
+    returns-2
     run-requires
     view-requires
     ask-run-requires
-    go-back-requires
+    undo-steps-requires
+    view-requires-2
+    finish-at-requires
     same-length
     same-length-2
     same-length-3
     same-length-4
-    returns
+    returns-3
     same-length-5
-    returns-2)
+    same-length-6
+    returns-4
+    same-length-7
+    same-length-8
+    returns-5)

@@ -16,8 +16,8 @@ use mathlib.Core.Path
 use mir.Syntax
 use Rattle.reduction.proofs.Lent.Rec
 
-abbrev pub ps : L.List (FnKinds.PK 4)
-ps = L._∷_ (ShrSlice.pShrS (Signed.SInt Syntax.w32) 0 tt) (L._∷_ (MutSlice.pMutS (Signed.SInt Syntax.w32) 1 tt) (L._∷_ (MutSlice.pMutS (Signed.SInt Syntax.w32) 2 tt) (L._∷_ (MutSlice.pMutS Rec.row 3 tt) L.[])))
+abbrev pub ps : L.List (FnKinds.PK 5)
+ps = L._∷_ (ShrSlice.pShrS (Signed.SInt Syntax.w32) 0 tt) (L._∷_ (MutSlice.pMutS (Signed.SInt Syntax.w32) 1 tt) (L._∷_ (MutSlice.pMutS (Signed.SInt Syntax.w32) 2 tt) (L._∷_ (MutSlice.pMutS (Signed.SInt Syntax.w32) 3 tt) (L._∷_ (MutSlice.pMutS Rec.row 4 tt) L.[]))))
 
-abbrev pub r : FnKinds.RK 4
+abbrev pub r : FnKinds.RK 5
 r = Value.rVal record { ty = Declared.row Answer·.the-type; one = Path.refl; val = EnumLaws.val Answer·.the-type Answer-Laws·.the-laws; tells = EnumLaws.tells Answer·.the-type Answer-Laws·.the-laws; still = EnumLaws.still Answer·.the-type Answer-Laws·.the-copy Exit.yes; row = Rows.whole (Declared.row Answer·.the-type); rd = λ x. x; mk = λ x. x } λ M 𝓤 H A W. record { copies = EnumLaws.copy Answer·.the-type Answer-Laws·.the-copy 𝓤 H A W; lawful = EnumLaws.lawful Answer·.the-type Answer-Laws·.the-laws 𝓤 H A W tt; makes = EnumLaws.makes Answer·.the-type Answer-Laws·.the-plain 𝓤 H A; in-mem = Local.mem-whole 𝓤 H A W (Declared.row Answer·.the-type); of-mem = Local.whole-mem 𝓤 H A W (Declared.row Answer·.the-type) }

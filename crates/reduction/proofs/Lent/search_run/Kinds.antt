@@ -1,22 +1,23 @@
--- Made by tools/lift.py: not to be edited. Kinds of search.run
-use Rattle.network.proofs.Nodes as network-proofs-Nodes·
-use Rattle.network.proofs.Nodes.Laws as network-proofs-Nodes-Laws·
-use Rattle.reduction.proofs.search.Progress as search-Progress·
-use Rattle.reduction.proofs.search.Progress.Laws as search-Progress-Laws·
+-- Made by tools/lift.py: not to be edited. Kinds of search run
+use Rattle.search.proofs.Ran as search-proofs-Ran·
+use Rattle.search.proofs.Ran.Laws as search-proofs-Ran-Laws·
 use borrow.Fn.Kinds as FnKinds
 use borrow.Kind.MutSlice
+use borrow.Kind.ShrSlice
 use borrow.Kind.Value
 use borrow.Rule.Local
 use borrow.Table.Rows
 use denote.Exit
+use denote.Signed
 use denote.Struct.Declared
 use denote.Struct.Laws as StructLaws
 use mathlib.Core.List as L
 use mathlib.Core.Path
+use mir.Syntax
 use Rattle.reduction.proofs.Lent.Rec
 
-abbrev pub ps : L.List (FnKinds.PK 1)
-ps = L._∷_ (Value.pVal record { ty = Declared.row network-proofs-Nodes·.the-type; one = Path.refl; val = StructLaws.val network-proofs-Nodes·.the-type network-proofs-Nodes-Laws·.the-laws; tells = StructLaws.tells network-proofs-Nodes·.the-type network-proofs-Nodes-Laws·.the-laws; still = StructLaws.still network-proofs-Nodes·.the-type network-proofs-Nodes-Laws·.the-copy Exit.yes; row = Rows.whole (Declared.row network-proofs-Nodes·.the-type); rd = λ x. x; mk = λ x. x } λ M 𝓤 H A W. record { copies = StructLaws.copy network-proofs-Nodes·.the-type network-proofs-Nodes-Laws·.the-copy 𝓤 H A W; lawful = StructLaws.lawful network-proofs-Nodes·.the-type network-proofs-Nodes-Laws·.the-laws 𝓤 H A W; makes = StructLaws.makes network-proofs-Nodes·.the-type network-proofs-Nodes-Laws·.the-plain 𝓤 H A; in-mem = Local.mem-whole 𝓤 H A W (Declared.row network-proofs-Nodes·.the-type); of-mem = Local.whole-mem 𝓤 H A W (Declared.row network-proofs-Nodes·.the-type) }) (L._∷_ (MutSlice.pMutS Rec.row 0 tt) L.[])
+abbrev pub ps : L.List (FnKinds.PK 3)
+ps = L._∷_ (ShrSlice.pShrS (Signed.SInt Syntax.w32) 0 tt) (L._∷_ (MutSlice.pMutS (Signed.SInt Syntax.w32) 1 tt) (L._∷_ (MutSlice.pMutS Rec.row 2 tt) L.[]))
 
-abbrev pub r : FnKinds.RK 1
-r = Value.rVal record { ty = Declared.row search-Progress·.the-type; one = Path.refl; val = StructLaws.val search-Progress·.the-type search-Progress-Laws·.the-laws; tells = StructLaws.tells search-Progress·.the-type search-Progress-Laws·.the-laws; still = StructLaws.still search-Progress·.the-type search-Progress-Laws·.the-copy Exit.yes; row = Rows.whole (Declared.row search-Progress·.the-type); rd = λ x. x; mk = λ x. x } λ M 𝓤 H A W. record { copies = StructLaws.copy search-Progress·.the-type search-Progress-Laws·.the-copy 𝓤 H A W; lawful = StructLaws.lawful search-Progress·.the-type search-Progress-Laws·.the-laws 𝓤 H A W; makes = StructLaws.makes search-Progress·.the-type search-Progress-Laws·.the-plain 𝓤 H A; in-mem = Local.mem-whole 𝓤 H A W (Declared.row search-Progress·.the-type); of-mem = Local.whole-mem 𝓤 H A W (Declared.row search-Progress·.the-type) }
+abbrev pub r : FnKinds.RK 3
+r = Value.rVal record { ty = Declared.row search-proofs-Ran·.the-type; one = Path.refl; val = StructLaws.val search-proofs-Ran·.the-type search-proofs-Ran-Laws·.the-laws; tells = StructLaws.tells search-proofs-Ran·.the-type search-proofs-Ran-Laws·.the-laws; still = StructLaws.still search-proofs-Ran·.the-type search-proofs-Ran-Laws·.the-copy Exit.yes; row = Rows.whole (Declared.row search-proofs-Ran·.the-type); rd = λ x. x; mk = λ x. x } λ M 𝓤 H A W. record { copies = StructLaws.copy search-proofs-Ran·.the-type search-proofs-Ran-Laws·.the-copy 𝓤 H A W; lawful = StructLaws.lawful search-proofs-Ran·.the-type search-proofs-Ran-Laws·.the-laws 𝓤 H A W; makes = StructLaws.makes search-proofs-Ran·.the-type search-proofs-Ran-Laws·.the-plain 𝓤 H A; in-mem = Local.mem-whole 𝓤 H A W (Declared.row search-proofs-Ran·.the-type); of-mem = Local.whole-mem 𝓤 H A W (Declared.row search-proofs-Ran·.the-type) }

@@ -1,9 +1,11 @@
 -- `reduction::plain::reduce` meets its contract. The part that follows the code is `Proof/Tie.antt`, made by tools/lift.py.
--- Assumes nothing.
+
 mod Tie
 use borrow.Author.Needs.{needs}
 use Rattle.reduction.proofs.plain.reduce.Statement.{statement}
 use Rattle.reduction.proofs.plain.reduce.Proof.Tie as tie
+use Rattle.reduction.proofs.Lent.plain_reduce.Reads as reads
+use Rattle.reduction.proofs.Lent.plain_reduce.Lts as lts
 
 no-arc-requires : tie.Need-no-arc-requires
 no-arc-requires c κs = search needs

@@ -45,164 +45,149 @@ use prog.Wp
 use types.Kit
 use Rattle.restoration.proofs.Lent.Rec
 
-abbrev pub q55 : Row.Entry
-q55 = (9, Rows.any-gone Syntax.tyUnit)
+abbrev pub q50 : Row.Entry
+q50 = (9, Rows.any-gone Syntax.tyUnit)
 
-abbrev pub q54 : Row.Row
-q54 = Rows.whole (Declared.row Answer·.the-type)
+abbrev pub q49 : Row.Row
+q49 = Rows.whole (Declared.row Answer·.the-type)
 
-abbrev pub q53 : Row.Entry
-q53 = (8, Rows.whole (Declared.row Answer·.the-type))
-
-abbrev pub q52 : Syntax.Ty
-q52 = Syntax.tyRef Syntax.erased Syntax.mut Rec.named
-
-abbrev pub q51 : Syntax.Ty
-q51 = Syntax.tyRef (Syntax.named 6) Syntax.mut Rec.named
-
-abbrev pub q50 : Syntax.Ty
-q50 = Syntax.tyRef Syntax.erased Syntax.mut (Syntax.tyInt Syntax.w32)
-
-abbrev pub q49 : Syntax.Ty
-q49 = Syntax.tyRef (Syntax.named 5) Syntax.mut (Syntax.tyInt Syntax.w32)
-
-abbrev pub q48 : Syntax.Ty
-q48 = Syntax.tyRef (Syntax.named 4) Syntax.mut (Syntax.tyInt Syntax.w32)
+abbrev pub q48 : Row.Entry
+q48 = (8, Rows.whole (Declared.row Answer·.the-type))
 
 abbrev pub q47 : Syntax.Ty
-q47 = Syntax.tyRef (Syntax.named 3) Syntax.mut (Syntax.tyInt Syntax.w32)
+q47 = Syntax.tyRef Syntax.erased Syntax.mut Rec.named
 
 abbrev pub q46 : Syntax.Ty
-q46 = Syntax.tyRef (Syntax.named 2) Syntax.imm (Syntax.tyInt Syntax.w32)
+q46 = Syntax.tyRef (Syntax.named 6) Syntax.mut Rec.named
 
 abbrev pub q45 : Syntax.Ty
-q45 = Syntax.tyRef (Syntax.named 1) Syntax.imm (Syntax.tyInt Syntax.w32)
+q45 = Syntax.tyRef Syntax.erased Syntax.mut (Syntax.tyInt Syntax.w32)
 
 abbrev pub q44 : Syntax.Ty
-q44 = Syntax.tyRef (Syntax.named 0) Syntax.imm (Syntax.tyInt Syntax.w32)
+q44 = Syntax.tyRef (Syntax.named 5) Syntax.mut (Syntax.tyInt Syntax.w32)
 
-abbrev pub q43 : Row.Entry
-q43 = (26, Rows.any-gone q52)
+abbrev pub q43 : Syntax.Ty
+q43 = Syntax.tyRef (Syntax.named 4) Syntax.mut (Syntax.tyInt Syntax.w32)
 
-abbrev pub q42 : Row.Entry
-q42 = (22, Rows.any-gone q52)
+abbrev pub q42 : Syntax.Ty
+q42 = Syntax.tyRef (Syntax.named 3) Syntax.mut (Syntax.tyInt Syntax.w32)
 
-abbrev pub q41 : Row.Entry
-q41 = (14, Rows.any-gone q52)
+abbrev pub q41 : Syntax.Ty
+q41 = Syntax.tyRef (Syntax.named 2) Syntax.imm (Syntax.tyInt Syntax.w32)
 
-abbrev pub q40 : Row.Entry
-q40 = (23, Mut.msleft Rec.row q52)
+abbrev pub q40 : Syntax.Ty
+q40 = Syntax.tyRef (Syntax.named 1) Syntax.imm (Syntax.tyInt Syntax.w32)
 
-abbrev pub q39 : Row.Entry
-q39 = (15, Mut.msleft Rec.row q52)
+abbrev pub q39 : Syntax.Ty
+q39 = Syntax.tyRef (Syntax.named 0) Syntax.imm (Syntax.tyInt Syntax.w32)
 
 abbrev pub q38 : Row.Entry
-q38 = (7, Mut.mslice Rec.row q51 6)
+q38 = (24, Rows.any-gone q47)
 
 abbrev pub q37 : Row.Entry
-q37 = (24, Rows.any-gone q50)
+q37 = (20, Rows.any-gone q47)
 
 abbrev pub q36 : Row.Entry
-q36 = (20, Rows.any-gone q50)
+q36 = (7, Mut.mslice Rec.row q46 6)
 
 abbrev pub q35 : Row.Entry
-q35 = (18, Rows.any-gone q50)
+q35 = (22, Rows.any-gone q45)
 
 abbrev pub q34 : Row.Entry
-q34 = (16, Rows.any-gone q50)
+q34 = (18, Rows.any-gone q45)
 
 abbrev pub q33 : Row.Entry
-q33 = (12, Rows.any-gone q50)
+q33 = (16, Rows.any-gone q45)
 
 abbrev pub q32 : Row.Entry
-q32 = (10, Rows.any-gone q50)
+q32 = (14, Rows.any-gone q45)
 
 abbrev pub q31 : Row.Entry
-q31 = (7, Relend.mslice-owed Rec.row q51 6 9 Row.off)
+q31 = (12, Rows.any-gone q45)
 
 abbrev pub q30 : Row.Entry
-q30 = (7, Relend.mslice-owed Rec.row q51 6 13 Row.off)
+q30 = (10, Rows.any-gone q45)
 
-abbrev pub q29 : Row.Row
-q29 = Mut.msleft (Signed.SInt Syntax.w32) q50
+abbrev pub q29 : Row.Entry
+q29 = (7, Relend.mslice-owed Rec.row q46 6 12 Row.off)
 
-abbrev pub q28 : Row.Entry
-q28 = (13, Mut.msleft (Signed.SInt Syntax.w32) q50)
+abbrev pub q28 : Row.Row
+q28 = Mut.msleft (Signed.SInt Syntax.w32) q45
 
 abbrev pub q27 : Row.Entry
-q27 = (11, Mut.msleft (Signed.SInt Syntax.w32) q50)
+q27 = (13, Mut.msleft (Signed.SInt Syntax.w32) q45)
 
 abbrev pub q26 : Row.Entry
-q26 = (19, Mut.mslice (Signed.SInt Syntax.w32) q50 11)
+q26 = (11, Mut.msleft (Signed.SInt Syntax.w32) q45)
 
 abbrev pub q25 : Row.Entry
-q25 = (17, Mut.mslice (Signed.SInt Syntax.w32) q50 10)
+q25 = (15, Mut.mslice (Signed.SInt Syntax.w32) q45 9)
 
 abbrev pub q24 : Row.Entry
-q24 = (6, Mut.mslice (Signed.SInt Syntax.w32) q49 5)
+q24 = (17, Mut.mslice (Signed.SInt Syntax.w32) q45 10)
 
 abbrev pub q23 : Row.Entry
-q23 = (5, Mut.mslice (Signed.SInt Syntax.w32) q48 4)
+q23 = (6, Mut.mslice (Signed.SInt Syntax.w32) q44 5)
 
 abbrev pub q22 : Row.Entry
-q22 = (4, Mut.mslice (Signed.SInt Syntax.w32) q47 3)
+q22 = (5, Mut.mslice (Signed.SInt Syntax.w32) q43 4)
 
 abbrev pub q21 : Row.Entry
-q21 = (3, Rows.sslice (Signed.SInt Syntax.w32) q46 2)
+q21 = (4, Mut.mslice (Signed.SInt Syntax.w32) q42 3)
 
 abbrev pub q20 : Row.Entry
-q20 = (2, Rows.sslice (Signed.SInt Syntax.w32) q45 1)
+q20 = (3, Rows.sslice (Signed.SInt Syntax.w32) q41 2)
 
 abbrev pub q19 : Row.Entry
-q19 = (1, Rows.sslice (Signed.SInt Syntax.w32) q44 0)
+q19 = (2, Rows.sslice (Signed.SInt Syntax.w32) q40 1)
 
 abbrev pub q18 : Row.Entry
-q18 = (5, Relend.mslice-owed (Signed.SInt Syntax.w32) q48 4 8 Row.off)
+q18 = (1, Rows.sslice (Signed.SInt Syntax.w32) q39 0)
 
 abbrev pub q17 : Row.Entry
-q17 = (4, Relend.mslice-owed (Signed.SInt Syntax.w32) q47 3 7 Row.off)
+q17 = (4, Relend.mslice-owed (Signed.SInt Syntax.w32) q42 3 9 Row.off)
 
 abbrev pub q16 : Row.Entry
-q16 = (6, Relend.mslice-owed (Signed.SInt Syntax.w32) q49 5 12 Row.off)
+q16 = (5, Relend.mslice-owed (Signed.SInt Syntax.w32) q43 4 8 Row.off)
 
 abbrev pub q15 : Row.Entry
-q15 = (5, Relend.mslice-owed (Signed.SInt Syntax.w32) q48 4 11 Row.off)
+q15 = (4, Relend.mslice-owed (Signed.SInt Syntax.w32) q42 3 7 Row.off)
 
 abbrev pub q14 : Row.Entry
-q14 = (4, Relend.mslice-owed (Signed.SInt Syntax.w32) q47 3 10 Row.off)
+q14 = (6, Relend.mslice-owed (Signed.SInt Syntax.w32) q44 5 11 Row.off)
 
-abbrev pub q13 : Syntax.Ty
-q13 = Syntax.tyStruct (L._∷_ 38 (L._∷_ 91 (L._∷_ 93 L.[]))) (Syntax.tcons q52 (Syntax.tcons (Syntax.tyInt Syntax.w64) Syntax.tnil))
+abbrev pub q13 : Row.Entry
+q13 = (5, Relend.mslice-owed (Signed.SInt Syntax.w32) q43 4 10 Row.off)
 
 abbrev pub q12 : Syntax.Ty
-q12 = Syntax.tyStruct (L._∷_ 38 (L._∷_ 91 (L._∷_ 93 L.[]))) (Syntax.tcons q50 (Syntax.tcons (Syntax.tyInt Syntax.w64) Syntax.tnil))
+q12 = Syntax.tyStruct (L._∷_ 38 (L._∷_ 91 (L._∷_ 93 L.[]))) (Syntax.tcons q47 (Syntax.tcons (Syntax.tyInt Syntax.w64) Syntax.tnil))
 
-abbrev pub q11 : Row.Entry
-q11 = (27, Rows.any-gone q13)
+abbrev pub q11 : Syntax.Ty
+q11 = Syntax.tyStruct (L._∷_ 38 (L._∷_ 91 (L._∷_ 93 L.[]))) (Syntax.tcons q45 (Syntax.tcons (Syntax.tyInt Syntax.w64) Syntax.tnil))
 
 abbrev pub q10 : Row.Entry
-q10 = (23, Rows.any-gone q13)
+q10 = (25, Rows.any-gone q12)
 
 abbrev pub q9 : Row.Entry
-q9 = (15, Rows.any-gone q13)
+q9 = (21, Rows.any-gone q12)
 
 abbrev pub q8 : Row.Entry
-q8 = (25, Rows.any-gone q12)
+q8 = (23, Rows.any-gone q11)
 
 abbrev pub q7 : Row.Entry
-q7 = (21, Rows.any-gone q12)
+q7 = (19, Rows.any-gone q11)
 
 abbrev pub q6 : Row.Entry
-q6 = (19, Rows.any-gone q12)
+q6 = (17, Rows.any-gone q11)
 
 abbrev pub q5 : Row.Entry
-q5 = (17, Rows.any-gone q12)
+q5 = (15, Rows.any-gone q11)
 
 abbrev pub q4 : Row.Entry
-q4 = (13, Rows.any-gone q12)
+q4 = (13, Rows.any-gone q11)
 
 abbrev pub q3 : Row.Entry
-q3 = (11, Rows.any-gone q12)
+q3 = (11, Rows.any-gone q11)
 
 abbrev pub q2 : Syntax.Ty
 q2 = Syntax.tyEnum (L._∷_ 114 (L._∷_ 101 (L._∷_ 115 (L._∷_ 116 (L._∷_ 111 (L._∷_ 114 (L._∷_ 97 (L._∷_ 116 (L._∷_ 105 (L._∷_ 111 (L._∷_ 110 (L._∷_ 58 (L._∷_ 58 (L._∷_ 65 (L._∷_ 110 (L._∷_ 115 (L._∷_ 119 (L._∷_ 101 (L._∷_ 114 L.[]))))))))))))))))))) (Syntax.ttcons Syntax.tnil (Syntax.ttcons (Syntax.tcons (Syntax.tyInt Syntax.w64) Syntax.tnil) Syntax.ttnil))
@@ -220,10 +205,10 @@ abbrev pub r : FnKinds.RK 7
 r = Value.rVal record { ty = Declared.row Answer·.the-type; one = Path.refl; val = EnumLaws.val Answer·.the-type Answer-Laws·.the-laws; tells = EnumLaws.tells Answer·.the-type Answer-Laws·.the-laws; still = EnumLaws.still Answer·.the-type Answer-Laws·.the-copy Exit.yes; row = Rows.whole (Declared.row Answer·.the-type); rd = λ x. x; mk = λ x. x } λ M 𝓤 H A W. record { copies = EnumLaws.copy Answer·.the-type Answer-Laws·.the-copy 𝓤 H A W; lawful = EnumLaws.lawful Answer·.the-type Answer-Laws·.the-laws 𝓤 H A W tt; makes = EnumLaws.makes Answer·.the-type Answer-Laws·.the-plain 𝓤 H A; in-mem = Local.mem-whole 𝓤 H A W (Declared.row Answer·.the-type); of-mem = Local.whole-mem 𝓤 H A W (Declared.row Answer·.the-type) }
 
 abbrev pub xs : L.List Syntax.Ty
-xs = L._∷_ q2 (L._∷_ Syntax.tyUnit (L._∷_ q50 (L._∷_ q12 (L._∷_ q50 (L._∷_ q12 (L._∷_ q52 (L._∷_ q13 (L._∷_ q50 (L._∷_ q12 (L._∷_ q50 (L._∷_ q12 (L._∷_ q50 (L._∷_ q12 (L._∷_ q52 (L._∷_ q13 (L._∷_ q50 (L._∷_ q12 (L._∷_ q52 (L._∷_ q13 L.[])))))))))))))))))))
+xs = L._∷_ q2 (L._∷_ Syntax.tyUnit (L._∷_ q45 (L._∷_ q11 (L._∷_ q45 (L._∷_ q11 (L._∷_ q45 (L._∷_ q11 (L._∷_ q45 (L._∷_ q11 (L._∷_ q45 (L._∷_ q11 (L._∷_ q47 (L._∷_ q12 (L._∷_ q45 (L._∷_ q11 (L._∷_ q47 (L._∷_ q12 L.[])))))))))))))))))
 
 abbrev pub m : Nat.ℕ
-m = 9
+m = 8
 
 abbrev pub ps·0 : L.List (FnKinds.PK 1)
 ps·0 = L._∷_ (MutSlice.pMutS (Signed.SInt Syntax.w32) 0 tt) L.[]
@@ -231,20 +216,20 @@ ps·0 = L._∷_ (MutSlice.pMutS (Signed.SInt Syntax.w32) 0 tt) L.[]
 abbrev pub r·0 : FnKinds.RK 1
 r·0 = KUnit.rUnit
 
-abbrev pub ps·1 : L.List (FnKinds.PK 1)
-ps·1 = L._∷_ (MutSlice.pMutS Rec.row 0 tt) L.[]
+abbrev pub ps·1 : L.List (FnKinds.PK 7)
+ps·1 = L._∷_ (ShrSlice.pShrS (Signed.SInt Syntax.w32) 0 tt) (L._∷_ (ShrSlice.pShrS (Signed.SInt Syntax.w32) 1 tt) (L._∷_ (ShrSlice.pShrS (Signed.SInt Syntax.w32) 2 tt) (L._∷_ (MutSlice.pMutS (Signed.SInt Syntax.w32) 3 tt) (L._∷_ (MutSlice.pMutS (Signed.SInt Syntax.w32) 4 tt) (L._∷_ (MutSlice.pMutS (Signed.SInt Syntax.w32) 5 tt) (L._∷_ (MutSlice.pMutS Rec.row 6 tt) L.[]))))))
 
-abbrev pub r·1 : FnKinds.RK 1
-r·1 = KUnit.rUnit
+abbrev pub r·1 : FnKinds.RK 7
+r·1 = Value.rVal record { ty = Declared.row Answer·.the-type; one = Path.refl; val = EnumLaws.val Answer·.the-type Answer-Laws·.the-laws; tells = EnumLaws.tells Answer·.the-type Answer-Laws·.the-laws; still = EnumLaws.still Answer·.the-type Answer-Laws·.the-copy Exit.yes; row = Rows.whole (Declared.row Answer·.the-type); rd = λ x. x; mk = λ x. x } λ M 𝓤 H A W. record { copies = EnumLaws.copy Answer·.the-type Answer-Laws·.the-copy 𝓤 H A W; lawful = EnumLaws.lawful Answer·.the-type Answer-Laws·.the-laws 𝓤 H A W tt; makes = EnumLaws.makes Answer·.the-type Answer-Laws·.the-plain 𝓤 H A; in-mem = Local.mem-whole 𝓤 H A W (Declared.row Answer·.the-type); of-mem = Local.whole-mem 𝓤 H A W (Declared.row Answer·.the-type) }
 
-abbrev pub ps·2 : L.List (FnKinds.PK 7)
-ps·2 = L._∷_ (ShrSlice.pShrS (Signed.SInt Syntax.w32) 0 tt) (L._∷_ (ShrSlice.pShrS (Signed.SInt Syntax.w32) 1 tt) (L._∷_ (ShrSlice.pShrS (Signed.SInt Syntax.w32) 2 tt) (L._∷_ (MutSlice.pMutS (Signed.SInt Syntax.w32) 3 tt) (L._∷_ (MutSlice.pMutS (Signed.SInt Syntax.w32) 4 tt) (L._∷_ (MutSlice.pMutS (Signed.SInt Syntax.w32) 5 tt) (L._∷_ (MutSlice.pMutS Rec.row 6 tt) L.[]))))))
+abbrev pub ps·2 : L.List (FnKinds.PK 1)
+ps·2 = L._∷_ (MutSlice.pMutS Rec.row 0 tt) L.[]
 
-abbrev pub r·2 : FnKinds.RK 7
-r·2 = Value.rVal record { ty = Declared.row Answer·.the-type; one = Path.refl; val = EnumLaws.val Answer·.the-type Answer-Laws·.the-laws; tells = EnumLaws.tells Answer·.the-type Answer-Laws·.the-laws; still = EnumLaws.still Answer·.the-type Answer-Laws·.the-copy Exit.yes; row = Rows.whole (Declared.row Answer·.the-type); rd = λ x. x; mk = λ x. x } λ M 𝓤 H A W. record { copies = EnumLaws.copy Answer·.the-type Answer-Laws·.the-copy 𝓤 H A W; lawful = EnumLaws.lawful Answer·.the-type Answer-Laws·.the-laws 𝓤 H A W tt; makes = EnumLaws.makes Answer·.the-type Answer-Laws·.the-plain 𝓤 H A; in-mem = Local.mem-whole 𝓤 H A W (Declared.row Answer·.the-type); of-mem = Local.whole-mem 𝓤 H A W (Declared.row Answer·.the-type) }
+abbrev pub r·2 : FnKinds.RK 1
+r·2 = KUnit.rUnit
 
 abbrev pub hs : L.List Syntax.Home
-hs = L._∷_ Syntax.valueLocal (L._∷_ Syntax.valueLocal (L._∷_ Syntax.valueLocal (L._∷_ Syntax.valueLocal (L._∷_ Syntax.valueLocal (L._∷_ Syntax.valueLocal (L._∷_ Syntax.valueLocal (L._∷_ Syntax.valueLocal (L._∷_ Syntax.valueLocal (L._∷_ Syntax.valueLocal (L._∷_ Syntax.valueLocal (L._∷_ Syntax.valueLocal (L._∷_ Syntax.valueLocal (L._∷_ Syntax.valueLocal (L._∷_ Syntax.valueLocal (L._∷_ Syntax.valueLocal (L._∷_ Syntax.valueLocal (L._∷_ Syntax.valueLocal (L._∷_ Syntax.valueLocal (L._∷_ Syntax.valueLocal (L._∷_ Syntax.valueLocal (L._∷_ Syntax.valueLocal (L._∷_ Syntax.valueLocal (L._∷_ Syntax.valueLocal (L._∷_ Syntax.valueLocal (L._∷_ Syntax.valueLocal (L._∷_ Syntax.valueLocal (L._∷_ Syntax.valueLocal L.[])))))))))))))))))))))))))))
+hs = L._∷_ Syntax.valueLocal (L._∷_ Syntax.valueLocal (L._∷_ Syntax.valueLocal (L._∷_ Syntax.valueLocal (L._∷_ Syntax.valueLocal (L._∷_ Syntax.valueLocal (L._∷_ Syntax.valueLocal (L._∷_ Syntax.valueLocal (L._∷_ Syntax.valueLocal (L._∷_ Syntax.valueLocal (L._∷_ Syntax.valueLocal (L._∷_ Syntax.valueLocal (L._∷_ Syntax.valueLocal (L._∷_ Syntax.valueLocal (L._∷_ Syntax.valueLocal (L._∷_ Syntax.valueLocal (L._∷_ Syntax.valueLocal (L._∷_ Syntax.valueLocal (L._∷_ Syntax.valueLocal (L._∷_ Syntax.valueLocal (L._∷_ Syntax.valueLocal (L._∷_ Syntax.valueLocal (L._∷_ Syntax.valueLocal (L._∷_ Syntax.valueLocal (L._∷_ Syntax.valueLocal (L._∷_ Syntax.valueLocal L.[])))))))))))))))))))))))))
 
 abbrev b0 : Syntax.Body
 b0 = Syntax.assign (Syntax.place 10 L.[]) (Syntax.addrOf (Syntax.place 4 (L._∷_ (Syntax.field 0) (L._∷_ (Syntax.deref (Syntax.tyInt Syntax.w32)) L.[]))))
@@ -265,286 +250,250 @@ abbrev b5 : Syntax.Body
 b5 = Syntax.call "loops::clear" (L._∷_ (Syntax.copy (Syntax.place 13 L.[])) L.[]) (Syntax.place 9 L.[])
 
 abbrev b6 : Syntax.Body
-b6 = Syntax.assign (Syntax.place 14 L.[]) (Syntax.addrOf (Syntax.place 7 (L._∷_ (Syntax.field 0) (L._∷_ (Syntax.deref Rec.by-value) L.[]))))
+b6 = Syntax.assign (Syntax.place 14 L.[]) (Syntax.addrOf (Syntax.place 4 (L._∷_ (Syntax.field 0) (L._∷_ (Syntax.deref (Syntax.tyInt Syntax.w32)) L.[]))))
 
 abbrev b7 : Syntax.Body
-b7 = Syntax.assign (Syntax.place 15 L.[]) (Syntax.aggregate (L._∷_ (Syntax.copy (Syntax.place 14 L.[])) (L._∷_ (Syntax.copy (Syntax.place 7 (L._∷_ (Syntax.field 1) L.[]))) L.[])))
+b7 = Syntax.assign (Syntax.place 15 L.[]) (Syntax.aggregate (L._∷_ (Syntax.copy (Syntax.place 14 L.[])) (L._∷_ (Syntax.copy (Syntax.place 4 (L._∷_ (Syntax.field 1) L.[]))) L.[])))
 
 abbrev b8 : Syntax.Body
-b8 = Syntax.call "network::list::clear" (L._∷_ (Syntax.copy (Syntax.place 15 L.[])) L.[]) (Syntax.place 9 L.[])
+b8 = Syntax.assign (Syntax.place 16 L.[]) (Syntax.addrOf (Syntax.place 5 (L._∷_ (Syntax.field 0) (L._∷_ (Syntax.deref (Syntax.tyInt Syntax.w32)) L.[]))))
 
 abbrev b9 : Syntax.Body
-b9 = Syntax.assign (Syntax.place 16 L.[]) (Syntax.addrOf (Syntax.place 4 (L._∷_ (Syntax.field 0) (L._∷_ (Syntax.deref (Syntax.tyInt Syntax.w32)) L.[]))))
+b9 = Syntax.assign (Syntax.place 17 L.[]) (Syntax.aggregate (L._∷_ (Syntax.copy (Syntax.place 16 L.[])) (L._∷_ (Syntax.copy (Syntax.place 5 (L._∷_ (Syntax.field 1) L.[]))) L.[])))
 
 abbrev b10 : Syntax.Body
-b10 = Syntax.assign (Syntax.place 17 L.[]) (Syntax.aggregate (L._∷_ (Syntax.copy (Syntax.place 16 L.[])) (L._∷_ (Syntax.copy (Syntax.place 4 (L._∷_ (Syntax.field 1) L.[]))) L.[])))
+b10 = Syntax.assign (Syntax.place 18 L.[]) (Syntax.addrOf (Syntax.place 6 (L._∷_ (Syntax.field 0) (L._∷_ (Syntax.deref (Syntax.tyInt Syntax.w32)) L.[]))))
 
 abbrev b11 : Syntax.Body
-b11 = Syntax.assign (Syntax.place 18 L.[]) (Syntax.addrOf (Syntax.place 5 (L._∷_ (Syntax.field 0) (L._∷_ (Syntax.deref (Syntax.tyInt Syntax.w32)) L.[]))))
+b11 = Syntax.assign (Syntax.place 19 L.[]) (Syntax.aggregate (L._∷_ (Syntax.copy (Syntax.place 18 L.[])) (L._∷_ (Syntax.copy (Syntax.place 6 (L._∷_ (Syntax.field 1) L.[]))) L.[])))
 
 abbrev b12 : Syntax.Body
-b12 = Syntax.assign (Syntax.place 19 L.[]) (Syntax.aggregate (L._∷_ (Syntax.copy (Syntax.place 18 L.[])) (L._∷_ (Syntax.copy (Syntax.place 5 (L._∷_ (Syntax.field 1) L.[]))) L.[])))
+b12 = Syntax.assign (Syntax.place 20 L.[]) (Syntax.addrOf (Syntax.place 7 (L._∷_ (Syntax.field 0) (L._∷_ (Syntax.deref Rec.by-value) L.[]))))
 
 abbrev b13 : Syntax.Body
-b13 = Syntax.assign (Syntax.place 20 L.[]) (Syntax.addrOf (Syntax.place 6 (L._∷_ (Syntax.field 0) (L._∷_ (Syntax.deref (Syntax.tyInt Syntax.w32)) L.[]))))
+b13 = Syntax.assign (Syntax.place 21 L.[]) (Syntax.aggregate (L._∷_ (Syntax.copy (Syntax.place 20 L.[])) (L._∷_ (Syntax.copy (Syntax.place 7 (L._∷_ (Syntax.field 1) L.[]))) L.[])))
 
 abbrev b14 : Syntax.Body
-b14 = Syntax.assign (Syntax.place 21 L.[]) (Syntax.aggregate (L._∷_ (Syntax.copy (Syntax.place 20 L.[])) (L._∷_ (Syntax.copy (Syntax.place 6 (L._∷_ (Syntax.field 1) L.[]))) L.[])))
+b14 = Syntax.call "restoration::restore_in" (L._∷_ (Syntax.copy (Syntax.place 1 L.[])) (L._∷_ (Syntax.copy (Syntax.place 2 L.[])) (L._∷_ (Syntax.copy (Syntax.place 3 L.[])) (L._∷_ (Syntax.copy (Syntax.place 15 L.[])) (L._∷_ (Syntax.copy (Syntax.place 17 L.[])) (L._∷_ (Syntax.copy (Syntax.place 19 L.[])) (L._∷_ (Syntax.copy (Syntax.place 21 L.[])) L.[]))))))) (Syntax.place 8 L.[])
 
 abbrev b15 : Syntax.Body
-b15 = Syntax.assign (Syntax.place 22 L.[]) (Syntax.addrOf (Syntax.place 7 (L._∷_ (Syntax.field 0) (L._∷_ (Syntax.deref Rec.by-value) L.[]))))
+b15 = Syntax.assign (Syntax.place 22 L.[]) (Syntax.addrOf (Syntax.place 6 (L._∷_ (Syntax.field 0) (L._∷_ (Syntax.deref (Syntax.tyInt Syntax.w32)) L.[]))))
 
 abbrev b16 : Syntax.Body
-b16 = Syntax.assign (Syntax.place 23 L.[]) (Syntax.aggregate (L._∷_ (Syntax.copy (Syntax.place 22 L.[])) (L._∷_ (Syntax.copy (Syntax.place 7 (L._∷_ (Syntax.field 1) L.[]))) L.[])))
+b16 = Syntax.assign (Syntax.place 23 L.[]) (Syntax.aggregate (L._∷_ (Syntax.copy (Syntax.place 22 L.[])) (L._∷_ (Syntax.copy (Syntax.place 6 (L._∷_ (Syntax.field 1) L.[]))) L.[])))
 
 abbrev b17 : Syntax.Body
-b17 = Syntax.call "restoration::ask_all" (L._∷_ (Syntax.copy (Syntax.place 1 L.[])) (L._∷_ (Syntax.copy (Syntax.place 2 L.[])) (L._∷_ (Syntax.copy (Syntax.place 3 L.[])) (L._∷_ (Syntax.copy (Syntax.place 17 L.[])) (L._∷_ (Syntax.copy (Syntax.place 19 L.[])) (L._∷_ (Syntax.copy (Syntax.place 21 L.[])) (L._∷_ (Syntax.copy (Syntax.place 23 L.[])) L.[]))))))) (Syntax.place 8 L.[])
+b17 = Syntax.call "loops::clear" (L._∷_ (Syntax.copy (Syntax.place 23 L.[])) L.[]) (Syntax.place 9 L.[])
 
 abbrev b18 : Syntax.Body
-b18 = Syntax.assign (Syntax.place 24 L.[]) (Syntax.addrOf (Syntax.place 6 (L._∷_ (Syntax.field 0) (L._∷_ (Syntax.deref (Syntax.tyInt Syntax.w32)) L.[]))))
+b18 = Syntax.assign (Syntax.place 24 L.[]) (Syntax.addrOf (Syntax.place 7 (L._∷_ (Syntax.field 0) (L._∷_ (Syntax.deref Rec.by-value) L.[]))))
 
 abbrev b19 : Syntax.Body
-b19 = Syntax.assign (Syntax.place 25 L.[]) (Syntax.aggregate (L._∷_ (Syntax.copy (Syntax.place 24 L.[])) (L._∷_ (Syntax.copy (Syntax.place 6 (L._∷_ (Syntax.field 1) L.[]))) L.[])))
+b19 = Syntax.assign (Syntax.place 25 L.[]) (Syntax.aggregate (L._∷_ (Syntax.copy (Syntax.place 24 L.[])) (L._∷_ (Syntax.copy (Syntax.place 7 (L._∷_ (Syntax.field 1) L.[]))) L.[])))
 
 abbrev b20 : Syntax.Body
-b20 = Syntax.call "loops::clear" (L._∷_ (Syntax.copy (Syntax.place 25 L.[])) L.[]) (Syntax.place 9 L.[])
+b20 = Syntax.call "network::list::clear" (L._∷_ (Syntax.copy (Syntax.place 25 L.[])) L.[]) (Syntax.place 9 L.[])
 
 abbrev b21 : Syntax.Body
-b21 = Syntax.assign (Syntax.place 26 L.[]) (Syntax.addrOf (Syntax.place 7 (L._∷_ (Syntax.field 0) (L._∷_ (Syntax.deref Rec.by-value) L.[]))))
+b21 = Syntax.assign (Syntax.place 0 L.[]) (Syntax.rvOpd (Syntax.copy (Syntax.place 8 L.[])))
 
 abbrev b22 : Syntax.Body
-b22 = Syntax.assign (Syntax.place 27 L.[]) (Syntax.aggregate (L._∷_ (Syntax.copy (Syntax.place 26 L.[])) (L._∷_ (Syntax.copy (Syntax.place 7 (L._∷_ (Syntax.field 1) L.[]))) L.[])))
+b22 = Syntax.return
 
 abbrev b23 : Syntax.Body
-b23 = Syntax.call "network::list::clear" (L._∷_ (Syntax.copy (Syntax.place 27 L.[])) L.[]) (Syntax.place 9 L.[])
+b23 = Syntax.seq b21 b22
 
 abbrev b24 : Syntax.Body
-b24 = Syntax.assign (Syntax.place 0 L.[]) (Syntax.rvOpd (Syntax.copy (Syntax.place 8 L.[])))
+b24 = Syntax.seq b20 b23
 
 abbrev b25 : Syntax.Body
-b25 = Syntax.return
+b25 = Syntax.seq b19 b24
 
 abbrev b26 : Syntax.Body
-b26 = Syntax.seq b24 b25
+b26 = Syntax.seq b18 b25
 
 abbrev b27 : Syntax.Body
-b27 = Syntax.seq b23 b26
+b27 = Syntax.seq b17 b26
 
 abbrev b28 : Syntax.Body
-b28 = Syntax.seq b22 b27
+b28 = Syntax.seq b16 b27
 
 abbrev b29 : Syntax.Body
-b29 = Syntax.seq b21 b28
+b29 = Syntax.seq b15 b28
 
 abbrev b30 : Syntax.Body
-b30 = Syntax.seq b20 b29
+b30 = Syntax.seq b14 b29
 
 abbrev b31 : Syntax.Body
-b31 = Syntax.seq b19 b30
+b31 = Syntax.seq b13 b30
 
 abbrev b32 : Syntax.Body
-b32 = Syntax.seq b18 b31
+b32 = Syntax.seq b12 b31
 
 abbrev b33 : Syntax.Body
-b33 = Syntax.seq b17 b32
+b33 = Syntax.seq b11 b32
 
 abbrev b34 : Syntax.Body
-b34 = Syntax.seq b16 b33
+b34 = Syntax.seq b10 b33
 
 abbrev b35 : Syntax.Body
-b35 = Syntax.seq b15 b34
+b35 = Syntax.seq b9 b34
 
 abbrev b36 : Syntax.Body
-b36 = Syntax.seq b14 b35
+b36 = Syntax.seq b8 b35
 
 abbrev b37 : Syntax.Body
-b37 = Syntax.seq b13 b36
+b37 = Syntax.seq b7 b36
 
 abbrev b38 : Syntax.Body
-b38 = Syntax.seq b12 b37
+b38 = Syntax.seq b6 b37
 
 abbrev b39 : Syntax.Body
-b39 = Syntax.seq b11 b38
+b39 = Syntax.seq b5 b38
 
 abbrev b40 : Syntax.Body
-b40 = Syntax.seq b10 b39
+b40 = Syntax.seq b4 b39
 
 abbrev b41 : Syntax.Body
-b41 = Syntax.seq b9 b40
+b41 = Syntax.seq b3 b40
 
 abbrev b42 : Syntax.Body
-b42 = Syntax.seq b8 b41
+b42 = Syntax.seq b2 b41
 
 abbrev b43 : Syntax.Body
-b43 = Syntax.seq b7 b42
+b43 = Syntax.seq b1 b42
 
 abbrev b44 : Syntax.Body
-b44 = Syntax.seq b6 b43
-
-abbrev b45 : Syntax.Body
-b45 = Syntax.seq b5 b44
-
-abbrev b46 : Syntax.Body
-b46 = Syntax.seq b4 b45
-
-abbrev b47 : Syntax.Body
-b47 = Syntax.seq b3 b46
-
-abbrev b48 : Syntax.Body
-b48 = Syntax.seq b2 b47
-
-abbrev b49 : Syntax.Body
-b49 = Syntax.seq b1 b48
-
-abbrev b50 : Syntax.Body
-b50 = Syntax.seq b0 b49
+b44 = Syntax.seq b0 b43
 
 abbrev pub body : Syntax.Body
-body = b50
+body = b44
 
 abbrev pub Claims : Type 1
-Claims = FnKinds.In 1 ps·0 × FnKinds.Out 1 ps·0 r·0 × FnKinds.In 1 ps·1 × FnKinds.Out 1 ps·1 r·1 × FnKinds.In 7 ps·2 × FnKinds.Out 7 ps·2 r·2
+Claims = FnKinds.In 1 ps·0 × FnKinds.Out 1 ps·0 r·0 × FnKinds.In 7 ps·1 × FnKinds.Out 7 ps·1 r·1 × FnKinds.In 1 ps·2 × FnKinds.Out 1 ps·2 r·2
 
 abbrev pub t0 : L.List Row.Entry
-t0 = L._∷_ q0 (L._∷_ q19 (L._∷_ q20 (L._∷_ q21 (L._∷_ q22 (L._∷_ q23 (L._∷_ q24 (L._∷_ q38 (L._∷_ q1 (L._∷_ q55 (L._∷_ q32 (L._∷_ q3 (L._∷_ q33 (L._∷_ q4 (L._∷_ q41 (L._∷_ q9 L.[])))))))))))))))
+t0 = L._∷_ q0 (L._∷_ q18 (L._∷_ q19 (L._∷_ q20 (L._∷_ q21 (L._∷_ q22 (L._∷_ q23 (L._∷_ q36 (L._∷_ q1 (L._∷_ q50 (L._∷_ q30 (L._∷_ q3 (L._∷_ q31 (L._∷_ q4 (L._∷_ q32 (L._∷_ q5 L.[])))))))))))))))
 
 abbrev pub t1 : L.List Row.Entry
-t1 = L._∷_ q34 (L._∷_ q5 (L._∷_ q35 (L._∷_ q6 (L._∷_ q36 (L._∷_ q7 (L._∷_ q42 (L._∷_ q10 (L._∷_ q37 (L._∷_ q8 (L._∷_ q43 (L._∷_ q11 L.[])))))))))))
+t1 = L._∷_ q33 (L._∷_ q6 (L._∷_ q34 (L._∷_ q7 (L._∷_ q37 (L._∷_ q9 (L._∷_ q35 (L._∷_ q8 (L._∷_ q38 (L._∷_ q10 L.[])))))))))
 
 abbrev pub t2 : L.List Row.Entry
-t2 = L._∷_ (0, Rows.whole (Declared.row Answer·.the-type)) (L._∷_ q19 (L._∷_ q20 (L._∷_ q21 (L._∷_ q22 (L._∷_ q23 (L._∷_ q24 (L._∷_ q38 (L._∷_ q1 (L._∷_ q55 (L._∷_ q32 (L._∷_ q3 (L._∷_ q33 (L._∷_ q4 (L._∷_ q41 (L._∷_ q9 L.[])))))))))))))))
+t2 = L._∷_ (0, Rows.whole (Declared.row Answer·.the-type)) (L._∷_ q18 (L._∷_ q19 (L._∷_ q20 (L._∷_ q21 (L._∷_ q22 (L._∷_ q23 (L._∷_ q36 (L._∷_ q1 (L._∷_ q50 (L._∷_ q30 (L._∷_ q3 (L._∷_ q31 (L._∷_ q4 (L._∷_ q32 (L._∷_ q5 L.[])))))))))))))))
 
 abbrev pub t3 : L.List Row.Entry
-t3 = L._∷_ q0 (L._∷_ q19 (L._∷_ q20 (L._∷_ q21 (L._∷_ q17 (L._∷_ q23 (L._∷_ q24 (L._∷_ q38 (L._∷_ q1 (L._∷_ q55 (L._∷_ (10, Relend.msptr (Signed.SInt Syntax.w32) q50 7) (L._∷_ q3 (L._∷_ q33 (L._∷_ q4 (L._∷_ q41 (L._∷_ q9 L.[])))))))))))))))
+t3 = L._∷_ q0 (L._∷_ q18 (L._∷_ q19 (L._∷_ q20 (L._∷_ q15 (L._∷_ q22 (L._∷_ q23 (L._∷_ q36 (L._∷_ q1 (L._∷_ q50 (L._∷_ (10, Relend.msptr (Signed.SInt Syntax.w32) q45 7) (L._∷_ q3 (L._∷_ q31 (L._∷_ q4 (L._∷_ q32 (L._∷_ q5 L.[])))))))))))))))
 
 abbrev pub t4 : L.List Row.Entry
-t4 = L._∷_ q0 (L._∷_ q19 (L._∷_ q20 (L._∷_ q21 (L._∷_ q17 (L._∷_ q23 (L._∷_ q24 (L._∷_ q38 (L._∷_ q1 (L._∷_ q55 (L._∷_ q32 (L._∷_ (11, Mut.mslice (Signed.SInt Syntax.w32) q50 7) (L._∷_ q33 (L._∷_ q4 (L._∷_ q41 (L._∷_ q9 L.[])))))))))))))))
+t4 = L._∷_ q0 (L._∷_ q18 (L._∷_ q19 (L._∷_ q20 (L._∷_ q15 (L._∷_ q22 (L._∷_ q23 (L._∷_ q36 (L._∷_ q1 (L._∷_ q50 (L._∷_ q30 (L._∷_ (11, Mut.mslice (Signed.SInt Syntax.w32) q45 7) (L._∷_ q31 (L._∷_ q4 (L._∷_ q32 (L._∷_ q5 L.[])))))))))))))))
 
 abbrev pub t5 : L.List Row.Entry
-t5 = L._∷_ q0 (L._∷_ q19 (L._∷_ q20 (L._∷_ q21 (L._∷_ q17 (L._∷_ q23 (L._∷_ q24 (L._∷_ q38 (L._∷_ q1 (L._∷_ (9, Rows.sc-here Row.sUnit) (L._∷_ q32 (L._∷_ q27 (L._∷_ q33 (L._∷_ q4 (L._∷_ q41 (L._∷_ q9 L.[])))))))))))))))
+t5 = L._∷_ q0 (L._∷_ q18 (L._∷_ q19 (L._∷_ q20 (L._∷_ q15 (L._∷_ q22 (L._∷_ q23 (L._∷_ q36 (L._∷_ q1 (L._∷_ (9, Rows.sc-here Row.sUnit) (L._∷_ q30 (L._∷_ q26 (L._∷_ q31 (L._∷_ q4 (L._∷_ q32 (L._∷_ q5 L.[])))))))))))))))
 
 abbrev pub t6 : L.List Row.Entry
-t6 = L._∷_ q0 (L._∷_ q19 (L._∷_ q20 (L._∷_ q21 (L._∷_ q17 (L._∷_ q23 (L._∷_ q24 (L._∷_ q38 (L._∷_ q1 (L._∷_ q55 (L._∷_ q32 (L._∷_ q27 (L._∷_ q33 (L._∷_ q4 (L._∷_ q41 (L._∷_ q9 L.[])))))))))))))))
+t6 = L._∷_ q0 (L._∷_ q18 (L._∷_ q19 (L._∷_ q20 (L._∷_ q15 (L._∷_ q22 (L._∷_ q23 (L._∷_ q36 (L._∷_ q1 (L._∷_ q50 (L._∷_ q30 (L._∷_ q26 (L._∷_ q31 (L._∷_ q4 (L._∷_ q32 (L._∷_ q5 L.[])))))))))))))))
 
 abbrev pub t7 : L.List Row.Entry
-t7 = L._∷_ q0 (L._∷_ q19 (L._∷_ q20 (L._∷_ q21 (L._∷_ q22 (L._∷_ q18 (L._∷_ q24 (L._∷_ q38 (L._∷_ q1 (L._∷_ q55 (L._∷_ q32 (L._∷_ q3 (L._∷_ (12, Relend.msptr (Signed.SInt Syntax.w32) q50 8) (L._∷_ q4 (L._∷_ q41 (L._∷_ q9 L.[])))))))))))))))
+t7 = L._∷_ q0 (L._∷_ q18 (L._∷_ q19 (L._∷_ q20 (L._∷_ q21 (L._∷_ q16 (L._∷_ q23 (L._∷_ q36 (L._∷_ q1 (L._∷_ q50 (L._∷_ q30 (L._∷_ q3 (L._∷_ (12, Relend.msptr (Signed.SInt Syntax.w32) q45 8) (L._∷_ q4 (L._∷_ q32 (L._∷_ q5 L.[])))))))))))))))
 
 abbrev pub t8 : L.List Row.Entry
-t8 = L._∷_ q0 (L._∷_ q19 (L._∷_ q20 (L._∷_ q21 (L._∷_ q22 (L._∷_ q18 (L._∷_ q24 (L._∷_ q38 (L._∷_ q1 (L._∷_ q55 (L._∷_ q32 (L._∷_ q3 (L._∷_ q33 (L._∷_ (13, Mut.mslice (Signed.SInt Syntax.w32) q50 8) (L._∷_ q41 (L._∷_ q9 L.[])))))))))))))))
+t8 = L._∷_ q0 (L._∷_ q18 (L._∷_ q19 (L._∷_ q20 (L._∷_ q21 (L._∷_ q16 (L._∷_ q23 (L._∷_ q36 (L._∷_ q1 (L._∷_ q50 (L._∷_ q30 (L._∷_ q3 (L._∷_ q31 (L._∷_ (13, Mut.mslice (Signed.SInt Syntax.w32) q45 8) (L._∷_ q32 (L._∷_ q5 L.[])))))))))))))))
 
 abbrev pub t9 : L.List Row.Entry
-t9 = L._∷_ q0 (L._∷_ q19 (L._∷_ q20 (L._∷_ q21 (L._∷_ q22 (L._∷_ q18 (L._∷_ q24 (L._∷_ q38 (L._∷_ q1 (L._∷_ (9, Rows.sc-here Row.sUnit) (L._∷_ q32 (L._∷_ q3 (L._∷_ q33 (L._∷_ q28 (L._∷_ q41 (L._∷_ q9 L.[])))))))))))))))
+t9 = L._∷_ q0 (L._∷_ q18 (L._∷_ q19 (L._∷_ q20 (L._∷_ q21 (L._∷_ q16 (L._∷_ q23 (L._∷_ q36 (L._∷_ q1 (L._∷_ (9, Rows.sc-here Row.sUnit) (L._∷_ q30 (L._∷_ q3 (L._∷_ q31 (L._∷_ q27 (L._∷_ q32 (L._∷_ q5 L.[])))))))))))))))
 
 abbrev pub t10 : L.List Row.Entry
-t10 = L._∷_ q0 (L._∷_ q19 (L._∷_ q20 (L._∷_ q21 (L._∷_ q22 (L._∷_ q18 (L._∷_ q24 (L._∷_ q38 (L._∷_ q1 (L._∷_ q55 (L._∷_ q32 (L._∷_ q3 (L._∷_ q33 (L._∷_ q28 (L._∷_ q41 (L._∷_ q9 L.[])))))))))))))))
+t10 = L._∷_ q0 (L._∷_ q18 (L._∷_ q19 (L._∷_ q20 (L._∷_ q21 (L._∷_ q16 (L._∷_ q23 (L._∷_ q36 (L._∷_ q1 (L._∷_ q50 (L._∷_ q30 (L._∷_ q3 (L._∷_ q31 (L._∷_ q27 (L._∷_ q32 (L._∷_ q5 L.[])))))))))))))))
 
 abbrev pub t11 : L.List Row.Entry
-t11 = L._∷_ q0 (L._∷_ q19 (L._∷_ q20 (L._∷_ q21 (L._∷_ q22 (L._∷_ q23 (L._∷_ q24 (L._∷_ q31 (L._∷_ q1 (L._∷_ q55 (L._∷_ q32 (L._∷_ q3 (L._∷_ q33 (L._∷_ q4 (L._∷_ (14, Relend.msptr Rec.row q52 9) (L._∷_ q9 L.[])))))))))))))))
+t11 = L._∷_ q0 (L._∷_ q18 (L._∷_ q19 (L._∷_ q20 (L._∷_ q17 (L._∷_ q22 (L._∷_ q23 (L._∷_ q36 (L._∷_ q1 (L._∷_ q50 (L._∷_ q30 (L._∷_ q3 (L._∷_ q31 (L._∷_ q4 (L._∷_ (14, Relend.msptr (Signed.SInt Syntax.w32) q45 9) (L._∷_ q5 L.[])))))))))))))))
 
 abbrev pub t12 : L.List Row.Entry
-t12 = L._∷_ q0 (L._∷_ q19 (L._∷_ q20 (L._∷_ q21 (L._∷_ q22 (L._∷_ q23 (L._∷_ q24 (L._∷_ q31 (L._∷_ q1 (L._∷_ q55 (L._∷_ q32 (L._∷_ q3 (L._∷_ q33 (L._∷_ q4 (L._∷_ q41 (L._∷_ (15, Mut.mslice Rec.row q52 9) L.[])))))))))))))))
+t12 = L._∷_ q0 (L._∷_ q18 (L._∷_ q19 (L._∷_ q20 (L._∷_ q17 (L._∷_ q22 (L._∷_ q23 (L._∷_ q36 (L._∷_ q1 (L._∷_ q50 (L._∷_ q30 (L._∷_ q3 (L._∷_ q31 (L._∷_ q4 (L._∷_ q32 (L._∷_ q25 L.[])))))))))))))))
 
 abbrev pub t13 : L.List Row.Entry
-t13 = L._∷_ q0 (L._∷_ q19 (L._∷_ q20 (L._∷_ q21 (L._∷_ q22 (L._∷_ q23 (L._∷_ q24 (L._∷_ q31 (L._∷_ q1 (L._∷_ (9, Rows.sc-here Row.sUnit) (L._∷_ q32 (L._∷_ q3 (L._∷_ q33 (L._∷_ q4 (L._∷_ q41 (L._∷_ q39 L.[])))))))))))))))
+t13 = L._∷_ q0 (L._∷_ q18 (L._∷_ q19 (L._∷_ q20 (L._∷_ q17 (L._∷_ q13 (L._∷_ q23 (L._∷_ q36 (L._∷_ q1 (L._∷_ q50 (L._∷_ q30 (L._∷_ q3 (L._∷_ q31 (L._∷_ q4 (L._∷_ q32 (L._∷_ q25 L.[])))))))))))))))
 
 abbrev pub t14 : L.List Row.Entry
-t14 = L._∷_ q0 (L._∷_ q19 (L._∷_ q20 (L._∷_ q21 (L._∷_ q22 (L._∷_ q23 (L._∷_ q24 (L._∷_ q31 (L._∷_ q1 (L._∷_ q55 (L._∷_ q32 (L._∷_ q3 (L._∷_ q33 (L._∷_ q4 (L._∷_ q41 (L._∷_ q39 L.[])))))))))))))))
+t14 = L._∷_ (16, Relend.msptr (Signed.SInt Syntax.w32) q45 10) (L._∷_ q6 (L._∷_ q34 (L._∷_ q7 (L._∷_ q37 (L._∷_ q9 (L._∷_ q35 (L._∷_ q8 (L._∷_ q38 (L._∷_ q10 L.[])))))))))
 
 abbrev pub t15 : L.List Row.Entry
-t15 = L._∷_ q0 (L._∷_ q19 (L._∷_ q20 (L._∷_ q21 (L._∷_ q14 (L._∷_ q23 (L._∷_ q24 (L._∷_ q38 (L._∷_ q1 (L._∷_ q55 (L._∷_ q32 (L._∷_ q3 (L._∷_ q33 (L._∷_ q4 (L._∷_ q41 (L._∷_ q9 L.[])))))))))))))))
+t15 = L._∷_ q33 (L._∷_ q24 (L._∷_ q34 (L._∷_ q7 (L._∷_ q37 (L._∷_ q9 (L._∷_ q35 (L._∷_ q8 (L._∷_ q38 (L._∷_ q10 L.[])))))))))
 
 abbrev pub t16 : L.List Row.Entry
-t16 = L._∷_ (16, Relend.msptr (Signed.SInt Syntax.w32) q50 10) (L._∷_ q5 (L._∷_ q35 (L._∷_ q6 (L._∷_ q36 (L._∷_ q7 (L._∷_ q42 (L._∷_ q10 (L._∷_ q37 (L._∷_ q8 (L._∷_ q43 (L._∷_ q11 L.[])))))))))))
+t16 = L._∷_ q0 (L._∷_ q18 (L._∷_ q19 (L._∷_ q20 (L._∷_ q17 (L._∷_ q13 (L._∷_ q14 (L._∷_ q36 (L._∷_ q1 (L._∷_ q50 (L._∷_ q30 (L._∷_ q3 (L._∷_ q31 (L._∷_ q4 (L._∷_ q32 (L._∷_ q25 L.[])))))))))))))))
 
 abbrev pub t17 : L.List Row.Entry
-t17 = L._∷_ q34 (L._∷_ q25 (L._∷_ q35 (L._∷_ q6 (L._∷_ q36 (L._∷_ q7 (L._∷_ q42 (L._∷_ q10 (L._∷_ q37 (L._∷_ q8 (L._∷_ q43 (L._∷_ q11 L.[])))))))))))
+t17 = L._∷_ q33 (L._∷_ q24 (L._∷_ (18, Relend.msptr (Signed.SInt Syntax.w32) q45 11) (L._∷_ q7 (L._∷_ q37 (L._∷_ q9 (L._∷_ q35 (L._∷_ q8 (L._∷_ q38 (L._∷_ q10 L.[])))))))))
 
 abbrev pub t18 : L.List Row.Entry
-t18 = L._∷_ q0 (L._∷_ q19 (L._∷_ q20 (L._∷_ q21 (L._∷_ q14 (L._∷_ q15 (L._∷_ q24 (L._∷_ q38 (L._∷_ q1 (L._∷_ q55 (L._∷_ q32 (L._∷_ q3 (L._∷_ q33 (L._∷_ q4 (L._∷_ q41 (L._∷_ q9 L.[])))))))))))))))
+t18 = L._∷_ q33 (L._∷_ q24 (L._∷_ q34 (L._∷_ (19, Mut.mslice (Signed.SInt Syntax.w32) q45 11) (L._∷_ q37 (L._∷_ q9 (L._∷_ q35 (L._∷_ q8 (L._∷_ q38 (L._∷_ q10 L.[])))))))))
 
 abbrev pub t19 : L.List Row.Entry
-t19 = L._∷_ q34 (L._∷_ q25 (L._∷_ (18, Relend.msptr (Signed.SInt Syntax.w32) q50 11) (L._∷_ q6 (L._∷_ q36 (L._∷_ q7 (L._∷_ q42 (L._∷_ q10 (L._∷_ q37 (L._∷_ q8 (L._∷_ q43 (L._∷_ q11 L.[])))))))))))
+t19 = L._∷_ q0 (L._∷_ q18 (L._∷_ q19 (L._∷_ q20 (L._∷_ q17 (L._∷_ q13 (L._∷_ q14 (L._∷_ q29 (L._∷_ q1 (L._∷_ q50 (L._∷_ q30 (L._∷_ q3 (L._∷_ q31 (L._∷_ q4 (L._∷_ q32 (L._∷_ q25 L.[])))))))))))))))
 
 abbrev pub t20 : L.List Row.Entry
-t20 = L._∷_ q34 (L._∷_ q25 (L._∷_ q35 (L._∷_ q26 (L._∷_ q36 (L._∷_ q7 (L._∷_ q42 (L._∷_ q10 (L._∷_ q37 (L._∷_ q8 (L._∷_ q43 (L._∷_ q11 L.[])))))))))))
+t20 = L._∷_ q33 (L._∷_ q24 (L._∷_ q34 (L._∷_ (19, Mut.mslice (Signed.SInt Syntax.w32) q45 11) (L._∷_ (20, Relend.msptr Rec.row q47 12) (L._∷_ q9 (L._∷_ q35 (L._∷_ q8 (L._∷_ q38 (L._∷_ q10 L.[])))))))))
 
 abbrev pub t21 : L.List Row.Entry
-t21 = L._∷_ q0 (L._∷_ q19 (L._∷_ q20 (L._∷_ q21 (L._∷_ q14 (L._∷_ q15 (L._∷_ q16 (L._∷_ q38 (L._∷_ q1 (L._∷_ q55 (L._∷_ q32 (L._∷_ q3 (L._∷_ q33 (L._∷_ q4 (L._∷_ q41 (L._∷_ q9 L.[])))))))))))))))
+t21 = L._∷_ q33 (L._∷_ q24 (L._∷_ q34 (L._∷_ (19, Mut.mslice (Signed.SInt Syntax.w32) q45 11) (L._∷_ q37 (L._∷_ (21, Mut.mslice Rec.row q47 12) (L._∷_ q35 (L._∷_ q8 (L._∷_ q38 (L._∷_ q10 L.[])))))))))
 
 abbrev pub t22 : L.List Row.Entry
-t22 = L._∷_ q34 (L._∷_ q25 (L._∷_ q35 (L._∷_ q26 (L._∷_ (20, Relend.msptr (Signed.SInt Syntax.w32) q50 12) (L._∷_ q7 (L._∷_ q42 (L._∷_ q10 (L._∷_ q37 (L._∷_ q8 (L._∷_ q43 (L._∷_ q11 L.[])))))))))))
+t22 = L._∷_ q0 (L._∷_ q18 (L._∷_ q19 (L._∷_ q20 (L._∷_ q17 (L._∷_ q13 (L._∷_ q14 (L._∷_ q29 (L._∷_ q48 (L._∷_ q50 (L._∷_ q30 (L._∷_ q3 (L._∷_ q31 (L._∷_ q4 (L._∷_ q32 (L._∷_ (15, Mut.msleft (Signed.SInt Syntax.w32) q45) L.[])))))))))))))))
 
 abbrev pub t23 : L.List Row.Entry
-t23 = L._∷_ q34 (L._∷_ q25 (L._∷_ q35 (L._∷_ q26 (L._∷_ q36 (L._∷_ (21, Mut.mslice (Signed.SInt Syntax.w32) q50 12) (L._∷_ q42 (L._∷_ q10 (L._∷_ q37 (L._∷_ q8 (L._∷_ q43 (L._∷_ q11 L.[])))))))))))
+t23 = L._∷_ q33 (L._∷_ (17, Mut.msleft (Signed.SInt Syntax.w32) q45) (L._∷_ q34 (L._∷_ (19, Mut.msleft (Signed.SInt Syntax.w32) q45) (L._∷_ q37 (L._∷_ (21, Mut.msleft Rec.row q47) (L._∷_ q35 (L._∷_ q8 (L._∷_ q38 (L._∷_ q10 L.[])))))))))
 
 abbrev pub t24 : L.List Row.Entry
-t24 = L._∷_ q0 (L._∷_ q19 (L._∷_ q20 (L._∷_ q21 (L._∷_ q14 (L._∷_ q15 (L._∷_ q16 (L._∷_ q30 (L._∷_ q1 (L._∷_ q55 (L._∷_ q32 (L._∷_ q3 (L._∷_ q33 (L._∷_ q4 (L._∷_ q41 (L._∷_ q9 L.[])))))))))))))))
+t24 = L._∷_ q0 (L._∷_ q18 (L._∷_ q19 (L._∷_ q20 (L._∷_ q21 (L._∷_ q13 (L._∷_ q14 (L._∷_ q29 (L._∷_ q48 (L._∷_ q50 (L._∷_ q30 (L._∷_ q3 (L._∷_ q31 (L._∷_ q4 (L._∷_ q32 (L._∷_ q5 L.[])))))))))))))))
 
 abbrev pub t25 : L.List Row.Entry
-t25 = L._∷_ q34 (L._∷_ q25 (L._∷_ q35 (L._∷_ q26 (L._∷_ q36 (L._∷_ (21, Mut.mslice (Signed.SInt Syntax.w32) q50 12) (L._∷_ (22, Relend.msptr Rec.row q52 13) (L._∷_ q10 (L._∷_ q37 (L._∷_ q8 (L._∷_ q43 (L._∷_ q11 L.[])))))))))))
+t25 = L._∷_ q0 (L._∷_ q18 (L._∷_ q19 (L._∷_ q20 (L._∷_ q21 (L._∷_ q22 (L._∷_ q14 (L._∷_ q29 (L._∷_ q48 (L._∷_ q50 (L._∷_ q30 (L._∷_ q3 (L._∷_ q31 (L._∷_ q4 (L._∷_ q32 (L._∷_ q5 L.[])))))))))))))))
 
 abbrev pub t26 : L.List Row.Entry
-t26 = L._∷_ q34 (L._∷_ q25 (L._∷_ q35 (L._∷_ q26 (L._∷_ q36 (L._∷_ (21, Mut.mslice (Signed.SInt Syntax.w32) q50 12) (L._∷_ q42 (L._∷_ (23, Mut.mslice Rec.row q52 13) (L._∷_ q37 (L._∷_ q8 (L._∷_ q43 (L._∷_ q11 L.[])))))))))))
+t26 = L._∷_ q33 (L._∷_ q6 (L._∷_ q34 (L._∷_ (19, Mut.msleft (Signed.SInt Syntax.w32) q45) (L._∷_ q37 (L._∷_ (21, Mut.msleft Rec.row q47) (L._∷_ q35 (L._∷_ q8 (L._∷_ q38 (L._∷_ q10 L.[])))))))))
 
 abbrev pub t27 : L.List Row.Entry
-t27 = L._∷_ q0 (L._∷_ q19 (L._∷_ q20 (L._∷_ q21 (L._∷_ q14 (L._∷_ q15 (L._∷_ q16 (L._∷_ q30 (L._∷_ q53 (L._∷_ q55 (L._∷_ q32 (L._∷_ q3 (L._∷_ q33 (L._∷_ q4 (L._∷_ q41 (L._∷_ q9 L.[])))))))))))))))
+t27 = L._∷_ q0 (L._∷_ q18 (L._∷_ q19 (L._∷_ q20 (L._∷_ q21 (L._∷_ q22 (L._∷_ q23 (L._∷_ q29 (L._∷_ q48 (L._∷_ q50 (L._∷_ q30 (L._∷_ q3 (L._∷_ q31 (L._∷_ q4 (L._∷_ q32 (L._∷_ q5 L.[])))))))))))))))
 
 abbrev pub t28 : L.List Row.Entry
-t28 = L._∷_ q34 (L._∷_ (17, Mut.msleft (Signed.SInt Syntax.w32) q50) (L._∷_ q35 (L._∷_ (19, Mut.msleft (Signed.SInt Syntax.w32) q50) (L._∷_ q36 (L._∷_ (21, Mut.msleft (Signed.SInt Syntax.w32) q50) (L._∷_ q42 (L._∷_ q40 (L._∷_ q37 (L._∷_ q8 (L._∷_ q43 (L._∷_ q11 L.[])))))))))))
+t28 = L._∷_ q33 (L._∷_ q6 (L._∷_ q34 (L._∷_ q7 (L._∷_ q37 (L._∷_ (21, Mut.msleft Rec.row q47) (L._∷_ q35 (L._∷_ q8 (L._∷_ q38 (L._∷_ q10 L.[])))))))))
 
 abbrev pub t29 : L.List Row.Entry
-t29 = L._∷_ q0 (L._∷_ q19 (L._∷_ q20 (L._∷_ q21 (L._∷_ q22 (L._∷_ q15 (L._∷_ q16 (L._∷_ q30 (L._∷_ q53 (L._∷_ q55 (L._∷_ q32 (L._∷_ q3 (L._∷_ q33 (L._∷_ q4 (L._∷_ q41 (L._∷_ q9 L.[])))))))))))))))
+t29 = L._∷_ q0 (L._∷_ q18 (L._∷_ q19 (L._∷_ q20 (L._∷_ q21 (L._∷_ q22 (L._∷_ q23 (L._∷_ q36 (L._∷_ q48 (L._∷_ q50 (L._∷_ q30 (L._∷_ q3 (L._∷_ q31 (L._∷_ q4 (L._∷_ q32 (L._∷_ q5 L.[])))))))))))))))
 
 abbrev pub t30 : L.List Row.Entry
-t30 = L._∷_ q34 (L._∷_ q5 (L._∷_ q35 (L._∷_ (19, Mut.msleft (Signed.SInt Syntax.w32) q50) (L._∷_ q36 (L._∷_ (21, Mut.msleft (Signed.SInt Syntax.w32) q50) (L._∷_ q42 (L._∷_ q40 (L._∷_ q37 (L._∷_ q8 (L._∷_ q43 (L._∷_ q11 L.[])))))))))))
+t30 = L._∷_ q0 (L._∷_ q18 (L._∷_ q19 (L._∷_ q20 (L._∷_ q21 (L._∷_ q22 (L._∷_ (6, Relend.mslice-owed (Signed.SInt Syntax.w32) q44 5 13 Row.off) (L._∷_ q36 (L._∷_ q48 (L._∷_ q50 (L._∷_ q30 (L._∷_ q3 (L._∷_ q31 (L._∷_ q4 (L._∷_ q32 (L._∷_ q5 L.[])))))))))))))))
 
 abbrev pub t31 : L.List Row.Entry
-t31 = L._∷_ q0 (L._∷_ q19 (L._∷_ q20 (L._∷_ q21 (L._∷_ q22 (L._∷_ q23 (L._∷_ q16 (L._∷_ q30 (L._∷_ q53 (L._∷_ q55 (L._∷_ q32 (L._∷_ q3 (L._∷_ q33 (L._∷_ q4 (L._∷_ q41 (L._∷_ q9 L.[])))))))))))))))
+t31 = L._∷_ q33 (L._∷_ q6 (L._∷_ q34 (L._∷_ q7 (L._∷_ q37 (L._∷_ q9 (L._∷_ (22, Relend.msptr (Signed.SInt Syntax.w32) q45 13) (L._∷_ q8 (L._∷_ q38 (L._∷_ q10 L.[])))))))))
 
 abbrev pub t32 : L.List Row.Entry
-t32 = L._∷_ q34 (L._∷_ q5 (L._∷_ q35 (L._∷_ q6 (L._∷_ q36 (L._∷_ (21, Mut.msleft (Signed.SInt Syntax.w32) q50) (L._∷_ q42 (L._∷_ q40 (L._∷_ q37 (L._∷_ q8 (L._∷_ q43 (L._∷_ q11 L.[])))))))))))
+t32 = L._∷_ q33 (L._∷_ q6 (L._∷_ q34 (L._∷_ q7 (L._∷_ q37 (L._∷_ q9 (L._∷_ q35 (L._∷_ (23, Mut.mslice (Signed.SInt Syntax.w32) q45 13) (L._∷_ q38 (L._∷_ q10 L.[])))))))))
 
 abbrev pub t33 : L.List Row.Entry
-t33 = L._∷_ q0 (L._∷_ q19 (L._∷_ q20 (L._∷_ q21 (L._∷_ q22 (L._∷_ q23 (L._∷_ q24 (L._∷_ q30 (L._∷_ q53 (L._∷_ q55 (L._∷_ q32 (L._∷_ q3 (L._∷_ q33 (L._∷_ q4 (L._∷_ q41 (L._∷_ q9 L.[])))))))))))))))
+t33 = L._∷_ q0 (L._∷_ q18 (L._∷_ q19 (L._∷_ q20 (L._∷_ q21 (L._∷_ q22 (L._∷_ (6, Relend.mslice-owed (Signed.SInt Syntax.w32) q44 5 13 Row.off) (L._∷_ q36 (L._∷_ q48 (L._∷_ (9, Rows.sc-here Row.sUnit) (L._∷_ q30 (L._∷_ q3 (L._∷_ q31 (L._∷_ q4 (L._∷_ q32 (L._∷_ q5 L.[])))))))))))))))
 
 abbrev pub t34 : L.List Row.Entry
-t34 = L._∷_ q34 (L._∷_ q5 (L._∷_ q35 (L._∷_ q6 (L._∷_ q36 (L._∷_ q7 (L._∷_ q42 (L._∷_ q40 (L._∷_ q37 (L._∷_ q8 (L._∷_ q43 (L._∷_ q11 L.[])))))))))))
+t34 = L._∷_ q33 (L._∷_ q6 (L._∷_ q34 (L._∷_ q7 (L._∷_ q37 (L._∷_ q9 (L._∷_ q35 (L._∷_ (23, Mut.msleft (Signed.SInt Syntax.w32) q45) (L._∷_ q38 (L._∷_ q10 L.[])))))))))
 
 abbrev pub t35 : L.List Row.Entry
-t35 = L._∷_ q0 (L._∷_ q19 (L._∷_ q20 (L._∷_ q21 (L._∷_ q22 (L._∷_ q23 (L._∷_ q24 (L._∷_ q38 (L._∷_ q53 (L._∷_ q55 (L._∷_ q32 (L._∷_ q3 (L._∷_ q33 (L._∷_ q4 (L._∷_ q41 (L._∷_ q9 L.[])))))))))))))))
+t35 = L._∷_ q0 (L._∷_ q18 (L._∷_ q19 (L._∷_ q20 (L._∷_ q21 (L._∷_ q22 (L._∷_ q23 (L._∷_ (7, Relend.mslice-owed Rec.row q46 6 14 Row.off) (L._∷_ q48 (L._∷_ q50 (L._∷_ q30 (L._∷_ q3 (L._∷_ q31 (L._∷_ q4 (L._∷_ q32 (L._∷_ q5 L.[])))))))))))))))
 
 abbrev pub t36 : L.List Row.Entry
-t36 = L._∷_ q0 (L._∷_ q19 (L._∷_ q20 (L._∷_ q21 (L._∷_ q22 (L._∷_ q23 (L._∷_ (6, Relend.mslice-owed (Signed.SInt Syntax.w32) q49 5 14 Row.off) (L._∷_ q38 (L._∷_ q53 (L._∷_ q55 (L._∷_ q32 (L._∷_ q3 (L._∷_ q33 (L._∷_ q4 (L._∷_ q41 (L._∷_ q9 L.[])))))))))))))))
+t36 = L._∷_ q33 (L._∷_ q6 (L._∷_ q34 (L._∷_ q7 (L._∷_ q37 (L._∷_ q9 (L._∷_ q35 (L._∷_ q8 (L._∷_ (24, Relend.msptr Rec.row q47 14) (L._∷_ q10 L.[])))))))))
 
 abbrev pub t37 : L.List Row.Entry
-t37 = L._∷_ q34 (L._∷_ q5 (L._∷_ q35 (L._∷_ q6 (L._∷_ q36 (L._∷_ q7 (L._∷_ q42 (L._∷_ q10 (L._∷_ (24, Relend.msptr (Signed.SInt Syntax.w32) q50 14) (L._∷_ q8 (L._∷_ q43 (L._∷_ q11 L.[])))))))))))
+t37 = L._∷_ q33 (L._∷_ q6 (L._∷_ q34 (L._∷_ q7 (L._∷_ q37 (L._∷_ q9 (L._∷_ q35 (L._∷_ q8 (L._∷_ q38 (L._∷_ (25, Mut.mslice Rec.row q47 14) L.[])))))))))
 
 abbrev pub t38 : L.List Row.Entry
-t38 = L._∷_ q34 (L._∷_ q5 (L._∷_ q35 (L._∷_ q6 (L._∷_ q36 (L._∷_ q7 (L._∷_ q42 (L._∷_ q10 (L._∷_ q37 (L._∷_ (25, Mut.mslice (Signed.SInt Syntax.w32) q50 14) (L._∷_ q43 (L._∷_ q11 L.[])))))))))))
+t38 = L._∷_ q0 (L._∷_ q18 (L._∷_ q19 (L._∷_ q20 (L._∷_ q21 (L._∷_ q22 (L._∷_ q23 (L._∷_ (7, Relend.mslice-owed Rec.row q46 6 14 Row.off) (L._∷_ q48 (L._∷_ (9, Rows.sc-here Row.sUnit) (L._∷_ q30 (L._∷_ q3 (L._∷_ q31 (L._∷_ q4 (L._∷_ q32 (L._∷_ q5 L.[])))))))))))))))
 
 abbrev pub t39 : L.List Row.Entry
-t39 = L._∷_ q0 (L._∷_ q19 (L._∷_ q20 (L._∷_ q21 (L._∷_ q22 (L._∷_ q23 (L._∷_ (6, Relend.mslice-owed (Signed.SInt Syntax.w32) q49 5 14 Row.off) (L._∷_ q38 (L._∷_ q53 (L._∷_ (9, Rows.sc-here Row.sUnit) (L._∷_ q32 (L._∷_ q3 (L._∷_ q33 (L._∷_ q4 (L._∷_ q41 (L._∷_ q9 L.[])))))))))))))))
+t39 = L._∷_ q33 (L._∷_ q6 (L._∷_ q34 (L._∷_ q7 (L._∷_ q37 (L._∷_ q9 (L._∷_ q35 (L._∷_ q8 (L._∷_ q38 (L._∷_ (25, Mut.msleft Rec.row q47) L.[])))))))))
 
 abbrev pub t40 : L.List Row.Entry
-t40 = L._∷_ q34 (L._∷_ q5 (L._∷_ q35 (L._∷_ q6 (L._∷_ q36 (L._∷_ q7 (L._∷_ q42 (L._∷_ q10 (L._∷_ q37 (L._∷_ (25, Mut.msleft (Signed.SInt Syntax.w32) q50) (L._∷_ q43 (L._∷_ q11 L.[])))))))))))
-
-abbrev pub t41 : L.List Row.Entry
-t41 = L._∷_ q0 (L._∷_ q19 (L._∷_ q20 (L._∷_ q21 (L._∷_ q22 (L._∷_ q23 (L._∷_ q24 (L._∷_ (7, Relend.mslice-owed Rec.row q51 6 15 Row.off) (L._∷_ q53 (L._∷_ q55 (L._∷_ q32 (L._∷_ q3 (L._∷_ q33 (L._∷_ q4 (L._∷_ q41 (L._∷_ q9 L.[])))))))))))))))
-
-abbrev pub t42 : L.List Row.Entry
-t42 = L._∷_ q34 (L._∷_ q5 (L._∷_ q35 (L._∷_ q6 (L._∷_ q36 (L._∷_ q7 (L._∷_ q42 (L._∷_ q10 (L._∷_ q37 (L._∷_ q8 (L._∷_ (26, Relend.msptr Rec.row q52 15) (L._∷_ q11 L.[])))))))))))
-
-abbrev pub t43 : L.List Row.Entry
-t43 = L._∷_ q34 (L._∷_ q5 (L._∷_ q35 (L._∷_ q6 (L._∷_ q36 (L._∷_ q7 (L._∷_ q42 (L._∷_ q10 (L._∷_ q37 (L._∷_ q8 (L._∷_ q43 (L._∷_ (27, Mut.mslice Rec.row q52 15) L.[])))))))))))
-
-abbrev pub t44 : L.List Row.Entry
-t44 = L._∷_ q0 (L._∷_ q19 (L._∷_ q20 (L._∷_ q21 (L._∷_ q22 (L._∷_ q23 (L._∷_ q24 (L._∷_ (7, Relend.mslice-owed Rec.row q51 6 15 Row.off) (L._∷_ q53 (L._∷_ (9, Rows.sc-here Row.sUnit) (L._∷_ q32 (L._∷_ q3 (L._∷_ q33 (L._∷_ q4 (L._∷_ q41 (L._∷_ q9 L.[])))))))))))))))
-
-abbrev pub t45 : L.List Row.Entry
-t45 = L._∷_ q34 (L._∷_ q5 (L._∷_ q35 (L._∷_ q6 (L._∷_ q36 (L._∷_ q7 (L._∷_ q42 (L._∷_ q10 (L._∷_ q37 (L._∷_ q8 (L._∷_ q43 (L._∷_ (27, Mut.msleft Rec.row q52) L.[])))))))))))
-
-abbrev pub t46 : L.List Row.Entry
-t46 = L._∷_ (0, Rows.whole (Declared.row Answer·.the-type)) (L._∷_ q19 (L._∷_ q20 (L._∷_ q21 (L._∷_ q22 (L._∷_ q23 (L._∷_ q24 (L._∷_ q38 (L._∷_ q53 (L._∷_ q55 (L._∷_ q32 (L._∷_ q3 (L._∷_ q33 (L._∷_ q4 (L._∷_ q41 (L._∷_ q9 L.[])))))))))))))))
+t40 = L._∷_ (0, Rows.whole (Declared.row Answer·.the-type)) (L._∷_ q18 (L._∷_ q19 (L._∷_ q20 (L._∷_ q21 (L._∷_ q22 (L._∷_ q23 (L._∷_ q36 (L._∷_ q48 (L._∷_ q50 (L._∷_ q30 (L._∷_ q3 (L._∷_ q31 (L._∷_ q4 (L._∷_ q32 (L._∷_ q5 L.[])))))))))))))))
 
 abbrev pub T0 : Row.Cx
 T0 = record { locals = L._++_ t0 t1; slots = L.[] }
@@ -588,99 +537,84 @@ T19 = record { locals = L._++_ t11 t1; slots = L.[] }
 abbrev pub T20 : Row.Cx
 T20 = record { locals = L._++_ t12 t1; slots = L.[] }
 
-abbrev pub T21 : Row.Cx
-T21 = record { locals = L._++_ t13 t1; slots = L.[] }
-
 abbrev pub T22 : Row.Cx
-T22 = record { locals = L._++_ t14 t1; slots = L.[] }
+T22 = record { locals = L._++_ t13 t14; slots = L.[] }
 
-abbrev pub T24 : Row.Cx
-T24 = record { locals = L._++_ t0 t1; slots = L.[] }
+abbrev pub T23 : Row.Cx
+T23 = record { locals = L._++_ t13 t15; slots = L.[] }
 
-abbrev pub T27 : Row.Cx
-T27 = record { locals = L._++_ t15 t16; slots = L.[] }
+abbrev pub T25 : Row.Cx
+T25 = record { locals = L._++_ t16 t17; slots = L.[] }
+
+abbrev pub T26 : Row.Cx
+T26 = record { locals = L._++_ t16 t18; slots = L.[] }
 
 abbrev pub T28 : Row.Cx
-T28 = record { locals = L._++_ t15 t17; slots = L.[] }
+T28 = record { locals = L._++_ t19 t20; slots = L.[] }
+
+abbrev pub T29 : Row.Cx
+T29 = record { locals = L._++_ t19 t21; slots = L.[] }
 
 abbrev pub T30 : Row.Cx
-T30 = record { locals = L._++_ t18 t19; slots = L.[] }
+T30 = record { locals = L._++_ t22 t23; slots = L.[] }
 
-abbrev pub T31 : Row.Cx
-T31 = record { locals = L._++_ t18 t20; slots = L.[] }
+abbrev pub T32 : Row.Cx
+T32 = record { locals = L._++_ t24 t23; slots = L.[] }
 
-abbrev pub T33 : Row.Cx
-T33 = record { locals = L._++_ t21 t22; slots = L.[] }
-
-abbrev pub T34 : Row.Cx
-T34 = record { locals = L._++_ t21 t23; slots = L.[] }
-
-abbrev pub T36 : Row.Cx
-T36 = record { locals = L._++_ t24 t25; slots = L.[] }
-
-abbrev pub T37 : Row.Cx
-T37 = record { locals = L._++_ t24 t26; slots = L.[] }
+abbrev pub T35 : Row.Cx
+T35 = record { locals = L._++_ t25 t26; slots = L.[] }
 
 abbrev pub T38 : Row.Cx
 T38 = record { locals = L._++_ t27 t28; slots = L.[] }
 
-abbrev pub T40 : Row.Cx
-T40 = record { locals = L._++_ t29 t30; slots = L.[] }
+abbrev pub T41 : Row.Cx
+T41 = record { locals = L._++_ t29 t1; slots = L.[] }
 
-abbrev pub T43 : Row.Cx
-T43 = record { locals = L._++_ t31 t32; slots = L.[] }
+abbrev pub T44 : Row.Cx
+T44 = record { locals = L._++_ t30 t31; slots = L.[] }
+
+abbrev pub T45 : Row.Cx
+T45 = record { locals = L._++_ t30 t32; slots = L.[] }
 
 abbrev pub T46 : Row.Cx
 T46 = record { locals = L._++_ t33 t34; slots = L.[] }
 
+abbrev pub T47 : Row.Cx
+T47 = record { locals = L._++_ t30 t34; slots = L.[] }
+
 abbrev pub T49 : Row.Cx
-T49 = record { locals = L._++_ t35 t1; slots = L.[] }
+T49 = record { locals = L._++_ t29 t1; slots = L.[] }
 
 abbrev pub T52 : Row.Cx
-T52 = record { locals = L._++_ t36 t37; slots = L.[] }
+T52 = record { locals = L._++_ t35 t36; slots = L.[] }
 
 abbrev pub T53 : Row.Cx
-T53 = record { locals = L._++_ t36 t38; slots = L.[] }
+T53 = record { locals = L._++_ t35 t37; slots = L.[] }
 
 abbrev pub T54 : Row.Cx
-T54 = record { locals = L._++_ t39 t40; slots = L.[] }
+T54 = record { locals = L._++_ t38 t39; slots = L.[] }
 
 abbrev pub T55 : Row.Cx
-T55 = record { locals = L._++_ t36 t40; slots = L.[] }
+T55 = record { locals = L._++_ t35 t39; slots = L.[] }
 
 abbrev pub T57 : Row.Cx
-T57 = record { locals = L._++_ t35 t1; slots = L.[] }
+T57 = record { locals = L._++_ t29 t1; slots = L.[] }
+
+abbrev pub T59 : Row.Cx
+T59 = record { locals = L._++_ t40 t1; slots = L.[] }
 
 abbrev pub T60 : Row.Cx
-T60 = record { locals = L._++_ t41 t42; slots = L.[] }
-
-abbrev pub T61 : Row.Cx
-T61 = record { locals = L._++_ t41 t43; slots = L.[] }
-
-abbrev pub T62 : Row.Cx
-T62 = record { locals = L._++_ t44 t45; slots = L.[] }
-
-abbrev pub T63 : Row.Cx
-T63 = record { locals = L._++_ t41 t45; slots = L.[] }
-
-abbrev pub T65 : Row.Cx
-T65 = record { locals = L._++_ t35 t1; slots = L.[] }
-
-abbrev pub T67 : Row.Cx
-T67 = record { locals = L._++_ t46 t1; slots = L.[] }
-
-abbrev pub T68 : Row.Cx
-T68 = record { locals = L._++_ t2 t1; slots = L.[] }
+T60 = record { locals = L._++_ t2 t1; slots = L.[] }
 
 abbrev pub O0 : Typed.Outs
 O0 = record { next = Option.none; exits = L.[]; returns = Option.some T1 }
 
 module _ (claims· : Claims) where
   abbrev s1 : Typed.Gives T0 T3
-  s1 = Relend.k-sl-relend (Signed.SInt Syntax.w32) T0 4 10 3 7 q47 q50 Row.off λ x. x
+  s1 = Relend.k-sl-relend (Signed.SInt Syntax.w32) T0 4 10 3 7 q42 q45 Row.off λ x. x
 
   abbrev s2 : Typed.Asks T3 T4
-  s2 = Relend.k-sl-aggregate (Signed.SInt Syntax.w32) (Relend.asMut (Signed.SInt Syntax.w32)) T3 10 11 7 q50 q50 (λ x. x) (Scalar.oFld 4 (L._∷_ (Syntax.field 1) L.[]) (Syntax.tyInt Syntax.w64) 8 λ v. Shared.lenV (v .0))
+  s2 = Relend.k-sl-aggregate (Signed.SInt Syntax.w32) (Relend.asMut (Signed.SInt Syntax.w32)) T3 10 11 7 q45 q45 (λ x. x) (Scalar.oFld 4 (L._∷_ (Syntax.field 1) L.[]) (Syntax.tyInt Syntax.w64) 8 λ v. Shared.lenV (v .0))
 
   abbrev s3 : Typed.Both T4 T5
   s3 = Call.callB ps·0 r·0 (claims· .0) (claims· .1) T4 (record { pos = 11; ty = Syntax.tyRef Syntax.erased Syntax.mut (Syntax.tyInt Syntax.w32); ref = λ x. x }, tt) 9 (L._∷_ 7 L.[]) Syntax.tyUnit
@@ -689,13 +623,13 @@ module _ (claims· : Claims) where
   s4 = Scalar.n-room T5 9 Syntax.tyUnit
 
   abbrev s6 : Typed.Both T6 T8
-  s6 = Relend.k-back-sl (Signed.SInt Syntax.w32) T6 11 4 3 7 q47 q50 Row.off (λ x. x) λ x. x
+  s6 = Relend.k-back-sl (Signed.SInt Syntax.w32) T6 11 4 3 7 q42 q45 Row.off (λ x. x) λ x. x
 
   abbrev s9 : Typed.Gives T8 T11
-  s9 = Relend.k-sl-relend (Signed.SInt Syntax.w32) T8 5 12 4 8 q48 q50 Row.off λ x. x
+  s9 = Relend.k-sl-relend (Signed.SInt Syntax.w32) T8 5 12 4 8 q43 q45 Row.off λ x. x
 
   abbrev s10 : Typed.Asks T11 T12
-  s10 = Relend.k-sl-aggregate (Signed.SInt Syntax.w32) (Relend.asMut (Signed.SInt Syntax.w32)) T11 12 13 8 q50 q50 (λ x. x) (Scalar.oFld 5 (L._∷_ (Syntax.field 1) L.[]) (Syntax.tyInt Syntax.w64) 8 λ v. Shared.lenV (v .0))
+  s10 = Relend.k-sl-aggregate (Signed.SInt Syntax.w32) (Relend.asMut (Signed.SInt Syntax.w32)) T11 12 13 8 q45 q45 (λ x. x) (Scalar.oFld 5 (L._∷_ (Syntax.field 1) L.[]) (Syntax.tyInt Syntax.w64) 8 λ v. Shared.lenV (v .0))
 
   abbrev s11 : Typed.Both T12 T13
   s11 = Call.callB ps·0 r·0 (claims· .0) (claims· .1) T12 (record { pos = 13; ty = Syntax.tyRef Syntax.erased Syntax.mut (Syntax.tyInt Syntax.w32); ref = λ x. x }, tt) 9 (L._∷_ 8 L.[]) Syntax.tyUnit
@@ -704,594 +638,522 @@ module _ (claims· : Claims) where
   s12 = Scalar.n-room T13 9 Syntax.tyUnit
 
   abbrev s14 : Typed.Both T14 T16
-  s14 = Relend.k-back-sl (Signed.SInt Syntax.w32) T14 13 5 4 8 q48 q50 Row.off (λ x. x) λ x. x
+  s14 = Relend.k-back-sl (Signed.SInt Syntax.w32) T14 13 5 4 8 q43 q45 Row.off (λ x. x) λ x. x
 
   abbrev s17 : Typed.Gives T16 T19
-  s17 = Relend.k-sl-relend Rec.row T16 7 14 6 9 q51 q52 Row.off λ x. x
+  s17 = Relend.k-sl-relend (Signed.SInt Syntax.w32) T16 4 14 3 9 q42 q45 Row.off λ x. x
 
   abbrev s18 : Typed.Asks T19 T20
-  s18 = Relend.k-sl-aggregate Rec.row (Relend.asMut Rec.row) T19 14 15 9 q52 q52 (λ x. x) (Scalar.oFld 7 (L._∷_ (Syntax.field 1) L.[]) (Syntax.tyInt Syntax.w64) 8 λ v. Shared.lenV (v .0))
+  s18 = Relend.k-sl-aggregate (Signed.SInt Syntax.w32) (Relend.asMut (Signed.SInt Syntax.w32)) T19 14 15 9 q45 q45 (λ x. x) (Scalar.oFld 4 (L._∷_ (Syntax.field 1) L.[]) (Syntax.tyInt Syntax.w64) 8 λ v. Shared.lenV (v .0))
 
-  abbrev s19 : Typed.Both T20 T21
-  s19 = Call.callB ps·1 r·1 (claims· .2) (claims· .3) T20 (record { pos = 15; ty = Syntax.tyRef Syntax.erased Syntax.mut Rec.named; ref = λ x. x }, tt) 9 (L._∷_ 9 L.[]) Syntax.tyUnit
+  abbrev s20 : Typed.Gives T20 T22
+  s20 = Relend.k-sl-relend (Signed.SInt Syntax.w32) T20 5 16 4 10 q43 q45 Row.off λ x. x
 
-  abbrev s20 : Typed.Mo T21 → Typed.Mo T22
-  s20 = Scalar.n-room T21 9 Syntax.tyUnit
+  abbrev s21 : Typed.Asks T22 T23
+  s21 = Relend.k-sl-aggregate (Signed.SInt Syntax.w32) (Relend.asMut (Signed.SInt Syntax.w32)) T22 16 17 10 q45 q45 (λ x. x) (Scalar.oFld 5 (L._∷_ (Syntax.field 1) L.[]) (Syntax.tyInt Syntax.w64) 8 λ v. Shared.lenV (v .0))
 
-  abbrev s22 : Typed.Both T22 T24
-  s22 = Relend.k-back-sl Rec.row T22 15 7 6 9 q51 q52 Row.off (λ x. x) λ x. x
+  abbrev s23 : Typed.Gives T23 T25
+  s23 = Relend.k-sl-relend (Signed.SInt Syntax.w32) T23 6 18 5 11 q44 q45 Row.off λ x. x
 
-  abbrev s25 : Typed.Gives T24 T27
-  s25 = Relend.k-sl-relend (Signed.SInt Syntax.w32) T24 4 16 3 10 q47 q50 Row.off λ x. x
+  abbrev s24 : Typed.Asks T25 T26
+  s24 = Relend.k-sl-aggregate (Signed.SInt Syntax.w32) (Relend.asMut (Signed.SInt Syntax.w32)) T25 18 19 11 q45 q45 (λ x. x) (Scalar.oFld 6 (L._∷_ (Syntax.field 1) L.[]) (Syntax.tyInt Syntax.w64) 8 λ v. Shared.lenV (v .0))
 
-  abbrev s26 : Typed.Asks T27 T28
-  s26 = Relend.k-sl-aggregate (Signed.SInt Syntax.w32) (Relend.asMut (Signed.SInt Syntax.w32)) T27 16 17 10 q50 q50 (λ x. x) (Scalar.oFld 4 (L._∷_ (Syntax.field 1) L.[]) (Syntax.tyInt Syntax.w64) 8 λ v. Shared.lenV (v .0))
+  abbrev s26 : Typed.Gives T26 T28
+  s26 = Relend.k-sl-relend Rec.row T26 7 20 6 12 q46 q47 Row.off λ x. x
 
-  abbrev s28 : Typed.Gives T28 T30
-  s28 = Relend.k-sl-relend (Signed.SInt Syntax.w32) T28 5 18 4 11 q48 q50 Row.off λ x. x
+  abbrev s27 : Typed.Asks T28 T29
+  s27 = Relend.k-sl-aggregate Rec.row (Relend.asMut Rec.row) T28 20 21 12 q47 q47 (λ x. x) (Scalar.oFld 7 (L._∷_ (Syntax.field 1) L.[]) (Syntax.tyInt Syntax.w64) 8 λ v. Shared.lenV (v .0))
 
-  abbrev s29 : Typed.Asks T30 T31
-  s29 = Relend.k-sl-aggregate (Signed.SInt Syntax.w32) (Relend.asMut (Signed.SInt Syntax.w32)) T30 18 19 11 q50 q50 (λ x. x) (Scalar.oFld 5 (L._∷_ (Syntax.field 1) L.[]) (Syntax.tyInt Syntax.w64) 8 λ v. Shared.lenV (v .0))
+  abbrev s28 : Typed.Both T29 T30
+  s28 = Call.callB ps·1 r·1 (claims· .2) (claims· .3) T29 (record { pos = 1; ty = Syntax.tyRef (Syntax.named 0) Syntax.imm (Syntax.tyInt Syntax.w32); ref = λ x. x }, (record { pos = 2; ty = Syntax.tyRef (Syntax.named 1) Syntax.imm (Syntax.tyInt Syntax.w32); ref = λ x. x }, (record { pos = 3; ty = Syntax.tyRef (Syntax.named 2) Syntax.imm (Syntax.tyInt Syntax.w32); ref = λ x. x }, (record { pos = 15; ty = Syntax.tyRef Syntax.erased Syntax.mut (Syntax.tyInt Syntax.w32); ref = λ x. x }, (record { pos = 17; ty = Syntax.tyRef Syntax.erased Syntax.mut (Syntax.tyInt Syntax.w32); ref = λ x. x }, (record { pos = 19; ty = Syntax.tyRef Syntax.erased Syntax.mut (Syntax.tyInt Syntax.w32); ref = λ x. x }, (record { pos = 21; ty = Syntax.tyRef Syntax.erased Syntax.mut Rec.named; ref = λ x. x }, tt))))))) 8 (L._∷_ 0 (L._∷_ 1 (L._∷_ 2 (L._∷_ 9 (L._∷_ 10 (L._∷_ 11 (L._∷_ 12 L.[]))))))) q2
 
-  abbrev s31 : Typed.Gives T31 T33
-  s31 = Relend.k-sl-relend (Signed.SInt Syntax.w32) T31 6 20 5 12 q49 q50 Row.off λ x. x
+  abbrev s30 : Typed.Both T30 T32
+  s30 = Relend.k-back-sl (Signed.SInt Syntax.w32) T30 15 4 3 9 q42 q45 Row.off (λ x. x) λ x. x
 
-  abbrev s32 : Typed.Asks T33 T34
-  s32 = Relend.k-sl-aggregate (Signed.SInt Syntax.w32) (Relend.asMut (Signed.SInt Syntax.w32)) T33 20 21 12 q50 q50 (λ x. x) (Scalar.oFld 6 (L._∷_ (Syntax.field 1) L.[]) (Syntax.tyInt Syntax.w64) 8 λ v. Shared.lenV (v .0))
+  abbrev s33 : Typed.Both T32 T35
+  s33 = Relend.k-back-sl (Signed.SInt Syntax.w32) T32 17 5 4 10 q43 q45 Row.off (λ x. x) λ x. x
 
-  abbrev s34 : Typed.Gives T34 T36
-  s34 = Relend.k-sl-relend Rec.row T34 7 22 6 13 q51 q52 Row.off λ x. x
+  abbrev s36 : Typed.Both T35 T38
+  s36 = Relend.k-back-sl (Signed.SInt Syntax.w32) T35 19 6 5 11 q44 q45 Row.off (λ x. x) λ x. x
 
-  abbrev s35 : Typed.Asks T36 T37
-  s35 = Relend.k-sl-aggregate Rec.row (Relend.asMut Rec.row) T36 22 23 13 q52 q52 (λ x. x) (Scalar.oFld 7 (L._∷_ (Syntax.field 1) L.[]) (Syntax.tyInt Syntax.w64) 8 λ v. Shared.lenV (v .0))
+  abbrev s39 : Typed.Both T38 T41
+  s39 = Relend.k-back-sl Rec.row T38 21 7 6 12 q46 q47 Row.off (λ x. x) λ x. x
 
-  abbrev s36 : Typed.Both T37 T38
-  s36 = Call.callB ps·2 r·2 (claims· .4) (claims· .5) T37 (record { pos = 1; ty = Syntax.tyRef (Syntax.named 0) Syntax.imm (Syntax.tyInt Syntax.w32); ref = λ x. x }, (record { pos = 2; ty = Syntax.tyRef (Syntax.named 1) Syntax.imm (Syntax.tyInt Syntax.w32); ref = λ x. x }, (record { pos = 3; ty = Syntax.tyRef (Syntax.named 2) Syntax.imm (Syntax.tyInt Syntax.w32); ref = λ x. x }, (record { pos = 17; ty = Syntax.tyRef Syntax.erased Syntax.mut (Syntax.tyInt Syntax.w32); ref = λ x. x }, (record { pos = 19; ty = Syntax.tyRef Syntax.erased Syntax.mut (Syntax.tyInt Syntax.w32); ref = λ x. x }, (record { pos = 21; ty = Syntax.tyRef Syntax.erased Syntax.mut (Syntax.tyInt Syntax.w32); ref = λ x. x }, (record { pos = 23; ty = Syntax.tyRef Syntax.erased Syntax.mut Rec.named; ref = λ x. x }, tt))))))) 8 (L._∷_ 0 (L._∷_ 1 (L._∷_ 2 (L._∷_ 10 (L._∷_ 11 (L._∷_ 12 (L._∷_ 13 L.[]))))))) q2
+  abbrev s42 : Typed.Gives T41 T44
+  s42 = Relend.k-sl-relend (Signed.SInt Syntax.w32) T41 6 22 5 13 q44 q45 Row.off λ x. x
 
-  abbrev s38 : Typed.Both T38 T40
-  s38 = Relend.k-back-sl (Signed.SInt Syntax.w32) T38 17 4 3 10 q47 q50 Row.off (λ x. x) λ x. x
+  abbrev s43 : Typed.Asks T44 T45
+  s43 = Relend.k-sl-aggregate (Signed.SInt Syntax.w32) (Relend.asMut (Signed.SInt Syntax.w32)) T44 22 23 13 q45 q45 (λ x. x) (Scalar.oFld 6 (L._∷_ (Syntax.field 1) L.[]) (Syntax.tyInt Syntax.w64) 8 λ v. Shared.lenV (v .0))
 
-  abbrev s41 : Typed.Both T40 T43
-  s41 = Relend.k-back-sl (Signed.SInt Syntax.w32) T40 19 5 4 11 q48 q50 Row.off (λ x. x) λ x. x
+  abbrev s44 : Typed.Both T45 T46
+  s44 = Call.callB ps·0 r·0 (claims· .0) (claims· .1) T45 (record { pos = 23; ty = Syntax.tyRef Syntax.erased Syntax.mut (Syntax.tyInt Syntax.w32); ref = λ x. x }, tt) 9 (L._∷_ 13 L.[]) Syntax.tyUnit
 
-  abbrev s44 : Typed.Both T43 T46
-  s44 = Relend.k-back-sl (Signed.SInt Syntax.w32) T43 21 6 5 12 q49 q50 Row.off (λ x. x) λ x. x
+  abbrev s45 : Typed.Mo T46 → Typed.Mo T47
+  s45 = Scalar.n-room T46 9 Syntax.tyUnit
 
-  abbrev s47 : Typed.Both T46 T49
-  s47 = Relend.k-back-sl Rec.row T46 23 7 6 13 q51 q52 Row.off (λ x. x) λ x. x
+  abbrev s47 : Typed.Both T47 T49
+  s47 = Relend.k-back-sl (Signed.SInt Syntax.w32) T47 23 6 5 13 q44 q45 Row.off (λ x. x) λ x. x
 
   abbrev s50 : Typed.Gives T49 T52
-  s50 = Relend.k-sl-relend (Signed.SInt Syntax.w32) T49 6 24 5 14 q49 q50 Row.off λ x. x
+  s50 = Relend.k-sl-relend Rec.row T49 7 24 6 14 q46 q47 Row.off λ x. x
 
   abbrev s51 : Typed.Asks T52 T53
-  s51 = Relend.k-sl-aggregate (Signed.SInt Syntax.w32) (Relend.asMut (Signed.SInt Syntax.w32)) T52 24 25 14 q50 q50 (λ x. x) (Scalar.oFld 6 (L._∷_ (Syntax.field 1) L.[]) (Syntax.tyInt Syntax.w64) 8 λ v. Shared.lenV (v .0))
+  s51 = Relend.k-sl-aggregate Rec.row (Relend.asMut Rec.row) T52 24 25 14 q47 q47 (λ x. x) (Scalar.oFld 7 (L._∷_ (Syntax.field 1) L.[]) (Syntax.tyInt Syntax.w64) 8 λ v. Shared.lenV (v .0))
 
   abbrev s52 : Typed.Both T53 T54
-  s52 = Call.callB ps·0 r·0 (claims· .0) (claims· .1) T53 (record { pos = 25; ty = Syntax.tyRef Syntax.erased Syntax.mut (Syntax.tyInt Syntax.w32); ref = λ x. x }, tt) 9 (L._∷_ 14 L.[]) Syntax.tyUnit
+  s52 = Call.callB ps·2 r·2 (claims· .4) (claims· .5) T53 (record { pos = 25; ty = Syntax.tyRef Syntax.erased Syntax.mut Rec.named; ref = λ x. x }, tt) 9 (L._∷_ 14 L.[]) Syntax.tyUnit
 
   abbrev s53 : Typed.Mo T54 → Typed.Mo T55
   s53 = Scalar.n-room T54 9 Syntax.tyUnit
 
   abbrev s55 : Typed.Both T55 T57
-  s55 = Relend.k-back-sl (Signed.SInt Syntax.w32) T55 25 6 5 14 q49 q50 Row.off (λ x. x) λ x. x
+  s55 = Relend.k-back-sl Rec.row T55 25 7 6 14 q46 q47 Row.off (λ x. x) λ x. x
 
-  abbrev s58 : Typed.Gives T57 T60
-  s58 = Relend.k-sl-relend Rec.row T57 7 26 6 15 q51 q52 Row.off λ x. x
+  abbrev s57 : Typed.Mo T57 → Typed.Mo T59
+  s57 = LocalCopy.n-val-copy T57 8 0 (Declared.row Answer·.the-type) q49 q49 (λ x. x) (λ x. x) λ x. x
 
-  abbrev s59 : Typed.Asks T60 T61
-  s59 = Relend.k-sl-aggregate Rec.row (Relend.asMut Rec.row) T60 26 27 15 q52 q52 (λ x. x) (Scalar.oFld 7 (L._∷_ (Syntax.field 1) L.[]) (Syntax.tyInt Syntax.w64) 8 λ v. Shared.lenV (v .0))
-
-  abbrev s60 : Typed.Both T61 T62
-  s60 = Call.callB ps·1 r·1 (claims· .2) (claims· .3) T61 (record { pos = 27; ty = Syntax.tyRef Syntax.erased Syntax.mut Rec.named; ref = λ x. x }, tt) 9 (L._∷_ 15 L.[]) Syntax.tyUnit
-
-  abbrev s61 : Typed.Mo T62 → Typed.Mo T63
-  s61 = Scalar.n-room T62 9 Syntax.tyUnit
-
-  abbrev s63 : Typed.Both T63 T65
-  s63 = Relend.k-back-sl Rec.row T63 27 7 6 15 q51 q52 Row.off (λ x. x) λ x. x
-
-  abbrev s65 : Typed.Mo T65 → Typed.Mo T67
-  s65 = LocalCopy.n-val-copy T65 8 0 (Declared.row Answer·.the-type) q54 q54 (λ x. x) (λ x. x) λ x. x
-
-  abbrev s66 : Typed.Mo T67 → Typed.Mo T68
-  s66 = Scalar.n-room T67 8 q2
+  abbrev s58 : Typed.Mo T59 → Typed.Mo T60
+  s58 = Scalar.n-room T59 8 q2
 
   module _ (Pre· : (κs : Lifetimes.Lfts 7) → FnKinds.Dens κs ps → Type 0) (Post· : (κs : Lifetimes.Lfts 7) → (a : FnKinds.Dens κs ps) → FnKinds.Plain 7 ps r κs) where
     module _ (M : Type 1) where
       abbrev pub Closed : Type 2
-      Closed = (𝓤 : URA.URA M) (H : Wp.Heap 𝓤) (A : Atoms.Atoms 𝓤) (W : Kit.Given 𝓤 H A) (𝓣 : Wp.Tables 𝓤 H) (known0 : Plain.Known 𝓤 H A W 𝓣 1 ps·0 r·0 (claims· .0) (claims· .1) "loops::clear") (known1 : Plain.Known 𝓤 H A W 𝓣 1 ps·1 r·1 (claims· .2) (claims· .3) "network::list::clear") (known2 : Plain.Known 𝓤 H A W 𝓣 7 ps·2 r·2 (claims· .4) (claims· .5) "restoration::ask_all") → Statement.Triple 𝓤 (Wp.WpFn 𝓤 H (𝓣 .C) (𝓣 .Λ) (Function.fnOf 7 ps r xs m hs body)) (Function.plainOf 𝓤 H A 7 ps r Pre· Post·)
+      Closed = (𝓤 : URA.URA M) (H : Wp.Heap 𝓤) (A : Atoms.Atoms 𝓤) (W : Kit.Given 𝓤 H A) (𝓣 : Wp.Tables 𝓤 H) (known0 : Plain.Known 𝓤 H A W 𝓣 1 ps·0 r·0 (claims· .0) (claims· .1) "loops::clear") (known1 : Plain.Known 𝓤 H A W 𝓣 7 ps·1 r·1 (claims· .2) (claims· .3) "restoration::restore_in") (known2 : Plain.Known 𝓤 H A W 𝓣 1 ps·2 r·2 (claims· .4) (claims· .5) "network::list::clear") → Statement.Triple 𝓤 (Wp.WpFn 𝓤 H (𝓣 .C) (𝓣 .Λ) (Function.fnOf 7 ps r xs m hs body)) (Function.plainOf 𝓤 H A 7 ps r Pre· Post·)
 
     module _ where
-      abbrev at0 : Typed.TF T68 O0
+      abbrev at0 : Typed.TF T60 O0
       at0 = Typed.atRet O0
 
-      abbrev at1 : Typed.TF T67 O0
-      at1 = λ Ψ. Typed.pass T67 T68 s66 (at0 Ψ)
+      abbrev at1 : Typed.TF T59 O0
+      at1 = λ Ψ. Typed.pass T59 T60 s58 (at0 Ψ)
 
-      abbrev at2 : Typed.TF T65 O0
-      at2 = λ Ψ. Typed.pass T65 T67 s65 (at1 Ψ)
+      abbrev at2 : Typed.TF T57 O0
+      at2 = λ Ψ. Typed.pass T57 T59 s57 (at1 Ψ)
 
-      abbrev at3 : Typed.TF T65 O0
+      abbrev at3 : Typed.TF T57 O0
       at3 = λ Ψ. at2 Ψ
 
-      abbrev at4 : Typed.TF T63 O0
-      at4 = λ Ψ. Typed.both s63 (at3 Ψ)
+      abbrev at4 : Typed.TF T55 O0
+      at4 = λ Ψ. Typed.both s55 (at3 Ψ)
 
-      abbrev at5 : Typed.TF T63 O0
+      abbrev at5 : Typed.TF T55 O0
       at5 = λ Ψ. at4 Ψ
 
-      abbrev at6 : Typed.TF T62 O0
-      at6 = λ Ψ. Typed.pass T62 T63 s61 (at5 Ψ)
+      abbrev at6 : Typed.TF T54 O0
+      at6 = λ Ψ. Typed.pass T54 T55 s53 (at5 Ψ)
 
-      abbrev at7 : Typed.TF T61 O0
-      at7 = λ Ψ. Typed.both s60 (at6 Ψ)
+      abbrev at7 : Typed.TF T53 O0
+      at7 = λ Ψ. Typed.both s52 (at6 Ψ)
 
-      abbrev at8 : Typed.TF T60 O0
-      at8 = λ Ψ. Typed.ask s59 (at7 Ψ)
+      abbrev at8 : Typed.TF T52 O0
+      at8 = λ Ψ. Typed.ask s51 (at7 Ψ)
 
-      abbrev at9 : Typed.TF T57 O0
-      at9 = λ Ψ. Typed.give s58 (at8 Ψ)
+      abbrev at9 : Typed.TF T49 O0
+      at9 = λ Ψ. Typed.give s50 (at8 Ψ)
 
-      abbrev at10 : Typed.TF T57 O0
+      abbrev at10 : Typed.TF T49 O0
       at10 = λ Ψ. at9 Ψ
 
-      abbrev at11 : Typed.TF T57 O0
+      abbrev at11 : Typed.TF T49 O0
       at11 = λ Ψ. at10 Ψ
 
-      abbrev at12 : Typed.TF T55 O0
-      at12 = λ Ψ. Typed.both s55 (at11 Ψ)
+      abbrev at12 : Typed.TF T47 O0
+      at12 = λ Ψ. Typed.both s47 (at11 Ψ)
 
-      abbrev at13 : Typed.TF T55 O0
+      abbrev at13 : Typed.TF T47 O0
       at13 = λ Ψ. at12 Ψ
 
-      abbrev at14 : Typed.TF T54 O0
-      at14 = λ Ψ. Typed.pass T54 T55 s53 (at13 Ψ)
+      abbrev at14 : Typed.TF T46 O0
+      at14 = λ Ψ. Typed.pass T46 T47 s45 (at13 Ψ)
 
-      abbrev at15 : Typed.TF T53 O0
-      at15 = λ Ψ. Typed.both s52 (at14 Ψ)
+      abbrev at15 : Typed.TF T45 O0
+      at15 = λ Ψ. Typed.both s44 (at14 Ψ)
 
-      abbrev at16 : Typed.TF T52 O0
-      at16 = λ Ψ. Typed.ask s51 (at15 Ψ)
+      abbrev at16 : Typed.TF T44 O0
+      at16 = λ Ψ. Typed.ask s43 (at15 Ψ)
 
-      abbrev at17 : Typed.TF T49 O0
-      at17 = λ Ψ. Typed.give s50 (at16 Ψ)
+      abbrev at17 : Typed.TF T41 O0
+      at17 = λ Ψ. Typed.give s42 (at16 Ψ)
 
-      abbrev at18 : Typed.TF T49 O0
+      abbrev at18 : Typed.TF T41 O0
       at18 = λ Ψ. at17 Ψ
 
-      abbrev at19 : Typed.TF T49 O0
+      abbrev at19 : Typed.TF T41 O0
       at19 = λ Ψ. at18 Ψ
 
-      abbrev at20 : Typed.TF T46 O0
-      at20 = λ Ψ. Typed.both s47 (at19 Ψ)
+      abbrev at20 : Typed.TF T38 O0
+      at20 = λ Ψ. Typed.both s39 (at19 Ψ)
 
-      abbrev at21 : Typed.TF T46 O0
+      abbrev at21 : Typed.TF T38 O0
       at21 = λ Ψ. at20 Ψ
 
-      abbrev at22 : Typed.TF T46 O0
+      abbrev at22 : Typed.TF T38 O0
       at22 = λ Ψ. at21 Ψ
 
-      abbrev at23 : Typed.TF T43 O0
-      at23 = λ Ψ. Typed.both s44 (at22 Ψ)
+      abbrev at23 : Typed.TF T35 O0
+      at23 = λ Ψ. Typed.both s36 (at22 Ψ)
 
-      abbrev at24 : Typed.TF T43 O0
+      abbrev at24 : Typed.TF T35 O0
       at24 = λ Ψ. at23 Ψ
 
-      abbrev at25 : Typed.TF T43 O0
+      abbrev at25 : Typed.TF T35 O0
       at25 = λ Ψ. at24 Ψ
 
-      abbrev at26 : Typed.TF T40 O0
-      at26 = λ Ψ. Typed.both s41 (at25 Ψ)
+      abbrev at26 : Typed.TF T32 O0
+      at26 = λ Ψ. Typed.both s33 (at25 Ψ)
 
-      abbrev at27 : Typed.TF T40 O0
+      abbrev at27 : Typed.TF T32 O0
       at27 = λ Ψ. at26 Ψ
 
-      abbrev at28 : Typed.TF T40 O0
+      abbrev at28 : Typed.TF T32 O0
       at28 = λ Ψ. at27 Ψ
 
-      abbrev at29 : Typed.TF T38 O0
-      at29 = λ Ψ. Typed.both s38 (at28 Ψ)
+      abbrev at29 : Typed.TF T30 O0
+      at29 = λ Ψ. Typed.both s30 (at28 Ψ)
 
-      abbrev at30 : Typed.TF T38 O0
+      abbrev at30 : Typed.TF T30 O0
       at30 = λ Ψ. at29 Ψ
 
-      abbrev at31 : Typed.TF T37 O0
-      at31 = λ Ψ. Typed.both s36 (at30 Ψ)
+      abbrev at31 : Typed.TF T29 O0
+      at31 = λ Ψ. Typed.both s28 (at30 Ψ)
 
-      abbrev at32 : Typed.TF T36 O0
-      at32 = λ Ψ. Typed.ask s35 (at31 Ψ)
+      abbrev at32 : Typed.TF T28 O0
+      at32 = λ Ψ. Typed.ask s27 (at31 Ψ)
 
-      abbrev at33 : Typed.TF T34 O0
-      at33 = λ Ψ. Typed.give s34 (at32 Ψ)
+      abbrev at33 : Typed.TF T26 O0
+      at33 = λ Ψ. Typed.give s26 (at32 Ψ)
 
-      abbrev at34 : Typed.TF T34 O0
+      abbrev at34 : Typed.TF T26 O0
       at34 = λ Ψ. at33 Ψ
 
-      abbrev at35 : Typed.TF T33 O0
-      at35 = λ Ψ. Typed.ask s32 (at34 Ψ)
+      abbrev at35 : Typed.TF T25 O0
+      at35 = λ Ψ. Typed.ask s24 (at34 Ψ)
 
-      abbrev at36 : Typed.TF T31 O0
-      at36 = λ Ψ. Typed.give s31 (at35 Ψ)
+      abbrev at36 : Typed.TF T23 O0
+      at36 = λ Ψ. Typed.give s23 (at35 Ψ)
 
-      abbrev at37 : Typed.TF T31 O0
+      abbrev at37 : Typed.TF T23 O0
       at37 = λ Ψ. at36 Ψ
 
-      abbrev at38 : Typed.TF T30 O0
-      at38 = λ Ψ. Typed.ask s29 (at37 Ψ)
+      abbrev at38 : Typed.TF T22 O0
+      at38 = λ Ψ. Typed.ask s21 (at37 Ψ)
 
-      abbrev at39 : Typed.TF T28 O0
-      at39 = λ Ψ. Typed.give s28 (at38 Ψ)
+      abbrev at39 : Typed.TF T20 O0
+      at39 = λ Ψ. Typed.give s20 (at38 Ψ)
 
-      abbrev at40 : Typed.TF T28 O0
+      abbrev at40 : Typed.TF T20 O0
       at40 = λ Ψ. at39 Ψ
 
-      abbrev at41 : Typed.TF T27 O0
-      at41 = λ Ψ. Typed.ask s26 (at40 Ψ)
+      abbrev at41 : Typed.TF T19 O0
+      at41 = λ Ψ. Typed.ask s18 (at40 Ψ)
 
-      abbrev at42 : Typed.TF T24 O0
-      at42 = λ Ψ. Typed.give s25 (at41 Ψ)
+      abbrev at42 : Typed.TF T16 O0
+      at42 = λ Ψ. Typed.give s17 (at41 Ψ)
 
-      abbrev at43 : Typed.TF T24 O0
+      abbrev at43 : Typed.TF T16 O0
       at43 = λ Ψ. at42 Ψ
 
-      abbrev at44 : Typed.TF T24 O0
+      abbrev at44 : Typed.TF T16 O0
       at44 = λ Ψ. at43 Ψ
 
-      abbrev at45 : Typed.TF T22 O0
-      at45 = λ Ψ. Typed.both s22 (at44 Ψ)
+      abbrev at45 : Typed.TF T14 O0
+      at45 = λ Ψ. Typed.both s14 (at44 Ψ)
 
-      abbrev at46 : Typed.TF T22 O0
+      abbrev at46 : Typed.TF T14 O0
       at46 = λ Ψ. at45 Ψ
 
-      abbrev at47 : Typed.TF T21 O0
-      at47 = λ Ψ. Typed.pass T21 T22 s20 (at46 Ψ)
+      abbrev at47 : Typed.TF T13 O0
+      at47 = λ Ψ. Typed.pass T13 T14 s12 (at46 Ψ)
 
-      abbrev at48 : Typed.TF T20 O0
-      at48 = λ Ψ. Typed.both s19 (at47 Ψ)
+      abbrev at48 : Typed.TF T12 O0
+      at48 = λ Ψ. Typed.both s11 (at47 Ψ)
 
-      abbrev at49 : Typed.TF T19 O0
-      at49 = λ Ψ. Typed.ask s18 (at48 Ψ)
+      abbrev at49 : Typed.TF T11 O0
+      at49 = λ Ψ. Typed.ask s10 (at48 Ψ)
 
-      abbrev at50 : Typed.TF T16 O0
-      at50 = λ Ψ. Typed.give s17 (at49 Ψ)
+      abbrev at50 : Typed.TF T8 O0
+      at50 = λ Ψ. Typed.give s9 (at49 Ψ)
 
-      abbrev at51 : Typed.TF T16 O0
+      abbrev at51 : Typed.TF T8 O0
       at51 = λ Ψ. at50 Ψ
 
-      abbrev at52 : Typed.TF T16 O0
+      abbrev at52 : Typed.TF T8 O0
       at52 = λ Ψ. at51 Ψ
 
-      abbrev at53 : Typed.TF T14 O0
-      at53 = λ Ψ. Typed.both s14 (at52 Ψ)
+      abbrev at53 : Typed.TF T6 O0
+      at53 = λ Ψ. Typed.both s6 (at52 Ψ)
 
-      abbrev at54 : Typed.TF T14 O0
+      abbrev at54 : Typed.TF T6 O0
       at54 = λ Ψ. at53 Ψ
 
-      abbrev at55 : Typed.TF T13 O0
-      at55 = λ Ψ. Typed.pass T13 T14 s12 (at54 Ψ)
+      abbrev at55 : Typed.TF T5 O0
+      at55 = λ Ψ. Typed.pass T5 T6 s4 (at54 Ψ)
 
-      abbrev at56 : Typed.TF T12 O0
-      at56 = λ Ψ. Typed.both s11 (at55 Ψ)
+      abbrev at56 : Typed.TF T4 O0
+      at56 = λ Ψ. Typed.both s3 (at55 Ψ)
 
-      abbrev at57 : Typed.TF T11 O0
-      at57 = λ Ψ. Typed.ask s10 (at56 Ψ)
+      abbrev at57 : Typed.TF T3 O0
+      at57 = λ Ψ. Typed.ask s2 (at56 Ψ)
 
-      abbrev at58 : Typed.TF T8 O0
-      at58 = λ Ψ. Typed.give s9 (at57 Ψ)
+      abbrev at58 : Typed.TF T0 O0
+      at58 = λ Ψ. Typed.give s1 (at57 Ψ)
 
-      abbrev at59 : Typed.TF T8 O0
+      abbrev at59 : Typed.TF T0 O0
       at59 = λ Ψ. at58 Ψ
 
-      abbrev at60 : Typed.TF T8 O0
-      at60 = λ Ψ. at59 Ψ
-
-      abbrev at61 : Typed.TF T6 O0
-      at61 = λ Ψ. Typed.both s6 (at60 Ψ)
-
-      abbrev at62 : Typed.TF T6 O0
-      at62 = λ Ψ. at61 Ψ
-
-      abbrev at63 : Typed.TF T5 O0
-      at63 = λ Ψ. Typed.pass T5 T6 s4 (at62 Ψ)
-
-      abbrev at64 : Typed.TF T4 O0
-      at64 = λ Ψ. Typed.both s3 (at63 Ψ)
-
-      abbrev at65 : Typed.TF T3 O0
-      at65 = λ Ψ. Typed.ask s2 (at64 Ψ)
-
-      abbrev at66 : Typed.TF T0 O0
-      at66 = λ Ψ. Typed.give s1 (at65 Ψ)
-
-      abbrev at67 : Typed.TF T0 O0
-      at67 = λ Ψ. at66 Ψ
-
       abbrev pub Φ : Typed.TF T0 O0
-      Φ = at67
+      Φ = at59
 
       module _ {M : Type 1} (𝓤 : URA.URA M) (H : Wp.Heap 𝓤) (A : Atoms.Atoms 𝓤) (W : Kit.Given 𝓤 H A) (𝓣 : Wp.Tables 𝓤 H) where
         abbrev Knowns : Type 1
-        Knowns = Plain.Known 𝓤 H A W 𝓣 1 ps·0 r·0 (claims· .0) (claims· .1) "loops::clear" × Plain.Known 𝓤 H A W 𝓣 1 ps·1 r·1 (claims· .2) (claims· .3) "network::list::clear" × Plain.Known 𝓤 H A W 𝓣 7 ps·2 r·2 (claims· .4) (claims· .5) "restoration::ask_all"
+        Knowns = Plain.Known 𝓤 H A W 𝓣 1 ps·0 r·0 (claims· .0) (claims· .1) "loops::clear" × Plain.Known 𝓤 H A W 𝓣 7 ps·1 r·1 (claims· .2) (claims· .3) "restoration::restore_in" × Plain.Known 𝓤 H A W 𝓣 1 ps·2 r·2 (claims· .4) (claims· .5) "network::list::clear"
 
       module _ (κs : Lifetimes.Lfts 7) (qs : Lifetimes.Shares 7) where
         abbrev g3 : L.List Row.Entry
-        g3 = L._∷_ q0 (L._∷_ q19 (L._∷_ q20 (L._∷_ q21 (L._∷_ (4, Relend.mslice-owed (Signed.SInt Syntax.w32) q47 3 7 (Row.lease (κs .1 .1 .1 .0) (qs .1 .1 .1 .0))) (L._∷_ q23 (L._∷_ q24 (L._∷_ q38 (L._∷_ q1 (L._∷_ q55 (L._∷_ (10, Relend.msptr (Signed.SInt Syntax.w32) q50 7) (L._∷_ q3 (L._∷_ q33 (L._∷_ q4 (L._∷_ q41 (L._∷_ q9 L.[])))))))))))))))
+        g3 = L._∷_ q0 (L._∷_ q18 (L._∷_ q19 (L._∷_ q20 (L._∷_ (4, Relend.mslice-owed (Signed.SInt Syntax.w32) q42 3 7 (Row.lease (κs .1 .1 .1 .0) (qs .1 .1 .1 .0))) (L._∷_ q22 (L._∷_ q23 (L._∷_ q36 (L._∷_ q1 (L._∷_ q50 (L._∷_ (10, Relend.msptr (Signed.SInt Syntax.w32) q45 7) (L._∷_ q3 (L._∷_ q31 (L._∷_ q4 (L._∷_ q32 (L._∷_ q5 L.[])))))))))))))))
 
         abbrev g4 : L.List Row.Entry
-        g4 = L._∷_ q0 (L._∷_ q19 (L._∷_ q20 (L._∷_ q21 (L._∷_ (4, Relend.mslice-owed (Signed.SInt Syntax.w32) q47 3 7 (Row.lease (κs .1 .1 .1 .0) (qs .1 .1 .1 .0))) (L._∷_ q23 (L._∷_ q24 (L._∷_ q38 (L._∷_ q1 (L._∷_ q55 (L._∷_ q32 (L._∷_ (11, Mut.mslice (Signed.SInt Syntax.w32) q50 7) (L._∷_ q33 (L._∷_ q4 (L._∷_ q41 (L._∷_ q9 L.[])))))))))))))))
+        g4 = L._∷_ q0 (L._∷_ q18 (L._∷_ q19 (L._∷_ q20 (L._∷_ (4, Relend.mslice-owed (Signed.SInt Syntax.w32) q42 3 7 (Row.lease (κs .1 .1 .1 .0) (qs .1 .1 .1 .0))) (L._∷_ q22 (L._∷_ q23 (L._∷_ q36 (L._∷_ q1 (L._∷_ q50 (L._∷_ q30 (L._∷_ (11, Mut.mslice (Signed.SInt Syntax.w32) q45 7) (L._∷_ q31 (L._∷_ q4 (L._∷_ q32 (L._∷_ q5 L.[])))))))))))))))
 
         abbrev g5 : L.List Row.Entry
-        g5 = L._∷_ q0 (L._∷_ q19 (L._∷_ q20 (L._∷_ q21 (L._∷_ (4, Relend.mslice-owed (Signed.SInt Syntax.w32) q47 3 7 (Row.lease (κs .1 .1 .1 .0) (qs .1 .1 .1 .0))) (L._∷_ q23 (L._∷_ q24 (L._∷_ q38 (L._∷_ q1 (L._∷_ (9, Rows.sc-here Row.sUnit) (L._∷_ q32 (L._∷_ q27 (L._∷_ q33 (L._∷_ q4 (L._∷_ q41 (L._∷_ q9 L.[])))))))))))))))
+        g5 = L._∷_ q0 (L._∷_ q18 (L._∷_ q19 (L._∷_ q20 (L._∷_ (4, Relend.mslice-owed (Signed.SInt Syntax.w32) q42 3 7 (Row.lease (κs .1 .1 .1 .0) (qs .1 .1 .1 .0))) (L._∷_ q22 (L._∷_ q23 (L._∷_ q36 (L._∷_ q1 (L._∷_ (9, Rows.sc-here Row.sUnit) (L._∷_ q30 (L._∷_ q26 (L._∷_ q31 (L._∷_ q4 (L._∷_ q32 (L._∷_ q5 L.[])))))))))))))))
 
         abbrev g6 : L.List Row.Entry
-        g6 = L._∷_ q0 (L._∷_ q19 (L._∷_ q20 (L._∷_ q21 (L._∷_ (4, Relend.mslice-owed (Signed.SInt Syntax.w32) q47 3 7 (Row.lease (κs .1 .1 .1 .0) (qs .1 .1 .1 .0))) (L._∷_ q23 (L._∷_ q24 (L._∷_ q38 (L._∷_ q1 (L._∷_ q55 (L._∷_ q32 (L._∷_ q27 (L._∷_ q33 (L._∷_ q4 (L._∷_ q41 (L._∷_ q9 L.[])))))))))))))))
+        g6 = L._∷_ q0 (L._∷_ q18 (L._∷_ q19 (L._∷_ q20 (L._∷_ (4, Relend.mslice-owed (Signed.SInt Syntax.w32) q42 3 7 (Row.lease (κs .1 .1 .1 .0) (qs .1 .1 .1 .0))) (L._∷_ q22 (L._∷_ q23 (L._∷_ q36 (L._∷_ q1 (L._∷_ q50 (L._∷_ q30 (L._∷_ q26 (L._∷_ q31 (L._∷_ q4 (L._∷_ q32 (L._∷_ q5 L.[])))))))))))))))
 
         abbrev g7 : L.List Row.Entry
-        g7 = L._∷_ q0 (L._∷_ q19 (L._∷_ q20 (L._∷_ q21 (L._∷_ q22 (L._∷_ (5, Relend.mslice-owed (Signed.SInt Syntax.w32) q48 4 8 (Row.lease (κs .1 .1 .1 .1 .0) (qs .1 .1 .1 .1 .0))) (L._∷_ q24 (L._∷_ q38 (L._∷_ q1 (L._∷_ q55 (L._∷_ q32 (L._∷_ q3 (L._∷_ (12, Relend.msptr (Signed.SInt Syntax.w32) q50 8) (L._∷_ q4 (L._∷_ q41 (L._∷_ q9 L.[])))))))))))))))
+        g7 = L._∷_ q0 (L._∷_ q18 (L._∷_ q19 (L._∷_ q20 (L._∷_ q21 (L._∷_ (5, Relend.mslice-owed (Signed.SInt Syntax.w32) q43 4 8 (Row.lease (κs .1 .1 .1 .1 .0) (qs .1 .1 .1 .1 .0))) (L._∷_ q23 (L._∷_ q36 (L._∷_ q1 (L._∷_ q50 (L._∷_ q30 (L._∷_ q3 (L._∷_ (12, Relend.msptr (Signed.SInt Syntax.w32) q45 8) (L._∷_ q4 (L._∷_ q32 (L._∷_ q5 L.[])))))))))))))))
 
         abbrev g8 : L.List Row.Entry
-        g8 = L._∷_ q0 (L._∷_ q19 (L._∷_ q20 (L._∷_ q21 (L._∷_ q22 (L._∷_ (5, Relend.mslice-owed (Signed.SInt Syntax.w32) q48 4 8 (Row.lease (κs .1 .1 .1 .1 .0) (qs .1 .1 .1 .1 .0))) (L._∷_ q24 (L._∷_ q38 (L._∷_ q1 (L._∷_ q55 (L._∷_ q32 (L._∷_ q3 (L._∷_ q33 (L._∷_ (13, Mut.mslice (Signed.SInt Syntax.w32) q50 8) (L._∷_ q41 (L._∷_ q9 L.[])))))))))))))))
+        g8 = L._∷_ q0 (L._∷_ q18 (L._∷_ q19 (L._∷_ q20 (L._∷_ q21 (L._∷_ (5, Relend.mslice-owed (Signed.SInt Syntax.w32) q43 4 8 (Row.lease (κs .1 .1 .1 .1 .0) (qs .1 .1 .1 .1 .0))) (L._∷_ q23 (L._∷_ q36 (L._∷_ q1 (L._∷_ q50 (L._∷_ q30 (L._∷_ q3 (L._∷_ q31 (L._∷_ (13, Mut.mslice (Signed.SInt Syntax.w32) q45 8) (L._∷_ q32 (L._∷_ q5 L.[])))))))))))))))
 
         abbrev g9 : L.List Row.Entry
-        g9 = L._∷_ q0 (L._∷_ q19 (L._∷_ q20 (L._∷_ q21 (L._∷_ q22 (L._∷_ (5, Relend.mslice-owed (Signed.SInt Syntax.w32) q48 4 8 (Row.lease (κs .1 .1 .1 .1 .0) (qs .1 .1 .1 .1 .0))) (L._∷_ q24 (L._∷_ q38 (L._∷_ q1 (L._∷_ (9, Rows.sc-here Row.sUnit) (L._∷_ q32 (L._∷_ q3 (L._∷_ q33 (L._∷_ q28 (L._∷_ q41 (L._∷_ q9 L.[])))))))))))))))
+        g9 = L._∷_ q0 (L._∷_ q18 (L._∷_ q19 (L._∷_ q20 (L._∷_ q21 (L._∷_ (5, Relend.mslice-owed (Signed.SInt Syntax.w32) q43 4 8 (Row.lease (κs .1 .1 .1 .1 .0) (qs .1 .1 .1 .1 .0))) (L._∷_ q23 (L._∷_ q36 (L._∷_ q1 (L._∷_ (9, Rows.sc-here Row.sUnit) (L._∷_ q30 (L._∷_ q3 (L._∷_ q31 (L._∷_ q27 (L._∷_ q32 (L._∷_ q5 L.[])))))))))))))))
 
         abbrev g10 : L.List Row.Entry
-        g10 = L._∷_ q0 (L._∷_ q19 (L._∷_ q20 (L._∷_ q21 (L._∷_ q22 (L._∷_ (5, Relend.mslice-owed (Signed.SInt Syntax.w32) q48 4 8 (Row.lease (κs .1 .1 .1 .1 .0) (qs .1 .1 .1 .1 .0))) (L._∷_ q24 (L._∷_ q38 (L._∷_ q1 (L._∷_ q55 (L._∷_ q32 (L._∷_ q3 (L._∷_ q33 (L._∷_ q28 (L._∷_ q41 (L._∷_ q9 L.[])))))))))))))))
+        g10 = L._∷_ q0 (L._∷_ q18 (L._∷_ q19 (L._∷_ q20 (L._∷_ q21 (L._∷_ (5, Relend.mslice-owed (Signed.SInt Syntax.w32) q43 4 8 (Row.lease (κs .1 .1 .1 .1 .0) (qs .1 .1 .1 .1 .0))) (L._∷_ q23 (L._∷_ q36 (L._∷_ q1 (L._∷_ q50 (L._∷_ q30 (L._∷_ q3 (L._∷_ q31 (L._∷_ q27 (L._∷_ q32 (L._∷_ q5 L.[])))))))))))))))
 
         abbrev g11 : L.List Row.Entry
-        g11 = L._∷_ q0 (L._∷_ q19 (L._∷_ q20 (L._∷_ q21 (L._∷_ q22 (L._∷_ q23 (L._∷_ q24 (L._∷_ (7, Relend.mslice-owed Rec.row q51 6 9 (Row.lease (κs .1 .1 .1 .1 .1 .1 .0) (qs .1 .1 .1 .1 .1 .1 .0))) (L._∷_ q1 (L._∷_ q55 (L._∷_ q32 (L._∷_ q3 (L._∷_ q33 (L._∷_ q4 (L._∷_ (14, Relend.msptr Rec.row q52 9) (L._∷_ q9 L.[])))))))))))))))
+        g11 = L._∷_ q0 (L._∷_ q18 (L._∷_ q19 (L._∷_ q20 (L._∷_ (4, Relend.mslice-owed (Signed.SInt Syntax.w32) q42 3 9 (Row.lease (κs .1 .1 .1 .0) (qs .1 .1 .1 .0))) (L._∷_ q22 (L._∷_ q23 (L._∷_ q36 (L._∷_ q1 (L._∷_ q50 (L._∷_ q30 (L._∷_ q3 (L._∷_ q31 (L._∷_ q4 (L._∷_ (14, Relend.msptr (Signed.SInt Syntax.w32) q45 9) (L._∷_ q5 L.[])))))))))))))))
 
         abbrev g12 : L.List Row.Entry
-        g12 = L._∷_ q0 (L._∷_ q19 (L._∷_ q20 (L._∷_ q21 (L._∷_ q22 (L._∷_ q23 (L._∷_ q24 (L._∷_ (7, Relend.mslice-owed Rec.row q51 6 9 (Row.lease (κs .1 .1 .1 .1 .1 .1 .0) (qs .1 .1 .1 .1 .1 .1 .0))) (L._∷_ q1 (L._∷_ q55 (L._∷_ q32 (L._∷_ q3 (L._∷_ q33 (L._∷_ q4 (L._∷_ q41 (L._∷_ (15, Mut.mslice Rec.row q52 9) L.[])))))))))))))))
+        g12 = L._∷_ q0 (L._∷_ q18 (L._∷_ q19 (L._∷_ q20 (L._∷_ (4, Relend.mslice-owed (Signed.SInt Syntax.w32) q42 3 9 (Row.lease (κs .1 .1 .1 .0) (qs .1 .1 .1 .0))) (L._∷_ q22 (L._∷_ q23 (L._∷_ q36 (L._∷_ q1 (L._∷_ q50 (L._∷_ q30 (L._∷_ q3 (L._∷_ q31 (L._∷_ q4 (L._∷_ q32 (L._∷_ q25 L.[])))))))))))))))
 
         abbrev g13 : L.List Row.Entry
-        g13 = L._∷_ q0 (L._∷_ q19 (L._∷_ q20 (L._∷_ q21 (L._∷_ q22 (L._∷_ q23 (L._∷_ q24 (L._∷_ (7, Relend.mslice-owed Rec.row q51 6 9 (Row.lease (κs .1 .1 .1 .1 .1 .1 .0) (qs .1 .1 .1 .1 .1 .1 .0))) (L._∷_ q1 (L._∷_ (9, Rows.sc-here Row.sUnit) (L._∷_ q32 (L._∷_ q3 (L._∷_ q33 (L._∷_ q4 (L._∷_ q41 (L._∷_ q39 L.[])))))))))))))))
+        g13 = L._∷_ q0 (L._∷_ q18 (L._∷_ q19 (L._∷_ q20 (L._∷_ (4, Relend.mslice-owed (Signed.SInt Syntax.w32) q42 3 9 (Row.lease (κs .1 .1 .1 .0) (qs .1 .1 .1 .0))) (L._∷_ (5, Relend.mslice-owed (Signed.SInt Syntax.w32) q43 4 10 (Row.lease (κs .1 .1 .1 .1 .0) (qs .1 .1 .1 .1 .0))) (L._∷_ q23 (L._∷_ q36 (L._∷_ q1 (L._∷_ q50 (L._∷_ q30 (L._∷_ q3 (L._∷_ q31 (L._∷_ q4 (L._∷_ q32 (L._∷_ q25 L.[])))))))))))))))
 
-        abbrev g14 : L.List Row.Entry
-        g14 = L._∷_ q0 (L._∷_ q19 (L._∷_ q20 (L._∷_ q21 (L._∷_ q22 (L._∷_ q23 (L._∷_ q24 (L._∷_ (7, Relend.mslice-owed Rec.row q51 6 9 (Row.lease (κs .1 .1 .1 .1 .1 .1 .0) (qs .1 .1 .1 .1 .1 .1 .0))) (L._∷_ q1 (L._∷_ q55 (L._∷_ q32 (L._∷_ q3 (L._∷_ q33 (L._∷_ q4 (L._∷_ q41 (L._∷_ q39 L.[])))))))))))))))
+        abbrev g16 : L.List Row.Entry
+        g16 = L._∷_ q0 (L._∷_ q18 (L._∷_ q19 (L._∷_ q20 (L._∷_ (4, Relend.mslice-owed (Signed.SInt Syntax.w32) q42 3 9 (Row.lease (κs .1 .1 .1 .0) (qs .1 .1 .1 .0))) (L._∷_ (5, Relend.mslice-owed (Signed.SInt Syntax.w32) q43 4 10 (Row.lease (κs .1 .1 .1 .1 .0) (qs .1 .1 .1 .1 .0))) (L._∷_ (6, Relend.mslice-owed (Signed.SInt Syntax.w32) q44 5 11 (Row.lease (κs .1 .1 .1 .1 .1 .0) (qs .1 .1 .1 .1 .1 .0))) (L._∷_ q36 (L._∷_ q1 (L._∷_ q50 (L._∷_ q30 (L._∷_ q3 (L._∷_ q31 (L._∷_ q4 (L._∷_ q32 (L._∷_ q25 L.[])))))))))))))))
 
-        abbrev g15 : L.List Row.Entry
-        g15 = L._∷_ q0 (L._∷_ q19 (L._∷_ q20 (L._∷_ q21 (L._∷_ (4, Relend.mslice-owed (Signed.SInt Syntax.w32) q47 3 10 (Row.lease (κs .1 .1 .1 .0) (qs .1 .1 .1 .0))) (L._∷_ q23 (L._∷_ q24 (L._∷_ q38 (L._∷_ q1 (L._∷_ q55 (L._∷_ q32 (L._∷_ q3 (L._∷_ q33 (L._∷_ q4 (L._∷_ q41 (L._∷_ q9 L.[])))))))))))))))
+        abbrev g19 : L.List Row.Entry
+        g19 = L._∷_ q0 (L._∷_ q18 (L._∷_ q19 (L._∷_ q20 (L._∷_ (4, Relend.mslice-owed (Signed.SInt Syntax.w32) q42 3 9 (Row.lease (κs .1 .1 .1 .0) (qs .1 .1 .1 .0))) (L._∷_ (5, Relend.mslice-owed (Signed.SInt Syntax.w32) q43 4 10 (Row.lease (κs .1 .1 .1 .1 .0) (qs .1 .1 .1 .1 .0))) (L._∷_ (6, Relend.mslice-owed (Signed.SInt Syntax.w32) q44 5 11 (Row.lease (κs .1 .1 .1 .1 .1 .0) (qs .1 .1 .1 .1 .1 .0))) (L._∷_ (7, Relend.mslice-owed Rec.row q46 6 12 (Row.lease (κs .1 .1 .1 .1 .1 .1 .0) (qs .1 .1 .1 .1 .1 .1 .0))) (L._∷_ q1 (L._∷_ q50 (L._∷_ q30 (L._∷_ q3 (L._∷_ q31 (L._∷_ q4 (L._∷_ q32 (L._∷_ q25 L.[])))))))))))))))
 
-        abbrev g18 : L.List Row.Entry
-        g18 = L._∷_ q0 (L._∷_ q19 (L._∷_ q20 (L._∷_ q21 (L._∷_ (4, Relend.mslice-owed (Signed.SInt Syntax.w32) q47 3 10 (Row.lease (κs .1 .1 .1 .0) (qs .1 .1 .1 .0))) (L._∷_ (5, Relend.mslice-owed (Signed.SInt Syntax.w32) q48 4 11 (Row.lease (κs .1 .1 .1 .1 .0) (qs .1 .1 .1 .1 .0))) (L._∷_ q24 (L._∷_ q38 (L._∷_ q1 (L._∷_ q55 (L._∷_ q32 (L._∷_ q3 (L._∷_ q33 (L._∷_ q4 (L._∷_ q41 (L._∷_ q9 L.[])))))))))))))))
-
-        abbrev g21 : L.List Row.Entry
-        g21 = L._∷_ q0 (L._∷_ q19 (L._∷_ q20 (L._∷_ q21 (L._∷_ (4, Relend.mslice-owed (Signed.SInt Syntax.w32) q47 3 10 (Row.lease (κs .1 .1 .1 .0) (qs .1 .1 .1 .0))) (L._∷_ (5, Relend.mslice-owed (Signed.SInt Syntax.w32) q48 4 11 (Row.lease (κs .1 .1 .1 .1 .0) (qs .1 .1 .1 .1 .0))) (L._∷_ (6, Relend.mslice-owed (Signed.SInt Syntax.w32) q49 5 12 (Row.lease (κs .1 .1 .1 .1 .1 .0) (qs .1 .1 .1 .1 .1 .0))) (L._∷_ q38 (L._∷_ q1 (L._∷_ q55 (L._∷_ q32 (L._∷_ q3 (L._∷_ q33 (L._∷_ q4 (L._∷_ q41 (L._∷_ q9 L.[])))))))))))))))
+        abbrev g22 : L.List Row.Entry
+        g22 = L._∷_ q0 (L._∷_ q18 (L._∷_ q19 (L._∷_ q20 (L._∷_ (4, Relend.mslice-owed (Signed.SInt Syntax.w32) q42 3 9 (Row.lease (κs .1 .1 .1 .0) (qs .1 .1 .1 .0))) (L._∷_ (5, Relend.mslice-owed (Signed.SInt Syntax.w32) q43 4 10 (Row.lease (κs .1 .1 .1 .1 .0) (qs .1 .1 .1 .1 .0))) (L._∷_ (6, Relend.mslice-owed (Signed.SInt Syntax.w32) q44 5 11 (Row.lease (κs .1 .1 .1 .1 .1 .0) (qs .1 .1 .1 .1 .1 .0))) (L._∷_ (7, Relend.mslice-owed Rec.row q46 6 12 (Row.lease (κs .1 .1 .1 .1 .1 .1 .0) (qs .1 .1 .1 .1 .1 .1 .0))) (L._∷_ q48 (L._∷_ q50 (L._∷_ q30 (L._∷_ q3 (L._∷_ q31 (L._∷_ q4 (L._∷_ q32 (L._∷_ (15, Mut.msleft (Signed.SInt Syntax.w32) q45) L.[])))))))))))))))
 
         abbrev g24 : L.List Row.Entry
-        g24 = L._∷_ q0 (L._∷_ q19 (L._∷_ q20 (L._∷_ q21 (L._∷_ (4, Relend.mslice-owed (Signed.SInt Syntax.w32) q47 3 10 (Row.lease (κs .1 .1 .1 .0) (qs .1 .1 .1 .0))) (L._∷_ (5, Relend.mslice-owed (Signed.SInt Syntax.w32) q48 4 11 (Row.lease (κs .1 .1 .1 .1 .0) (qs .1 .1 .1 .1 .0))) (L._∷_ (6, Relend.mslice-owed (Signed.SInt Syntax.w32) q49 5 12 (Row.lease (κs .1 .1 .1 .1 .1 .0) (qs .1 .1 .1 .1 .1 .0))) (L._∷_ (7, Relend.mslice-owed Rec.row q51 6 13 (Row.lease (κs .1 .1 .1 .1 .1 .1 .0) (qs .1 .1 .1 .1 .1 .1 .0))) (L._∷_ q1 (L._∷_ q55 (L._∷_ q32 (L._∷_ q3 (L._∷_ q33 (L._∷_ q4 (L._∷_ q41 (L._∷_ q9 L.[])))))))))))))))
+        g24 = L._∷_ q0 (L._∷_ q18 (L._∷_ q19 (L._∷_ q20 (L._∷_ q21 (L._∷_ (5, Relend.mslice-owed (Signed.SInt Syntax.w32) q43 4 10 (Row.lease (κs .1 .1 .1 .1 .0) (qs .1 .1 .1 .1 .0))) (L._∷_ (6, Relend.mslice-owed (Signed.SInt Syntax.w32) q44 5 11 (Row.lease (κs .1 .1 .1 .1 .1 .0) (qs .1 .1 .1 .1 .1 .0))) (L._∷_ (7, Relend.mslice-owed Rec.row q46 6 12 (Row.lease (κs .1 .1 .1 .1 .1 .1 .0) (qs .1 .1 .1 .1 .1 .1 .0))) (L._∷_ q48 (L._∷_ q50 (L._∷_ q30 (L._∷_ q3 (L._∷_ q31 (L._∷_ q4 (L._∷_ q32 (L._∷_ q5 L.[])))))))))))))))
+
+        abbrev g25 : L.List Row.Entry
+        g25 = L._∷_ q0 (L._∷_ q18 (L._∷_ q19 (L._∷_ q20 (L._∷_ q21 (L._∷_ q22 (L._∷_ (6, Relend.mslice-owed (Signed.SInt Syntax.w32) q44 5 11 (Row.lease (κs .1 .1 .1 .1 .1 .0) (qs .1 .1 .1 .1 .1 .0))) (L._∷_ (7, Relend.mslice-owed Rec.row q46 6 12 (Row.lease (κs .1 .1 .1 .1 .1 .1 .0) (qs .1 .1 .1 .1 .1 .1 .0))) (L._∷_ q48 (L._∷_ q50 (L._∷_ q30 (L._∷_ q3 (L._∷_ q31 (L._∷_ q4 (L._∷_ q32 (L._∷_ q5 L.[])))))))))))))))
 
         abbrev g27 : L.List Row.Entry
-        g27 = L._∷_ q0 (L._∷_ q19 (L._∷_ q20 (L._∷_ q21 (L._∷_ (4, Relend.mslice-owed (Signed.SInt Syntax.w32) q47 3 10 (Row.lease (κs .1 .1 .1 .0) (qs .1 .1 .1 .0))) (L._∷_ (5, Relend.mslice-owed (Signed.SInt Syntax.w32) q48 4 11 (Row.lease (κs .1 .1 .1 .1 .0) (qs .1 .1 .1 .1 .0))) (L._∷_ (6, Relend.mslice-owed (Signed.SInt Syntax.w32) q49 5 12 (Row.lease (κs .1 .1 .1 .1 .1 .0) (qs .1 .1 .1 .1 .1 .0))) (L._∷_ (7, Relend.mslice-owed Rec.row q51 6 13 (Row.lease (κs .1 .1 .1 .1 .1 .1 .0) (qs .1 .1 .1 .1 .1 .1 .0))) (L._∷_ q53 (L._∷_ q55 (L._∷_ q32 (L._∷_ q3 (L._∷_ q33 (L._∷_ q4 (L._∷_ q41 (L._∷_ q9 L.[])))))))))))))))
+        g27 = L._∷_ q0 (L._∷_ q18 (L._∷_ q19 (L._∷_ q20 (L._∷_ q21 (L._∷_ q22 (L._∷_ q23 (L._∷_ (7, Relend.mslice-owed Rec.row q46 6 12 (Row.lease (κs .1 .1 .1 .1 .1 .1 .0) (qs .1 .1 .1 .1 .1 .1 .0))) (L._∷_ q48 (L._∷_ q50 (L._∷_ q30 (L._∷_ q3 (L._∷_ q31 (L._∷_ q4 (L._∷_ q32 (L._∷_ q5 L.[])))))))))))))))
 
-        abbrev g29 : L.List Row.Entry
-        g29 = L._∷_ q0 (L._∷_ q19 (L._∷_ q20 (L._∷_ q21 (L._∷_ q22 (L._∷_ (5, Relend.mslice-owed (Signed.SInt Syntax.w32) q48 4 11 (Row.lease (κs .1 .1 .1 .1 .0) (qs .1 .1 .1 .1 .0))) (L._∷_ (6, Relend.mslice-owed (Signed.SInt Syntax.w32) q49 5 12 (Row.lease (κs .1 .1 .1 .1 .1 .0) (qs .1 .1 .1 .1 .1 .0))) (L._∷_ (7, Relend.mslice-owed Rec.row q51 6 13 (Row.lease (κs .1 .1 .1 .1 .1 .1 .0) (qs .1 .1 .1 .1 .1 .1 .0))) (L._∷_ q53 (L._∷_ q55 (L._∷_ q32 (L._∷_ q3 (L._∷_ q33 (L._∷_ q4 (L._∷_ q41 (L._∷_ q9 L.[])))))))))))))))
-
-        abbrev g31 : L.List Row.Entry
-        g31 = L._∷_ q0 (L._∷_ q19 (L._∷_ q20 (L._∷_ q21 (L._∷_ q22 (L._∷_ q23 (L._∷_ (6, Relend.mslice-owed (Signed.SInt Syntax.w32) q49 5 12 (Row.lease (κs .1 .1 .1 .1 .1 .0) (qs .1 .1 .1 .1 .1 .0))) (L._∷_ (7, Relend.mslice-owed Rec.row q51 6 13 (Row.lease (κs .1 .1 .1 .1 .1 .1 .0) (qs .1 .1 .1 .1 .1 .1 .0))) (L._∷_ q53 (L._∷_ q55 (L._∷_ q32 (L._∷_ q3 (L._∷_ q33 (L._∷_ q4 (L._∷_ q41 (L._∷_ q9 L.[])))))))))))))))
+        abbrev g30 : L.List Row.Entry
+        g30 = L._∷_ q0 (L._∷_ q18 (L._∷_ q19 (L._∷_ q20 (L._∷_ q21 (L._∷_ q22 (L._∷_ (6, Relend.mslice-owed (Signed.SInt Syntax.w32) q44 5 13 (Row.lease (κs .1 .1 .1 .1 .1 .0) (qs .1 .1 .1 .1 .1 .0))) (L._∷_ q36 (L._∷_ q48 (L._∷_ q50 (L._∷_ q30 (L._∷_ q3 (L._∷_ q31 (L._∷_ q4 (L._∷_ q32 (L._∷_ q5 L.[])))))))))))))))
 
         abbrev g33 : L.List Row.Entry
-        g33 = L._∷_ q0 (L._∷_ q19 (L._∷_ q20 (L._∷_ q21 (L._∷_ q22 (L._∷_ q23 (L._∷_ q24 (L._∷_ (7, Relend.mslice-owed Rec.row q51 6 13 (Row.lease (κs .1 .1 .1 .1 .1 .1 .0) (qs .1 .1 .1 .1 .1 .1 .0))) (L._∷_ q53 (L._∷_ q55 (L._∷_ q32 (L._∷_ q3 (L._∷_ q33 (L._∷_ q4 (L._∷_ q41 (L._∷_ q9 L.[])))))))))))))))
+        g33 = L._∷_ q0 (L._∷_ q18 (L._∷_ q19 (L._∷_ q20 (L._∷_ q21 (L._∷_ q22 (L._∷_ (6, Relend.mslice-owed (Signed.SInt Syntax.w32) q44 5 13 (Row.lease (κs .1 .1 .1 .1 .1 .0) (qs .1 .1 .1 .1 .1 .0))) (L._∷_ q36 (L._∷_ q48 (L._∷_ (9, Rows.sc-here Row.sUnit) (L._∷_ q30 (L._∷_ q3 (L._∷_ q31 (L._∷_ q4 (L._∷_ q32 (L._∷_ q5 L.[])))))))))))))))
 
-        abbrev g36 : L.List Row.Entry
-        g36 = L._∷_ q0 (L._∷_ q19 (L._∷_ q20 (L._∷_ q21 (L._∷_ q22 (L._∷_ q23 (L._∷_ (6, Relend.mslice-owed (Signed.SInt Syntax.w32) q49 5 14 (Row.lease (κs .1 .1 .1 .1 .1 .0) (qs .1 .1 .1 .1 .1 .0))) (L._∷_ q38 (L._∷_ q53 (L._∷_ q55 (L._∷_ q32 (L._∷_ q3 (L._∷_ q33 (L._∷_ q4 (L._∷_ q41 (L._∷_ q9 L.[])))))))))))))))
+        abbrev g35 : L.List Row.Entry
+        g35 = L._∷_ q0 (L._∷_ q18 (L._∷_ q19 (L._∷_ q20 (L._∷_ q21 (L._∷_ q22 (L._∷_ q23 (L._∷_ (7, Relend.mslice-owed Rec.row q46 6 14 (Row.lease (κs .1 .1 .1 .1 .1 .1 .0) (qs .1 .1 .1 .1 .1 .1 .0))) (L._∷_ q48 (L._∷_ q50 (L._∷_ q30 (L._∷_ q3 (L._∷_ q31 (L._∷_ q4 (L._∷_ q32 (L._∷_ q5 L.[])))))))))))))))
 
-        abbrev g39 : L.List Row.Entry
-        g39 = L._∷_ q0 (L._∷_ q19 (L._∷_ q20 (L._∷_ q21 (L._∷_ q22 (L._∷_ q23 (L._∷_ (6, Relend.mslice-owed (Signed.SInt Syntax.w32) q49 5 14 (Row.lease (κs .1 .1 .1 .1 .1 .0) (qs .1 .1 .1 .1 .1 .0))) (L._∷_ q38 (L._∷_ q53 (L._∷_ (9, Rows.sc-here Row.sUnit) (L._∷_ q32 (L._∷_ q3 (L._∷_ q33 (L._∷_ q4 (L._∷_ q41 (L._∷_ q9 L.[])))))))))))))))
-
-        abbrev g41 : L.List Row.Entry
-        g41 = L._∷_ q0 (L._∷_ q19 (L._∷_ q20 (L._∷_ q21 (L._∷_ q22 (L._∷_ q23 (L._∷_ q24 (L._∷_ (7, Relend.mslice-owed Rec.row q51 6 15 (Row.lease (κs .1 .1 .1 .1 .1 .1 .0) (qs .1 .1 .1 .1 .1 .1 .0))) (L._∷_ q53 (L._∷_ q55 (L._∷_ q32 (L._∷_ q3 (L._∷_ q33 (L._∷_ q4 (L._∷_ q41 (L._∷_ q9 L.[])))))))))))))))
-
-        abbrev g44 : L.List Row.Entry
-        g44 = L._∷_ q0 (L._∷_ q19 (L._∷_ q20 (L._∷_ q21 (L._∷_ q22 (L._∷_ q23 (L._∷_ q24 (L._∷_ (7, Relend.mslice-owed Rec.row q51 6 15 (Row.lease (κs .1 .1 .1 .1 .1 .1 .0) (qs .1 .1 .1 .1 .1 .1 .0))) (L._∷_ q53 (L._∷_ (9, Rows.sc-here Row.sUnit) (L._∷_ q32 (L._∷_ q3 (L._∷_ q33 (L._∷_ q4 (L._∷_ q41 (L._∷_ q9 L.[])))))))))))))))
+        abbrev g38 : L.List Row.Entry
+        g38 = L._∷_ q0 (L._∷_ q18 (L._∷_ q19 (L._∷_ q20 (L._∷_ q21 (L._∷_ q22 (L._∷_ q23 (L._∷_ (7, Relend.mslice-owed Rec.row q46 6 14 (Row.lease (κs .1 .1 .1 .1 .1 .1 .0) (qs .1 .1 .1 .1 .1 .1 .0))) (L._∷_ q48 (L._∷_ (9, Rows.sc-here Row.sUnit) (L._∷_ q30 (L._∷_ q3 (L._∷_ q31 (L._∷_ q4 (L._∷_ q32 (L._∷_ q5 L.[])))))))))))))))
 
         abbrev G0 : Row.Cx
-        G0 = record { locals = L._++_ t0 t1; slots = L._∷_ (Row.lease (κs .0) (qs .0)) (L._∷_ (Row.lease (κs .1 .0) (qs .1 .0)) (L._∷_ (Row.lease (κs .1 .1 .0) (qs .1 .1 .0)) (L._∷_ (Row.lease (κs .1 .1 .1 .0) (qs .1 .1 .1 .0)) (L._∷_ (Row.lease (κs .1 .1 .1 .1 .0) (qs .1 .1 .1 .1 .0)) (L._∷_ (Row.lease (κs .1 .1 .1 .1 .1 .0) (qs .1 .1 .1 .1 .1 .0)) (L._∷_ (Row.lease (κs .1 .1 .1 .1 .1 .1 .0) (qs .1 .1 .1 .1 .1 .1 .0)) (L._∷_ Row.off (L._∷_ Row.off (L._∷_ Row.off (L._∷_ Row.off (L._∷_ Row.off (L._∷_ Row.off (L._∷_ Row.off (L._∷_ Row.off (L._∷_ Row.off L.[]))))))))))))))) }
+        G0 = record { locals = L._++_ t0 t1; slots = L._∷_ (Row.lease (κs .0) (qs .0)) (L._∷_ (Row.lease (κs .1 .0) (qs .1 .0)) (L._∷_ (Row.lease (κs .1 .1 .0) (qs .1 .1 .0)) (L._∷_ (Row.lease (κs .1 .1 .1 .0) (qs .1 .1 .1 .0)) (L._∷_ (Row.lease (κs .1 .1 .1 .1 .0) (qs .1 .1 .1 .1 .0)) (L._∷_ (Row.lease (κs .1 .1 .1 .1 .1 .0) (qs .1 .1 .1 .1 .1 .0)) (L._∷_ (Row.lease (κs .1 .1 .1 .1 .1 .1 .0) (qs .1 .1 .1 .1 .1 .1 .0)) (L._∷_ Row.off (L._∷_ Row.off (L._∷_ Row.off (L._∷_ Row.off (L._∷_ Row.off (L._∷_ Row.off (L._∷_ Row.off (L._∷_ Row.off L.[])))))))))))))) }
 
         abbrev G1 : Row.Cx
-        G1 = record { locals = L._++_ t2 t1; slots = L._∷_ (Row.lease (κs .0) (qs .0)) (L._∷_ (Row.lease (κs .1 .0) (qs .1 .0)) (L._∷_ (Row.lease (κs .1 .1 .0) (qs .1 .1 .0)) (L._∷_ (Row.lease (κs .1 .1 .1 .0) (qs .1 .1 .1 .0)) (L._∷_ (Row.lease (κs .1 .1 .1 .1 .0) (qs .1 .1 .1 .1 .0)) (L._∷_ (Row.lease (κs .1 .1 .1 .1 .1 .0) (qs .1 .1 .1 .1 .1 .0)) (L._∷_ (Row.lease (κs .1 .1 .1 .1 .1 .1 .0) (qs .1 .1 .1 .1 .1 .1 .0)) (L._∷_ Row.off (L._∷_ Row.off (L._∷_ Row.off (L._∷_ Row.off (L._∷_ Row.off (L._∷_ Row.off (L._∷_ Row.off (L._∷_ Row.off (L._∷_ Row.off L.[]))))))))))))))) }
+        G1 = record { locals = L._++_ t2 t1; slots = L._∷_ (Row.lease (κs .0) (qs .0)) (L._∷_ (Row.lease (κs .1 .0) (qs .1 .0)) (L._∷_ (Row.lease (κs .1 .1 .0) (qs .1 .1 .0)) (L._∷_ (Row.lease (κs .1 .1 .1 .0) (qs .1 .1 .1 .0)) (L._∷_ (Row.lease (κs .1 .1 .1 .1 .0) (qs .1 .1 .1 .1 .0)) (L._∷_ (Row.lease (κs .1 .1 .1 .1 .1 .0) (qs .1 .1 .1 .1 .1 .0)) (L._∷_ (Row.lease (κs .1 .1 .1 .1 .1 .1 .0) (qs .1 .1 .1 .1 .1 .1 .0)) (L._∷_ Row.off (L._∷_ Row.off (L._∷_ Row.off (L._∷_ Row.off (L._∷_ Row.off (L._∷_ Row.off (L._∷_ Row.off (L._∷_ Row.off L.[])))))))))))))) }
 
         abbrev G2 : Row.Cx
-        G2 = record { locals = L._++_ t0 t1; slots = L._∷_ (Row.lease (κs .0) (qs .0)) (L._∷_ (Row.lease (κs .1 .0) (qs .1 .0)) (L._∷_ (Row.lease (κs .1 .1 .0) (qs .1 .1 .0)) (L._∷_ (Row.lease (κs .1 .1 .1 .0) (qs .1 .1 .1 .0)) (L._∷_ (Row.lease (κs .1 .1 .1 .1 .0) (qs .1 .1 .1 .1 .0)) (L._∷_ (Row.lease (κs .1 .1 .1 .1 .1 .0) (qs .1 .1 .1 .1 .1 .0)) (L._∷_ (Row.lease (κs .1 .1 .1 .1 .1 .1 .0) (qs .1 .1 .1 .1 .1 .1 .0)) (L._∷_ Row.alive (L._∷_ Row.off (L._∷_ Row.off (L._∷_ Row.off (L._∷_ Row.off (L._∷_ Row.off (L._∷_ Row.off (L._∷_ Row.off (L._∷_ Row.off L.[]))))))))))))))) }
+        G2 = record { locals = L._++_ t0 t1; slots = L._∷_ (Row.lease (κs .0) (qs .0)) (L._∷_ (Row.lease (κs .1 .0) (qs .1 .0)) (L._∷_ (Row.lease (κs .1 .1 .0) (qs .1 .1 .0)) (L._∷_ (Row.lease (κs .1 .1 .1 .0) (qs .1 .1 .1 .0)) (L._∷_ (Row.lease (κs .1 .1 .1 .1 .0) (qs .1 .1 .1 .1 .0)) (L._∷_ (Row.lease (κs .1 .1 .1 .1 .1 .0) (qs .1 .1 .1 .1 .1 .0)) (L._∷_ (Row.lease (κs .1 .1 .1 .1 .1 .1 .0) (qs .1 .1 .1 .1 .1 .1 .0)) (L._∷_ Row.alive (L._∷_ Row.off (L._∷_ Row.off (L._∷_ Row.off (L._∷_ Row.off (L._∷_ Row.off (L._∷_ Row.off (L._∷_ Row.off L.[])))))))))))))) }
 
         abbrev G3 : Row.Cx
-        G3 = record { locals = L._++_ g3 t1; slots = L._∷_ (Row.lease (κs .0) (qs .0)) (L._∷_ (Row.lease (κs .1 .0) (qs .1 .0)) (L._∷_ (Row.lease (κs .1 .1 .0) (qs .1 .1 .0)) (L._∷_ Row.off (L._∷_ (Row.lease (κs .1 .1 .1 .1 .0) (qs .1 .1 .1 .1 .0)) (L._∷_ (Row.lease (κs .1 .1 .1 .1 .1 .0) (qs .1 .1 .1 .1 .1 .0)) (L._∷_ (Row.lease (κs .1 .1 .1 .1 .1 .1 .0) (qs .1 .1 .1 .1 .1 .1 .0)) (L._∷_ Row.alive (L._∷_ Row.off (L._∷_ Row.off (L._∷_ Row.off (L._∷_ Row.off (L._∷_ Row.off (L._∷_ Row.off (L._∷_ Row.off (L._∷_ Row.off L.[]))))))))))))))) }
+        G3 = record { locals = L._++_ g3 t1; slots = L._∷_ (Row.lease (κs .0) (qs .0)) (L._∷_ (Row.lease (κs .1 .0) (qs .1 .0)) (L._∷_ (Row.lease (κs .1 .1 .0) (qs .1 .1 .0)) (L._∷_ Row.off (L._∷_ (Row.lease (κs .1 .1 .1 .1 .0) (qs .1 .1 .1 .1 .0)) (L._∷_ (Row.lease (κs .1 .1 .1 .1 .1 .0) (qs .1 .1 .1 .1 .1 .0)) (L._∷_ (Row.lease (κs .1 .1 .1 .1 .1 .1 .0) (qs .1 .1 .1 .1 .1 .1 .0)) (L._∷_ Row.alive (L._∷_ Row.off (L._∷_ Row.off (L._∷_ Row.off (L._∷_ Row.off (L._∷_ Row.off (L._∷_ Row.off (L._∷_ Row.off L.[])))))))))))))) }
 
         abbrev G4 : Row.Cx
-        G4 = record { locals = L._++_ g4 t1; slots = L._∷_ (Row.lease (κs .0) (qs .0)) (L._∷_ (Row.lease (κs .1 .0) (qs .1 .0)) (L._∷_ (Row.lease (κs .1 .1 .0) (qs .1 .1 .0)) (L._∷_ Row.off (L._∷_ (Row.lease (κs .1 .1 .1 .1 .0) (qs .1 .1 .1 .1 .0)) (L._∷_ (Row.lease (κs .1 .1 .1 .1 .1 .0) (qs .1 .1 .1 .1 .1 .0)) (L._∷_ (Row.lease (κs .1 .1 .1 .1 .1 .1 .0) (qs .1 .1 .1 .1 .1 .1 .0)) (L._∷_ Row.alive (L._∷_ Row.off (L._∷_ Row.off (L._∷_ Row.off (L._∷_ Row.off (L._∷_ Row.off (L._∷_ Row.off (L._∷_ Row.off (L._∷_ Row.off L.[]))))))))))))))) }
+        G4 = record { locals = L._++_ g4 t1; slots = L._∷_ (Row.lease (κs .0) (qs .0)) (L._∷_ (Row.lease (κs .1 .0) (qs .1 .0)) (L._∷_ (Row.lease (κs .1 .1 .0) (qs .1 .1 .0)) (L._∷_ Row.off (L._∷_ (Row.lease (κs .1 .1 .1 .1 .0) (qs .1 .1 .1 .1 .0)) (L._∷_ (Row.lease (κs .1 .1 .1 .1 .1 .0) (qs .1 .1 .1 .1 .1 .0)) (L._∷_ (Row.lease (κs .1 .1 .1 .1 .1 .1 .0) (qs .1 .1 .1 .1 .1 .1 .0)) (L._∷_ Row.alive (L._∷_ Row.off (L._∷_ Row.off (L._∷_ Row.off (L._∷_ Row.off (L._∷_ Row.off (L._∷_ Row.off (L._∷_ Row.off L.[])))))))))))))) }
 
         abbrev G5 : Row.Cx
-        G5 = record { locals = L._++_ g5 t1; slots = L._∷_ (Row.lease (κs .0) (qs .0)) (L._∷_ (Row.lease (κs .1 .0) (qs .1 .0)) (L._∷_ (Row.lease (κs .1 .1 .0) (qs .1 .1 .0)) (L._∷_ Row.off (L._∷_ (Row.lease (κs .1 .1 .1 .1 .0) (qs .1 .1 .1 .1 .0)) (L._∷_ (Row.lease (κs .1 .1 .1 .1 .1 .0) (qs .1 .1 .1 .1 .1 .0)) (L._∷_ (Row.lease (κs .1 .1 .1 .1 .1 .1 .0) (qs .1 .1 .1 .1 .1 .1 .0)) (L._∷_ Row.alive (L._∷_ Row.off (L._∷_ Row.off (L._∷_ Row.off (L._∷_ Row.off (L._∷_ Row.off (L._∷_ Row.off (L._∷_ Row.off (L._∷_ Row.off L.[]))))))))))))))) }
+        G5 = record { locals = L._++_ g5 t1; slots = L._∷_ (Row.lease (κs .0) (qs .0)) (L._∷_ (Row.lease (κs .1 .0) (qs .1 .0)) (L._∷_ (Row.lease (κs .1 .1 .0) (qs .1 .1 .0)) (L._∷_ Row.off (L._∷_ (Row.lease (κs .1 .1 .1 .1 .0) (qs .1 .1 .1 .1 .0)) (L._∷_ (Row.lease (κs .1 .1 .1 .1 .1 .0) (qs .1 .1 .1 .1 .1 .0)) (L._∷_ (Row.lease (κs .1 .1 .1 .1 .1 .1 .0) (qs .1 .1 .1 .1 .1 .1 .0)) (L._∷_ Row.alive (L._∷_ Row.off (L._∷_ Row.off (L._∷_ Row.off (L._∷_ Row.off (L._∷_ Row.off (L._∷_ Row.off (L._∷_ Row.off L.[])))))))))))))) }
 
         abbrev G6 : Row.Cx
-        G6 = record { locals = L._++_ g6 t1; slots = L._∷_ (Row.lease (κs .0) (qs .0)) (L._∷_ (Row.lease (κs .1 .0) (qs .1 .0)) (L._∷_ (Row.lease (κs .1 .1 .0) (qs .1 .1 .0)) (L._∷_ Row.off (L._∷_ (Row.lease (κs .1 .1 .1 .1 .0) (qs .1 .1 .1 .1 .0)) (L._∷_ (Row.lease (κs .1 .1 .1 .1 .1 .0) (qs .1 .1 .1 .1 .1 .0)) (L._∷_ (Row.lease (κs .1 .1 .1 .1 .1 .1 .0) (qs .1 .1 .1 .1 .1 .1 .0)) (L._∷_ Row.alive (L._∷_ Row.off (L._∷_ Row.off (L._∷_ Row.off (L._∷_ Row.off (L._∷_ Row.off (L._∷_ Row.off (L._∷_ Row.off (L._∷_ Row.off L.[]))))))))))))))) }
+        G6 = record { locals = L._++_ g6 t1; slots = L._∷_ (Row.lease (κs .0) (qs .0)) (L._∷_ (Row.lease (κs .1 .0) (qs .1 .0)) (L._∷_ (Row.lease (κs .1 .1 .0) (qs .1 .1 .0)) (L._∷_ Row.off (L._∷_ (Row.lease (κs .1 .1 .1 .1 .0) (qs .1 .1 .1 .1 .0)) (L._∷_ (Row.lease (κs .1 .1 .1 .1 .1 .0) (qs .1 .1 .1 .1 .1 .0)) (L._∷_ (Row.lease (κs .1 .1 .1 .1 .1 .1 .0) (qs .1 .1 .1 .1 .1 .1 .0)) (L._∷_ Row.alive (L._∷_ Row.off (L._∷_ Row.off (L._∷_ Row.off (L._∷_ Row.off (L._∷_ Row.off (L._∷_ Row.off (L._∷_ Row.off L.[])))))))))))))) }
 
         abbrev G7 : Row.Cx
-        G7 = record { locals = L._++_ g6 t1; slots = L._∷_ (Row.lease (κs .0) (qs .0)) (L._∷_ (Row.lease (κs .1 .0) (qs .1 .0)) (L._∷_ (Row.lease (κs .1 .1 .0) (qs .1 .1 .0)) (L._∷_ Row.off (L._∷_ (Row.lease (κs .1 .1 .1 .1 .0) (qs .1 .1 .1 .1 .0)) (L._∷_ (Row.lease (κs .1 .1 .1 .1 .1 .0) (qs .1 .1 .1 .1 .1 .0)) (L._∷_ (Row.lease (κs .1 .1 .1 .1 .1 .1 .0) (qs .1 .1 .1 .1 .1 .1 .0)) (L._∷_ Row.dead (L._∷_ Row.off (L._∷_ Row.off (L._∷_ Row.off (L._∷_ Row.off (L._∷_ Row.off (L._∷_ Row.off (L._∷_ Row.off (L._∷_ Row.off L.[]))))))))))))))) }
+        G7 = record { locals = L._++_ g6 t1; slots = L._∷_ (Row.lease (κs .0) (qs .0)) (L._∷_ (Row.lease (κs .1 .0) (qs .1 .0)) (L._∷_ (Row.lease (κs .1 .1 .0) (qs .1 .1 .0)) (L._∷_ Row.off (L._∷_ (Row.lease (κs .1 .1 .1 .1 .0) (qs .1 .1 .1 .1 .0)) (L._∷_ (Row.lease (κs .1 .1 .1 .1 .1 .0) (qs .1 .1 .1 .1 .1 .0)) (L._∷_ (Row.lease (κs .1 .1 .1 .1 .1 .1 .0) (qs .1 .1 .1 .1 .1 .1 .0)) (L._∷_ Row.dead (L._∷_ Row.off (L._∷_ Row.off (L._∷_ Row.off (L._∷_ Row.off (L._∷_ Row.off (L._∷_ Row.off (L._∷_ Row.off L.[])))))))))))))) }
 
         abbrev G8 : Row.Cx
-        G8 = record { locals = L._++_ t0 t1; slots = L._∷_ (Row.lease (κs .0) (qs .0)) (L._∷_ (Row.lease (κs .1 .0) (qs .1 .0)) (L._∷_ (Row.lease (κs .1 .1 .0) (qs .1 .1 .0)) (L._∷_ (Row.lease (κs .1 .1 .1 .0) (qs .1 .1 .1 .0)) (L._∷_ (Row.lease (κs .1 .1 .1 .1 .0) (qs .1 .1 .1 .1 .0)) (L._∷_ (Row.lease (κs .1 .1 .1 .1 .1 .0) (qs .1 .1 .1 .1 .1 .0)) (L._∷_ (Row.lease (κs .1 .1 .1 .1 .1 .1 .0) (qs .1 .1 .1 .1 .1 .1 .0)) (L._∷_ Row.dead (L._∷_ Row.off (L._∷_ Row.off (L._∷_ Row.off (L._∷_ Row.off (L._∷_ Row.off (L._∷_ Row.off (L._∷_ Row.off (L._∷_ Row.off L.[]))))))))))))))) }
+        G8 = record { locals = L._++_ t0 t1; slots = L._∷_ (Row.lease (κs .0) (qs .0)) (L._∷_ (Row.lease (κs .1 .0) (qs .1 .0)) (L._∷_ (Row.lease (κs .1 .1 .0) (qs .1 .1 .0)) (L._∷_ (Row.lease (κs .1 .1 .1 .0) (qs .1 .1 .1 .0)) (L._∷_ (Row.lease (κs .1 .1 .1 .1 .0) (qs .1 .1 .1 .1 .0)) (L._∷_ (Row.lease (κs .1 .1 .1 .1 .1 .0) (qs .1 .1 .1 .1 .1 .0)) (L._∷_ (Row.lease (κs .1 .1 .1 .1 .1 .1 .0) (qs .1 .1 .1 .1 .1 .1 .0)) (L._∷_ Row.dead (L._∷_ Row.off (L._∷_ Row.off (L._∷_ Row.off (L._∷_ Row.off (L._∷_ Row.off (L._∷_ Row.off (L._∷_ Row.off L.[])))))))))))))) }
 
         abbrev G9 : Row.Cx
-        G9 = record { locals = L._++_ t0 t1; slots = L._∷_ (Row.lease (κs .0) (qs .0)) (L._∷_ (Row.lease (κs .1 .0) (qs .1 .0)) (L._∷_ (Row.lease (κs .1 .1 .0) (qs .1 .1 .0)) (L._∷_ (Row.lease (κs .1 .1 .1 .0) (qs .1 .1 .1 .0)) (L._∷_ (Row.lease (κs .1 .1 .1 .1 .0) (qs .1 .1 .1 .1 .0)) (L._∷_ (Row.lease (κs .1 .1 .1 .1 .1 .0) (qs .1 .1 .1 .1 .1 .0)) (L._∷_ (Row.lease (κs .1 .1 .1 .1 .1 .1 .0) (qs .1 .1 .1 .1 .1 .1 .0)) (L._∷_ Row.off (L._∷_ Row.off (L._∷_ Row.off (L._∷_ Row.off (L._∷_ Row.off (L._∷_ Row.off (L._∷_ Row.off (L._∷_ Row.off (L._∷_ Row.off L.[]))))))))))))))) }
+        G9 = record { locals = L._++_ t0 t1; slots = L._∷_ (Row.lease (κs .0) (qs .0)) (L._∷_ (Row.lease (κs .1 .0) (qs .1 .0)) (L._∷_ (Row.lease (κs .1 .1 .0) (qs .1 .1 .0)) (L._∷_ (Row.lease (κs .1 .1 .1 .0) (qs .1 .1 .1 .0)) (L._∷_ (Row.lease (κs .1 .1 .1 .1 .0) (qs .1 .1 .1 .1 .0)) (L._∷_ (Row.lease (κs .1 .1 .1 .1 .1 .0) (qs .1 .1 .1 .1 .1 .0)) (L._∷_ (Row.lease (κs .1 .1 .1 .1 .1 .1 .0) (qs .1 .1 .1 .1 .1 .1 .0)) (L._∷_ Row.off (L._∷_ Row.off (L._∷_ Row.off (L._∷_ Row.off (L._∷_ Row.off (L._∷_ Row.off (L._∷_ Row.off (L._∷_ Row.off L.[])))))))))))))) }
 
         abbrev G10 : Row.Cx
-        G10 = record { locals = L._++_ t0 t1; slots = L._∷_ (Row.lease (κs .0) (qs .0)) (L._∷_ (Row.lease (κs .1 .0) (qs .1 .0)) (L._∷_ (Row.lease (κs .1 .1 .0) (qs .1 .1 .0)) (L._∷_ (Row.lease (κs .1 .1 .1 .0) (qs .1 .1 .1 .0)) (L._∷_ (Row.lease (κs .1 .1 .1 .1 .0) (qs .1 .1 .1 .1 .0)) (L._∷_ (Row.lease (κs .1 .1 .1 .1 .1 .0) (qs .1 .1 .1 .1 .1 .0)) (L._∷_ (Row.lease (κs .1 .1 .1 .1 .1 .1 .0) (qs .1 .1 .1 .1 .1 .1 .0)) (L._∷_ Row.off (L._∷_ Row.alive (L._∷_ Row.off (L._∷_ Row.off (L._∷_ Row.off (L._∷_ Row.off (L._∷_ Row.off (L._∷_ Row.off (L._∷_ Row.off L.[]))))))))))))))) }
+        G10 = record { locals = L._++_ t0 t1; slots = L._∷_ (Row.lease (κs .0) (qs .0)) (L._∷_ (Row.lease (κs .1 .0) (qs .1 .0)) (L._∷_ (Row.lease (κs .1 .1 .0) (qs .1 .1 .0)) (L._∷_ (Row.lease (κs .1 .1 .1 .0) (qs .1 .1 .1 .0)) (L._∷_ (Row.lease (κs .1 .1 .1 .1 .0) (qs .1 .1 .1 .1 .0)) (L._∷_ (Row.lease (κs .1 .1 .1 .1 .1 .0) (qs .1 .1 .1 .1 .1 .0)) (L._∷_ (Row.lease (κs .1 .1 .1 .1 .1 .1 .0) (qs .1 .1 .1 .1 .1 .1 .0)) (L._∷_ Row.off (L._∷_ Row.alive (L._∷_ Row.off (L._∷_ Row.off (L._∷_ Row.off (L._∷_ Row.off (L._∷_ Row.off (L._∷_ Row.off L.[])))))))))))))) }
 
         abbrev G11 : Row.Cx
-        G11 = record { locals = L._++_ g7 t1; slots = L._∷_ (Row.lease (κs .0) (qs .0)) (L._∷_ (Row.lease (κs .1 .0) (qs .1 .0)) (L._∷_ (Row.lease (κs .1 .1 .0) (qs .1 .1 .0)) (L._∷_ (Row.lease (κs .1 .1 .1 .0) (qs .1 .1 .1 .0)) (L._∷_ Row.off (L._∷_ (Row.lease (κs .1 .1 .1 .1 .1 .0) (qs .1 .1 .1 .1 .1 .0)) (L._∷_ (Row.lease (κs .1 .1 .1 .1 .1 .1 .0) (qs .1 .1 .1 .1 .1 .1 .0)) (L._∷_ Row.off (L._∷_ Row.alive (L._∷_ Row.off (L._∷_ Row.off (L._∷_ Row.off (L._∷_ Row.off (L._∷_ Row.off (L._∷_ Row.off (L._∷_ Row.off L.[]))))))))))))))) }
+        G11 = record { locals = L._++_ g7 t1; slots = L._∷_ (Row.lease (κs .0) (qs .0)) (L._∷_ (Row.lease (κs .1 .0) (qs .1 .0)) (L._∷_ (Row.lease (κs .1 .1 .0) (qs .1 .1 .0)) (L._∷_ (Row.lease (κs .1 .1 .1 .0) (qs .1 .1 .1 .0)) (L._∷_ Row.off (L._∷_ (Row.lease (κs .1 .1 .1 .1 .1 .0) (qs .1 .1 .1 .1 .1 .0)) (L._∷_ (Row.lease (κs .1 .1 .1 .1 .1 .1 .0) (qs .1 .1 .1 .1 .1 .1 .0)) (L._∷_ Row.off (L._∷_ Row.alive (L._∷_ Row.off (L._∷_ Row.off (L._∷_ Row.off (L._∷_ Row.off (L._∷_ Row.off (L._∷_ Row.off L.[])))))))))))))) }
 
         abbrev G12 : Row.Cx
-        G12 = record { locals = L._++_ g8 t1; slots = L._∷_ (Row.lease (κs .0) (qs .0)) (L._∷_ (Row.lease (κs .1 .0) (qs .1 .0)) (L._∷_ (Row.lease (κs .1 .1 .0) (qs .1 .1 .0)) (L._∷_ (Row.lease (κs .1 .1 .1 .0) (qs .1 .1 .1 .0)) (L._∷_ Row.off (L._∷_ (Row.lease (κs .1 .1 .1 .1 .1 .0) (qs .1 .1 .1 .1 .1 .0)) (L._∷_ (Row.lease (κs .1 .1 .1 .1 .1 .1 .0) (qs .1 .1 .1 .1 .1 .1 .0)) (L._∷_ Row.off (L._∷_ Row.alive (L._∷_ Row.off (L._∷_ Row.off (L._∷_ Row.off (L._∷_ Row.off (L._∷_ Row.off (L._∷_ Row.off (L._∷_ Row.off L.[]))))))))))))))) }
+        G12 = record { locals = L._++_ g8 t1; slots = L._∷_ (Row.lease (κs .0) (qs .0)) (L._∷_ (Row.lease (κs .1 .0) (qs .1 .0)) (L._∷_ (Row.lease (κs .1 .1 .0) (qs .1 .1 .0)) (L._∷_ (Row.lease (κs .1 .1 .1 .0) (qs .1 .1 .1 .0)) (L._∷_ Row.off (L._∷_ (Row.lease (κs .1 .1 .1 .1 .1 .0) (qs .1 .1 .1 .1 .1 .0)) (L._∷_ (Row.lease (κs .1 .1 .1 .1 .1 .1 .0) (qs .1 .1 .1 .1 .1 .1 .0)) (L._∷_ Row.off (L._∷_ Row.alive (L._∷_ Row.off (L._∷_ Row.off (L._∷_ Row.off (L._∷_ Row.off (L._∷_ Row.off (L._∷_ Row.off L.[])))))))))))))) }
 
         abbrev G13 : Row.Cx
-        G13 = record { locals = L._++_ g9 t1; slots = L._∷_ (Row.lease (κs .0) (qs .0)) (L._∷_ (Row.lease (κs .1 .0) (qs .1 .0)) (L._∷_ (Row.lease (κs .1 .1 .0) (qs .1 .1 .0)) (L._∷_ (Row.lease (κs .1 .1 .1 .0) (qs .1 .1 .1 .0)) (L._∷_ Row.off (L._∷_ (Row.lease (κs .1 .1 .1 .1 .1 .0) (qs .1 .1 .1 .1 .1 .0)) (L._∷_ (Row.lease (κs .1 .1 .1 .1 .1 .1 .0) (qs .1 .1 .1 .1 .1 .1 .0)) (L._∷_ Row.off (L._∷_ Row.alive (L._∷_ Row.off (L._∷_ Row.off (L._∷_ Row.off (L._∷_ Row.off (L._∷_ Row.off (L._∷_ Row.off (L._∷_ Row.off L.[]))))))))))))))) }
+        G13 = record { locals = L._++_ g9 t1; slots = L._∷_ (Row.lease (κs .0) (qs .0)) (L._∷_ (Row.lease (κs .1 .0) (qs .1 .0)) (L._∷_ (Row.lease (κs .1 .1 .0) (qs .1 .1 .0)) (L._∷_ (Row.lease (κs .1 .1 .1 .0) (qs .1 .1 .1 .0)) (L._∷_ Row.off (L._∷_ (Row.lease (κs .1 .1 .1 .1 .1 .0) (qs .1 .1 .1 .1 .1 .0)) (L._∷_ (Row.lease (κs .1 .1 .1 .1 .1 .1 .0) (qs .1 .1 .1 .1 .1 .1 .0)) (L._∷_ Row.off (L._∷_ Row.alive (L._∷_ Row.off (L._∷_ Row.off (L._∷_ Row.off (L._∷_ Row.off (L._∷_ Row.off (L._∷_ Row.off L.[])))))))))))))) }
 
         abbrev G14 : Row.Cx
-        G14 = record { locals = L._++_ g10 t1; slots = L._∷_ (Row.lease (κs .0) (qs .0)) (L._∷_ (Row.lease (κs .1 .0) (qs .1 .0)) (L._∷_ (Row.lease (κs .1 .1 .0) (qs .1 .1 .0)) (L._∷_ (Row.lease (κs .1 .1 .1 .0) (qs .1 .1 .1 .0)) (L._∷_ Row.off (L._∷_ (Row.lease (κs .1 .1 .1 .1 .1 .0) (qs .1 .1 .1 .1 .1 .0)) (L._∷_ (Row.lease (κs .1 .1 .1 .1 .1 .1 .0) (qs .1 .1 .1 .1 .1 .1 .0)) (L._∷_ Row.off (L._∷_ Row.alive (L._∷_ Row.off (L._∷_ Row.off (L._∷_ Row.off (L._∷_ Row.off (L._∷_ Row.off (L._∷_ Row.off (L._∷_ Row.off L.[]))))))))))))))) }
+        G14 = record { locals = L._++_ g10 t1; slots = L._∷_ (Row.lease (κs .0) (qs .0)) (L._∷_ (Row.lease (κs .1 .0) (qs .1 .0)) (L._∷_ (Row.lease (κs .1 .1 .0) (qs .1 .1 .0)) (L._∷_ (Row.lease (κs .1 .1 .1 .0) (qs .1 .1 .1 .0)) (L._∷_ Row.off (L._∷_ (Row.lease (κs .1 .1 .1 .1 .1 .0) (qs .1 .1 .1 .1 .1 .0)) (L._∷_ (Row.lease (κs .1 .1 .1 .1 .1 .1 .0) (qs .1 .1 .1 .1 .1 .1 .0)) (L._∷_ Row.off (L._∷_ Row.alive (L._∷_ Row.off (L._∷_ Row.off (L._∷_ Row.off (L._∷_ Row.off (L._∷_ Row.off (L._∷_ Row.off L.[])))))))))))))) }
 
         abbrev G15 : Row.Cx
-        G15 = record { locals = L._++_ g10 t1; slots = L._∷_ (Row.lease (κs .0) (qs .0)) (L._∷_ (Row.lease (κs .1 .0) (qs .1 .0)) (L._∷_ (Row.lease (κs .1 .1 .0) (qs .1 .1 .0)) (L._∷_ (Row.lease (κs .1 .1 .1 .0) (qs .1 .1 .1 .0)) (L._∷_ Row.off (L._∷_ (Row.lease (κs .1 .1 .1 .1 .1 .0) (qs .1 .1 .1 .1 .1 .0)) (L._∷_ (Row.lease (κs .1 .1 .1 .1 .1 .1 .0) (qs .1 .1 .1 .1 .1 .1 .0)) (L._∷_ Row.off (L._∷_ Row.dead (L._∷_ Row.off (L._∷_ Row.off (L._∷_ Row.off (L._∷_ Row.off (L._∷_ Row.off (L._∷_ Row.off (L._∷_ Row.off L.[]))))))))))))))) }
+        G15 = record { locals = L._++_ g10 t1; slots = L._∷_ (Row.lease (κs .0) (qs .0)) (L._∷_ (Row.lease (κs .1 .0) (qs .1 .0)) (L._∷_ (Row.lease (κs .1 .1 .0) (qs .1 .1 .0)) (L._∷_ (Row.lease (κs .1 .1 .1 .0) (qs .1 .1 .1 .0)) (L._∷_ Row.off (L._∷_ (Row.lease (κs .1 .1 .1 .1 .1 .0) (qs .1 .1 .1 .1 .1 .0)) (L._∷_ (Row.lease (κs .1 .1 .1 .1 .1 .1 .0) (qs .1 .1 .1 .1 .1 .1 .0)) (L._∷_ Row.off (L._∷_ Row.dead (L._∷_ Row.off (L._∷_ Row.off (L._∷_ Row.off (L._∷_ Row.off (L._∷_ Row.off (L._∷_ Row.off L.[])))))))))))))) }
 
         abbrev G16 : Row.Cx
-        G16 = record { locals = L._++_ t0 t1; slots = L._∷_ (Row.lease (κs .0) (qs .0)) (L._∷_ (Row.lease (κs .1 .0) (qs .1 .0)) (L._∷_ (Row.lease (κs .1 .1 .0) (qs .1 .1 .0)) (L._∷_ (Row.lease (κs .1 .1 .1 .0) (qs .1 .1 .1 .0)) (L._∷_ (Row.lease (κs .1 .1 .1 .1 .0) (qs .1 .1 .1 .1 .0)) (L._∷_ (Row.lease (κs .1 .1 .1 .1 .1 .0) (qs .1 .1 .1 .1 .1 .0)) (L._∷_ (Row.lease (κs .1 .1 .1 .1 .1 .1 .0) (qs .1 .1 .1 .1 .1 .1 .0)) (L._∷_ Row.off (L._∷_ Row.dead (L._∷_ Row.off (L._∷_ Row.off (L._∷_ Row.off (L._∷_ Row.off (L._∷_ Row.off (L._∷_ Row.off (L._∷_ Row.off L.[]))))))))))))))) }
+        G16 = record { locals = L._++_ t0 t1; slots = L._∷_ (Row.lease (κs .0) (qs .0)) (L._∷_ (Row.lease (κs .1 .0) (qs .1 .0)) (L._∷_ (Row.lease (κs .1 .1 .0) (qs .1 .1 .0)) (L._∷_ (Row.lease (κs .1 .1 .1 .0) (qs .1 .1 .1 .0)) (L._∷_ (Row.lease (κs .1 .1 .1 .1 .0) (qs .1 .1 .1 .1 .0)) (L._∷_ (Row.lease (κs .1 .1 .1 .1 .1 .0) (qs .1 .1 .1 .1 .1 .0)) (L._∷_ (Row.lease (κs .1 .1 .1 .1 .1 .1 .0) (qs .1 .1 .1 .1 .1 .1 .0)) (L._∷_ Row.off (L._∷_ Row.dead (L._∷_ Row.off (L._∷_ Row.off (L._∷_ Row.off (L._∷_ Row.off (L._∷_ Row.off (L._∷_ Row.off L.[])))))))))))))) }
 
         abbrev G17 : Row.Cx
-        G17 = record { locals = L._++_ t0 t1; slots = L._∷_ (Row.lease (κs .0) (qs .0)) (L._∷_ (Row.lease (κs .1 .0) (qs .1 .0)) (L._∷_ (Row.lease (κs .1 .1 .0) (qs .1 .1 .0)) (L._∷_ (Row.lease (κs .1 .1 .1 .0) (qs .1 .1 .1 .0)) (L._∷_ (Row.lease (κs .1 .1 .1 .1 .0) (qs .1 .1 .1 .1 .0)) (L._∷_ (Row.lease (κs .1 .1 .1 .1 .1 .0) (qs .1 .1 .1 .1 .1 .0)) (L._∷_ (Row.lease (κs .1 .1 .1 .1 .1 .1 .0) (qs .1 .1 .1 .1 .1 .1 .0)) (L._∷_ Row.off (L._∷_ Row.off (L._∷_ Row.off (L._∷_ Row.off (L._∷_ Row.off (L._∷_ Row.off (L._∷_ Row.off (L._∷_ Row.off (L._∷_ Row.off L.[]))))))))))))))) }
+        G17 = record { locals = L._++_ t0 t1; slots = L._∷_ (Row.lease (κs .0) (qs .0)) (L._∷_ (Row.lease (κs .1 .0) (qs .1 .0)) (L._∷_ (Row.lease (κs .1 .1 .0) (qs .1 .1 .0)) (L._∷_ (Row.lease (κs .1 .1 .1 .0) (qs .1 .1 .1 .0)) (L._∷_ (Row.lease (κs .1 .1 .1 .1 .0) (qs .1 .1 .1 .1 .0)) (L._∷_ (Row.lease (κs .1 .1 .1 .1 .1 .0) (qs .1 .1 .1 .1 .1 .0)) (L._∷_ (Row.lease (κs .1 .1 .1 .1 .1 .1 .0) (qs .1 .1 .1 .1 .1 .1 .0)) (L._∷_ Row.off (L._∷_ Row.off (L._∷_ Row.off (L._∷_ Row.off (L._∷_ Row.off (L._∷_ Row.off (L._∷_ Row.off (L._∷_ Row.off L.[])))))))))))))) }
 
         abbrev G18 : Row.Cx
-        G18 = record { locals = L._++_ t0 t1; slots = L._∷_ (Row.lease (κs .0) (qs .0)) (L._∷_ (Row.lease (κs .1 .0) (qs .1 .0)) (L._∷_ (Row.lease (κs .1 .1 .0) (qs .1 .1 .0)) (L._∷_ (Row.lease (κs .1 .1 .1 .0) (qs .1 .1 .1 .0)) (L._∷_ (Row.lease (κs .1 .1 .1 .1 .0) (qs .1 .1 .1 .1 .0)) (L._∷_ (Row.lease (κs .1 .1 .1 .1 .1 .0) (qs .1 .1 .1 .1 .1 .0)) (L._∷_ (Row.lease (κs .1 .1 .1 .1 .1 .1 .0) (qs .1 .1 .1 .1 .1 .1 .0)) (L._∷_ Row.off (L._∷_ Row.off (L._∷_ Row.alive (L._∷_ Row.off (L._∷_ Row.off (L._∷_ Row.off (L._∷_ Row.off (L._∷_ Row.off (L._∷_ Row.off L.[]))))))))))))))) }
+        G18 = record { locals = L._++_ t0 t1; slots = L._∷_ (Row.lease (κs .0) (qs .0)) (L._∷_ (Row.lease (κs .1 .0) (qs .1 .0)) (L._∷_ (Row.lease (κs .1 .1 .0) (qs .1 .1 .0)) (L._∷_ (Row.lease (κs .1 .1 .1 .0) (qs .1 .1 .1 .0)) (L._∷_ (Row.lease (κs .1 .1 .1 .1 .0) (qs .1 .1 .1 .1 .0)) (L._∷_ (Row.lease (κs .1 .1 .1 .1 .1 .0) (qs .1 .1 .1 .1 .1 .0)) (L._∷_ (Row.lease (κs .1 .1 .1 .1 .1 .1 .0) (qs .1 .1 .1 .1 .1 .1 .0)) (L._∷_ Row.off (L._∷_ Row.off (L._∷_ Row.alive (L._∷_ Row.off (L._∷_ Row.off (L._∷_ Row.off (L._∷_ Row.off (L._∷_ Row.off L.[])))))))))))))) }
 
         abbrev G19 : Row.Cx
-        G19 = record { locals = L._++_ g11 t1; slots = L._∷_ (Row.lease (κs .0) (qs .0)) (L._∷_ (Row.lease (κs .1 .0) (qs .1 .0)) (L._∷_ (Row.lease (κs .1 .1 .0) (qs .1 .1 .0)) (L._∷_ (Row.lease (κs .1 .1 .1 .0) (qs .1 .1 .1 .0)) (L._∷_ (Row.lease (κs .1 .1 .1 .1 .0) (qs .1 .1 .1 .1 .0)) (L._∷_ (Row.lease (κs .1 .1 .1 .1 .1 .0) (qs .1 .1 .1 .1 .1 .0)) (L._∷_ Row.off (L._∷_ Row.off (L._∷_ Row.off (L._∷_ Row.alive (L._∷_ Row.off (L._∷_ Row.off (L._∷_ Row.off (L._∷_ Row.off (L._∷_ Row.off (L._∷_ Row.off L.[]))))))))))))))) }
+        G19 = record { locals = L._++_ g11 t1; slots = L._∷_ (Row.lease (κs .0) (qs .0)) (L._∷_ (Row.lease (κs .1 .0) (qs .1 .0)) (L._∷_ (Row.lease (κs .1 .1 .0) (qs .1 .1 .0)) (L._∷_ Row.off (L._∷_ (Row.lease (κs .1 .1 .1 .1 .0) (qs .1 .1 .1 .1 .0)) (L._∷_ (Row.lease (κs .1 .1 .1 .1 .1 .0) (qs .1 .1 .1 .1 .1 .0)) (L._∷_ (Row.lease (κs .1 .1 .1 .1 .1 .1 .0) (qs .1 .1 .1 .1 .1 .1 .0)) (L._∷_ Row.off (L._∷_ Row.off (L._∷_ Row.alive (L._∷_ Row.off (L._∷_ Row.off (L._∷_ Row.off (L._∷_ Row.off (L._∷_ Row.off L.[])))))))))))))) }
 
         abbrev G20 : Row.Cx
-        G20 = record { locals = L._++_ g12 t1; slots = L._∷_ (Row.lease (κs .0) (qs .0)) (L._∷_ (Row.lease (κs .1 .0) (qs .1 .0)) (L._∷_ (Row.lease (κs .1 .1 .0) (qs .1 .1 .0)) (L._∷_ (Row.lease (κs .1 .1 .1 .0) (qs .1 .1 .1 .0)) (L._∷_ (Row.lease (κs .1 .1 .1 .1 .0) (qs .1 .1 .1 .1 .0)) (L._∷_ (Row.lease (κs .1 .1 .1 .1 .1 .0) (qs .1 .1 .1 .1 .1 .0)) (L._∷_ Row.off (L._∷_ Row.off (L._∷_ Row.off (L._∷_ Row.alive (L._∷_ Row.off (L._∷_ Row.off (L._∷_ Row.off (L._∷_ Row.off (L._∷_ Row.off (L._∷_ Row.off L.[]))))))))))))))) }
+        G20 = record { locals = L._++_ g12 t1; slots = L._∷_ (Row.lease (κs .0) (qs .0)) (L._∷_ (Row.lease (κs .1 .0) (qs .1 .0)) (L._∷_ (Row.lease (κs .1 .1 .0) (qs .1 .1 .0)) (L._∷_ Row.off (L._∷_ (Row.lease (κs .1 .1 .1 .1 .0) (qs .1 .1 .1 .1 .0)) (L._∷_ (Row.lease (κs .1 .1 .1 .1 .1 .0) (qs .1 .1 .1 .1 .1 .0)) (L._∷_ (Row.lease (κs .1 .1 .1 .1 .1 .1 .0) (qs .1 .1 .1 .1 .1 .1 .0)) (L._∷_ Row.off (L._∷_ Row.off (L._∷_ Row.alive (L._∷_ Row.off (L._∷_ Row.off (L._∷_ Row.off (L._∷_ Row.off (L._∷_ Row.off L.[])))))))))))))) }
 
         abbrev G21 : Row.Cx
-        G21 = record { locals = L._++_ g13 t1; slots = L._∷_ (Row.lease (κs .0) (qs .0)) (L._∷_ (Row.lease (κs .1 .0) (qs .1 .0)) (L._∷_ (Row.lease (κs .1 .1 .0) (qs .1 .1 .0)) (L._∷_ (Row.lease (κs .1 .1 .1 .0) (qs .1 .1 .1 .0)) (L._∷_ (Row.lease (κs .1 .1 .1 .1 .0) (qs .1 .1 .1 .1 .0)) (L._∷_ (Row.lease (κs .1 .1 .1 .1 .1 .0) (qs .1 .1 .1 .1 .1 .0)) (L._∷_ Row.off (L._∷_ Row.off (L._∷_ Row.off (L._∷_ Row.alive (L._∷_ Row.off (L._∷_ Row.off (L._∷_ Row.off (L._∷_ Row.off (L._∷_ Row.off (L._∷_ Row.off L.[]))))))))))))))) }
+        G21 = record { locals = L._++_ g12 t1; slots = L._∷_ (Row.lease (κs .0) (qs .0)) (L._∷_ (Row.lease (κs .1 .0) (qs .1 .0)) (L._∷_ (Row.lease (κs .1 .1 .0) (qs .1 .1 .0)) (L._∷_ Row.off (L._∷_ (Row.lease (κs .1 .1 .1 .1 .0) (qs .1 .1 .1 .1 .0)) (L._∷_ (Row.lease (κs .1 .1 .1 .1 .1 .0) (qs .1 .1 .1 .1 .1 .0)) (L._∷_ (Row.lease (κs .1 .1 .1 .1 .1 .1 .0) (qs .1 .1 .1 .1 .1 .1 .0)) (L._∷_ Row.off (L._∷_ Row.off (L._∷_ Row.alive (L._∷_ Row.alive (L._∷_ Row.off (L._∷_ Row.off (L._∷_ Row.off (L._∷_ Row.off L.[])))))))))))))) }
 
         abbrev G22 : Row.Cx
-        G22 = record { locals = L._++_ g14 t1; slots = L._∷_ (Row.lease (κs .0) (qs .0)) (L._∷_ (Row.lease (κs .1 .0) (qs .1 .0)) (L._∷_ (Row.lease (κs .1 .1 .0) (qs .1 .1 .0)) (L._∷_ (Row.lease (κs .1 .1 .1 .0) (qs .1 .1 .1 .0)) (L._∷_ (Row.lease (κs .1 .1 .1 .1 .0) (qs .1 .1 .1 .1 .0)) (L._∷_ (Row.lease (κs .1 .1 .1 .1 .1 .0) (qs .1 .1 .1 .1 .1 .0)) (L._∷_ Row.off (L._∷_ Row.off (L._∷_ Row.off (L._∷_ Row.alive (L._∷_ Row.off (L._∷_ Row.off (L._∷_ Row.off (L._∷_ Row.off (L._∷_ Row.off (L._∷_ Row.off L.[]))))))))))))))) }
+        G22 = record { locals = L._++_ g13 t14; slots = L._∷_ (Row.lease (κs .0) (qs .0)) (L._∷_ (Row.lease (κs .1 .0) (qs .1 .0)) (L._∷_ (Row.lease (κs .1 .1 .0) (qs .1 .1 .0)) (L._∷_ Row.off (L._∷_ Row.off (L._∷_ (Row.lease (κs .1 .1 .1 .1 .1 .0) (qs .1 .1 .1 .1 .1 .0)) (L._∷_ (Row.lease (κs .1 .1 .1 .1 .1 .1 .0) (qs .1 .1 .1 .1 .1 .1 .0)) (L._∷_ Row.off (L._∷_ Row.off (L._∷_ Row.alive (L._∷_ Row.alive (L._∷_ Row.off (L._∷_ Row.off (L._∷_ Row.off (L._∷_ Row.off L.[])))))))))))))) }
 
         abbrev G23 : Row.Cx
-        G23 = record { locals = L._++_ g14 t1; slots = L._∷_ (Row.lease (κs .0) (qs .0)) (L._∷_ (Row.lease (κs .1 .0) (qs .1 .0)) (L._∷_ (Row.lease (κs .1 .1 .0) (qs .1 .1 .0)) (L._∷_ (Row.lease (κs .1 .1 .1 .0) (qs .1 .1 .1 .0)) (L._∷_ (Row.lease (κs .1 .1 .1 .1 .0) (qs .1 .1 .1 .1 .0)) (L._∷_ (Row.lease (κs .1 .1 .1 .1 .1 .0) (qs .1 .1 .1 .1 .1 .0)) (L._∷_ Row.off (L._∷_ Row.off (L._∷_ Row.off (L._∷_ Row.dead (L._∷_ Row.off (L._∷_ Row.off (L._∷_ Row.off (L._∷_ Row.off (L._∷_ Row.off (L._∷_ Row.off L.[]))))))))))))))) }
+        G23 = record { locals = L._++_ g13 t15; slots = L._∷_ (Row.lease (κs .0) (qs .0)) (L._∷_ (Row.lease (κs .1 .0) (qs .1 .0)) (L._∷_ (Row.lease (κs .1 .1 .0) (qs .1 .1 .0)) (L._∷_ Row.off (L._∷_ Row.off (L._∷_ (Row.lease (κs .1 .1 .1 .1 .1 .0) (qs .1 .1 .1 .1 .1 .0)) (L._∷_ (Row.lease (κs .1 .1 .1 .1 .1 .1 .0) (qs .1 .1 .1 .1 .1 .1 .0)) (L._∷_ Row.off (L._∷_ Row.off (L._∷_ Row.alive (L._∷_ Row.alive (L._∷_ Row.off (L._∷_ Row.off (L._∷_ Row.off (L._∷_ Row.off L.[])))))))))))))) }
 
         abbrev G24 : Row.Cx
-        G24 = record { locals = L._++_ t0 t1; slots = L._∷_ (Row.lease (κs .0) (qs .0)) (L._∷_ (Row.lease (κs .1 .0) (qs .1 .0)) (L._∷_ (Row.lease (κs .1 .1 .0) (qs .1 .1 .0)) (L._∷_ (Row.lease (κs .1 .1 .1 .0) (qs .1 .1 .1 .0)) (L._∷_ (Row.lease (κs .1 .1 .1 .1 .0) (qs .1 .1 .1 .1 .0)) (L._∷_ (Row.lease (κs .1 .1 .1 .1 .1 .0) (qs .1 .1 .1 .1 .1 .0)) (L._∷_ (Row.lease (κs .1 .1 .1 .1 .1 .1 .0) (qs .1 .1 .1 .1 .1 .1 .0)) (L._∷_ Row.off (L._∷_ Row.off (L._∷_ Row.dead (L._∷_ Row.off (L._∷_ Row.off (L._∷_ Row.off (L._∷_ Row.off (L._∷_ Row.off (L._∷_ Row.off L.[]))))))))))))))) }
+        G24 = record { locals = L._++_ g13 t15; slots = L._∷_ (Row.lease (κs .0) (qs .0)) (L._∷_ (Row.lease (κs .1 .0) (qs .1 .0)) (L._∷_ (Row.lease (κs .1 .1 .0) (qs .1 .1 .0)) (L._∷_ Row.off (L._∷_ Row.off (L._∷_ (Row.lease (κs .1 .1 .1 .1 .1 .0) (qs .1 .1 .1 .1 .1 .0)) (L._∷_ (Row.lease (κs .1 .1 .1 .1 .1 .1 .0) (qs .1 .1 .1 .1 .1 .1 .0)) (L._∷_ Row.off (L._∷_ Row.off (L._∷_ Row.alive (L._∷_ Row.alive (L._∷_ Row.alive (L._∷_ Row.off (L._∷_ Row.off (L._∷_ Row.off L.[])))))))))))))) }
 
         abbrev G25 : Row.Cx
-        G25 = record { locals = L._++_ t0 t1; slots = L._∷_ (Row.lease (κs .0) (qs .0)) (L._∷_ (Row.lease (κs .1 .0) (qs .1 .0)) (L._∷_ (Row.lease (κs .1 .1 .0) (qs .1 .1 .0)) (L._∷_ (Row.lease (κs .1 .1 .1 .0) (qs .1 .1 .1 .0)) (L._∷_ (Row.lease (κs .1 .1 .1 .1 .0) (qs .1 .1 .1 .1 .0)) (L._∷_ (Row.lease (κs .1 .1 .1 .1 .1 .0) (qs .1 .1 .1 .1 .1 .0)) (L._∷_ (Row.lease (κs .1 .1 .1 .1 .1 .1 .0) (qs .1 .1 .1 .1 .1 .1 .0)) (L._∷_ Row.off (L._∷_ Row.off (L._∷_ Row.off (L._∷_ Row.off (L._∷_ Row.off (L._∷_ Row.off (L._∷_ Row.off (L._∷_ Row.off (L._∷_ Row.off L.[]))))))))))))))) }
+        G25 = record { locals = L._++_ g16 t17; slots = L._∷_ (Row.lease (κs .0) (qs .0)) (L._∷_ (Row.lease (κs .1 .0) (qs .1 .0)) (L._∷_ (Row.lease (κs .1 .1 .0) (qs .1 .1 .0)) (L._∷_ Row.off (L._∷_ Row.off (L._∷_ Row.off (L._∷_ (Row.lease (κs .1 .1 .1 .1 .1 .1 .0) (qs .1 .1 .1 .1 .1 .1 .0)) (L._∷_ Row.off (L._∷_ Row.off (L._∷_ Row.alive (L._∷_ Row.alive (L._∷_ Row.alive (L._∷_ Row.off (L._∷_ Row.off (L._∷_ Row.off L.[])))))))))))))) }
 
         abbrev G26 : Row.Cx
-        G26 = record { locals = L._++_ t0 t1; slots = L._∷_ (Row.lease (κs .0) (qs .0)) (L._∷_ (Row.lease (κs .1 .0) (qs .1 .0)) (L._∷_ (Row.lease (κs .1 .1 .0) (qs .1 .1 .0)) (L._∷_ (Row.lease (κs .1 .1 .1 .0) (qs .1 .1 .1 .0)) (L._∷_ (Row.lease (κs .1 .1 .1 .1 .0) (qs .1 .1 .1 .1 .0)) (L._∷_ (Row.lease (κs .1 .1 .1 .1 .1 .0) (qs .1 .1 .1 .1 .1 .0)) (L._∷_ (Row.lease (κs .1 .1 .1 .1 .1 .1 .0) (qs .1 .1 .1 .1 .1 .1 .0)) (L._∷_ Row.off (L._∷_ Row.off (L._∷_ Row.off (L._∷_ Row.alive (L._∷_ Row.off (L._∷_ Row.off (L._∷_ Row.off (L._∷_ Row.off (L._∷_ Row.off L.[]))))))))))))))) }
+        G26 = record { locals = L._++_ g16 t18; slots = L._∷_ (Row.lease (κs .0) (qs .0)) (L._∷_ (Row.lease (κs .1 .0) (qs .1 .0)) (L._∷_ (Row.lease (κs .1 .1 .0) (qs .1 .1 .0)) (L._∷_ Row.off (L._∷_ Row.off (L._∷_ Row.off (L._∷_ (Row.lease (κs .1 .1 .1 .1 .1 .1 .0) (qs .1 .1 .1 .1 .1 .1 .0)) (L._∷_ Row.off (L._∷_ Row.off (L._∷_ Row.alive (L._∷_ Row.alive (L._∷_ Row.alive (L._∷_ Row.off (L._∷_ Row.off (L._∷_ Row.off L.[])))))))))))))) }
 
         abbrev G27 : Row.Cx
-        G27 = record { locals = L._++_ g15 t16; slots = L._∷_ (Row.lease (κs .0) (qs .0)) (L._∷_ (Row.lease (κs .1 .0) (qs .1 .0)) (L._∷_ (Row.lease (κs .1 .1 .0) (qs .1 .1 .0)) (L._∷_ Row.off (L._∷_ (Row.lease (κs .1 .1 .1 .1 .0) (qs .1 .1 .1 .1 .0)) (L._∷_ (Row.lease (κs .1 .1 .1 .1 .1 .0) (qs .1 .1 .1 .1 .1 .0)) (L._∷_ (Row.lease (κs .1 .1 .1 .1 .1 .1 .0) (qs .1 .1 .1 .1 .1 .1 .0)) (L._∷_ Row.off (L._∷_ Row.off (L._∷_ Row.off (L._∷_ Row.alive (L._∷_ Row.off (L._∷_ Row.off (L._∷_ Row.off (L._∷_ Row.off (L._∷_ Row.off L.[]))))))))))))))) }
+        G27 = record { locals = L._++_ g16 t18; slots = L._∷_ (Row.lease (κs .0) (qs .0)) (L._∷_ (Row.lease (κs .1 .0) (qs .1 .0)) (L._∷_ (Row.lease (κs .1 .1 .0) (qs .1 .1 .0)) (L._∷_ Row.off (L._∷_ Row.off (L._∷_ Row.off (L._∷_ (Row.lease (κs .1 .1 .1 .1 .1 .1 .0) (qs .1 .1 .1 .1 .1 .1 .0)) (L._∷_ Row.off (L._∷_ Row.off (L._∷_ Row.alive (L._∷_ Row.alive (L._∷_ Row.alive (L._∷_ Row.alive (L._∷_ Row.off (L._∷_ Row.off L.[])))))))))))))) }
 
         abbrev G28 : Row.Cx
-        G28 = record { locals = L._++_ g15 t17; slots = L._∷_ (Row.lease (κs .0) (qs .0)) (L._∷_ (Row.lease (κs .1 .0) (qs .1 .0)) (L._∷_ (Row.lease (κs .1 .1 .0) (qs .1 .1 .0)) (L._∷_ Row.off (L._∷_ (Row.lease (κs .1 .1 .1 .1 .0) (qs .1 .1 .1 .1 .0)) (L._∷_ (Row.lease (κs .1 .1 .1 .1 .1 .0) (qs .1 .1 .1 .1 .1 .0)) (L._∷_ (Row.lease (κs .1 .1 .1 .1 .1 .1 .0) (qs .1 .1 .1 .1 .1 .1 .0)) (L._∷_ Row.off (L._∷_ Row.off (L._∷_ Row.off (L._∷_ Row.alive (L._∷_ Row.off (L._∷_ Row.off (L._∷_ Row.off (L._∷_ Row.off (L._∷_ Row.off L.[]))))))))))))))) }
+        G28 = record { locals = L._++_ g19 t20; slots = L._∷_ (Row.lease (κs .0) (qs .0)) (L._∷_ (Row.lease (κs .1 .0) (qs .1 .0)) (L._∷_ (Row.lease (κs .1 .1 .0) (qs .1 .1 .0)) (L._∷_ Row.off (L._∷_ Row.off (L._∷_ Row.off (L._∷_ Row.off (L._∷_ Row.off (L._∷_ Row.off (L._∷_ Row.alive (L._∷_ Row.alive (L._∷_ Row.alive (L._∷_ Row.alive (L._∷_ Row.off (L._∷_ Row.off L.[])))))))))))))) }
 
         abbrev G29 : Row.Cx
-        G29 = record { locals = L._++_ g15 t17; slots = L._∷_ (Row.lease (κs .0) (qs .0)) (L._∷_ (Row.lease (κs .1 .0) (qs .1 .0)) (L._∷_ (Row.lease (κs .1 .1 .0) (qs .1 .1 .0)) (L._∷_ Row.off (L._∷_ (Row.lease (κs .1 .1 .1 .1 .0) (qs .1 .1 .1 .1 .0)) (L._∷_ (Row.lease (κs .1 .1 .1 .1 .1 .0) (qs .1 .1 .1 .1 .1 .0)) (L._∷_ (Row.lease (κs .1 .1 .1 .1 .1 .1 .0) (qs .1 .1 .1 .1 .1 .1 .0)) (L._∷_ Row.off (L._∷_ Row.off (L._∷_ Row.off (L._∷_ Row.alive (L._∷_ Row.alive (L._∷_ Row.off (L._∷_ Row.off (L._∷_ Row.off (L._∷_ Row.off L.[]))))))))))))))) }
+        G29 = record { locals = L._++_ g19 t21; slots = L._∷_ (Row.lease (κs .0) (qs .0)) (L._∷_ (Row.lease (κs .1 .0) (qs .1 .0)) (L._∷_ (Row.lease (κs .1 .1 .0) (qs .1 .1 .0)) (L._∷_ Row.off (L._∷_ Row.off (L._∷_ Row.off (L._∷_ Row.off (L._∷_ Row.off (L._∷_ Row.off (L._∷_ Row.alive (L._∷_ Row.alive (L._∷_ Row.alive (L._∷_ Row.alive (L._∷_ Row.off (L._∷_ Row.off L.[])))))))))))))) }
 
         abbrev G30 : Row.Cx
-        G30 = record { locals = L._++_ g18 t19; slots = L._∷_ (Row.lease (κs .0) (qs .0)) (L._∷_ (Row.lease (κs .1 .0) (qs .1 .0)) (L._∷_ (Row.lease (κs .1 .1 .0) (qs .1 .1 .0)) (L._∷_ Row.off (L._∷_ Row.off (L._∷_ (Row.lease (κs .1 .1 .1 .1 .1 .0) (qs .1 .1 .1 .1 .1 .0)) (L._∷_ (Row.lease (κs .1 .1 .1 .1 .1 .1 .0) (qs .1 .1 .1 .1 .1 .1 .0)) (L._∷_ Row.off (L._∷_ Row.off (L._∷_ Row.off (L._∷_ Row.alive (L._∷_ Row.alive (L._∷_ Row.off (L._∷_ Row.off (L._∷_ Row.off (L._∷_ Row.off L.[]))))))))))))))) }
+        G30 = record { locals = L._++_ g22 t23; slots = L._∷_ (Row.lease (κs .0) (qs .0)) (L._∷_ (Row.lease (κs .1 .0) (qs .1 .0)) (L._∷_ (Row.lease (κs .1 .1 .0) (qs .1 .1 .0)) (L._∷_ Row.off (L._∷_ Row.off (L._∷_ Row.off (L._∷_ Row.off (L._∷_ Row.off (L._∷_ Row.off (L._∷_ Row.alive (L._∷_ Row.alive (L._∷_ Row.alive (L._∷_ Row.alive (L._∷_ Row.off (L._∷_ Row.off L.[])))))))))))))) }
 
         abbrev G31 : Row.Cx
-        G31 = record { locals = L._++_ g18 t20; slots = L._∷_ (Row.lease (κs .0) (qs .0)) (L._∷_ (Row.lease (κs .1 .0) (qs .1 .0)) (L._∷_ (Row.lease (κs .1 .1 .0) (qs .1 .1 .0)) (L._∷_ Row.off (L._∷_ Row.off (L._∷_ (Row.lease (κs .1 .1 .1 .1 .1 .0) (qs .1 .1 .1 .1 .1 .0)) (L._∷_ (Row.lease (κs .1 .1 .1 .1 .1 .1 .0) (qs .1 .1 .1 .1 .1 .1 .0)) (L._∷_ Row.off (L._∷_ Row.off (L._∷_ Row.off (L._∷_ Row.alive (L._∷_ Row.alive (L._∷_ Row.off (L._∷_ Row.off (L._∷_ Row.off (L._∷_ Row.off L.[]))))))))))))))) }
+        G31 = record { locals = L._++_ g22 t23; slots = L._∷_ (Row.lease (κs .0) (qs .0)) (L._∷_ (Row.lease (κs .1 .0) (qs .1 .0)) (L._∷_ (Row.lease (κs .1 .1 .0) (qs .1 .1 .0)) (L._∷_ Row.off (L._∷_ Row.off (L._∷_ Row.off (L._∷_ Row.off (L._∷_ Row.off (L._∷_ Row.off (L._∷_ Row.dead (L._∷_ Row.alive (L._∷_ Row.alive (L._∷_ Row.alive (L._∷_ Row.off (L._∷_ Row.off L.[])))))))))))))) }
 
         abbrev G32 : Row.Cx
-        G32 = record { locals = L._++_ g18 t20; slots = L._∷_ (Row.lease (κs .0) (qs .0)) (L._∷_ (Row.lease (κs .1 .0) (qs .1 .0)) (L._∷_ (Row.lease (κs .1 .1 .0) (qs .1 .1 .0)) (L._∷_ Row.off (L._∷_ Row.off (L._∷_ (Row.lease (κs .1 .1 .1 .1 .1 .0) (qs .1 .1 .1 .1 .1 .0)) (L._∷_ (Row.lease (κs .1 .1 .1 .1 .1 .1 .0) (qs .1 .1 .1 .1 .1 .1 .0)) (L._∷_ Row.off (L._∷_ Row.off (L._∷_ Row.off (L._∷_ Row.alive (L._∷_ Row.alive (L._∷_ Row.alive (L._∷_ Row.off (L._∷_ Row.off (L._∷_ Row.off L.[]))))))))))))))) }
+        G32 = record { locals = L._++_ g24 t23; slots = L._∷_ (Row.lease (κs .0) (qs .0)) (L._∷_ (Row.lease (κs .1 .0) (qs .1 .0)) (L._∷_ (Row.lease (κs .1 .1 .0) (qs .1 .1 .0)) (L._∷_ (Row.lease (κs .1 .1 .1 .0) (qs .1 .1 .1 .0)) (L._∷_ Row.off (L._∷_ Row.off (L._∷_ Row.off (L._∷_ Row.off (L._∷_ Row.off (L._∷_ Row.dead (L._∷_ Row.alive (L._∷_ Row.alive (L._∷_ Row.alive (L._∷_ Row.off (L._∷_ Row.off L.[])))))))))))))) }
 
         abbrev G33 : Row.Cx
-        G33 = record { locals = L._++_ g21 t22; slots = L._∷_ (Row.lease (κs .0) (qs .0)) (L._∷_ (Row.lease (κs .1 .0) (qs .1 .0)) (L._∷_ (Row.lease (κs .1 .1 .0) (qs .1 .1 .0)) (L._∷_ Row.off (L._∷_ Row.off (L._∷_ Row.off (L._∷_ (Row.lease (κs .1 .1 .1 .1 .1 .1 .0) (qs .1 .1 .1 .1 .1 .1 .0)) (L._∷_ Row.off (L._∷_ Row.off (L._∷_ Row.off (L._∷_ Row.alive (L._∷_ Row.alive (L._∷_ Row.alive (L._∷_ Row.off (L._∷_ Row.off (L._∷_ Row.off L.[]))))))))))))))) }
+        G33 = record { locals = L._++_ g24 t23; slots = L._∷_ (Row.lease (κs .0) (qs .0)) (L._∷_ (Row.lease (κs .1 .0) (qs .1 .0)) (L._∷_ (Row.lease (κs .1 .1 .0) (qs .1 .1 .0)) (L._∷_ (Row.lease (κs .1 .1 .1 .0) (qs .1 .1 .1 .0)) (L._∷_ Row.off (L._∷_ Row.off (L._∷_ Row.off (L._∷_ Row.off (L._∷_ Row.off (L._∷_ Row.off (L._∷_ Row.alive (L._∷_ Row.alive (L._∷_ Row.alive (L._∷_ Row.off (L._∷_ Row.off L.[])))))))))))))) }
 
         abbrev G34 : Row.Cx
-        G34 = record { locals = L._++_ g21 t23; slots = L._∷_ (Row.lease (κs .0) (qs .0)) (L._∷_ (Row.lease (κs .1 .0) (qs .1 .0)) (L._∷_ (Row.lease (κs .1 .1 .0) (qs .1 .1 .0)) (L._∷_ Row.off (L._∷_ Row.off (L._∷_ Row.off (L._∷_ (Row.lease (κs .1 .1 .1 .1 .1 .1 .0) (qs .1 .1 .1 .1 .1 .1 .0)) (L._∷_ Row.off (L._∷_ Row.off (L._∷_ Row.off (L._∷_ Row.alive (L._∷_ Row.alive (L._∷_ Row.alive (L._∷_ Row.off (L._∷_ Row.off (L._∷_ Row.off L.[]))))))))))))))) }
+        G34 = record { locals = L._++_ g24 t23; slots = L._∷_ (Row.lease (κs .0) (qs .0)) (L._∷_ (Row.lease (κs .1 .0) (qs .1 .0)) (L._∷_ (Row.lease (κs .1 .1 .0) (qs .1 .1 .0)) (L._∷_ (Row.lease (κs .1 .1 .1 .0) (qs .1 .1 .1 .0)) (L._∷_ Row.off (L._∷_ Row.off (L._∷_ Row.off (L._∷_ Row.off (L._∷_ Row.off (L._∷_ Row.off (L._∷_ Row.dead (L._∷_ Row.alive (L._∷_ Row.alive (L._∷_ Row.off (L._∷_ Row.off L.[])))))))))))))) }
 
         abbrev G35 : Row.Cx
-        G35 = record { locals = L._++_ g21 t23; slots = L._∷_ (Row.lease (κs .0) (qs .0)) (L._∷_ (Row.lease (κs .1 .0) (qs .1 .0)) (L._∷_ (Row.lease (κs .1 .1 .0) (qs .1 .1 .0)) (L._∷_ Row.off (L._∷_ Row.off (L._∷_ Row.off (L._∷_ (Row.lease (κs .1 .1 .1 .1 .1 .1 .0) (qs .1 .1 .1 .1 .1 .1 .0)) (L._∷_ Row.off (L._∷_ Row.off (L._∷_ Row.off (L._∷_ Row.alive (L._∷_ Row.alive (L._∷_ Row.alive (L._∷_ Row.alive (L._∷_ Row.off (L._∷_ Row.off L.[]))))))))))))))) }
+        G35 = record { locals = L._++_ g25 t26; slots = L._∷_ (Row.lease (κs .0) (qs .0)) (L._∷_ (Row.lease (κs .1 .0) (qs .1 .0)) (L._∷_ (Row.lease (κs .1 .1 .0) (qs .1 .1 .0)) (L._∷_ (Row.lease (κs .1 .1 .1 .0) (qs .1 .1 .1 .0)) (L._∷_ (Row.lease (κs .1 .1 .1 .1 .0) (qs .1 .1 .1 .1 .0)) (L._∷_ Row.off (L._∷_ Row.off (L._∷_ Row.off (L._∷_ Row.off (L._∷_ Row.off (L._∷_ Row.dead (L._∷_ Row.alive (L._∷_ Row.alive (L._∷_ Row.off (L._∷_ Row.off L.[])))))))))))))) }
 
         abbrev G36 : Row.Cx
-        G36 = record { locals = L._++_ g24 t25; slots = L._∷_ (Row.lease (κs .0) (qs .0)) (L._∷_ (Row.lease (κs .1 .0) (qs .1 .0)) (L._∷_ (Row.lease (κs .1 .1 .0) (qs .1 .1 .0)) (L._∷_ Row.off (L._∷_ Row.off (L._∷_ Row.off (L._∷_ Row.off (L._∷_ Row.off (L._∷_ Row.off (L._∷_ Row.off (L._∷_ Row.alive (L._∷_ Row.alive (L._∷_ Row.alive (L._∷_ Row.alive (L._∷_ Row.off (L._∷_ Row.off L.[]))))))))))))))) }
+        G36 = record { locals = L._++_ g25 t26; slots = L._∷_ (Row.lease (κs .0) (qs .0)) (L._∷_ (Row.lease (κs .1 .0) (qs .1 .0)) (L._∷_ (Row.lease (κs .1 .1 .0) (qs .1 .1 .0)) (L._∷_ (Row.lease (κs .1 .1 .1 .0) (qs .1 .1 .1 .0)) (L._∷_ (Row.lease (κs .1 .1 .1 .1 .0) (qs .1 .1 .1 .1 .0)) (L._∷_ Row.off (L._∷_ Row.off (L._∷_ Row.off (L._∷_ Row.off (L._∷_ Row.off (L._∷_ Row.off (L._∷_ Row.alive (L._∷_ Row.alive (L._∷_ Row.off (L._∷_ Row.off L.[])))))))))))))) }
 
         abbrev G37 : Row.Cx
-        G37 = record { locals = L._++_ g24 t26; slots = L._∷_ (Row.lease (κs .0) (qs .0)) (L._∷_ (Row.lease (κs .1 .0) (qs .1 .0)) (L._∷_ (Row.lease (κs .1 .1 .0) (qs .1 .1 .0)) (L._∷_ Row.off (L._∷_ Row.off (L._∷_ Row.off (L._∷_ Row.off (L._∷_ Row.off (L._∷_ Row.off (L._∷_ Row.off (L._∷_ Row.alive (L._∷_ Row.alive (L._∷_ Row.alive (L._∷_ Row.alive (L._∷_ Row.off (L._∷_ Row.off L.[]))))))))))))))) }
+        G37 = record { locals = L._++_ g25 t26; slots = L._∷_ (Row.lease (κs .0) (qs .0)) (L._∷_ (Row.lease (κs .1 .0) (qs .1 .0)) (L._∷_ (Row.lease (κs .1 .1 .0) (qs .1 .1 .0)) (L._∷_ (Row.lease (κs .1 .1 .1 .0) (qs .1 .1 .1 .0)) (L._∷_ (Row.lease (κs .1 .1 .1 .1 .0) (qs .1 .1 .1 .1 .0)) (L._∷_ Row.off (L._∷_ Row.off (L._∷_ Row.off (L._∷_ Row.off (L._∷_ Row.off (L._∷_ Row.off (L._∷_ Row.dead (L._∷_ Row.alive (L._∷_ Row.off (L._∷_ Row.off L.[])))))))))))))) }
 
         abbrev G38 : Row.Cx
-        G38 = record { locals = L._++_ g27 t28; slots = L._∷_ (Row.lease (κs .0) (qs .0)) (L._∷_ (Row.lease (κs .1 .0) (qs .1 .0)) (L._∷_ (Row.lease (κs .1 .1 .0) (qs .1 .1 .0)) (L._∷_ Row.off (L._∷_ Row.off (L._∷_ Row.off (L._∷_ Row.off (L._∷_ Row.off (L._∷_ Row.off (L._∷_ Row.off (L._∷_ Row.alive (L._∷_ Row.alive (L._∷_ Row.alive (L._∷_ Row.alive (L._∷_ Row.off (L._∷_ Row.off L.[]))))))))))))))) }
+        G38 = record { locals = L._++_ g27 t28; slots = L._∷_ (Row.lease (κs .0) (qs .0)) (L._∷_ (Row.lease (κs .1 .0) (qs .1 .0)) (L._∷_ (Row.lease (κs .1 .1 .0) (qs .1 .1 .0)) (L._∷_ (Row.lease (κs .1 .1 .1 .0) (qs .1 .1 .1 .0)) (L._∷_ (Row.lease (κs .1 .1 .1 .1 .0) (qs .1 .1 .1 .1 .0)) (L._∷_ (Row.lease (κs .1 .1 .1 .1 .1 .0) (qs .1 .1 .1 .1 .1 .0)) (L._∷_ Row.off (L._∷_ Row.off (L._∷_ Row.off (L._∷_ Row.off (L._∷_ Row.off (L._∷_ Row.dead (L._∷_ Row.alive (L._∷_ Row.off (L._∷_ Row.off L.[])))))))))))))) }
 
         abbrev G39 : Row.Cx
-        G39 = record { locals = L._++_ g27 t28; slots = L._∷_ (Row.lease (κs .0) (qs .0)) (L._∷_ (Row.lease (κs .1 .0) (qs .1 .0)) (L._∷_ (Row.lease (κs .1 .1 .0) (qs .1 .1 .0)) (L._∷_ Row.off (L._∷_ Row.off (L._∷_ Row.off (L._∷_ Row.off (L._∷_ Row.off (L._∷_ Row.off (L._∷_ Row.off (L._∷_ Row.dead (L._∷_ Row.alive (L._∷_ Row.alive (L._∷_ Row.alive (L._∷_ Row.off (L._∷_ Row.off L.[]))))))))))))))) }
+        G39 = record { locals = L._++_ g27 t28; slots = L._∷_ (Row.lease (κs .0) (qs .0)) (L._∷_ (Row.lease (κs .1 .0) (qs .1 .0)) (L._∷_ (Row.lease (κs .1 .1 .0) (qs .1 .1 .0)) (L._∷_ (Row.lease (κs .1 .1 .1 .0) (qs .1 .1 .1 .0)) (L._∷_ (Row.lease (κs .1 .1 .1 .1 .0) (qs .1 .1 .1 .1 .0)) (L._∷_ (Row.lease (κs .1 .1 .1 .1 .1 .0) (qs .1 .1 .1 .1 .1 .0)) (L._∷_ Row.off (L._∷_ Row.off (L._∷_ Row.off (L._∷_ Row.off (L._∷_ Row.off (L._∷_ Row.off (L._∷_ Row.alive (L._∷_ Row.off (L._∷_ Row.off L.[])))))))))))))) }
 
         abbrev G40 : Row.Cx
-        G40 = record { locals = L._++_ g29 t30; slots = L._∷_ (Row.lease (κs .0) (qs .0)) (L._∷_ (Row.lease (κs .1 .0) (qs .1 .0)) (L._∷_ (Row.lease (κs .1 .1 .0) (qs .1 .1 .0)) (L._∷_ (Row.lease (κs .1 .1 .1 .0) (qs .1 .1 .1 .0)) (L._∷_ Row.off (L._∷_ Row.off (L._∷_ Row.off (L._∷_ Row.off (L._∷_ Row.off (L._∷_ Row.off (L._∷_ Row.dead (L._∷_ Row.alive (L._∷_ Row.alive (L._∷_ Row.alive (L._∷_ Row.off (L._∷_ Row.off L.[]))))))))))))))) }
+        G40 = record { locals = L._++_ g27 t28; slots = L._∷_ (Row.lease (κs .0) (qs .0)) (L._∷_ (Row.lease (κs .1 .0) (qs .1 .0)) (L._∷_ (Row.lease (κs .1 .1 .0) (qs .1 .1 .0)) (L._∷_ (Row.lease (κs .1 .1 .1 .0) (qs .1 .1 .1 .0)) (L._∷_ (Row.lease (κs .1 .1 .1 .1 .0) (qs .1 .1 .1 .1 .0)) (L._∷_ (Row.lease (κs .1 .1 .1 .1 .1 .0) (qs .1 .1 .1 .1 .1 .0)) (L._∷_ Row.off (L._∷_ Row.off (L._∷_ Row.off (L._∷_ Row.off (L._∷_ Row.off (L._∷_ Row.off (L._∷_ Row.dead (L._∷_ Row.off (L._∷_ Row.off L.[])))))))))))))) }
 
         abbrev G41 : Row.Cx
-        G41 = record { locals = L._++_ g29 t30; slots = L._∷_ (Row.lease (κs .0) (qs .0)) (L._∷_ (Row.lease (κs .1 .0) (qs .1 .0)) (L._∷_ (Row.lease (κs .1 .1 .0) (qs .1 .1 .0)) (L._∷_ (Row.lease (κs .1 .1 .1 .0) (qs .1 .1 .1 .0)) (L._∷_ Row.off (L._∷_ Row.off (L._∷_ Row.off (L._∷_ Row.off (L._∷_ Row.off (L._∷_ Row.off (L._∷_ Row.off (L._∷_ Row.alive (L._∷_ Row.alive (L._∷_ Row.alive (L._∷_ Row.off (L._∷_ Row.off L.[]))))))))))))))) }
+        G41 = record { locals = L._++_ t29 t1; slots = L._∷_ (Row.lease (κs .0) (qs .0)) (L._∷_ (Row.lease (κs .1 .0) (qs .1 .0)) (L._∷_ (Row.lease (κs .1 .1 .0) (qs .1 .1 .0)) (L._∷_ (Row.lease (κs .1 .1 .1 .0) (qs .1 .1 .1 .0)) (L._∷_ (Row.lease (κs .1 .1 .1 .1 .0) (qs .1 .1 .1 .1 .0)) (L._∷_ (Row.lease (κs .1 .1 .1 .1 .1 .0) (qs .1 .1 .1 .1 .1 .0)) (L._∷_ (Row.lease (κs .1 .1 .1 .1 .1 .1 .0) (qs .1 .1 .1 .1 .1 .1 .0)) (L._∷_ Row.off (L._∷_ Row.off (L._∷_ Row.off (L._∷_ Row.off (L._∷_ Row.off (L._∷_ Row.dead (L._∷_ Row.off (L._∷_ Row.off L.[])))))))))))))) }
 
         abbrev G42 : Row.Cx
-        G42 = record { locals = L._++_ g29 t30; slots = L._∷_ (Row.lease (κs .0) (qs .0)) (L._∷_ (Row.lease (κs .1 .0) (qs .1 .0)) (L._∷_ (Row.lease (κs .1 .1 .0) (qs .1 .1 .0)) (L._∷_ (Row.lease (κs .1 .1 .1 .0) (qs .1 .1 .1 .0)) (L._∷_ Row.off (L._∷_ Row.off (L._∷_ Row.off (L._∷_ Row.off (L._∷_ Row.off (L._∷_ Row.off (L._∷_ Row.off (L._∷_ Row.dead (L._∷_ Row.alive (L._∷_ Row.alive (L._∷_ Row.off (L._∷_ Row.off L.[]))))))))))))))) }
+        G42 = record { locals = L._++_ t29 t1; slots = L._∷_ (Row.lease (κs .0) (qs .0)) (L._∷_ (Row.lease (κs .1 .0) (qs .1 .0)) (L._∷_ (Row.lease (κs .1 .1 .0) (qs .1 .1 .0)) (L._∷_ (Row.lease (κs .1 .1 .1 .0) (qs .1 .1 .1 .0)) (L._∷_ (Row.lease (κs .1 .1 .1 .1 .0) (qs .1 .1 .1 .1 .0)) (L._∷_ (Row.lease (κs .1 .1 .1 .1 .1 .0) (qs .1 .1 .1 .1 .1 .0)) (L._∷_ (Row.lease (κs .1 .1 .1 .1 .1 .1 .0) (qs .1 .1 .1 .1 .1 .1 .0)) (L._∷_ Row.off (L._∷_ Row.off (L._∷_ Row.off (L._∷_ Row.off (L._∷_ Row.off (L._∷_ Row.off (L._∷_ Row.off (L._∷_ Row.off L.[])))))))))))))) }
 
         abbrev G43 : Row.Cx
-        G43 = record { locals = L._++_ g31 t32; slots = L._∷_ (Row.lease (κs .0) (qs .0)) (L._∷_ (Row.lease (κs .1 .0) (qs .1 .0)) (L._∷_ (Row.lease (κs .1 .1 .0) (qs .1 .1 .0)) (L._∷_ (Row.lease (κs .1 .1 .1 .0) (qs .1 .1 .1 .0)) (L._∷_ (Row.lease (κs .1 .1 .1 .1 .0) (qs .1 .1 .1 .1 .0)) (L._∷_ Row.off (L._∷_ Row.off (L._∷_ Row.off (L._∷_ Row.off (L._∷_ Row.off (L._∷_ Row.off (L._∷_ Row.dead (L._∷_ Row.alive (L._∷_ Row.alive (L._∷_ Row.off (L._∷_ Row.off L.[]))))))))))))))) }
+        G43 = record { locals = L._++_ t29 t1; slots = L._∷_ (Row.lease (κs .0) (qs .0)) (L._∷_ (Row.lease (κs .1 .0) (qs .1 .0)) (L._∷_ (Row.lease (κs .1 .1 .0) (qs .1 .1 .0)) (L._∷_ (Row.lease (κs .1 .1 .1 .0) (qs .1 .1 .1 .0)) (L._∷_ (Row.lease (κs .1 .1 .1 .1 .0) (qs .1 .1 .1 .1 .0)) (L._∷_ (Row.lease (κs .1 .1 .1 .1 .1 .0) (qs .1 .1 .1 .1 .1 .0)) (L._∷_ (Row.lease (κs .1 .1 .1 .1 .1 .1 .0) (qs .1 .1 .1 .1 .1 .1 .0)) (L._∷_ Row.off (L._∷_ Row.off (L._∷_ Row.off (L._∷_ Row.off (L._∷_ Row.off (L._∷_ Row.off (L._∷_ Row.alive (L._∷_ Row.off L.[])))))))))))))) }
 
         abbrev G44 : Row.Cx
-        G44 = record { locals = L._++_ g31 t32; slots = L._∷_ (Row.lease (κs .0) (qs .0)) (L._∷_ (Row.lease (κs .1 .0) (qs .1 .0)) (L._∷_ (Row.lease (κs .1 .1 .0) (qs .1 .1 .0)) (L._∷_ (Row.lease (κs .1 .1 .1 .0) (qs .1 .1 .1 .0)) (L._∷_ (Row.lease (κs .1 .1 .1 .1 .0) (qs .1 .1 .1 .1 .0)) (L._∷_ Row.off (L._∷_ Row.off (L._∷_ Row.off (L._∷_ Row.off (L._∷_ Row.off (L._∷_ Row.off (L._∷_ Row.off (L._∷_ Row.alive (L._∷_ Row.alive (L._∷_ Row.off (L._∷_ Row.off L.[]))))))))))))))) }
+        G44 = record { locals = L._++_ g30 t31; slots = L._∷_ (Row.lease (κs .0) (qs .0)) (L._∷_ (Row.lease (κs .1 .0) (qs .1 .0)) (L._∷_ (Row.lease (κs .1 .1 .0) (qs .1 .1 .0)) (L._∷_ (Row.lease (κs .1 .1 .1 .0) (qs .1 .1 .1 .0)) (L._∷_ (Row.lease (κs .1 .1 .1 .1 .0) (qs .1 .1 .1 .1 .0)) (L._∷_ Row.off (L._∷_ (Row.lease (κs .1 .1 .1 .1 .1 .1 .0) (qs .1 .1 .1 .1 .1 .1 .0)) (L._∷_ Row.off (L._∷_ Row.off (L._∷_ Row.off (L._∷_ Row.off (L._∷_ Row.off (L._∷_ Row.off (L._∷_ Row.alive (L._∷_ Row.off L.[])))))))))))))) }
 
         abbrev G45 : Row.Cx
-        G45 = record { locals = L._++_ g31 t32; slots = L._∷_ (Row.lease (κs .0) (qs .0)) (L._∷_ (Row.lease (κs .1 .0) (qs .1 .0)) (L._∷_ (Row.lease (κs .1 .1 .0) (qs .1 .1 .0)) (L._∷_ (Row.lease (κs .1 .1 .1 .0) (qs .1 .1 .1 .0)) (L._∷_ (Row.lease (κs .1 .1 .1 .1 .0) (qs .1 .1 .1 .1 .0)) (L._∷_ Row.off (L._∷_ Row.off (L._∷_ Row.off (L._∷_ Row.off (L._∷_ Row.off (L._∷_ Row.off (L._∷_ Row.off (L._∷_ Row.dead (L._∷_ Row.alive (L._∷_ Row.off (L._∷_ Row.off L.[]))))))))))))))) }
+        G45 = record { locals = L._++_ g30 t32; slots = L._∷_ (Row.lease (κs .0) (qs .0)) (L._∷_ (Row.lease (κs .1 .0) (qs .1 .0)) (L._∷_ (Row.lease (κs .1 .1 .0) (qs .1 .1 .0)) (L._∷_ (Row.lease (κs .1 .1 .1 .0) (qs .1 .1 .1 .0)) (L._∷_ (Row.lease (κs .1 .1 .1 .1 .0) (qs .1 .1 .1 .1 .0)) (L._∷_ Row.off (L._∷_ (Row.lease (κs .1 .1 .1 .1 .1 .1 .0) (qs .1 .1 .1 .1 .1 .1 .0)) (L._∷_ Row.off (L._∷_ Row.off (L._∷_ Row.off (L._∷_ Row.off (L._∷_ Row.off (L._∷_ Row.off (L._∷_ Row.alive (L._∷_ Row.off L.[])))))))))))))) }
 
         abbrev G46 : Row.Cx
-        G46 = record { locals = L._++_ g33 t34; slots = L._∷_ (Row.lease (κs .0) (qs .0)) (L._∷_ (Row.lease (κs .1 .0) (qs .1 .0)) (L._∷_ (Row.lease (κs .1 .1 .0) (qs .1 .1 .0)) (L._∷_ (Row.lease (κs .1 .1 .1 .0) (qs .1 .1 .1 .0)) (L._∷_ (Row.lease (κs .1 .1 .1 .1 .0) (qs .1 .1 .1 .1 .0)) (L._∷_ (Row.lease (κs .1 .1 .1 .1 .1 .0) (qs .1 .1 .1 .1 .1 .0)) (L._∷_ Row.off (L._∷_ Row.off (L._∷_ Row.off (L._∷_ Row.off (L._∷_ Row.off (L._∷_ Row.off (L._∷_ Row.dead (L._∷_ Row.alive (L._∷_ Row.off (L._∷_ Row.off L.[]))))))))))))))) }
+        G46 = record { locals = L._++_ g33 t34; slots = L._∷_ (Row.lease (κs .0) (qs .0)) (L._∷_ (Row.lease (κs .1 .0) (qs .1 .0)) (L._∷_ (Row.lease (κs .1 .1 .0) (qs .1 .1 .0)) (L._∷_ (Row.lease (κs .1 .1 .1 .0) (qs .1 .1 .1 .0)) (L._∷_ (Row.lease (κs .1 .1 .1 .1 .0) (qs .1 .1 .1 .1 .0)) (L._∷_ Row.off (L._∷_ (Row.lease (κs .1 .1 .1 .1 .1 .1 .0) (qs .1 .1 .1 .1 .1 .1 .0)) (L._∷_ Row.off (L._∷_ Row.off (L._∷_ Row.off (L._∷_ Row.off (L._∷_ Row.off (L._∷_ Row.off (L._∷_ Row.alive (L._∷_ Row.off L.[])))))))))))))) }
 
         abbrev G47 : Row.Cx
-        G47 = record { locals = L._++_ g33 t34; slots = L._∷_ (Row.lease (κs .0) (qs .0)) (L._∷_ (Row.lease (κs .1 .0) (qs .1 .0)) (L._∷_ (Row.lease (κs .1 .1 .0) (qs .1 .1 .0)) (L._∷_ (Row.lease (κs .1 .1 .1 .0) (qs .1 .1 .1 .0)) (L._∷_ (Row.lease (κs .1 .1 .1 .1 .0) (qs .1 .1 .1 .1 .0)) (L._∷_ (Row.lease (κs .1 .1 .1 .1 .1 .0) (qs .1 .1 .1 .1 .1 .0)) (L._∷_ Row.off (L._∷_ Row.off (L._∷_ Row.off (L._∷_ Row.off (L._∷_ Row.off (L._∷_ Row.off (L._∷_ Row.off (L._∷_ Row.alive (L._∷_ Row.off (L._∷_ Row.off L.[]))))))))))))))) }
+        G47 = record { locals = L._++_ g30 t34; slots = L._∷_ (Row.lease (κs .0) (qs .0)) (L._∷_ (Row.lease (κs .1 .0) (qs .1 .0)) (L._∷_ (Row.lease (κs .1 .1 .0) (qs .1 .1 .0)) (L._∷_ (Row.lease (κs .1 .1 .1 .0) (qs .1 .1 .1 .0)) (L._∷_ (Row.lease (κs .1 .1 .1 .1 .0) (qs .1 .1 .1 .1 .0)) (L._∷_ Row.off (L._∷_ (Row.lease (κs .1 .1 .1 .1 .1 .1 .0) (qs .1 .1 .1 .1 .1 .1 .0)) (L._∷_ Row.off (L._∷_ Row.off (L._∷_ Row.off (L._∷_ Row.off (L._∷_ Row.off (L._∷_ Row.off (L._∷_ Row.alive (L._∷_ Row.off L.[])))))))))))))) }
 
         abbrev G48 : Row.Cx
-        G48 = record { locals = L._++_ g33 t34; slots = L._∷_ (Row.lease (κs .0) (qs .0)) (L._∷_ (Row.lease (κs .1 .0) (qs .1 .0)) (L._∷_ (Row.lease (κs .1 .1 .0) (qs .1 .1 .0)) (L._∷_ (Row.lease (κs .1 .1 .1 .0) (qs .1 .1 .1 .0)) (L._∷_ (Row.lease (κs .1 .1 .1 .1 .0) (qs .1 .1 .1 .1 .0)) (L._∷_ (Row.lease (κs .1 .1 .1 .1 .1 .0) (qs .1 .1 .1 .1 .1 .0)) (L._∷_ Row.off (L._∷_ Row.off (L._∷_ Row.off (L._∷_ Row.off (L._∷_ Row.off (L._∷_ Row.off (L._∷_ Row.off (L._∷_ Row.dead (L._∷_ Row.off (L._∷_ Row.off L.[]))))))))))))))) }
+        G48 = record { locals = L._++_ g30 t34; slots = L._∷_ (Row.lease (κs .0) (qs .0)) (L._∷_ (Row.lease (κs .1 .0) (qs .1 .0)) (L._∷_ (Row.lease (κs .1 .1 .0) (qs .1 .1 .0)) (L._∷_ (Row.lease (κs .1 .1 .1 .0) (qs .1 .1 .1 .0)) (L._∷_ (Row.lease (κs .1 .1 .1 .1 .0) (qs .1 .1 .1 .1 .0)) (L._∷_ Row.off (L._∷_ (Row.lease (κs .1 .1 .1 .1 .1 .1 .0) (qs .1 .1 .1 .1 .1 .1 .0)) (L._∷_ Row.off (L._∷_ Row.off (L._∷_ Row.off (L._∷_ Row.off (L._∷_ Row.off (L._∷_ Row.off (L._∷_ Row.dead (L._∷_ Row.off L.[])))))))))))))) }
 
         abbrev G49 : Row.Cx
-        G49 = record { locals = L._++_ t35 t1; slots = L._∷_ (Row.lease (κs .0) (qs .0)) (L._∷_ (Row.lease (κs .1 .0) (qs .1 .0)) (L._∷_ (Row.lease (κs .1 .1 .0) (qs .1 .1 .0)) (L._∷_ (Row.lease (κs .1 .1 .1 .0) (qs .1 .1 .1 .0)) (L._∷_ (Row.lease (κs .1 .1 .1 .1 .0) (qs .1 .1 .1 .1 .0)) (L._∷_ (Row.lease (κs .1 .1 .1 .1 .1 .0) (qs .1 .1 .1 .1 .1 .0)) (L._∷_ (Row.lease (κs .1 .1 .1 .1 .1 .1 .0) (qs .1 .1 .1 .1 .1 .1 .0)) (L._∷_ Row.off (L._∷_ Row.off (L._∷_ Row.off (L._∷_ Row.off (L._∷_ Row.off (L._∷_ Row.off (L._∷_ Row.dead (L._∷_ Row.off (L._∷_ Row.off L.[]))))))))))))))) }
+        G49 = record { locals = L._++_ t29 t1; slots = L._∷_ (Row.lease (κs .0) (qs .0)) (L._∷_ (Row.lease (κs .1 .0) (qs .1 .0)) (L._∷_ (Row.lease (κs .1 .1 .0) (qs .1 .1 .0)) (L._∷_ (Row.lease (κs .1 .1 .1 .0) (qs .1 .1 .1 .0)) (L._∷_ (Row.lease (κs .1 .1 .1 .1 .0) (qs .1 .1 .1 .1 .0)) (L._∷_ (Row.lease (κs .1 .1 .1 .1 .1 .0) (qs .1 .1 .1 .1 .1 .0)) (L._∷_ (Row.lease (κs .1 .1 .1 .1 .1 .1 .0) (qs .1 .1 .1 .1 .1 .1 .0)) (L._∷_ Row.off (L._∷_ Row.off (L._∷_ Row.off (L._∷_ Row.off (L._∷_ Row.off (L._∷_ Row.off (L._∷_ Row.dead (L._∷_ Row.off L.[])))))))))))))) }
 
         abbrev G50 : Row.Cx
-        G50 = record { locals = L._++_ t35 t1; slots = L._∷_ (Row.lease (κs .0) (qs .0)) (L._∷_ (Row.lease (κs .1 .0) (qs .1 .0)) (L._∷_ (Row.lease (κs .1 .1 .0) (qs .1 .1 .0)) (L._∷_ (Row.lease (κs .1 .1 .1 .0) (qs .1 .1 .1 .0)) (L._∷_ (Row.lease (κs .1 .1 .1 .1 .0) (qs .1 .1 .1 .1 .0)) (L._∷_ (Row.lease (κs .1 .1 .1 .1 .1 .0) (qs .1 .1 .1 .1 .1 .0)) (L._∷_ (Row.lease (κs .1 .1 .1 .1 .1 .1 .0) (qs .1 .1 .1 .1 .1 .1 .0)) (L._∷_ Row.off (L._∷_ Row.off (L._∷_ Row.off (L._∷_ Row.off (L._∷_ Row.off (L._∷_ Row.off (L._∷_ Row.off (L._∷_ Row.off (L._∷_ Row.off L.[]))))))))))))))) }
+        G50 = record { locals = L._++_ t29 t1; slots = L._∷_ (Row.lease (κs .0) (qs .0)) (L._∷_ (Row.lease (κs .1 .0) (qs .1 .0)) (L._∷_ (Row.lease (κs .1 .1 .0) (qs .1 .1 .0)) (L._∷_ (Row.lease (κs .1 .1 .1 .0) (qs .1 .1 .1 .0)) (L._∷_ (Row.lease (κs .1 .1 .1 .1 .0) (qs .1 .1 .1 .1 .0)) (L._∷_ (Row.lease (κs .1 .1 .1 .1 .1 .0) (qs .1 .1 .1 .1 .1 .0)) (L._∷_ (Row.lease (κs .1 .1 .1 .1 .1 .1 .0) (qs .1 .1 .1 .1 .1 .1 .0)) (L._∷_ Row.off (L._∷_ Row.off (L._∷_ Row.off (L._∷_ Row.off (L._∷_ Row.off (L._∷_ Row.off (L._∷_ Row.off (L._∷_ Row.off L.[])))))))))))))) }
 
         abbrev G51 : Row.Cx
-        G51 = record { locals = L._++_ t35 t1; slots = L._∷_ (Row.lease (κs .0) (qs .0)) (L._∷_ (Row.lease (κs .1 .0) (qs .1 .0)) (L._∷_ (Row.lease (κs .1 .1 .0) (qs .1 .1 .0)) (L._∷_ (Row.lease (κs .1 .1 .1 .0) (qs .1 .1 .1 .0)) (L._∷_ (Row.lease (κs .1 .1 .1 .1 .0) (qs .1 .1 .1 .1 .0)) (L._∷_ (Row.lease (κs .1 .1 .1 .1 .1 .0) (qs .1 .1 .1 .1 .1 .0)) (L._∷_ (Row.lease (κs .1 .1 .1 .1 .1 .1 .0) (qs .1 .1 .1 .1 .1 .1 .0)) (L._∷_ Row.off (L._∷_ Row.off (L._∷_ Row.off (L._∷_ Row.off (L._∷_ Row.off (L._∷_ Row.off (L._∷_ Row.off (L._∷_ Row.alive (L._∷_ Row.off L.[]))))))))))))))) }
+        G51 = record { locals = L._++_ t29 t1; slots = L._∷_ (Row.lease (κs .0) (qs .0)) (L._∷_ (Row.lease (κs .1 .0) (qs .1 .0)) (L._∷_ (Row.lease (κs .1 .1 .0) (qs .1 .1 .0)) (L._∷_ (Row.lease (κs .1 .1 .1 .0) (qs .1 .1 .1 .0)) (L._∷_ (Row.lease (κs .1 .1 .1 .1 .0) (qs .1 .1 .1 .1 .0)) (L._∷_ (Row.lease (κs .1 .1 .1 .1 .1 .0) (qs .1 .1 .1 .1 .1 .0)) (L._∷_ (Row.lease (κs .1 .1 .1 .1 .1 .1 .0) (qs .1 .1 .1 .1 .1 .1 .0)) (L._∷_ Row.off (L._∷_ Row.off (L._∷_ Row.off (L._∷_ Row.off (L._∷_ Row.off (L._∷_ Row.off (L._∷_ Row.off (L._∷_ Row.alive L.[])))))))))))))) }
 
         abbrev G52 : Row.Cx
-        G52 = record { locals = L._++_ g36 t37; slots = L._∷_ (Row.lease (κs .0) (qs .0)) (L._∷_ (Row.lease (κs .1 .0) (qs .1 .0)) (L._∷_ (Row.lease (κs .1 .1 .0) (qs .1 .1 .0)) (L._∷_ (Row.lease (κs .1 .1 .1 .0) (qs .1 .1 .1 .0)) (L._∷_ (Row.lease (κs .1 .1 .1 .1 .0) (qs .1 .1 .1 .1 .0)) (L._∷_ Row.off (L._∷_ (Row.lease (κs .1 .1 .1 .1 .1 .1 .0) (qs .1 .1 .1 .1 .1 .1 .0)) (L._∷_ Row.off (L._∷_ Row.off (L._∷_ Row.off (L._∷_ Row.off (L._∷_ Row.off (L._∷_ Row.off (L._∷_ Row.off (L._∷_ Row.alive (L._∷_ Row.off L.[]))))))))))))))) }
+        G52 = record { locals = L._++_ g35 t36; slots = L._∷_ (Row.lease (κs .0) (qs .0)) (L._∷_ (Row.lease (κs .1 .0) (qs .1 .0)) (L._∷_ (Row.lease (κs .1 .1 .0) (qs .1 .1 .0)) (L._∷_ (Row.lease (κs .1 .1 .1 .0) (qs .1 .1 .1 .0)) (L._∷_ (Row.lease (κs .1 .1 .1 .1 .0) (qs .1 .1 .1 .1 .0)) (L._∷_ (Row.lease (κs .1 .1 .1 .1 .1 .0) (qs .1 .1 .1 .1 .1 .0)) (L._∷_ Row.off (L._∷_ Row.off (L._∷_ Row.off (L._∷_ Row.off (L._∷_ Row.off (L._∷_ Row.off (L._∷_ Row.off (L._∷_ Row.off (L._∷_ Row.alive L.[])))))))))))))) }
 
         abbrev G53 : Row.Cx
-        G53 = record { locals = L._++_ g36 t38; slots = L._∷_ (Row.lease (κs .0) (qs .0)) (L._∷_ (Row.lease (κs .1 .0) (qs .1 .0)) (L._∷_ (Row.lease (κs .1 .1 .0) (qs .1 .1 .0)) (L._∷_ (Row.lease (κs .1 .1 .1 .0) (qs .1 .1 .1 .0)) (L._∷_ (Row.lease (κs .1 .1 .1 .1 .0) (qs .1 .1 .1 .1 .0)) (L._∷_ Row.off (L._∷_ (Row.lease (κs .1 .1 .1 .1 .1 .1 .0) (qs .1 .1 .1 .1 .1 .1 .0)) (L._∷_ Row.off (L._∷_ Row.off (L._∷_ Row.off (L._∷_ Row.off (L._∷_ Row.off (L._∷_ Row.off (L._∷_ Row.off (L._∷_ Row.alive (L._∷_ Row.off L.[]))))))))))))))) }
+        G53 = record { locals = L._++_ g35 t37; slots = L._∷_ (Row.lease (κs .0) (qs .0)) (L._∷_ (Row.lease (κs .1 .0) (qs .1 .0)) (L._∷_ (Row.lease (κs .1 .1 .0) (qs .1 .1 .0)) (L._∷_ (Row.lease (κs .1 .1 .1 .0) (qs .1 .1 .1 .0)) (L._∷_ (Row.lease (κs .1 .1 .1 .1 .0) (qs .1 .1 .1 .1 .0)) (L._∷_ (Row.lease (κs .1 .1 .1 .1 .1 .0) (qs .1 .1 .1 .1 .1 .0)) (L._∷_ Row.off (L._∷_ Row.off (L._∷_ Row.off (L._∷_ Row.off (L._∷_ Row.off (L._∷_ Row.off (L._∷_ Row.off (L._∷_ Row.off (L._∷_ Row.alive L.[])))))))))))))) }
 
         abbrev G54 : Row.Cx
-        G54 = record { locals = L._++_ g39 t40; slots = L._∷_ (Row.lease (κs .0) (qs .0)) (L._∷_ (Row.lease (κs .1 .0) (qs .1 .0)) (L._∷_ (Row.lease (κs .1 .1 .0) (qs .1 .1 .0)) (L._∷_ (Row.lease (κs .1 .1 .1 .0) (qs .1 .1 .1 .0)) (L._∷_ (Row.lease (κs .1 .1 .1 .1 .0) (qs .1 .1 .1 .1 .0)) (L._∷_ Row.off (L._∷_ (Row.lease (κs .1 .1 .1 .1 .1 .1 .0) (qs .1 .1 .1 .1 .1 .1 .0)) (L._∷_ Row.off (L._∷_ Row.off (L._∷_ Row.off (L._∷_ Row.off (L._∷_ Row.off (L._∷_ Row.off (L._∷_ Row.off (L._∷_ Row.alive (L._∷_ Row.off L.[]))))))))))))))) }
+        G54 = record { locals = L._++_ g38 t39; slots = L._∷_ (Row.lease (κs .0) (qs .0)) (L._∷_ (Row.lease (κs .1 .0) (qs .1 .0)) (L._∷_ (Row.lease (κs .1 .1 .0) (qs .1 .1 .0)) (L._∷_ (Row.lease (κs .1 .1 .1 .0) (qs .1 .1 .1 .0)) (L._∷_ (Row.lease (κs .1 .1 .1 .1 .0) (qs .1 .1 .1 .1 .0)) (L._∷_ (Row.lease (κs .1 .1 .1 .1 .1 .0) (qs .1 .1 .1 .1 .1 .0)) (L._∷_ Row.off (L._∷_ Row.off (L._∷_ Row.off (L._∷_ Row.off (L._∷_ Row.off (L._∷_ Row.off (L._∷_ Row.off (L._∷_ Row.off (L._∷_ Row.alive L.[])))))))))))))) }
 
         abbrev G55 : Row.Cx
-        G55 = record { locals = L._++_ g36 t40; slots = L._∷_ (Row.lease (κs .0) (qs .0)) (L._∷_ (Row.lease (κs .1 .0) (qs .1 .0)) (L._∷_ (Row.lease (κs .1 .1 .0) (qs .1 .1 .0)) (L._∷_ (Row.lease (κs .1 .1 .1 .0) (qs .1 .1 .1 .0)) (L._∷_ (Row.lease (κs .1 .1 .1 .1 .0) (qs .1 .1 .1 .1 .0)) (L._∷_ Row.off (L._∷_ (Row.lease (κs .1 .1 .1 .1 .1 .1 .0) (qs .1 .1 .1 .1 .1 .1 .0)) (L._∷_ Row.off (L._∷_ Row.off (L._∷_ Row.off (L._∷_ Row.off (L._∷_ Row.off (L._∷_ Row.off (L._∷_ Row.off (L._∷_ Row.alive (L._∷_ Row.off L.[]))))))))))))))) }
+        G55 = record { locals = L._++_ g35 t39; slots = L._∷_ (Row.lease (κs .0) (qs .0)) (L._∷_ (Row.lease (κs .1 .0) (qs .1 .0)) (L._∷_ (Row.lease (κs .1 .1 .0) (qs .1 .1 .0)) (L._∷_ (Row.lease (κs .1 .1 .1 .0) (qs .1 .1 .1 .0)) (L._∷_ (Row.lease (κs .1 .1 .1 .1 .0) (qs .1 .1 .1 .1 .0)) (L._∷_ (Row.lease (κs .1 .1 .1 .1 .1 .0) (qs .1 .1 .1 .1 .1 .0)) (L._∷_ Row.off (L._∷_ Row.off (L._∷_ Row.off (L._∷_ Row.off (L._∷_ Row.off (L._∷_ Row.off (L._∷_ Row.off (L._∷_ Row.off (L._∷_ Row.alive L.[])))))))))))))) }
 
         abbrev G56 : Row.Cx
-        G56 = record { locals = L._++_ g36 t40; slots = L._∷_ (Row.lease (κs .0) (qs .0)) (L._∷_ (Row.lease (κs .1 .0) (qs .1 .0)) (L._∷_ (Row.lease (κs .1 .1 .0) (qs .1 .1 .0)) (L._∷_ (Row.lease (κs .1 .1 .1 .0) (qs .1 .1 .1 .0)) (L._∷_ (Row.lease (κs .1 .1 .1 .1 .0) (qs .1 .1 .1 .1 .0)) (L._∷_ Row.off (L._∷_ (Row.lease (κs .1 .1 .1 .1 .1 .1 .0) (qs .1 .1 .1 .1 .1 .1 .0)) (L._∷_ Row.off (L._∷_ Row.off (L._∷_ Row.off (L._∷_ Row.off (L._∷_ Row.off (L._∷_ Row.off (L._∷_ Row.off (L._∷_ Row.dead (L._∷_ Row.off L.[]))))))))))))))) }
+        G56 = record { locals = L._++_ g35 t39; slots = L._∷_ (Row.lease (κs .0) (qs .0)) (L._∷_ (Row.lease (κs .1 .0) (qs .1 .0)) (L._∷_ (Row.lease (κs .1 .1 .0) (qs .1 .1 .0)) (L._∷_ (Row.lease (κs .1 .1 .1 .0) (qs .1 .1 .1 .0)) (L._∷_ (Row.lease (κs .1 .1 .1 .1 .0) (qs .1 .1 .1 .1 .0)) (L._∷_ (Row.lease (κs .1 .1 .1 .1 .1 .0) (qs .1 .1 .1 .1 .1 .0)) (L._∷_ Row.off (L._∷_ Row.off (L._∷_ Row.off (L._∷_ Row.off (L._∷_ Row.off (L._∷_ Row.off (L._∷_ Row.off (L._∷_ Row.off (L._∷_ Row.dead L.[])))))))))))))) }
 
         abbrev G57 : Row.Cx
-        G57 = record { locals = L._++_ t35 t1; slots = L._∷_ (Row.lease (κs .0) (qs .0)) (L._∷_ (Row.lease (κs .1 .0) (qs .1 .0)) (L._∷_ (Row.lease (κs .1 .1 .0) (qs .1 .1 .0)) (L._∷_ (Row.lease (κs .1 .1 .1 .0) (qs .1 .1 .1 .0)) (L._∷_ (Row.lease (κs .1 .1 .1 .1 .0) (qs .1 .1 .1 .1 .0)) (L._∷_ (Row.lease (κs .1 .1 .1 .1 .1 .0) (qs .1 .1 .1 .1 .1 .0)) (L._∷_ (Row.lease (κs .1 .1 .1 .1 .1 .1 .0) (qs .1 .1 .1 .1 .1 .1 .0)) (L._∷_ Row.off (L._∷_ Row.off (L._∷_ Row.off (L._∷_ Row.off (L._∷_ Row.off (L._∷_ Row.off (L._∷_ Row.off (L._∷_ Row.dead (L._∷_ Row.off L.[]))))))))))))))) }
+        G57 = record { locals = L._++_ t29 t1; slots = L._∷_ (Row.lease (κs .0) (qs .0)) (L._∷_ (Row.lease (κs .1 .0) (qs .1 .0)) (L._∷_ (Row.lease (κs .1 .1 .0) (qs .1 .1 .0)) (L._∷_ (Row.lease (κs .1 .1 .1 .0) (qs .1 .1 .1 .0)) (L._∷_ (Row.lease (κs .1 .1 .1 .1 .0) (qs .1 .1 .1 .1 .0)) (L._∷_ (Row.lease (κs .1 .1 .1 .1 .1 .0) (qs .1 .1 .1 .1 .1 .0)) (L._∷_ (Row.lease (κs .1 .1 .1 .1 .1 .1 .0) (qs .1 .1 .1 .1 .1 .1 .0)) (L._∷_ Row.off (L._∷_ Row.off (L._∷_ Row.off (L._∷_ Row.off (L._∷_ Row.off (L._∷_ Row.off (L._∷_ Row.off (L._∷_ Row.dead L.[])))))))))))))) }
 
         abbrev G58 : Row.Cx
-        G58 = record { locals = L._++_ t35 t1; slots = L._∷_ (Row.lease (κs .0) (qs .0)) (L._∷_ (Row.lease (κs .1 .0) (qs .1 .0)) (L._∷_ (Row.lease (κs .1 .1 .0) (qs .1 .1 .0)) (L._∷_ (Row.lease (κs .1 .1 .1 .0) (qs .1 .1 .1 .0)) (L._∷_ (Row.lease (κs .1 .1 .1 .1 .0) (qs .1 .1 .1 .1 .0)) (L._∷_ (Row.lease (κs .1 .1 .1 .1 .1 .0) (qs .1 .1 .1 .1 .1 .0)) (L._∷_ (Row.lease (κs .1 .1 .1 .1 .1 .1 .0) (qs .1 .1 .1 .1 .1 .1 .0)) (L._∷_ Row.off (L._∷_ Row.off (L._∷_ Row.off (L._∷_ Row.off (L._∷_ Row.off (L._∷_ Row.off (L._∷_ Row.off (L._∷_ Row.off (L._∷_ Row.off L.[]))))))))))))))) }
+        G58 = record { locals = L._++_ t29 t1; slots = L._∷_ (Row.lease (κs .0) (qs .0)) (L._∷_ (Row.lease (κs .1 .0) (qs .1 .0)) (L._∷_ (Row.lease (κs .1 .1 .0) (qs .1 .1 .0)) (L._∷_ (Row.lease (κs .1 .1 .1 .0) (qs .1 .1 .1 .0)) (L._∷_ (Row.lease (κs .1 .1 .1 .1 .0) (qs .1 .1 .1 .1 .0)) (L._∷_ (Row.lease (κs .1 .1 .1 .1 .1 .0) (qs .1 .1 .1 .1 .1 .0)) (L._∷_ (Row.lease (κs .1 .1 .1 .1 .1 .1 .0) (qs .1 .1 .1 .1 .1 .1 .0)) (L._∷_ Row.off (L._∷_ Row.off (L._∷_ Row.off (L._∷_ Row.off (L._∷_ Row.off (L._∷_ Row.off (L._∷_ Row.off (L._∷_ Row.off L.[])))))))))))))) }
 
         abbrev G59 : Row.Cx
-        G59 = record { locals = L._++_ t35 t1; slots = L._∷_ (Row.lease (κs .0) (qs .0)) (L._∷_ (Row.lease (κs .1 .0) (qs .1 .0)) (L._∷_ (Row.lease (κs .1 .1 .0) (qs .1 .1 .0)) (L._∷_ (Row.lease (κs .1 .1 .1 .0) (qs .1 .1 .1 .0)) (L._∷_ (Row.lease (κs .1 .1 .1 .1 .0) (qs .1 .1 .1 .1 .0)) (L._∷_ (Row.lease (κs .1 .1 .1 .1 .1 .0) (qs .1 .1 .1 .1 .1 .0)) (L._∷_ (Row.lease (κs .1 .1 .1 .1 .1 .1 .0) (qs .1 .1 .1 .1 .1 .1 .0)) (L._∷_ Row.off (L._∷_ Row.off (L._∷_ Row.off (L._∷_ Row.off (L._∷_ Row.off (L._∷_ Row.off (L._∷_ Row.off (L._∷_ Row.off (L._∷_ Row.alive L.[]))))))))))))))) }
+        G59 = record { locals = L._++_ t40 t1; slots = L._∷_ (Row.lease (κs .0) (qs .0)) (L._∷_ (Row.lease (κs .1 .0) (qs .1 .0)) (L._∷_ (Row.lease (κs .1 .1 .0) (qs .1 .1 .0)) (L._∷_ (Row.lease (κs .1 .1 .1 .0) (qs .1 .1 .1 .0)) (L._∷_ (Row.lease (κs .1 .1 .1 .1 .0) (qs .1 .1 .1 .1 .0)) (L._∷_ (Row.lease (κs .1 .1 .1 .1 .1 .0) (qs .1 .1 .1 .1 .1 .0)) (L._∷_ (Row.lease (κs .1 .1 .1 .1 .1 .1 .0) (qs .1 .1 .1 .1 .1 .1 .0)) (L._∷_ Row.off (L._∷_ Row.off (L._∷_ Row.off (L._∷_ Row.off (L._∷_ Row.off (L._∷_ Row.off (L._∷_ Row.off (L._∷_ Row.off L.[])))))))))))))) }
 
         abbrev G60 : Row.Cx
-        G60 = record { locals = L._++_ g41 t42; slots = L._∷_ (Row.lease (κs .0) (qs .0)) (L._∷_ (Row.lease (κs .1 .0) (qs .1 .0)) (L._∷_ (Row.lease (κs .1 .1 .0) (qs .1 .1 .0)) (L._∷_ (Row.lease (κs .1 .1 .1 .0) (qs .1 .1 .1 .0)) (L._∷_ (Row.lease (κs .1 .1 .1 .1 .0) (qs .1 .1 .1 .1 .0)) (L._∷_ (Row.lease (κs .1 .1 .1 .1 .1 .0) (qs .1 .1 .1 .1 .1 .0)) (L._∷_ Row.off (L._∷_ Row.off (L._∷_ Row.off (L._∷_ Row.off (L._∷_ Row.off (L._∷_ Row.off (L._∷_ Row.off (L._∷_ Row.off (L._∷_ Row.off (L._∷_ Row.alive L.[]))))))))))))))) }
-
-        abbrev G61 : Row.Cx
-        G61 = record { locals = L._++_ g41 t43; slots = L._∷_ (Row.lease (κs .0) (qs .0)) (L._∷_ (Row.lease (κs .1 .0) (qs .1 .0)) (L._∷_ (Row.lease (κs .1 .1 .0) (qs .1 .1 .0)) (L._∷_ (Row.lease (κs .1 .1 .1 .0) (qs .1 .1 .1 .0)) (L._∷_ (Row.lease (κs .1 .1 .1 .1 .0) (qs .1 .1 .1 .1 .0)) (L._∷_ (Row.lease (κs .1 .1 .1 .1 .1 .0) (qs .1 .1 .1 .1 .1 .0)) (L._∷_ Row.off (L._∷_ Row.off (L._∷_ Row.off (L._∷_ Row.off (L._∷_ Row.off (L._∷_ Row.off (L._∷_ Row.off (L._∷_ Row.off (L._∷_ Row.off (L._∷_ Row.alive L.[]))))))))))))))) }
-
-        abbrev G62 : Row.Cx
-        G62 = record { locals = L._++_ g44 t45; slots = L._∷_ (Row.lease (κs .0) (qs .0)) (L._∷_ (Row.lease (κs .1 .0) (qs .1 .0)) (L._∷_ (Row.lease (κs .1 .1 .0) (qs .1 .1 .0)) (L._∷_ (Row.lease (κs .1 .1 .1 .0) (qs .1 .1 .1 .0)) (L._∷_ (Row.lease (κs .1 .1 .1 .1 .0) (qs .1 .1 .1 .1 .0)) (L._∷_ (Row.lease (κs .1 .1 .1 .1 .1 .0) (qs .1 .1 .1 .1 .1 .0)) (L._∷_ Row.off (L._∷_ Row.off (L._∷_ Row.off (L._∷_ Row.off (L._∷_ Row.off (L._∷_ Row.off (L._∷_ Row.off (L._∷_ Row.off (L._∷_ Row.off (L._∷_ Row.alive L.[]))))))))))))))) }
-
-        abbrev G63 : Row.Cx
-        G63 = record { locals = L._++_ g41 t45; slots = L._∷_ (Row.lease (κs .0) (qs .0)) (L._∷_ (Row.lease (κs .1 .0) (qs .1 .0)) (L._∷_ (Row.lease (κs .1 .1 .0) (qs .1 .1 .0)) (L._∷_ (Row.lease (κs .1 .1 .1 .0) (qs .1 .1 .1 .0)) (L._∷_ (Row.lease (κs .1 .1 .1 .1 .0) (qs .1 .1 .1 .1 .0)) (L._∷_ (Row.lease (κs .1 .1 .1 .1 .1 .0) (qs .1 .1 .1 .1 .1 .0)) (L._∷_ Row.off (L._∷_ Row.off (L._∷_ Row.off (L._∷_ Row.off (L._∷_ Row.off (L._∷_ Row.off (L._∷_ Row.off (L._∷_ Row.off (L._∷_ Row.off (L._∷_ Row.alive L.[]))))))))))))))) }
-
-        abbrev G64 : Row.Cx
-        G64 = record { locals = L._++_ g41 t45; slots = L._∷_ (Row.lease (κs .0) (qs .0)) (L._∷_ (Row.lease (κs .1 .0) (qs .1 .0)) (L._∷_ (Row.lease (κs .1 .1 .0) (qs .1 .1 .0)) (L._∷_ (Row.lease (κs .1 .1 .1 .0) (qs .1 .1 .1 .0)) (L._∷_ (Row.lease (κs .1 .1 .1 .1 .0) (qs .1 .1 .1 .1 .0)) (L._∷_ (Row.lease (κs .1 .1 .1 .1 .1 .0) (qs .1 .1 .1 .1 .1 .0)) (L._∷_ Row.off (L._∷_ Row.off (L._∷_ Row.off (L._∷_ Row.off (L._∷_ Row.off (L._∷_ Row.off (L._∷_ Row.off (L._∷_ Row.off (L._∷_ Row.off (L._∷_ Row.dead L.[]))))))))))))))) }
-
-        abbrev G65 : Row.Cx
-        G65 = record { locals = L._++_ t35 t1; slots = L._∷_ (Row.lease (κs .0) (qs .0)) (L._∷_ (Row.lease (κs .1 .0) (qs .1 .0)) (L._∷_ (Row.lease (κs .1 .1 .0) (qs .1 .1 .0)) (L._∷_ (Row.lease (κs .1 .1 .1 .0) (qs .1 .1 .1 .0)) (L._∷_ (Row.lease (κs .1 .1 .1 .1 .0) (qs .1 .1 .1 .1 .0)) (L._∷_ (Row.lease (κs .1 .1 .1 .1 .1 .0) (qs .1 .1 .1 .1 .1 .0)) (L._∷_ (Row.lease (κs .1 .1 .1 .1 .1 .1 .0) (qs .1 .1 .1 .1 .1 .1 .0)) (L._∷_ Row.off (L._∷_ Row.off (L._∷_ Row.off (L._∷_ Row.off (L._∷_ Row.off (L._∷_ Row.off (L._∷_ Row.off (L._∷_ Row.off (L._∷_ Row.dead L.[]))))))))))))))) }
-
-        abbrev G66 : Row.Cx
-        G66 = record { locals = L._++_ t35 t1; slots = L._∷_ (Row.lease (κs .0) (qs .0)) (L._∷_ (Row.lease (κs .1 .0) (qs .1 .0)) (L._∷_ (Row.lease (κs .1 .1 .0) (qs .1 .1 .0)) (L._∷_ (Row.lease (κs .1 .1 .1 .0) (qs .1 .1 .1 .0)) (L._∷_ (Row.lease (κs .1 .1 .1 .1 .0) (qs .1 .1 .1 .1 .0)) (L._∷_ (Row.lease (κs .1 .1 .1 .1 .1 .0) (qs .1 .1 .1 .1 .1 .0)) (L._∷_ (Row.lease (κs .1 .1 .1 .1 .1 .1 .0) (qs .1 .1 .1 .1 .1 .1 .0)) (L._∷_ Row.off (L._∷_ Row.off (L._∷_ Row.off (L._∷_ Row.off (L._∷_ Row.off (L._∷_ Row.off (L._∷_ Row.off (L._∷_ Row.off (L._∷_ Row.off L.[]))))))))))))))) }
-
-        abbrev G67 : Row.Cx
-        G67 = record { locals = L._++_ t46 t1; slots = L._∷_ (Row.lease (κs .0) (qs .0)) (L._∷_ (Row.lease (κs .1 .0) (qs .1 .0)) (L._∷_ (Row.lease (κs .1 .1 .0) (qs .1 .1 .0)) (L._∷_ (Row.lease (κs .1 .1 .1 .0) (qs .1 .1 .1 .0)) (L._∷_ (Row.lease (κs .1 .1 .1 .1 .0) (qs .1 .1 .1 .1 .0)) (L._∷_ (Row.lease (κs .1 .1 .1 .1 .1 .0) (qs .1 .1 .1 .1 .1 .0)) (L._∷_ (Row.lease (κs .1 .1 .1 .1 .1 .1 .0) (qs .1 .1 .1 .1 .1 .1 .0)) (L._∷_ Row.off (L._∷_ Row.off (L._∷_ Row.off (L._∷_ Row.off (L._∷_ Row.off (L._∷_ Row.off (L._∷_ Row.off (L._∷_ Row.off (L._∷_ Row.off L.[]))))))))))))))) }
-
-        abbrev G68 : Row.Cx
-        G68 = record { locals = L._++_ t2 t1; slots = L._∷_ (Row.lease (κs .0) (qs .0)) (L._∷_ (Row.lease (κs .1 .0) (qs .1 .0)) (L._∷_ (Row.lease (κs .1 .1 .0) (qs .1 .1 .0)) (L._∷_ (Row.lease (κs .1 .1 .1 .0) (qs .1 .1 .1 .0)) (L._∷_ (Row.lease (κs .1 .1 .1 .1 .0) (qs .1 .1 .1 .1 .0)) (L._∷_ (Row.lease (κs .1 .1 .1 .1 .1 .0) (qs .1 .1 .1 .1 .1 .0)) (L._∷_ (Row.lease (κs .1 .1 .1 .1 .1 .1 .0) (qs .1 .1 .1 .1 .1 .1 .0)) (L._∷_ Row.off (L._∷_ Row.off (L._∷_ Row.off (L._∷_ Row.off (L._∷_ Row.off (L._∷_ Row.off (L._∷_ Row.off (L._∷_ Row.off (L._∷_ Row.off L.[]))))))))))))))) }
+        G60 = record { locals = L._++_ t2 t1; slots = L._∷_ (Row.lease (κs .0) (qs .0)) (L._∷_ (Row.lease (κs .1 .0) (qs .1 .0)) (L._∷_ (Row.lease (κs .1 .1 .0) (qs .1 .1 .0)) (L._∷_ (Row.lease (κs .1 .1 .1 .0) (qs .1 .1 .1 .0)) (L._∷_ (Row.lease (κs .1 .1 .1 .1 .0) (qs .1 .1 .1 .1 .0)) (L._∷_ (Row.lease (κs .1 .1 .1 .1 .1 .0) (qs .1 .1 .1 .1 .1 .0)) (L._∷_ (Row.lease (κs .1 .1 .1 .1 .1 .1 .0) (qs .1 .1 .1 .1 .1 .1 .0)) (L._∷_ Row.off (L._∷_ Row.off (L._∷_ Row.off (L._∷_ Row.off (L._∷_ Row.off (L._∷_ Row.off (L._∷_ Row.off (L._∷_ Row.off L.[])))))))))))))) }
 
         abbrev Δ0 : Typed.Outs
         Δ0 = record { next = Option.none; exits = L.[]; returns = Option.some G1 }
@@ -1300,212 +1162,188 @@ module _ (claims· : Claims) where
           abbrev E : Wp.Env 𝓤 H
           E = Frame.EnvOf 𝓤 H (L._∷_ (FnKinds.tyR r) (Enter.tysP ps xs)) bs
 
-          d0 : Typed.Typed 𝓤 H A 𝓣 E G68 b25 Δ0 at0
+          d0 : Typed.Typed 𝓤 H A 𝓣 E G60 b22 Δ0 at0
           d0 = Typed.t-return 𝓤 H A W 𝓣 E Δ0 tt
 
-          d1 : Typed.Typed 𝓤 H A 𝓣 E G67 b25 Δ0 at1
-          d1 = Typed.g-pre 𝓤 H A W 𝓣 E G67 G68 b25 Δ0 (Typed.pass T67 T68 s66) at0 (Scalar.g-room 𝓤 H A W E G67 8 q2 (Local.room-whole 𝓤 H A W (Declared.row Answer·.the-type) q2 Path.refl)) d0
+          d1 : Typed.Typed 𝓤 H A 𝓣 E G59 b22 Δ0 at1
+          d1 = Typed.g-pre 𝓤 H A W 𝓣 E G59 G60 b22 Δ0 (Typed.pass T59 T60 s58) at0 (Scalar.g-room 𝓤 H A W E G59 8 q2 (Local.room-whole 𝓤 H A W (Declared.row Answer·.the-type) q2 Path.refl)) d0
 
-          d2 : Typed.Typed 𝓤 H A 𝓣 E G66 b26 Δ0 at2
-          d2 = Typed.s-seq 𝓤 H A W 𝓣 E G66 G67 b24 b25 Δ0 (Typed.pass T65 T67 s65) at1 (LocalCopy.t-val-copy 𝓤 H A W E 𝓣 (λ ρ. Unit) G66 8 0 (Declared.row Answer·.the-type) q2 q2 q54 q54 (λ x. x) (λ x. x) (λ x. x) Path.refl (Own.told-none 𝓤 H A (G66 .slots)) (Yields.yields-copy 𝓤 H A W (λ ρ. Unit) (Declared.row Answer·.the-type) Path.refl (Copies.cEnum Answer·.the-type Answer-Laws·.the-laws Answer-Laws·.the-copy .copy 𝓤 H A W) q54 (λ x. x) (λ x. x) (λ ρ told. Local.mem-whole 𝓤 H A W (Declared.row Answer·.the-type) ρ) λ ρ told. Local.whole-mem 𝓤 H A W (Declared.row Answer·.the-type) ρ) (TReads.room-gone 𝓤 H A q2) (Yields.makes-mem 𝓤 H A W (λ ρ. Unit) (Declared.row Answer·.the-type) Path.refl q54 (λ x. x) λ ρ told. Local.whole-mem 𝓤 H A W (Declared.row Answer·.the-type) ρ) Path.refl Path.refl) d1
+          d2 : Typed.Typed 𝓤 H A 𝓣 E G58 b23 Δ0 at2
+          d2 = Typed.s-seq 𝓤 H A W 𝓣 E G58 G59 b21 b22 Δ0 (Typed.pass T57 T59 s57) at1 (LocalCopy.t-val-copy 𝓤 H A W E 𝓣 (λ ρ. Unit) G58 8 0 (Declared.row Answer·.the-type) q2 q2 q49 q49 (λ x. x) (λ x. x) (λ x. x) Path.refl (Own.told-none 𝓤 H A (G58 .slots)) (Yields.yields-copy 𝓤 H A W (λ ρ. Unit) (Declared.row Answer·.the-type) Path.refl (Copies.cEnum Answer·.the-type Answer-Laws·.the-laws Answer-Laws·.the-copy .copy 𝓤 H A W) q49 (λ x. x) (λ x. x) (λ ρ told. Local.mem-whole 𝓤 H A W (Declared.row Answer·.the-type) ρ) λ ρ told. Local.whole-mem 𝓤 H A W (Declared.row Answer·.the-type) ρ) (TReads.room-gone 𝓤 H A q2) (Yields.makes-mem 𝓤 H A W (λ ρ. Unit) (Declared.row Answer·.the-type) Path.refl q49 (λ x. x) λ ρ told. Local.whole-mem 𝓤 H A W (Declared.row Answer·.the-type) ρ) Path.refl Path.refl) d1
 
-          d3 : Typed.Typed 𝓤 H A 𝓣 E G65 b26 Δ0 at3
-          d3 = Typed.g-pre 𝓤 H A W 𝓣 E G65 G66 b26 Δ0 (λ Ψ. Ψ) at2 (Lifetime.g-forget 𝓤 H A W E G65 15 Row.dead Path.refl) d2
+          d3 : Typed.Typed 𝓤 H A 𝓣 E G57 b23 Δ0 at3
+          d3 = Typed.g-pre 𝓤 H A W 𝓣 E G57 G58 b23 Δ0 (λ Ψ. Ψ) at2 (Lifetime.g-forget 𝓤 H A W E G57 14 Row.dead Path.refl) d2
 
-          d4 : Typed.Typed 𝓤 H A 𝓣 E G64 b26 Δ0 at4
-          d4 = Typed.g-pre 𝓤 H A W 𝓣 E G64 G65 b26 Δ0 (Typed.both s63) at3 (Relend.g-back-sl 𝓤 H A W E Rec.row G64 27 7 6 15 q51 q52 (Row.lease (κs .1 .1 .1 .1 .1 .1 .0) (qs .1 .1 .1 .1 .1 .1 .0)) (λ x. x) (λ x. x) (TReads.as-is 𝓤 H A (Mut.msleft Rec.row q52)) (TReads.as-is 𝓤 H A (Relend.mslice-owed Rec.row q51 6 15 (Row.lease (κs .1 .1 .1 .1 .1 .1 .0) (qs .1 .1 .1 .1 .1 .1 .0)))) Path.refl Path.refl) d3
+          d4 : Typed.Typed 𝓤 H A 𝓣 E G56 b23 Δ0 at4
+          d4 = Typed.g-pre 𝓤 H A W 𝓣 E G56 G57 b23 Δ0 (Typed.both s55) at3 (Relend.g-back-sl 𝓤 H A W E Rec.row G56 25 7 6 14 q46 q47 (Row.lease (κs .1 .1 .1 .1 .1 .1 .0) (qs .1 .1 .1 .1 .1 .1 .0)) (λ x. x) (λ x. x) (TReads.as-is 𝓤 H A (Mut.msleft Rec.row q47)) (TReads.as-is 𝓤 H A (Relend.mslice-owed Rec.row q46 6 14 (Row.lease (κs .1 .1 .1 .1 .1 .1 .0) (qs .1 .1 .1 .1 .1 .1 .0)))) Path.refl Path.refl) d3
 
-          d5 : Typed.Typed 𝓤 H A 𝓣 E G63 b26 Δ0 at5
-          d5 = Typed.g-pre 𝓤 H A W 𝓣 E G63 G64 b26 Δ0 (λ Ψ. Ψ) at4 (Lifetime.g-end 𝓤 H A W E G63 15 Path.refl) d4
+          d5 : Typed.Typed 𝓤 H A 𝓣 E G55 b23 Δ0 at5
+          d5 = Typed.g-pre 𝓤 H A W 𝓣 E G55 G56 b23 Δ0 (λ Ψ. Ψ) at4 (Lifetime.g-end 𝓤 H A W E G55 14 Path.refl) d4
 
-          d6 : Typed.Typed 𝓤 H A 𝓣 E G62 b26 Δ0 at6
-          d6 = Typed.g-pre 𝓤 H A W 𝓣 E G62 G63 b26 Δ0 (Typed.pass T62 T63 s61) at5 (Scalar.g-room 𝓤 H A W E G62 9 Syntax.tyUnit (Scalar.room-sc 𝓤 H A W Row.sUnit)) d5
+          d6 : Typed.Typed 𝓤 H A 𝓣 E G54 b23 Δ0 at6
+          d6 = Typed.g-pre 𝓤 H A W 𝓣 E G54 G55 b23 Δ0 (Typed.pass T54 T55 s53) at5 (Scalar.g-room 𝓤 H A W E G54 9 Syntax.tyUnit (Scalar.room-sc 𝓤 H A W Row.sUnit)) d5
 
-          d7 : Typed.Typed 𝓤 H A 𝓣 E G61 b27 Δ0 at7
-          d7 = Typed.s-seq 𝓤 H A W 𝓣 E G61 G62 b23 b26 Δ0 (Typed.both s60) at6 (Plain.t-call-plain 𝓤 H A W 𝓣 1 ps·1 r·1 (claims· .2) (claims· .3) "network::list::clear" (known .1) E (λ pos β. β) G61 (record { pos = 27; ty = Syntax.tyRef Syntax.erased Syntax.mut Rec.named; ref = λ x. x }, tt) 9 (L._∷_ 15 L.[]) (Call.sub-id 𝓤 H A W (G61 .slots)) (TReads.as-is 𝓤 H A (Mut.mslice Rec.row q52 15), Mut.reads-mslice 𝓤 H A W Rec.row q52 15, Path.refl, tt) (TReads.room-gone 𝓤 H A Syntax.tyUnit) (tt, tt) Path.refl) d6
+          d7 : Typed.Typed 𝓤 H A 𝓣 E G53 b24 Δ0 at7
+          d7 = Typed.s-seq 𝓤 H A W 𝓣 E G53 G54 b20 b23 Δ0 (Typed.both s52) at6 (Plain.t-call-plain 𝓤 H A W 𝓣 1 ps·2 r·2 (claims· .4) (claims· .5) "network::list::clear" (known .2) E (λ pos β. β) G53 (record { pos = 25; ty = Syntax.tyRef Syntax.erased Syntax.mut Rec.named; ref = λ x. x }, tt) 9 (L._∷_ 14 L.[]) (Call.sub-id 𝓤 H A W (G53 .slots)) (TReads.as-is 𝓤 H A (Mut.mslice Rec.row q47 14), Mut.reads-mslice 𝓤 H A W Rec.row q47 14, Path.refl, tt) (TReads.room-gone 𝓤 H A Syntax.tyUnit) (tt, tt) Path.refl) d6
 
-          d8 : Typed.Typed 𝓤 H A 𝓣 E G60 b28 Δ0 at8
-          d8 = Typed.s-seq 𝓤 H A W 𝓣 E G60 G61 b22 b27 Δ0 (Typed.ask s59) at7 (Relend.t-sl-aggregate 𝓤 H A W E Rec.row 𝓣 (Relend.asMut Rec.row) G60 26 27 15 q52 q52 (λ x. x) (Scalar.oFld 7 (L._∷_ (Syntax.field 1) L.[]) (Syntax.tyInt Syntax.w64) 8 λ v. Shared.lenV (v .0)) (TReads.as-is 𝓤 H A (Relend.msptr Rec.row q52 15)) (TReads.room-gone 𝓤 H A q13) (Relend.reads-owed-len 𝓤 H A W Rec.row q51 6 15 (Row.lease (κs .1 .1 .1 .1 .1 .1 .0) (qs .1 .1 .1 .1 .1 .1 .0)) 8 Path.refl, Path.refl) Path.refl Path.refl λ b o k. tt) d7
+          d8 : Typed.Typed 𝓤 H A 𝓣 E G52 b25 Δ0 at8
+          d8 = Typed.s-seq 𝓤 H A W 𝓣 E G52 G53 b19 b24 Δ0 (Typed.ask s51) at7 (Relend.t-sl-aggregate 𝓤 H A W E Rec.row 𝓣 (Relend.asMut Rec.row) G52 24 25 14 q47 q47 (λ x. x) (Scalar.oFld 7 (L._∷_ (Syntax.field 1) L.[]) (Syntax.tyInt Syntax.w64) 8 λ v. Shared.lenV (v .0)) (TReads.as-is 𝓤 H A (Relend.msptr Rec.row q47 14)) (TReads.room-gone 𝓤 H A q12) (Relend.reads-owed-len 𝓤 H A W Rec.row q46 6 14 (Row.lease (κs .1 .1 .1 .1 .1 .1 .0) (qs .1 .1 .1 .1 .1 .1 .0)) 8 Path.refl, Path.refl) Path.refl Path.refl λ b o k. tt) d7
 
-          d9 : Typed.Typed 𝓤 H A 𝓣 E G59 b29 Δ0 at9
-          d9 = Typed.s-seq 𝓤 H A W 𝓣 E G59 G60 b21 b28 Δ0 (Typed.give s58) at8 (Relend.t-sl-relend 𝓤 H A W E Rec.row 𝓣 G59 7 26 6 15 q51 q52 (Row.lease (κs .1 .1 .1 .1 .1 .1 .0) (qs .1 .1 .1 .1 .1 .1 .0)) 0 (λ x. x) (TReads.as-is 𝓤 H A (Mut.mslice Rec.row q51 6)) (TReads.room-gone 𝓤 H A q52) Path.refl tt Path.refl Path.refl Path.refl λ b o. tt) d8
+          d9 : Typed.Typed 𝓤 H A 𝓣 E G51 b26 Δ0 at9
+          d9 = Typed.s-seq 𝓤 H A W 𝓣 E G51 G52 b18 b25 Δ0 (Typed.give s50) at8 (Relend.t-sl-relend 𝓤 H A W E Rec.row 𝓣 G51 7 24 6 14 q46 q47 (Row.lease (κs .1 .1 .1 .1 .1 .1 .0) (qs .1 .1 .1 .1 .1 .1 .0)) 0 (λ x. x) (TReads.as-is 𝓤 H A (Mut.mslice Rec.row q46 6)) (TReads.room-gone 𝓤 H A q47) Path.refl tt Path.refl Path.refl Path.refl λ b o. tt) d8
 
-          d10 : Typed.Typed 𝓤 H A 𝓣 E G58 b29 Δ0 at10
-          d10 = Typed.g-pre 𝓤 H A W 𝓣 E G58 G59 b29 Δ0 (λ Ψ. Ψ) at9 (Lifetime.g-begin 𝓤 H A W E G58 15 (tt, (tt, (tt, (tt, (tt, (tt, (tt, (tt, (tt, (tt, (tt, (tt, (tt, (tt, (tt, (tt, (tt, (tt, (tt, (tt, (tt, (tt, (tt, (tt, (tt, (tt, (tt, (tt, tt))))))))))))))))))))))))))))) d9
+          d10 : Typed.Typed 𝓤 H A 𝓣 E G50 b26 Δ0 at10
+          d10 = Typed.g-pre 𝓤 H A W 𝓣 E G50 G51 b26 Δ0 (λ Ψ. Ψ) at9 (Lifetime.g-begin 𝓤 H A W E G50 14 (tt, (tt, (tt, (tt, (tt, (tt, (tt, (tt, (tt, (tt, (tt, (tt, (tt, (tt, (tt, (tt, (tt, (tt, (tt, (tt, (tt, (tt, (tt, (tt, (tt, (tt, tt))))))))))))))))))))))))))) d9
 
-          d11 : Typed.Typed 𝓤 H A 𝓣 E G57 b29 Δ0 at11
-          d11 = Typed.g-pre 𝓤 H A W 𝓣 E G57 G58 b29 Δ0 (λ Ψ. Ψ) at10 (Lifetime.g-forget 𝓤 H A W E G57 14 Row.dead Path.refl) d10
+          d11 : Typed.Typed 𝓤 H A 𝓣 E G49 b26 Δ0 at11
+          d11 = Typed.g-pre 𝓤 H A W 𝓣 E G49 G50 b26 Δ0 (λ Ψ. Ψ) at10 (Lifetime.g-forget 𝓤 H A W E G49 13 Row.dead Path.refl) d10
 
-          d12 : Typed.Typed 𝓤 H A 𝓣 E G56 b29 Δ0 at12
-          d12 = Typed.g-pre 𝓤 H A W 𝓣 E G56 G57 b29 Δ0 (Typed.both s55) at11 (Relend.g-back-sl 𝓤 H A W E (Signed.SInt Syntax.w32) G56 25 6 5 14 q49 q50 (Row.lease (κs .1 .1 .1 .1 .1 .0) (qs .1 .1 .1 .1 .1 .0)) (λ x. x) (λ x. x) (TReads.as-is 𝓤 H A q29) (TReads.as-is 𝓤 H A (Relend.mslice-owed (Signed.SInt Syntax.w32) q49 5 14 (Row.lease (κs .1 .1 .1 .1 .1 .0) (qs .1 .1 .1 .1 .1 .0)))) Path.refl Path.refl) d11
+          d12 : Typed.Typed 𝓤 H A 𝓣 E G48 b26 Δ0 at12
+          d12 = Typed.g-pre 𝓤 H A W 𝓣 E G48 G49 b26 Δ0 (Typed.both s47) at11 (Relend.g-back-sl 𝓤 H A W E (Signed.SInt Syntax.w32) G48 23 6 5 13 q44 q45 (Row.lease (κs .1 .1 .1 .1 .1 .0) (qs .1 .1 .1 .1 .1 .0)) (λ x. x) (λ x. x) (TReads.as-is 𝓤 H A q28) (TReads.as-is 𝓤 H A (Relend.mslice-owed (Signed.SInt Syntax.w32) q44 5 13 (Row.lease (κs .1 .1 .1 .1 .1 .0) (qs .1 .1 .1 .1 .1 .0)))) Path.refl Path.refl) d11
 
-          d13 : Typed.Typed 𝓤 H A 𝓣 E G55 b29 Δ0 at13
-          d13 = Typed.g-pre 𝓤 H A W 𝓣 E G55 G56 b29 Δ0 (λ Ψ. Ψ) at12 (Lifetime.g-end 𝓤 H A W E G55 14 Path.refl) d12
+          d13 : Typed.Typed 𝓤 H A 𝓣 E G47 b26 Δ0 at13
+          d13 = Typed.g-pre 𝓤 H A W 𝓣 E G47 G48 b26 Δ0 (λ Ψ. Ψ) at12 (Lifetime.g-end 𝓤 H A W E G47 13 Path.refl) d12
 
-          d14 : Typed.Typed 𝓤 H A 𝓣 E G54 b29 Δ0 at14
-          d14 = Typed.g-pre 𝓤 H A W 𝓣 E G54 G55 b29 Δ0 (Typed.pass T54 T55 s53) at13 (Scalar.g-room 𝓤 H A W E G54 9 Syntax.tyUnit (Scalar.room-sc 𝓤 H A W Row.sUnit)) d13
+          d14 : Typed.Typed 𝓤 H A 𝓣 E G46 b26 Δ0 at14
+          d14 = Typed.g-pre 𝓤 H A W 𝓣 E G46 G47 b26 Δ0 (Typed.pass T46 T47 s45) at13 (Scalar.g-room 𝓤 H A W E G46 9 Syntax.tyUnit (Scalar.room-sc 𝓤 H A W Row.sUnit)) d13
 
-          d15 : Typed.Typed 𝓤 H A 𝓣 E G53 b30 Δ0 at15
-          d15 = Typed.s-seq 𝓤 H A W 𝓣 E G53 G54 b20 b29 Δ0 (Typed.both s52) at14 (Plain.t-call-plain 𝓤 H A W 𝓣 1 ps·0 r·0 (claims· .0) (claims· .1) "loops::clear" (known .0) E (λ pos β. β) G53 (record { pos = 25; ty = Syntax.tyRef Syntax.erased Syntax.mut (Syntax.tyInt Syntax.w32); ref = λ x. x }, tt) 9 (L._∷_ 14 L.[]) (Call.sub-id 𝓤 H A W (G53 .slots)) (TReads.as-is 𝓤 H A (Mut.mslice (Signed.SInt Syntax.w32) q50 14), Mut.reads-mslice 𝓤 H A W (Signed.SInt Syntax.w32) q50 14, Path.refl, tt) (TReads.room-gone 𝓤 H A Syntax.tyUnit) (tt, tt) Path.refl) d14
+          d15 : Typed.Typed 𝓤 H A 𝓣 E G45 b27 Δ0 at15
+          d15 = Typed.s-seq 𝓤 H A W 𝓣 E G45 G46 b17 b26 Δ0 (Typed.both s44) at14 (Plain.t-call-plain 𝓤 H A W 𝓣 1 ps·0 r·0 (claims· .0) (claims· .1) "loops::clear" (known .0) E (λ pos β. β) G45 (record { pos = 23; ty = Syntax.tyRef Syntax.erased Syntax.mut (Syntax.tyInt Syntax.w32); ref = λ x. x }, tt) 9 (L._∷_ 13 L.[]) (Call.sub-id 𝓤 H A W (G45 .slots)) (TReads.as-is 𝓤 H A (Mut.mslice (Signed.SInt Syntax.w32) q45 13), Mut.reads-mslice 𝓤 H A W (Signed.SInt Syntax.w32) q45 13, Path.refl, tt) (TReads.room-gone 𝓤 H A Syntax.tyUnit) (tt, tt) Path.refl) d14
 
-          d16 : Typed.Typed 𝓤 H A 𝓣 E G52 b31 Δ0 at16
-          d16 = Typed.s-seq 𝓤 H A W 𝓣 E G52 G53 b19 b30 Δ0 (Typed.ask s51) at15 (Relend.t-sl-aggregate 𝓤 H A W E (Signed.SInt Syntax.w32) 𝓣 (Relend.asMut (Signed.SInt Syntax.w32)) G52 24 25 14 q50 q50 (λ x. x) (Scalar.oFld 6 (L._∷_ (Syntax.field 1) L.[]) (Syntax.tyInt Syntax.w64) 8 λ v. Shared.lenV (v .0)) (TReads.as-is 𝓤 H A (Relend.msptr (Signed.SInt Syntax.w32) q50 14)) (TReads.room-gone 𝓤 H A q12) (Relend.reads-owed-len 𝓤 H A W (Signed.SInt Syntax.w32) q49 5 14 (Row.lease (κs .1 .1 .1 .1 .1 .0) (qs .1 .1 .1 .1 .1 .0)) 8 Path.refl, Path.refl) Path.refl Path.refl λ b o k. tt) d15
+          d16 : Typed.Typed 𝓤 H A 𝓣 E G44 b28 Δ0 at16
+          d16 = Typed.s-seq 𝓤 H A W 𝓣 E G44 G45 b16 b27 Δ0 (Typed.ask s43) at15 (Relend.t-sl-aggregate 𝓤 H A W E (Signed.SInt Syntax.w32) 𝓣 (Relend.asMut (Signed.SInt Syntax.w32)) G44 22 23 13 q45 q45 (λ x. x) (Scalar.oFld 6 (L._∷_ (Syntax.field 1) L.[]) (Syntax.tyInt Syntax.w64) 8 λ v. Shared.lenV (v .0)) (TReads.as-is 𝓤 H A (Relend.msptr (Signed.SInt Syntax.w32) q45 13)) (TReads.room-gone 𝓤 H A q11) (Relend.reads-owed-len 𝓤 H A W (Signed.SInt Syntax.w32) q44 5 13 (Row.lease (κs .1 .1 .1 .1 .1 .0) (qs .1 .1 .1 .1 .1 .0)) 8 Path.refl, Path.refl) Path.refl Path.refl λ b o k. tt) d15
 
-          d17 : Typed.Typed 𝓤 H A 𝓣 E G51 b32 Δ0 at17
-          d17 = Typed.s-seq 𝓤 H A W 𝓣 E G51 G52 b18 b31 Δ0 (Typed.give s50) at16 (Relend.t-sl-relend 𝓤 H A W E (Signed.SInt Syntax.w32) 𝓣 G51 6 24 5 14 q49 q50 (Row.lease (κs .1 .1 .1 .1 .1 .0) (qs .1 .1 .1 .1 .1 .0)) 0 (λ x. x) (TReads.as-is 𝓤 H A (Mut.mslice (Signed.SInt Syntax.w32) q49 5)) (TReads.room-gone 𝓤 H A q50) Path.refl tt Path.refl Path.refl Path.refl λ b o. tt) d16
+          d17 : Typed.Typed 𝓤 H A 𝓣 E G43 b29 Δ0 at17
+          d17 = Typed.s-seq 𝓤 H A W 𝓣 E G43 G44 b15 b28 Δ0 (Typed.give s42) at16 (Relend.t-sl-relend 𝓤 H A W E (Signed.SInt Syntax.w32) 𝓣 G43 6 22 5 13 q44 q45 (Row.lease (κs .1 .1 .1 .1 .1 .0) (qs .1 .1 .1 .1 .1 .0)) 0 (λ x. x) (TReads.as-is 𝓤 H A (Mut.mslice (Signed.SInt Syntax.w32) q44 5)) (TReads.room-gone 𝓤 H A q45) Path.refl tt Path.refl Path.refl Path.refl λ b o. tt) d16
 
-          d18 : Typed.Typed 𝓤 H A 𝓣 E G50 b32 Δ0 at18
-          d18 = Typed.g-pre 𝓤 H A W 𝓣 E G50 G51 b32 Δ0 (λ Ψ. Ψ) at17 (Lifetime.g-begin 𝓤 H A W E G50 14 (tt, (tt, (tt, (tt, (tt, (tt, (tt, (tt, (tt, (tt, (tt, (tt, (tt, (tt, (tt, (tt, (tt, (tt, (tt, (tt, (tt, (tt, (tt, (tt, (tt, (tt, (tt, (tt, tt))))))))))))))))))))))))))))) d17
+          d18 : Typed.Typed 𝓤 H A 𝓣 E G42 b29 Δ0 at18
+          d18 = Typed.g-pre 𝓤 H A W 𝓣 E G42 G43 b29 Δ0 (λ Ψ. Ψ) at17 (Lifetime.g-begin 𝓤 H A W E G42 13 (tt, (tt, (tt, (tt, (tt, (tt, (tt, (tt, (tt, (tt, (tt, (tt, (tt, (tt, (tt, (tt, (tt, (tt, (tt, (tt, (tt, (tt, (tt, (tt, (tt, (tt, tt))))))))))))))))))))))))))) d17
 
-          d19 : Typed.Typed 𝓤 H A 𝓣 E G49 b32 Δ0 at19
-          d19 = Typed.g-pre 𝓤 H A W 𝓣 E G49 G50 b32 Δ0 (λ Ψ. Ψ) at18 (Lifetime.g-forget 𝓤 H A W E G49 13 Row.dead Path.refl) d18
+          d19 : Typed.Typed 𝓤 H A 𝓣 E G41 b29 Δ0 at19
+          d19 = Typed.g-pre 𝓤 H A W 𝓣 E G41 G42 b29 Δ0 (λ Ψ. Ψ) at18 (Lifetime.g-forget 𝓤 H A W E G41 12 Row.dead Path.refl) d18
 
-          d20 : Typed.Typed 𝓤 H A 𝓣 E G48 b32 Δ0 at20
-          d20 = Typed.g-pre 𝓤 H A W 𝓣 E G48 G49 b32 Δ0 (Typed.both s47) at19 (Relend.g-back-sl 𝓤 H A W E Rec.row G48 23 7 6 13 q51 q52 (Row.lease (κs .1 .1 .1 .1 .1 .1 .0) (qs .1 .1 .1 .1 .1 .1 .0)) (λ x. x) (λ x. x) (TReads.as-is 𝓤 H A (Mut.msleft Rec.row q52)) (TReads.as-is 𝓤 H A (Relend.mslice-owed Rec.row q51 6 13 (Row.lease (κs .1 .1 .1 .1 .1 .1 .0) (qs .1 .1 .1 .1 .1 .1 .0)))) Path.refl Path.refl) d19
+          d20 : Typed.Typed 𝓤 H A 𝓣 E G40 b29 Δ0 at20
+          d20 = Typed.g-pre 𝓤 H A W 𝓣 E G40 G41 b29 Δ0 (Typed.both s39) at19 (Relend.g-back-sl 𝓤 H A W E Rec.row G40 21 7 6 12 q46 q47 (Row.lease (κs .1 .1 .1 .1 .1 .1 .0) (qs .1 .1 .1 .1 .1 .1 .0)) (λ x. x) (λ x. x) (TReads.as-is 𝓤 H A (Mut.msleft Rec.row q47)) (TReads.as-is 𝓤 H A (Relend.mslice-owed Rec.row q46 6 12 (Row.lease (κs .1 .1 .1 .1 .1 .1 .0) (qs .1 .1 .1 .1 .1 .1 .0)))) Path.refl Path.refl) d19
 
-          d21 : Typed.Typed 𝓤 H A 𝓣 E G47 b32 Δ0 at21
-          d21 = Typed.g-pre 𝓤 H A W 𝓣 E G47 G48 b32 Δ0 (λ Ψ. Ψ) at20 (Lifetime.g-end 𝓤 H A W E G47 13 Path.refl) d20
+          d21 : Typed.Typed 𝓤 H A 𝓣 E G39 b29 Δ0 at21
+          d21 = Typed.g-pre 𝓤 H A W 𝓣 E G39 G40 b29 Δ0 (λ Ψ. Ψ) at20 (Lifetime.g-end 𝓤 H A W E G39 12 Path.refl) d20
 
-          d22 : Typed.Typed 𝓤 H A 𝓣 E G46 b32 Δ0 at22
-          d22 = Typed.g-pre 𝓤 H A W 𝓣 E G46 G47 b32 Δ0 (λ Ψ. Ψ) at21 (Lifetime.g-forget 𝓤 H A W E G46 12 Row.dead Path.refl) d21
+          d22 : Typed.Typed 𝓤 H A 𝓣 E G38 b29 Δ0 at22
+          d22 = Typed.g-pre 𝓤 H A W 𝓣 E G38 G39 b29 Δ0 (λ Ψ. Ψ) at21 (Lifetime.g-forget 𝓤 H A W E G38 11 Row.dead Path.refl) d21
 
-          d23 : Typed.Typed 𝓤 H A 𝓣 E G45 b32 Δ0 at23
-          d23 = Typed.g-pre 𝓤 H A W 𝓣 E G45 G46 b32 Δ0 (Typed.both s44) at22 (Relend.g-back-sl 𝓤 H A W E (Signed.SInt Syntax.w32) G45 21 6 5 12 q49 q50 (Row.lease (κs .1 .1 .1 .1 .1 .0) (qs .1 .1 .1 .1 .1 .0)) (λ x. x) (λ x. x) (TReads.as-is 𝓤 H A q29) (TReads.as-is 𝓤 H A (Relend.mslice-owed (Signed.SInt Syntax.w32) q49 5 12 (Row.lease (κs .1 .1 .1 .1 .1 .0) (qs .1 .1 .1 .1 .1 .0)))) Path.refl Path.refl) d22
+          d23 : Typed.Typed 𝓤 H A 𝓣 E G37 b29 Δ0 at23
+          d23 = Typed.g-pre 𝓤 H A W 𝓣 E G37 G38 b29 Δ0 (Typed.both s36) at22 (Relend.g-back-sl 𝓤 H A W E (Signed.SInt Syntax.w32) G37 19 6 5 11 q44 q45 (Row.lease (κs .1 .1 .1 .1 .1 .0) (qs .1 .1 .1 .1 .1 .0)) (λ x. x) (λ x. x) (TReads.as-is 𝓤 H A q28) (TReads.as-is 𝓤 H A (Relend.mslice-owed (Signed.SInt Syntax.w32) q44 5 11 (Row.lease (κs .1 .1 .1 .1 .1 .0) (qs .1 .1 .1 .1 .1 .0)))) Path.refl Path.refl) d22
 
-          d24 : Typed.Typed 𝓤 H A 𝓣 E G44 b32 Δ0 at24
-          d24 = Typed.g-pre 𝓤 H A W 𝓣 E G44 G45 b32 Δ0 (λ Ψ. Ψ) at23 (Lifetime.g-end 𝓤 H A W E G44 12 Path.refl) d23
+          d24 : Typed.Typed 𝓤 H A 𝓣 E G36 b29 Δ0 at24
+          d24 = Typed.g-pre 𝓤 H A W 𝓣 E G36 G37 b29 Δ0 (λ Ψ. Ψ) at23 (Lifetime.g-end 𝓤 H A W E G36 11 Path.refl) d23
 
-          d25 : Typed.Typed 𝓤 H A 𝓣 E G43 b32 Δ0 at25
-          d25 = Typed.g-pre 𝓤 H A W 𝓣 E G43 G44 b32 Δ0 (λ Ψ. Ψ) at24 (Lifetime.g-forget 𝓤 H A W E G43 11 Row.dead Path.refl) d24
+          d25 : Typed.Typed 𝓤 H A 𝓣 E G35 b29 Δ0 at25
+          d25 = Typed.g-pre 𝓤 H A W 𝓣 E G35 G36 b29 Δ0 (λ Ψ. Ψ) at24 (Lifetime.g-forget 𝓤 H A W E G35 10 Row.dead Path.refl) d24
 
-          d26 : Typed.Typed 𝓤 H A 𝓣 E G42 b32 Δ0 at26
-          d26 = Typed.g-pre 𝓤 H A W 𝓣 E G42 G43 b32 Δ0 (Typed.both s41) at25 (Relend.g-back-sl 𝓤 H A W E (Signed.SInt Syntax.w32) G42 19 5 4 11 q48 q50 (Row.lease (κs .1 .1 .1 .1 .0) (qs .1 .1 .1 .1 .0)) (λ x. x) (λ x. x) (TReads.as-is 𝓤 H A q29) (TReads.as-is 𝓤 H A (Relend.mslice-owed (Signed.SInt Syntax.w32) q48 4 11 (Row.lease (κs .1 .1 .1 .1 .0) (qs .1 .1 .1 .1 .0)))) Path.refl Path.refl) d25
+          d26 : Typed.Typed 𝓤 H A 𝓣 E G34 b29 Δ0 at26
+          d26 = Typed.g-pre 𝓤 H A W 𝓣 E G34 G35 b29 Δ0 (Typed.both s33) at25 (Relend.g-back-sl 𝓤 H A W E (Signed.SInt Syntax.w32) G34 17 5 4 10 q43 q45 (Row.lease (κs .1 .1 .1 .1 .0) (qs .1 .1 .1 .1 .0)) (λ x. x) (λ x. x) (TReads.as-is 𝓤 H A q28) (TReads.as-is 𝓤 H A (Relend.mslice-owed (Signed.SInt Syntax.w32) q43 4 10 (Row.lease (κs .1 .1 .1 .1 .0) (qs .1 .1 .1 .1 .0)))) Path.refl Path.refl) d25
 
-          d27 : Typed.Typed 𝓤 H A 𝓣 E G41 b32 Δ0 at27
-          d27 = Typed.g-pre 𝓤 H A W 𝓣 E G41 G42 b32 Δ0 (λ Ψ. Ψ) at26 (Lifetime.g-end 𝓤 H A W E G41 11 Path.refl) d26
+          d27 : Typed.Typed 𝓤 H A 𝓣 E G33 b29 Δ0 at27
+          d27 = Typed.g-pre 𝓤 H A W 𝓣 E G33 G34 b29 Δ0 (λ Ψ. Ψ) at26 (Lifetime.g-end 𝓤 H A W E G33 10 Path.refl) d26
 
-          d28 : Typed.Typed 𝓤 H A 𝓣 E G40 b32 Δ0 at28
-          d28 = Typed.g-pre 𝓤 H A W 𝓣 E G40 G41 b32 Δ0 (λ Ψ. Ψ) at27 (Lifetime.g-forget 𝓤 H A W E G40 10 Row.dead Path.refl) d27
+          d28 : Typed.Typed 𝓤 H A 𝓣 E G32 b29 Δ0 at28
+          d28 = Typed.g-pre 𝓤 H A W 𝓣 E G32 G33 b29 Δ0 (λ Ψ. Ψ) at27 (Lifetime.g-forget 𝓤 H A W E G32 9 Row.dead Path.refl) d27
 
-          d29 : Typed.Typed 𝓤 H A 𝓣 E G39 b32 Δ0 at29
-          d29 = Typed.g-pre 𝓤 H A W 𝓣 E G39 G40 b32 Δ0 (Typed.both s38) at28 (Relend.g-back-sl 𝓤 H A W E (Signed.SInt Syntax.w32) G39 17 4 3 10 q47 q50 (Row.lease (κs .1 .1 .1 .0) (qs .1 .1 .1 .0)) (λ x. x) (λ x. x) (TReads.as-is 𝓤 H A q29) (TReads.as-is 𝓤 H A (Relend.mslice-owed (Signed.SInt Syntax.w32) q47 3 10 (Row.lease (κs .1 .1 .1 .0) (qs .1 .1 .1 .0)))) Path.refl Path.refl) d28
+          d29 : Typed.Typed 𝓤 H A 𝓣 E G31 b29 Δ0 at29
+          d29 = Typed.g-pre 𝓤 H A W 𝓣 E G31 G32 b29 Δ0 (Typed.both s30) at28 (Relend.g-back-sl 𝓤 H A W E (Signed.SInt Syntax.w32) G31 15 4 3 9 q42 q45 (Row.lease (κs .1 .1 .1 .0) (qs .1 .1 .1 .0)) (λ x. x) (λ x. x) (TReads.as-is 𝓤 H A q28) (TReads.as-is 𝓤 H A (Relend.mslice-owed (Signed.SInt Syntax.w32) q42 3 9 (Row.lease (κs .1 .1 .1 .0) (qs .1 .1 .1 .0)))) Path.refl Path.refl) d28
 
-          d30 : Typed.Typed 𝓤 H A 𝓣 E G38 b32 Δ0 at30
-          d30 = Typed.g-pre 𝓤 H A W 𝓣 E G38 G39 b32 Δ0 (λ Ψ. Ψ) at29 (Lifetime.g-end 𝓤 H A W E G38 10 Path.refl) d29
+          d30 : Typed.Typed 𝓤 H A 𝓣 E G30 b29 Δ0 at30
+          d30 = Typed.g-pre 𝓤 H A W 𝓣 E G30 G31 b29 Δ0 (λ Ψ. Ψ) at29 (Lifetime.g-end 𝓤 H A W E G30 9 Path.refl) d29
 
-          d31 : Typed.Typed 𝓤 H A 𝓣 E G37 b33 Δ0 at31
-          d31 = Typed.s-seq 𝓤 H A W 𝓣 E G37 G38 b17 b32 Δ0 (Typed.both s36) at30 (Plain.t-call-plain 𝓤 H A W 𝓣 7 ps·2 r·2 (claims· .4) (claims· .5) "restoration::ask_all" (known .2) E (λ pos β. β) G37 (record { pos = 1; ty = Syntax.tyRef (Syntax.named 0) Syntax.imm (Syntax.tyInt Syntax.w32); ref = λ x. x }, (record { pos = 2; ty = Syntax.tyRef (Syntax.named 1) Syntax.imm (Syntax.tyInt Syntax.w32); ref = λ x. x }, (record { pos = 3; ty = Syntax.tyRef (Syntax.named 2) Syntax.imm (Syntax.tyInt Syntax.w32); ref = λ x. x }, (record { pos = 17; ty = Syntax.tyRef Syntax.erased Syntax.mut (Syntax.tyInt Syntax.w32); ref = λ x. x }, (record { pos = 19; ty = Syntax.tyRef Syntax.erased Syntax.mut (Syntax.tyInt Syntax.w32); ref = λ x. x }, (record { pos = 21; ty = Syntax.tyRef Syntax.erased Syntax.mut (Syntax.tyInt Syntax.w32); ref = λ x. x }, (record { pos = 23; ty = Syntax.tyRef Syntax.erased Syntax.mut Rec.named; ref = λ x. x }, tt))))))) 8 (L._∷_ 0 (L._∷_ 1 (L._∷_ 2 (L._∷_ 10 (L._∷_ 11 (L._∷_ 12 (L._∷_ 13 L.[]))))))) (Call.sub-id 𝓤 H A W (G37 .slots)) (ShrSlice.spares-sslice 𝓤 H A W (Signed.SInt Syntax.w32) q44 0, Shared.reads-sslice 𝓤 H A W (Signed.SInt Syntax.w32) q44 0, Path.refl, (ShrSlice.spares-sslice 𝓤 H A W (Signed.SInt Syntax.w32) q45 1, Shared.reads-sslice 𝓤 H A W (Signed.SInt Syntax.w32) q45 1, Path.refl, (ShrSlice.spares-sslice 𝓤 H A W (Signed.SInt Syntax.w32) q46 2, Shared.reads-sslice 𝓤 H A W (Signed.SInt Syntax.w32) q46 2, Path.refl, (TReads.as-is 𝓤 H A (Mut.mslice (Signed.SInt Syntax.w32) q50 10), Mut.reads-mslice 𝓤 H A W (Signed.SInt Syntax.w32) q50 10, Path.refl, (TReads.as-is 𝓤 H A (Mut.mslice (Signed.SInt Syntax.w32) q50 11), Mut.reads-mslice 𝓤 H A W (Signed.SInt Syntax.w32) q50 11, Path.refl, (TReads.as-is 𝓤 H A (Mut.mslice (Signed.SInt Syntax.w32) q50 12), Mut.reads-mslice 𝓤 H A W (Signed.SInt Syntax.w32) q50 12, Path.refl, (TReads.as-is 𝓤 H A (Mut.mslice Rec.row q52 13), Mut.reads-mslice 𝓤 H A W Rec.row q52 13, Path.refl, tt))))))) (TReads.room-gone 𝓤 H A q2) (tt, (tt, (tt, (tt, (tt, (tt, (tt, tt))))))) Path.refl) d30
+          d31 : Typed.Typed 𝓤 H A 𝓣 E G29 b30 Δ0 at31
+          d31 = Typed.s-seq 𝓤 H A W 𝓣 E G29 G30 b14 b29 Δ0 (Typed.both s28) at30 (Plain.t-call-plain 𝓤 H A W 𝓣 7 ps·1 r·1 (claims· .2) (claims· .3) "restoration::restore_in" (known .1) E (λ pos β. β) G29 (record { pos = 1; ty = Syntax.tyRef (Syntax.named 0) Syntax.imm (Syntax.tyInt Syntax.w32); ref = λ x. x }, (record { pos = 2; ty = Syntax.tyRef (Syntax.named 1) Syntax.imm (Syntax.tyInt Syntax.w32); ref = λ x. x }, (record { pos = 3; ty = Syntax.tyRef (Syntax.named 2) Syntax.imm (Syntax.tyInt Syntax.w32); ref = λ x. x }, (record { pos = 15; ty = Syntax.tyRef Syntax.erased Syntax.mut (Syntax.tyInt Syntax.w32); ref = λ x. x }, (record { pos = 17; ty = Syntax.tyRef Syntax.erased Syntax.mut (Syntax.tyInt Syntax.w32); ref = λ x. x }, (record { pos = 19; ty = Syntax.tyRef Syntax.erased Syntax.mut (Syntax.tyInt Syntax.w32); ref = λ x. x }, (record { pos = 21; ty = Syntax.tyRef Syntax.erased Syntax.mut Rec.named; ref = λ x. x }, tt))))))) 8 (L._∷_ 0 (L._∷_ 1 (L._∷_ 2 (L._∷_ 9 (L._∷_ 10 (L._∷_ 11 (L._∷_ 12 L.[]))))))) (Call.sub-id 𝓤 H A W (G29 .slots)) (ShrSlice.spares-sslice 𝓤 H A W (Signed.SInt Syntax.w32) q39 0, Shared.reads-sslice 𝓤 H A W (Signed.SInt Syntax.w32) q39 0, Path.refl, (ShrSlice.spares-sslice 𝓤 H A W (Signed.SInt Syntax.w32) q40 1, Shared.reads-sslice 𝓤 H A W (Signed.SInt Syntax.w32) q40 1, Path.refl, (ShrSlice.spares-sslice 𝓤 H A W (Signed.SInt Syntax.w32) q41 2, Shared.reads-sslice 𝓤 H A W (Signed.SInt Syntax.w32) q41 2, Path.refl, (TReads.as-is 𝓤 H A (Mut.mslice (Signed.SInt Syntax.w32) q45 9), Mut.reads-mslice 𝓤 H A W (Signed.SInt Syntax.w32) q45 9, Path.refl, (TReads.as-is 𝓤 H A (Mut.mslice (Signed.SInt Syntax.w32) q45 10), Mut.reads-mslice 𝓤 H A W (Signed.SInt Syntax.w32) q45 10, Path.refl, (TReads.as-is 𝓤 H A (Mut.mslice (Signed.SInt Syntax.w32) q45 11), Mut.reads-mslice 𝓤 H A W (Signed.SInt Syntax.w32) q45 11, Path.refl, (TReads.as-is 𝓤 H A (Mut.mslice Rec.row q47 12), Mut.reads-mslice 𝓤 H A W Rec.row q47 12, Path.refl, tt))))))) (TReads.room-gone 𝓤 H A q2) (tt, (tt, (tt, (tt, (tt, (tt, (tt, tt))))))) Path.refl) d30
 
-          d32 : Typed.Typed 𝓤 H A 𝓣 E G36 b34 Δ0 at32
-          d32 = Typed.s-seq 𝓤 H A W 𝓣 E G36 G37 b16 b33 Δ0 (Typed.ask s35) at31 (Relend.t-sl-aggregate 𝓤 H A W E Rec.row 𝓣 (Relend.asMut Rec.row) G36 22 23 13 q52 q52 (λ x. x) (Scalar.oFld 7 (L._∷_ (Syntax.field 1) L.[]) (Syntax.tyInt Syntax.w64) 8 λ v. Shared.lenV (v .0)) (TReads.as-is 𝓤 H A (Relend.msptr Rec.row q52 13)) (TReads.room-gone 𝓤 H A q13) (Relend.reads-owed-len 𝓤 H A W Rec.row q51 6 13 (Row.lease (κs .1 .1 .1 .1 .1 .1 .0) (qs .1 .1 .1 .1 .1 .1 .0)) 8 Path.refl, Path.refl) Path.refl Path.refl λ b o k. tt) d31
+          d32 : Typed.Typed 𝓤 H A 𝓣 E G28 b31 Δ0 at32
+          d32 = Typed.s-seq 𝓤 H A W 𝓣 E G28 G29 b13 b30 Δ0 (Typed.ask s27) at31 (Relend.t-sl-aggregate 𝓤 H A W E Rec.row 𝓣 (Relend.asMut Rec.row) G28 20 21 12 q47 q47 (λ x. x) (Scalar.oFld 7 (L._∷_ (Syntax.field 1) L.[]) (Syntax.tyInt Syntax.w64) 8 λ v. Shared.lenV (v .0)) (TReads.as-is 𝓤 H A (Relend.msptr Rec.row q47 12)) (TReads.room-gone 𝓤 H A q12) (Relend.reads-owed-len 𝓤 H A W Rec.row q46 6 12 (Row.lease (κs .1 .1 .1 .1 .1 .1 .0) (qs .1 .1 .1 .1 .1 .1 .0)) 8 Path.refl, Path.refl) Path.refl Path.refl λ b o k. tt) d31
 
-          d33 : Typed.Typed 𝓤 H A 𝓣 E G35 b35 Δ0 at33
-          d33 = Typed.s-seq 𝓤 H A W 𝓣 E G35 G36 b15 b34 Δ0 (Typed.give s34) at32 (Relend.t-sl-relend 𝓤 H A W E Rec.row 𝓣 G35 7 22 6 13 q51 q52 (Row.lease (κs .1 .1 .1 .1 .1 .1 .0) (qs .1 .1 .1 .1 .1 .1 .0)) 0 (λ x. x) (TReads.as-is 𝓤 H A (Mut.mslice Rec.row q51 6)) (TReads.room-gone 𝓤 H A q52) Path.refl tt Path.refl Path.refl Path.refl λ b o. tt) d32
+          d33 : Typed.Typed 𝓤 H A 𝓣 E G27 b32 Δ0 at33
+          d33 = Typed.s-seq 𝓤 H A W 𝓣 E G27 G28 b12 b31 Δ0 (Typed.give s26) at32 (Relend.t-sl-relend 𝓤 H A W E Rec.row 𝓣 G27 7 20 6 12 q46 q47 (Row.lease (κs .1 .1 .1 .1 .1 .1 .0) (qs .1 .1 .1 .1 .1 .1 .0)) 0 (λ x. x) (TReads.as-is 𝓤 H A (Mut.mslice Rec.row q46 6)) (TReads.room-gone 𝓤 H A q47) Path.refl tt Path.refl Path.refl Path.refl λ b o. tt) d32
 
-          d34 : Typed.Typed 𝓤 H A 𝓣 E G34 b35 Δ0 at34
-          d34 = Typed.g-pre 𝓤 H A W 𝓣 E G34 G35 b35 Δ0 (λ Ψ. Ψ) at33 (Lifetime.g-begin 𝓤 H A W E G34 13 (tt, (tt, (tt, (tt, ((tt, tt), ((tt, tt), ((tt, tt), (tt, (tt, (tt, (tt, (tt, (tt, (tt, (tt, (tt, (tt, (tt, (tt, (tt, (tt, (tt, (tt, (tt, (tt, (tt, (tt, (tt, tt))))))))))))))))))))))))))))) d33
+          d34 : Typed.Typed 𝓤 H A 𝓣 E G26 b32 Δ0 at34
+          d34 = Typed.g-pre 𝓤 H A W 𝓣 E G26 G27 b32 Δ0 (λ Ψ. Ψ) at33 (Lifetime.g-begin 𝓤 H A W E G26 12 (tt, (tt, (tt, (tt, ((tt, tt), ((tt, tt), ((tt, tt), (tt, (tt, (tt, (tt, (tt, (tt, (tt, (tt, (tt, (tt, (tt, (tt, (tt, (tt, (tt, (tt, (tt, (tt, (tt, tt))))))))))))))))))))))))))) d33
 
-          d35 : Typed.Typed 𝓤 H A 𝓣 E G33 b36 Δ0 at35
-          d35 = Typed.s-seq 𝓤 H A W 𝓣 E G33 G34 b14 b35 Δ0 (Typed.ask s32) at34 (Relend.t-sl-aggregate 𝓤 H A W E (Signed.SInt Syntax.w32) 𝓣 (Relend.asMut (Signed.SInt Syntax.w32)) G33 20 21 12 q50 q50 (λ x. x) (Scalar.oFld 6 (L._∷_ (Syntax.field 1) L.[]) (Syntax.tyInt Syntax.w64) 8 λ v. Shared.lenV (v .0)) (TReads.as-is 𝓤 H A (Relend.msptr (Signed.SInt Syntax.w32) q50 12)) (TReads.room-gone 𝓤 H A q12) (Relend.reads-owed-len 𝓤 H A W (Signed.SInt Syntax.w32) q49 5 12 (Row.lease (κs .1 .1 .1 .1 .1 .0) (qs .1 .1 .1 .1 .1 .0)) 8 Path.refl, Path.refl) Path.refl Path.refl λ b o k. tt) d34
+          d35 : Typed.Typed 𝓤 H A 𝓣 E G25 b33 Δ0 at35
+          d35 = Typed.s-seq 𝓤 H A W 𝓣 E G25 G26 b11 b32 Δ0 (Typed.ask s24) at34 (Relend.t-sl-aggregate 𝓤 H A W E (Signed.SInt Syntax.w32) 𝓣 (Relend.asMut (Signed.SInt Syntax.w32)) G25 18 19 11 q45 q45 (λ x. x) (Scalar.oFld 6 (L._∷_ (Syntax.field 1) L.[]) (Syntax.tyInt Syntax.w64) 8 λ v. Shared.lenV (v .0)) (TReads.as-is 𝓤 H A (Relend.msptr (Signed.SInt Syntax.w32) q45 11)) (TReads.room-gone 𝓤 H A q11) (Relend.reads-owed-len 𝓤 H A W (Signed.SInt Syntax.w32) q44 5 11 (Row.lease (κs .1 .1 .1 .1 .1 .0) (qs .1 .1 .1 .1 .1 .0)) 8 Path.refl, Path.refl) Path.refl Path.refl λ b o k. tt) d34
 
-          d36 : Typed.Typed 𝓤 H A 𝓣 E G32 b37 Δ0 at36
-          d36 = Typed.s-seq 𝓤 H A W 𝓣 E G32 G33 b13 b36 Δ0 (Typed.give s31) at35 (Relend.t-sl-relend 𝓤 H A W E (Signed.SInt Syntax.w32) 𝓣 G32 6 20 5 12 q49 q50 (Row.lease (κs .1 .1 .1 .1 .1 .0) (qs .1 .1 .1 .1 .1 .0)) 0 (λ x. x) (TReads.as-is 𝓤 H A (Mut.mslice (Signed.SInt Syntax.w32) q49 5)) (TReads.room-gone 𝓤 H A q50) Path.refl tt Path.refl Path.refl Path.refl λ b o. tt) d35
+          d36 : Typed.Typed 𝓤 H A 𝓣 E G24 b34 Δ0 at36
+          d36 = Typed.s-seq 𝓤 H A W 𝓣 E G24 G25 b10 b33 Δ0 (Typed.give s23) at35 (Relend.t-sl-relend 𝓤 H A W E (Signed.SInt Syntax.w32) 𝓣 G24 6 18 5 11 q44 q45 (Row.lease (κs .1 .1 .1 .1 .1 .0) (qs .1 .1 .1 .1 .1 .0)) 0 (λ x. x) (TReads.as-is 𝓤 H A (Mut.mslice (Signed.SInt Syntax.w32) q44 5)) (TReads.room-gone 𝓤 H A q45) Path.refl tt Path.refl Path.refl Path.refl λ b o. tt) d35
 
-          d37 : Typed.Typed 𝓤 H A 𝓣 E G31 b37 Δ0 at37
-          d37 = Typed.g-pre 𝓤 H A W 𝓣 E G31 G32 b37 Δ0 (λ Ψ. Ψ) at36 (Lifetime.g-begin 𝓤 H A W E G31 12 (tt, (tt, (tt, (tt, ((tt, tt), ((tt, tt), (tt, (tt, (tt, (tt, (tt, (tt, (tt, (tt, (tt, (tt, (tt, (tt, (tt, (tt, (tt, (tt, (tt, (tt, (tt, (tt, (tt, (tt, tt))))))))))))))))))))))))))))) d36
+          d37 : Typed.Typed 𝓤 H A 𝓣 E G23 b34 Δ0 at37
+          d37 = Typed.g-pre 𝓤 H A W 𝓣 E G23 G24 b34 Δ0 (λ Ψ. Ψ) at36 (Lifetime.g-begin 𝓤 H A W E G23 11 (tt, (tt, (tt, (tt, ((tt, tt), ((tt, tt), (tt, (tt, (tt, (tt, (tt, (tt, (tt, (tt, (tt, (tt, (tt, (tt, (tt, (tt, (tt, (tt, (tt, (tt, (tt, (tt, tt))))))))))))))))))))))))))) d36
 
-          d38 : Typed.Typed 𝓤 H A 𝓣 E G30 b38 Δ0 at38
-          d38 = Typed.s-seq 𝓤 H A W 𝓣 E G30 G31 b12 b37 Δ0 (Typed.ask s29) at37 (Relend.t-sl-aggregate 𝓤 H A W E (Signed.SInt Syntax.w32) 𝓣 (Relend.asMut (Signed.SInt Syntax.w32)) G30 18 19 11 q50 q50 (λ x. x) (Scalar.oFld 5 (L._∷_ (Syntax.field 1) L.[]) (Syntax.tyInt Syntax.w64) 8 λ v. Shared.lenV (v .0)) (TReads.as-is 𝓤 H A (Relend.msptr (Signed.SInt Syntax.w32) q50 11)) (TReads.room-gone 𝓤 H A q12) (Relend.reads-owed-len 𝓤 H A W (Signed.SInt Syntax.w32) q48 4 11 (Row.lease (κs .1 .1 .1 .1 .0) (qs .1 .1 .1 .1 .0)) 8 Path.refl, Path.refl) Path.refl Path.refl λ b o k. tt) d37
+          d38 : Typed.Typed 𝓤 H A 𝓣 E G22 b35 Δ0 at38
+          d38 = Typed.s-seq 𝓤 H A W 𝓣 E G22 G23 b9 b34 Δ0 (Typed.ask s21) at37 (Relend.t-sl-aggregate 𝓤 H A W E (Signed.SInt Syntax.w32) 𝓣 (Relend.asMut (Signed.SInt Syntax.w32)) G22 16 17 10 q45 q45 (λ x. x) (Scalar.oFld 5 (L._∷_ (Syntax.field 1) L.[]) (Syntax.tyInt Syntax.w64) 8 λ v. Shared.lenV (v .0)) (TReads.as-is 𝓤 H A (Relend.msptr (Signed.SInt Syntax.w32) q45 10)) (TReads.room-gone 𝓤 H A q11) (Relend.reads-owed-len 𝓤 H A W (Signed.SInt Syntax.w32) q43 4 10 (Row.lease (κs .1 .1 .1 .1 .0) (qs .1 .1 .1 .1 .0)) 8 Path.refl, Path.refl) Path.refl Path.refl λ b o k. tt) d37
 
-          d39 : Typed.Typed 𝓤 H A 𝓣 E G29 b39 Δ0 at39
-          d39 = Typed.s-seq 𝓤 H A W 𝓣 E G29 G30 b11 b38 Δ0 (Typed.give s28) at38 (Relend.t-sl-relend 𝓤 H A W E (Signed.SInt Syntax.w32) 𝓣 G29 5 18 4 11 q48 q50 (Row.lease (κs .1 .1 .1 .1 .0) (qs .1 .1 .1 .1 .0)) 0 (λ x. x) (TReads.as-is 𝓤 H A (Mut.mslice (Signed.SInt Syntax.w32) q48 4)) (TReads.room-gone 𝓤 H A q50) Path.refl tt Path.refl Path.refl Path.refl λ b o. tt) d38
+          d39 : Typed.Typed 𝓤 H A 𝓣 E G21 b36 Δ0 at39
+          d39 = Typed.s-seq 𝓤 H A W 𝓣 E G21 G22 b8 b35 Δ0 (Typed.give s20) at38 (Relend.t-sl-relend 𝓤 H A W E (Signed.SInt Syntax.w32) 𝓣 G21 5 16 4 10 q43 q45 (Row.lease (κs .1 .1 .1 .1 .0) (qs .1 .1 .1 .1 .0)) 0 (λ x. x) (TReads.as-is 𝓤 H A (Mut.mslice (Signed.SInt Syntax.w32) q43 4)) (TReads.room-gone 𝓤 H A q45) Path.refl tt Path.refl Path.refl Path.refl λ b o. tt) d38
 
-          d40 : Typed.Typed 𝓤 H A 𝓣 E G28 b39 Δ0 at40
-          d40 = Typed.g-pre 𝓤 H A W 𝓣 E G28 G29 b39 Δ0 (λ Ψ. Ψ) at39 (Lifetime.g-begin 𝓤 H A W E G28 11 (tt, (tt, (tt, (tt, ((tt, tt), (tt, (tt, (tt, (tt, (tt, (tt, (tt, (tt, (tt, (tt, (tt, (tt, (tt, (tt, (tt, (tt, (tt, (tt, (tt, (tt, (tt, (tt, (tt, tt))))))))))))))))))))))))))))) d39
+          d40 : Typed.Typed 𝓤 H A 𝓣 E G20 b36 Δ0 at40
+          d40 = Typed.g-pre 𝓤 H A W 𝓣 E G20 G21 b36 Δ0 (λ Ψ. Ψ) at39 (Lifetime.g-begin 𝓤 H A W E G20 10 (tt, (tt, (tt, (tt, ((tt, tt), (tt, (tt, (tt, (tt, (tt, (tt, (tt, (tt, (tt, (tt, (tt, (tt, (tt, (tt, (tt, (tt, (tt, (tt, (tt, (tt, (tt, tt))))))))))))))))))))))))))) d39
 
-          d41 : Typed.Typed 𝓤 H A 𝓣 E G27 b40 Δ0 at41
-          d41 = Typed.s-seq 𝓤 H A W 𝓣 E G27 G28 b10 b39 Δ0 (Typed.ask s26) at40 (Relend.t-sl-aggregate 𝓤 H A W E (Signed.SInt Syntax.w32) 𝓣 (Relend.asMut (Signed.SInt Syntax.w32)) G27 16 17 10 q50 q50 (λ x. x) (Scalar.oFld 4 (L._∷_ (Syntax.field 1) L.[]) (Syntax.tyInt Syntax.w64) 8 λ v. Shared.lenV (v .0)) (TReads.as-is 𝓤 H A (Relend.msptr (Signed.SInt Syntax.w32) q50 10)) (TReads.room-gone 𝓤 H A q12) (Relend.reads-owed-len 𝓤 H A W (Signed.SInt Syntax.w32) q47 3 10 (Row.lease (κs .1 .1 .1 .0) (qs .1 .1 .1 .0)) 8 Path.refl, Path.refl) Path.refl Path.refl λ b o k. tt) d40
+          d41 : Typed.Typed 𝓤 H A 𝓣 E G19 b37 Δ0 at41
+          d41 = Typed.s-seq 𝓤 H A W 𝓣 E G19 G20 b7 b36 Δ0 (Typed.ask s18) at40 (Relend.t-sl-aggregate 𝓤 H A W E (Signed.SInt Syntax.w32) 𝓣 (Relend.asMut (Signed.SInt Syntax.w32)) G19 14 15 9 q45 q45 (λ x. x) (Scalar.oFld 4 (L._∷_ (Syntax.field 1) L.[]) (Syntax.tyInt Syntax.w64) 8 λ v. Shared.lenV (v .0)) (TReads.as-is 𝓤 H A (Relend.msptr (Signed.SInt Syntax.w32) q45 9)) (TReads.room-gone 𝓤 H A q11) (Relend.reads-owed-len 𝓤 H A W (Signed.SInt Syntax.w32) q42 3 9 (Row.lease (κs .1 .1 .1 .0) (qs .1 .1 .1 .0)) 8 Path.refl, Path.refl) Path.refl Path.refl λ b o k. tt) d40
 
-          d42 : Typed.Typed 𝓤 H A 𝓣 E G26 b41 Δ0 at42
-          d42 = Typed.s-seq 𝓤 H A W 𝓣 E G26 G27 b9 b40 Δ0 (Typed.give s25) at41 (Relend.t-sl-relend 𝓤 H A W E (Signed.SInt Syntax.w32) 𝓣 G26 4 16 3 10 q47 q50 (Row.lease (κs .1 .1 .1 .0) (qs .1 .1 .1 .0)) 0 (λ x. x) (TReads.as-is 𝓤 H A (Mut.mslice (Signed.SInt Syntax.w32) q47 3)) (TReads.room-gone 𝓤 H A q50) Path.refl tt Path.refl Path.refl Path.refl λ b o. tt) d41
+          d42 : Typed.Typed 𝓤 H A 𝓣 E G18 b38 Δ0 at42
+          d42 = Typed.s-seq 𝓤 H A W 𝓣 E G18 G19 b6 b37 Δ0 (Typed.give s17) at41 (Relend.t-sl-relend 𝓤 H A W E (Signed.SInt Syntax.w32) 𝓣 G18 4 14 3 9 q42 q45 (Row.lease (κs .1 .1 .1 .0) (qs .1 .1 .1 .0)) 0 (λ x. x) (TReads.as-is 𝓤 H A (Mut.mslice (Signed.SInt Syntax.w32) q42 3)) (TReads.room-gone 𝓤 H A q45) Path.refl tt Path.refl Path.refl Path.refl λ b o. tt) d41
 
-          d43 : Typed.Typed 𝓤 H A 𝓣 E G25 b41 Δ0 at43
-          d43 = Typed.g-pre 𝓤 H A W 𝓣 E G25 G26 b41 Δ0 (λ Ψ. Ψ) at42 (Lifetime.g-begin 𝓤 H A W E G25 10 (tt, (tt, (tt, (tt, (tt, (tt, (tt, (tt, (tt, (tt, (tt, (tt, (tt, (tt, (tt, (tt, (tt, (tt, (tt, (tt, (tt, (tt, (tt, (tt, (tt, (tt, (tt, (tt, tt))))))))))))))))))))))))))))) d42
+          d43 : Typed.Typed 𝓤 H A 𝓣 E G17 b38 Δ0 at43
+          d43 = Typed.g-pre 𝓤 H A W 𝓣 E G17 G18 b38 Δ0 (λ Ψ. Ψ) at42 (Lifetime.g-begin 𝓤 H A W E G17 9 (tt, (tt, (tt, (tt, (tt, (tt, (tt, (tt, (tt, (tt, (tt, (tt, (tt, (tt, (tt, (tt, (tt, (tt, (tt, (tt, (tt, (tt, (tt, (tt, (tt, (tt, tt))))))))))))))))))))))))))) d42
 
-          d44 : Typed.Typed 𝓤 H A 𝓣 E G24 b41 Δ0 at44
-          d44 = Typed.g-pre 𝓤 H A W 𝓣 E G24 G25 b41 Δ0 (λ Ψ. Ψ) at43 (Lifetime.g-forget 𝓤 H A W E G24 9 Row.dead Path.refl) d43
+          d44 : Typed.Typed 𝓤 H A 𝓣 E G16 b38 Δ0 at44
+          d44 = Typed.g-pre 𝓤 H A W 𝓣 E G16 G17 b38 Δ0 (λ Ψ. Ψ) at43 (Lifetime.g-forget 𝓤 H A W E G16 8 Row.dead Path.refl) d43
 
-          d45 : Typed.Typed 𝓤 H A 𝓣 E G23 b41 Δ0 at45
-          d45 = Typed.g-pre 𝓤 H A W 𝓣 E G23 G24 b41 Δ0 (Typed.both s22) at44 (Relend.g-back-sl 𝓤 H A W E Rec.row G23 15 7 6 9 q51 q52 (Row.lease (κs .1 .1 .1 .1 .1 .1 .0) (qs .1 .1 .1 .1 .1 .1 .0)) (λ x. x) (λ x. x) (TReads.as-is 𝓤 H A (Mut.msleft Rec.row q52)) (TReads.as-is 𝓤 H A (Relend.mslice-owed Rec.row q51 6 9 (Row.lease (κs .1 .1 .1 .1 .1 .1 .0) (qs .1 .1 .1 .1 .1 .1 .0)))) Path.refl Path.refl) d44
+          d45 : Typed.Typed 𝓤 H A 𝓣 E G15 b38 Δ0 at45
+          d45 = Typed.g-pre 𝓤 H A W 𝓣 E G15 G16 b38 Δ0 (Typed.both s14) at44 (Relend.g-back-sl 𝓤 H A W E (Signed.SInt Syntax.w32) G15 13 5 4 8 q43 q45 (Row.lease (κs .1 .1 .1 .1 .0) (qs .1 .1 .1 .1 .0)) (λ x. x) (λ x. x) (TReads.as-is 𝓤 H A q28) (TReads.as-is 𝓤 H A (Relend.mslice-owed (Signed.SInt Syntax.w32) q43 4 8 (Row.lease (κs .1 .1 .1 .1 .0) (qs .1 .1 .1 .1 .0)))) Path.refl Path.refl) d44
 
-          d46 : Typed.Typed 𝓤 H A 𝓣 E G22 b41 Δ0 at46
-          d46 = Typed.g-pre 𝓤 H A W 𝓣 E G22 G23 b41 Δ0 (λ Ψ. Ψ) at45 (Lifetime.g-end 𝓤 H A W E G22 9 Path.refl) d45
+          d46 : Typed.Typed 𝓤 H A 𝓣 E G14 b38 Δ0 at46
+          d46 = Typed.g-pre 𝓤 H A W 𝓣 E G14 G15 b38 Δ0 (λ Ψ. Ψ) at45 (Lifetime.g-end 𝓤 H A W E G14 8 Path.refl) d45
 
-          d47 : Typed.Typed 𝓤 H A 𝓣 E G21 b41 Δ0 at47
-          d47 = Typed.g-pre 𝓤 H A W 𝓣 E G21 G22 b41 Δ0 (Typed.pass T21 T22 s20) at46 (Scalar.g-room 𝓤 H A W E G21 9 Syntax.tyUnit (Scalar.room-sc 𝓤 H A W Row.sUnit)) d46
+          d47 : Typed.Typed 𝓤 H A 𝓣 E G13 b38 Δ0 at47
+          d47 = Typed.g-pre 𝓤 H A W 𝓣 E G13 G14 b38 Δ0 (Typed.pass T13 T14 s12) at46 (Scalar.g-room 𝓤 H A W E G13 9 Syntax.tyUnit (Scalar.room-sc 𝓤 H A W Row.sUnit)) d46
 
-          d48 : Typed.Typed 𝓤 H A 𝓣 E G20 b42 Δ0 at48
-          d48 = Typed.s-seq 𝓤 H A W 𝓣 E G20 G21 b8 b41 Δ0 (Typed.both s19) at47 (Plain.t-call-plain 𝓤 H A W 𝓣 1 ps·1 r·1 (claims· .2) (claims· .3) "network::list::clear" (known .1) E (λ pos β. β) G20 (record { pos = 15; ty = Syntax.tyRef Syntax.erased Syntax.mut Rec.named; ref = λ x. x }, tt) 9 (L._∷_ 9 L.[]) (Call.sub-id 𝓤 H A W (G20 .slots)) (TReads.as-is 𝓤 H A (Mut.mslice Rec.row q52 9), Mut.reads-mslice 𝓤 H A W Rec.row q52 9, Path.refl, tt) (TReads.room-gone 𝓤 H A Syntax.tyUnit) (tt, tt) Path.refl) d47
+          d48 : Typed.Typed 𝓤 H A 𝓣 E G12 b39 Δ0 at48
+          d48 = Typed.s-seq 𝓤 H A W 𝓣 E G12 G13 b5 b38 Δ0 (Typed.both s11) at47 (Plain.t-call-plain 𝓤 H A W 𝓣 1 ps·0 r·0 (claims· .0) (claims· .1) "loops::clear" (known .0) E (λ pos β. β) G12 (record { pos = 13; ty = Syntax.tyRef Syntax.erased Syntax.mut (Syntax.tyInt Syntax.w32); ref = λ x. x }, tt) 9 (L._∷_ 8 L.[]) (Call.sub-id 𝓤 H A W (G12 .slots)) (TReads.as-is 𝓤 H A (Mut.mslice (Signed.SInt Syntax.w32) q45 8), Mut.reads-mslice 𝓤 H A W (Signed.SInt Syntax.w32) q45 8, Path.refl, tt) (TReads.room-gone 𝓤 H A Syntax.tyUnit) (tt, tt) Path.refl) d47
 
-          d49 : Typed.Typed 𝓤 H A 𝓣 E G19 b43 Δ0 at49
-          d49 = Typed.s-seq 𝓤 H A W 𝓣 E G19 G20 b7 b42 Δ0 (Typed.ask s18) at48 (Relend.t-sl-aggregate 𝓤 H A W E Rec.row 𝓣 (Relend.asMut Rec.row) G19 14 15 9 q52 q52 (λ x. x) (Scalar.oFld 7 (L._∷_ (Syntax.field 1) L.[]) (Syntax.tyInt Syntax.w64) 8 λ v. Shared.lenV (v .0)) (TReads.as-is 𝓤 H A (Relend.msptr Rec.row q52 9)) (TReads.room-gone 𝓤 H A q13) (Relend.reads-owed-len 𝓤 H A W Rec.row q51 6 9 (Row.lease (κs .1 .1 .1 .1 .1 .1 .0) (qs .1 .1 .1 .1 .1 .1 .0)) 8 Path.refl, Path.refl) Path.refl Path.refl λ b o k. tt) d48
+          d49 : Typed.Typed 𝓤 H A 𝓣 E G11 b40 Δ0 at49
+          d49 = Typed.s-seq 𝓤 H A W 𝓣 E G11 G12 b4 b39 Δ0 (Typed.ask s10) at48 (Relend.t-sl-aggregate 𝓤 H A W E (Signed.SInt Syntax.w32) 𝓣 (Relend.asMut (Signed.SInt Syntax.w32)) G11 12 13 8 q45 q45 (λ x. x) (Scalar.oFld 5 (L._∷_ (Syntax.field 1) L.[]) (Syntax.tyInt Syntax.w64) 8 λ v. Shared.lenV (v .0)) (TReads.as-is 𝓤 H A (Relend.msptr (Signed.SInt Syntax.w32) q45 8)) (TReads.room-gone 𝓤 H A q11) (Relend.reads-owed-len 𝓤 H A W (Signed.SInt Syntax.w32) q43 4 8 (Row.lease (κs .1 .1 .1 .1 .0) (qs .1 .1 .1 .1 .0)) 8 Path.refl, Path.refl) Path.refl Path.refl λ b o k. tt) d48
 
-          d50 : Typed.Typed 𝓤 H A 𝓣 E G18 b44 Δ0 at50
-          d50 = Typed.s-seq 𝓤 H A W 𝓣 E G18 G19 b6 b43 Δ0 (Typed.give s17) at49 (Relend.t-sl-relend 𝓤 H A W E Rec.row 𝓣 G18 7 14 6 9 q51 q52 (Row.lease (κs .1 .1 .1 .1 .1 .1 .0) (qs .1 .1 .1 .1 .1 .1 .0)) 0 (λ x. x) (TReads.as-is 𝓤 H A (Mut.mslice Rec.row q51 6)) (TReads.room-gone 𝓤 H A q52) Path.refl tt Path.refl Path.refl Path.refl λ b o. tt) d49
+          d50 : Typed.Typed 𝓤 H A 𝓣 E G10 b41 Δ0 at50
+          d50 = Typed.s-seq 𝓤 H A W 𝓣 E G10 G11 b3 b40 Δ0 (Typed.give s9) at49 (Relend.t-sl-relend 𝓤 H A W E (Signed.SInt Syntax.w32) 𝓣 G10 5 12 4 8 q43 q45 (Row.lease (κs .1 .1 .1 .1 .0) (qs .1 .1 .1 .1 .0)) 0 (λ x. x) (TReads.as-is 𝓤 H A (Mut.mslice (Signed.SInt Syntax.w32) q43 4)) (TReads.room-gone 𝓤 H A q45) Path.refl tt Path.refl Path.refl Path.refl λ b o. tt) d49
 
-          d51 : Typed.Typed 𝓤 H A 𝓣 E G17 b44 Δ0 at51
-          d51 = Typed.g-pre 𝓤 H A W 𝓣 E G17 G18 b44 Δ0 (λ Ψ. Ψ) at50 (Lifetime.g-begin 𝓤 H A W E G17 9 (tt, (tt, (tt, (tt, (tt, (tt, (tt, (tt, (tt, (tt, (tt, (tt, (tt, (tt, (tt, (tt, (tt, (tt, (tt, (tt, (tt, (tt, (tt, (tt, (tt, (tt, (tt, (tt, tt))))))))))))))))))))))))))))) d50
+          d51 : Typed.Typed 𝓤 H A 𝓣 E G9 b41 Δ0 at51
+          d51 = Typed.g-pre 𝓤 H A W 𝓣 E G9 G10 b41 Δ0 (λ Ψ. Ψ) at50 (Lifetime.g-begin 𝓤 H A W E G9 8 (tt, (tt, (tt, (tt, (tt, (tt, (tt, (tt, (tt, (tt, (tt, (tt, (tt, (tt, (tt, (tt, (tt, (tt, (tt, (tt, (tt, (tt, (tt, (tt, (tt, (tt, tt))))))))))))))))))))))))))) d50
 
-          d52 : Typed.Typed 𝓤 H A 𝓣 E G16 b44 Δ0 at52
-          d52 = Typed.g-pre 𝓤 H A W 𝓣 E G16 G17 b44 Δ0 (λ Ψ. Ψ) at51 (Lifetime.g-forget 𝓤 H A W E G16 8 Row.dead Path.refl) d51
+          d52 : Typed.Typed 𝓤 H A 𝓣 E G8 b41 Δ0 at52
+          d52 = Typed.g-pre 𝓤 H A W 𝓣 E G8 G9 b41 Δ0 (λ Ψ. Ψ) at51 (Lifetime.g-forget 𝓤 H A W E G8 7 Row.dead Path.refl) d51
 
-          d53 : Typed.Typed 𝓤 H A 𝓣 E G15 b44 Δ0 at53
-          d53 = Typed.g-pre 𝓤 H A W 𝓣 E G15 G16 b44 Δ0 (Typed.both s14) at52 (Relend.g-back-sl 𝓤 H A W E (Signed.SInt Syntax.w32) G15 13 5 4 8 q48 q50 (Row.lease (κs .1 .1 .1 .1 .0) (qs .1 .1 .1 .1 .0)) (λ x. x) (λ x. x) (TReads.as-is 𝓤 H A q29) (TReads.as-is 𝓤 H A (Relend.mslice-owed (Signed.SInt Syntax.w32) q48 4 8 (Row.lease (κs .1 .1 .1 .1 .0) (qs .1 .1 .1 .1 .0)))) Path.refl Path.refl) d52
+          d53 : Typed.Typed 𝓤 H A 𝓣 E G7 b41 Δ0 at53
+          d53 = Typed.g-pre 𝓤 H A W 𝓣 E G7 G8 b41 Δ0 (Typed.both s6) at52 (Relend.g-back-sl 𝓤 H A W E (Signed.SInt Syntax.w32) G7 11 4 3 7 q42 q45 (Row.lease (κs .1 .1 .1 .0) (qs .1 .1 .1 .0)) (λ x. x) (λ x. x) (TReads.as-is 𝓤 H A q28) (TReads.as-is 𝓤 H A (Relend.mslice-owed (Signed.SInt Syntax.w32) q42 3 7 (Row.lease (κs .1 .1 .1 .0) (qs .1 .1 .1 .0)))) Path.refl Path.refl) d52
 
-          d54 : Typed.Typed 𝓤 H A 𝓣 E G14 b44 Δ0 at54
-          d54 = Typed.g-pre 𝓤 H A W 𝓣 E G14 G15 b44 Δ0 (λ Ψ. Ψ) at53 (Lifetime.g-end 𝓤 H A W E G14 8 Path.refl) d53
+          d54 : Typed.Typed 𝓤 H A 𝓣 E G6 b41 Δ0 at54
+          d54 = Typed.g-pre 𝓤 H A W 𝓣 E G6 G7 b41 Δ0 (λ Ψ. Ψ) at53 (Lifetime.g-end 𝓤 H A W E G6 7 Path.refl) d53
 
-          d55 : Typed.Typed 𝓤 H A 𝓣 E G13 b44 Δ0 at55
-          d55 = Typed.g-pre 𝓤 H A W 𝓣 E G13 G14 b44 Δ0 (Typed.pass T13 T14 s12) at54 (Scalar.g-room 𝓤 H A W E G13 9 Syntax.tyUnit (Scalar.room-sc 𝓤 H A W Row.sUnit)) d54
+          d55 : Typed.Typed 𝓤 H A 𝓣 E G5 b41 Δ0 at55
+          d55 = Typed.g-pre 𝓤 H A W 𝓣 E G5 G6 b41 Δ0 (Typed.pass T5 T6 s4) at54 (Scalar.g-room 𝓤 H A W E G5 9 Syntax.tyUnit (Scalar.room-sc 𝓤 H A W Row.sUnit)) d54
 
-          d56 : Typed.Typed 𝓤 H A 𝓣 E G12 b45 Δ0 at56
-          d56 = Typed.s-seq 𝓤 H A W 𝓣 E G12 G13 b5 b44 Δ0 (Typed.both s11) at55 (Plain.t-call-plain 𝓤 H A W 𝓣 1 ps·0 r·0 (claims· .0) (claims· .1) "loops::clear" (known .0) E (λ pos β. β) G12 (record { pos = 13; ty = Syntax.tyRef Syntax.erased Syntax.mut (Syntax.tyInt Syntax.w32); ref = λ x. x }, tt) 9 (L._∷_ 8 L.[]) (Call.sub-id 𝓤 H A W (G12 .slots)) (TReads.as-is 𝓤 H A (Mut.mslice (Signed.SInt Syntax.w32) q50 8), Mut.reads-mslice 𝓤 H A W (Signed.SInt Syntax.w32) q50 8, Path.refl, tt) (TReads.room-gone 𝓤 H A Syntax.tyUnit) (tt, tt) Path.refl) d55
+          d56 : Typed.Typed 𝓤 H A 𝓣 E G4 b42 Δ0 at56
+          d56 = Typed.s-seq 𝓤 H A W 𝓣 E G4 G5 b2 b41 Δ0 (Typed.both s3) at55 (Plain.t-call-plain 𝓤 H A W 𝓣 1 ps·0 r·0 (claims· .0) (claims· .1) "loops::clear" (known .0) E (λ pos β. β) G4 (record { pos = 11; ty = Syntax.tyRef Syntax.erased Syntax.mut (Syntax.tyInt Syntax.w32); ref = λ x. x }, tt) 9 (L._∷_ 7 L.[]) (Call.sub-id 𝓤 H A W (G4 .slots)) (TReads.as-is 𝓤 H A (Mut.mslice (Signed.SInt Syntax.w32) q45 7), Mut.reads-mslice 𝓤 H A W (Signed.SInt Syntax.w32) q45 7, Path.refl, tt) (TReads.room-gone 𝓤 H A Syntax.tyUnit) (tt, tt) Path.refl) d55
 
-          d57 : Typed.Typed 𝓤 H A 𝓣 E G11 b46 Δ0 at57
-          d57 = Typed.s-seq 𝓤 H A W 𝓣 E G11 G12 b4 b45 Δ0 (Typed.ask s10) at56 (Relend.t-sl-aggregate 𝓤 H A W E (Signed.SInt Syntax.w32) 𝓣 (Relend.asMut (Signed.SInt Syntax.w32)) G11 12 13 8 q50 q50 (λ x. x) (Scalar.oFld 5 (L._∷_ (Syntax.field 1) L.[]) (Syntax.tyInt Syntax.w64) 8 λ v. Shared.lenV (v .0)) (TReads.as-is 𝓤 H A (Relend.msptr (Signed.SInt Syntax.w32) q50 8)) (TReads.room-gone 𝓤 H A q12) (Relend.reads-owed-len 𝓤 H A W (Signed.SInt Syntax.w32) q48 4 8 (Row.lease (κs .1 .1 .1 .1 .0) (qs .1 .1 .1 .1 .0)) 8 Path.refl, Path.refl) Path.refl Path.refl λ b o k. tt) d56
+          d57 : Typed.Typed 𝓤 H A 𝓣 E G3 b43 Δ0 at57
+          d57 = Typed.s-seq 𝓤 H A W 𝓣 E G3 G4 b1 b42 Δ0 (Typed.ask s2) at56 (Relend.t-sl-aggregate 𝓤 H A W E (Signed.SInt Syntax.w32) 𝓣 (Relend.asMut (Signed.SInt Syntax.w32)) G3 10 11 7 q45 q45 (λ x. x) (Scalar.oFld 4 (L._∷_ (Syntax.field 1) L.[]) (Syntax.tyInt Syntax.w64) 8 λ v. Shared.lenV (v .0)) (TReads.as-is 𝓤 H A (Relend.msptr (Signed.SInt Syntax.w32) q45 7)) (TReads.room-gone 𝓤 H A q11) (Relend.reads-owed-len 𝓤 H A W (Signed.SInt Syntax.w32) q42 3 7 (Row.lease (κs .1 .1 .1 .0) (qs .1 .1 .1 .0)) 8 Path.refl, Path.refl) Path.refl Path.refl λ b o k. tt) d56
 
-          d58 : Typed.Typed 𝓤 H A 𝓣 E G10 b47 Δ0 at58
-          d58 = Typed.s-seq 𝓤 H A W 𝓣 E G10 G11 b3 b46 Δ0 (Typed.give s9) at57 (Relend.t-sl-relend 𝓤 H A W E (Signed.SInt Syntax.w32) 𝓣 G10 5 12 4 8 q48 q50 (Row.lease (κs .1 .1 .1 .1 .0) (qs .1 .1 .1 .1 .0)) 0 (λ x. x) (TReads.as-is 𝓤 H A (Mut.mslice (Signed.SInt Syntax.w32) q48 4)) (TReads.room-gone 𝓤 H A q50) Path.refl tt Path.refl Path.refl Path.refl λ b o. tt) d57
+          d58 : Typed.Typed 𝓤 H A 𝓣 E G2 b44 Δ0 at58
+          d58 = Typed.s-seq 𝓤 H A W 𝓣 E G2 G3 b0 b43 Δ0 (Typed.give s1) at57 (Relend.t-sl-relend 𝓤 H A W E (Signed.SInt Syntax.w32) 𝓣 G2 4 10 3 7 q42 q45 (Row.lease (κs .1 .1 .1 .0) (qs .1 .1 .1 .0)) 0 (λ x. x) (TReads.as-is 𝓤 H A (Mut.mslice (Signed.SInt Syntax.w32) q42 3)) (TReads.room-gone 𝓤 H A q45) Path.refl tt Path.refl Path.refl Path.refl λ b o. tt) d57
 
-          d59 : Typed.Typed 𝓤 H A 𝓣 E G9 b47 Δ0 at59
-          d59 = Typed.g-pre 𝓤 H A W 𝓣 E G9 G10 b47 Δ0 (λ Ψ. Ψ) at58 (Lifetime.g-begin 𝓤 H A W E G9 8 (tt, (tt, (tt, (tt, (tt, (tt, (tt, (tt, (tt, (tt, (tt, (tt, (tt, (tt, (tt, (tt, (tt, (tt, (tt, (tt, (tt, (tt, (tt, (tt, (tt, (tt, (tt, (tt, tt))))))))))))))))))))))))))))) d58
+          d59 : Typed.Typed 𝓤 H A 𝓣 E G0 b44 Δ0 at59
+          d59 = Typed.g-pre 𝓤 H A W 𝓣 E G0 G2 b44 Δ0 (λ Ψ. Ψ) at58 (Lifetime.g-begin 𝓤 H A W E G0 7 (tt, (tt, (tt, (tt, (tt, (tt, (tt, (tt, (tt, (tt, (tt, (tt, (tt, (tt, (tt, (tt, (tt, (tt, (tt, (tt, (tt, (tt, (tt, (tt, (tt, (tt, tt))))))))))))))))))))))))))) d58
 
-          d60 : Typed.Typed 𝓤 H A 𝓣 E G8 b47 Δ0 at60
-          d60 = Typed.g-pre 𝓤 H A W 𝓣 E G8 G9 b47 Δ0 (λ Ψ. Ψ) at59 (Lifetime.g-forget 𝓤 H A W E G8 7 Row.dead Path.refl) d59
-
-          d61 : Typed.Typed 𝓤 H A 𝓣 E G7 b47 Δ0 at61
-          d61 = Typed.g-pre 𝓤 H A W 𝓣 E G7 G8 b47 Δ0 (Typed.both s6) at60 (Relend.g-back-sl 𝓤 H A W E (Signed.SInt Syntax.w32) G7 11 4 3 7 q47 q50 (Row.lease (κs .1 .1 .1 .0) (qs .1 .1 .1 .0)) (λ x. x) (λ x. x) (TReads.as-is 𝓤 H A q29) (TReads.as-is 𝓤 H A (Relend.mslice-owed (Signed.SInt Syntax.w32) q47 3 7 (Row.lease (κs .1 .1 .1 .0) (qs .1 .1 .1 .0)))) Path.refl Path.refl) d60
-
-          d62 : Typed.Typed 𝓤 H A 𝓣 E G6 b47 Δ0 at62
-          d62 = Typed.g-pre 𝓤 H A W 𝓣 E G6 G7 b47 Δ0 (λ Ψ. Ψ) at61 (Lifetime.g-end 𝓤 H A W E G6 7 Path.refl) d61
-
-          d63 : Typed.Typed 𝓤 H A 𝓣 E G5 b47 Δ0 at63
-          d63 = Typed.g-pre 𝓤 H A W 𝓣 E G5 G6 b47 Δ0 (Typed.pass T5 T6 s4) at62 (Scalar.g-room 𝓤 H A W E G5 9 Syntax.tyUnit (Scalar.room-sc 𝓤 H A W Row.sUnit)) d62
-
-          d64 : Typed.Typed 𝓤 H A 𝓣 E G4 b48 Δ0 at64
-          d64 = Typed.s-seq 𝓤 H A W 𝓣 E G4 G5 b2 b47 Δ0 (Typed.both s3) at63 (Plain.t-call-plain 𝓤 H A W 𝓣 1 ps·0 r·0 (claims· .0) (claims· .1) "loops::clear" (known .0) E (λ pos β. β) G4 (record { pos = 11; ty = Syntax.tyRef Syntax.erased Syntax.mut (Syntax.tyInt Syntax.w32); ref = λ x. x }, tt) 9 (L._∷_ 7 L.[]) (Call.sub-id 𝓤 H A W (G4 .slots)) (TReads.as-is 𝓤 H A (Mut.mslice (Signed.SInt Syntax.w32) q50 7), Mut.reads-mslice 𝓤 H A W (Signed.SInt Syntax.w32) q50 7, Path.refl, tt) (TReads.room-gone 𝓤 H A Syntax.tyUnit) (tt, tt) Path.refl) d63
-
-          d65 : Typed.Typed 𝓤 H A 𝓣 E G3 b49 Δ0 at65
-          d65 = Typed.s-seq 𝓤 H A W 𝓣 E G3 G4 b1 b48 Δ0 (Typed.ask s2) at64 (Relend.t-sl-aggregate 𝓤 H A W E (Signed.SInt Syntax.w32) 𝓣 (Relend.asMut (Signed.SInt Syntax.w32)) G3 10 11 7 q50 q50 (λ x. x) (Scalar.oFld 4 (L._∷_ (Syntax.field 1) L.[]) (Syntax.tyInt Syntax.w64) 8 λ v. Shared.lenV (v .0)) (TReads.as-is 𝓤 H A (Relend.msptr (Signed.SInt Syntax.w32) q50 7)) (TReads.room-gone 𝓤 H A q12) (Relend.reads-owed-len 𝓤 H A W (Signed.SInt Syntax.w32) q47 3 7 (Row.lease (κs .1 .1 .1 .0) (qs .1 .1 .1 .0)) 8 Path.refl, Path.refl) Path.refl Path.refl λ b o k. tt) d64
-
-          d66 : Typed.Typed 𝓤 H A 𝓣 E G2 b50 Δ0 at66
-          d66 = Typed.s-seq 𝓤 H A W 𝓣 E G2 G3 b0 b49 Δ0 (Typed.give s1) at65 (Relend.t-sl-relend 𝓤 H A W E (Signed.SInt Syntax.w32) 𝓣 G2 4 10 3 7 q47 q50 (Row.lease (κs .1 .1 .1 .0) (qs .1 .1 .1 .0)) 0 (λ x. x) (TReads.as-is 𝓤 H A (Mut.mslice (Signed.SInt Syntax.w32) q47 3)) (TReads.room-gone 𝓤 H A q50) Path.refl tt Path.refl Path.refl Path.refl λ b o. tt) d65
-
-          d67 : Typed.Typed 𝓤 H A 𝓣 E G0 b50 Δ0 at67
-          d67 = Typed.g-pre 𝓤 H A W 𝓣 E G0 G2 b50 Δ0 (λ Ψ. Ψ) at66 (Lifetime.g-begin 𝓤 H A W E G0 7 (tt, (tt, (tt, (tt, (tt, (tt, (tt, (tt, (tt, (tt, (tt, (tt, (tt, (tt, (tt, (tt, (tt, (tt, (tt, (tt, (tt, (tt, (tt, (tt, (tt, (tt, (tt, (tt, tt))))))))))))))))))))))))))))) d66
-
-          pub typed : Typed.Typed 𝓤 H A 𝓣 E (Function.Γin 7 ps r xs m κs qs) b50 (Function.Δret 7 ps r xs m κs qs) Φ
-          typed = d67
+          pub typed : Typed.Typed 𝓤 H A 𝓣 E (Function.Γin 7 ps r xs m κs qs) b44 (Function.Δret 7 ps r xs m κs qs) Φ
+          typed = d59
 
       module _ (κs : Lifetimes.Lfts 7) where
         pub record Args : Type 0 where
@@ -1629,173 +1467,173 @@ module _ (claims· : Claims) where
       m12 = λ before given. s18 .next (m11 before given)
 
       module _ (before· : After-values) where
-        pub record After-clear-arg3·own : Type 0 where
+        pub record After-restore-in-arg·own : Type 0 where
           pub given : s17 .gives (m10 (before· .before) (before· .values .given))
 
-      pub record After-clear-arg3 : Type 0 where
+      pub record After-restore-in-arg : Type 0 where
         pub before : After-values
-        pub clear-arg3 : After-clear-arg3·own before
+        pub restore-in-arg : After-restore-in-arg·own before
 
-      abbrev pub Need-clear-requires-3 : Type 0
-      Need-clear-requires-3 = (c : After-clear-arg3) → s19 .asks (m12 (c .before) (c .clear-arg3 .given))
+      abbrev pub m13 : (before : After-restore-in-arg) → (given : s20 .gives (m12 (before .before) (before .restore-in-arg .given))) → Typed.Mo T22
+      m13 = λ before given. s20 .next (m12 (before .before) (before .restore-in-arg .given)) given
 
-      abbrev pub m13 : (before : After-clear-arg3) → (given : s19 .gives (m12 (before .before) (before .clear-arg3 .given))) → Typed.Mo T21
-      m13 = λ before given. s19 .next (m12 (before .before) (before .clear-arg3 .given)) given
+      abbrev pub m14 : (before : After-restore-in-arg) → (given : s20 .gives (m12 (before .before) (before .restore-in-arg .given))) → Typed.Mo T23
+      m14 = λ before given. s21 .next (m13 before given)
 
-      module _ (before· : After-clear-arg3) where
-        abbrev pub After-clear3·own : Type 0
-        After-clear3·own = Called.Called ps·1 r·1 (claims· .3) T20 (record { pos = 15; ty = Syntax.tyRef Syntax.erased Syntax.mut Rec.named; ref = λ x. x }, tt) (m12 (before· .before) (before· .clear-arg3 .given))
+      module _ (before· : After-restore-in-arg) where
+        pub record After-restore-in-arg2·own : Type 0 where
+          pub given : s20 .gives (m12 (before· .before) (before· .restore-in-arg .given))
 
-      pub record After-clear3 : Type 0 where
-        pub before : After-clear-arg3
-        pub clear3 : After-clear3·own before
+      pub record After-restore-in-arg2 : Type 0 where
+        pub before : After-restore-in-arg
+        pub restore-in-arg2 : After-restore-in-arg2·own before
 
-      abbrev pub After-clear3·gave : (c : After-clear3) → s19 .gives (m12 (c .before .before) (c .before .clear-arg3 .given))
-      After-clear3·gave = λ c. Called.given ps·1 r·1 (claims· .3) T20 (record { pos = 15; ty = Syntax.tyRef Syntax.erased Syntax.mut Rec.named; ref = λ x. x }, tt) (m12 (c .before .before) (c .before .clear-arg3 .given)) (c .clear3)
+      abbrev pub m15 : (before : After-restore-in-arg2) → (given : s23 .gives (m14 (before .before) (before .restore-in-arg2 .given))) → Typed.Mo T25
+      m15 = λ before given. s23 .next (m14 (before .before) (before .restore-in-arg2 .given)) given
 
-      abbrev pub m14 : (before : After-clear-arg3) → (given : s19 .gives (m12 (before .before) (before .clear-arg3 .given))) → Typed.Mo T22
-      m14 = λ before given. s20 (m13 before given)
+      abbrev pub m16 : (before : After-restore-in-arg2) → (given : s23 .gives (m14 (before .before) (before .restore-in-arg2 .given))) → Typed.Mo T26
+      m16 = λ before given. s24 .next (m15 before given)
 
-      abbrev pub m15 : (before : After-clear3) → (given : s22 .gives (m14 (before .before) (After-clear3·gave before))) → Typed.Mo T24
-      m15 = λ before given. s22 .next (m14 (before .before) (After-clear3·gave before)) given
+      module _ (before· : After-restore-in-arg2) where
+        pub record After-restore-in-arg3·own : Type 0 where
+          pub given : s23 .gives (m14 (before· .before) (before· .restore-in-arg2 .given))
 
-      module _ (before· : After-clear3) where
-        pub record After-arcs·own : Type 0 where
-          pub given : s22 .gives (m14 (before· .before) (After-clear3·gave before·))
+      pub record After-restore-in-arg3 : Type 0 where
+        pub before : After-restore-in-arg2
+        pub restore-in-arg3 : After-restore-in-arg3·own before
 
-      pub record After-arcs : Type 0 where
-        pub before : After-clear3
-        pub arcs : After-arcs·own before
+      abbrev pub m17 : (before : After-restore-in-arg3) → (given : s26 .gives (m16 (before .before) (before .restore-in-arg3 .given))) → Typed.Mo T28
+      m17 = λ before given. s26 .next (m16 (before .before) (before .restore-in-arg3 .given)) given
 
-      abbrev pub m16 : (before : After-arcs) → (given : s25 .gives (m15 (before .before) (before .arcs .given))) → Typed.Mo T27
-      m16 = λ before given. s25 .next (m15 (before .before) (before .arcs .given)) given
+      abbrev pub m18 : (before : After-restore-in-arg3) → (given : s26 .gives (m16 (before .before) (before .restore-in-arg3 .given))) → Typed.Mo T29
+      m18 = λ before given. s27 .next (m17 before given)
 
-      abbrev pub m17 : (before : After-arcs) → (given : s25 .gives (m15 (before .before) (before .arcs .given))) → Typed.Mo T28
-      m17 = λ before given. s26 .next (m16 before given)
+      module _ (before· : After-restore-in-arg3) where
+        pub record After-restore-in-arg4·own : Type 0 where
+          pub given : s26 .gives (m16 (before· .before) (before· .restore-in-arg3 .given))
 
-      module _ (before· : After-arcs) where
-        pub record After-ask-all-arg·own : Type 0 where
-          pub given : s25 .gives (m15 (before· .before) (before· .arcs .given))
+      pub record After-restore-in-arg4 : Type 0 where
+        pub before : After-restore-in-arg3
+        pub restore-in-arg4 : After-restore-in-arg4·own before
 
-      pub record After-ask-all-arg : Type 0 where
-        pub before : After-arcs
-        pub ask-all-arg : After-ask-all-arg·own before
+      abbrev pub Need-restore-in-requires : Type 0
+      Need-restore-in-requires = (c : After-restore-in-arg4) → s28 .asks (m18 (c .before) (c .restore-in-arg4 .given))
 
-      abbrev pub m18 : (before : After-ask-all-arg) → (given : s28 .gives (m17 (before .before) (before .ask-all-arg .given))) → Typed.Mo T30
-      m18 = λ before given. s28 .next (m17 (before .before) (before .ask-all-arg .given)) given
+      abbrev pub m19 : (before : After-restore-in-arg4) → (given : s28 .gives (m18 (before .before) (before .restore-in-arg4 .given))) → Typed.Mo T30
+      m19 = λ before given. s28 .next (m18 (before .before) (before .restore-in-arg4 .given)) given
 
-      abbrev pub m19 : (before : After-ask-all-arg) → (given : s28 .gives (m17 (before .before) (before .ask-all-arg .given))) → Typed.Mo T31
-      m19 = λ before given. s29 .next (m18 before given)
+      module _ (before· : After-restore-in-arg4) where
+        abbrev pub After-restore-in·own : Type 0
+        After-restore-in·own = Called.Called ps·1 r·1 (claims· .3) T29 (record { pos = 1; ty = Syntax.tyRef (Syntax.named 0) Syntax.imm (Syntax.tyInt Syntax.w32); ref = λ x. x }, (record { pos = 2; ty = Syntax.tyRef (Syntax.named 1) Syntax.imm (Syntax.tyInt Syntax.w32); ref = λ x. x }, (record { pos = 3; ty = Syntax.tyRef (Syntax.named 2) Syntax.imm (Syntax.tyInt Syntax.w32); ref = λ x. x }, (record { pos = 15; ty = Syntax.tyRef Syntax.erased Syntax.mut (Syntax.tyInt Syntax.w32); ref = λ x. x }, (record { pos = 17; ty = Syntax.tyRef Syntax.erased Syntax.mut (Syntax.tyInt Syntax.w32); ref = λ x. x }, (record { pos = 19; ty = Syntax.tyRef Syntax.erased Syntax.mut (Syntax.tyInt Syntax.w32); ref = λ x. x }, (record { pos = 21; ty = Syntax.tyRef Syntax.erased Syntax.mut Rec.named; ref = λ x. x }, tt))))))) (m18 (before· .before) (before· .restore-in-arg4 .given))
 
-      module _ (before· : After-ask-all-arg) where
-        pub record After-ask-all-arg2·own : Type 0 where
-          pub given : s28 .gives (m17 (before· .before) (before· .ask-all-arg .given))
+      pub record After-restore-in : Type 0 where
+        pub before : After-restore-in-arg4
+        pub restore-in : After-restore-in·own before
 
-      pub record After-ask-all-arg2 : Type 0 where
-        pub before : After-ask-all-arg
-        pub ask-all-arg2 : After-ask-all-arg2·own before
+      abbrev pub After-restore-in·gave : (c : After-restore-in) → s28 .gives (m18 (c .before .before) (c .before .restore-in-arg4 .given))
+      After-restore-in·gave = λ c. Called.given ps·1 r·1 (claims· .3) T29 (record { pos = 1; ty = Syntax.tyRef (Syntax.named 0) Syntax.imm (Syntax.tyInt Syntax.w32); ref = λ x. x }, (record { pos = 2; ty = Syntax.tyRef (Syntax.named 1) Syntax.imm (Syntax.tyInt Syntax.w32); ref = λ x. x }, (record { pos = 3; ty = Syntax.tyRef (Syntax.named 2) Syntax.imm (Syntax.tyInt Syntax.w32); ref = λ x. x }, (record { pos = 15; ty = Syntax.tyRef Syntax.erased Syntax.mut (Syntax.tyInt Syntax.w32); ref = λ x. x }, (record { pos = 17; ty = Syntax.tyRef Syntax.erased Syntax.mut (Syntax.tyInt Syntax.w32); ref = λ x. x }, (record { pos = 19; ty = Syntax.tyRef Syntax.erased Syntax.mut (Syntax.tyInt Syntax.w32); ref = λ x. x }, (record { pos = 21; ty = Syntax.tyRef Syntax.erased Syntax.mut Rec.named; ref = λ x. x }, tt))))))) (m18 (c .before .before) (c .before .restore-in-arg4 .given)) (c .restore-in)
 
-      abbrev pub m20 : (before : After-ask-all-arg2) → (given : s31 .gives (m19 (before .before) (before .ask-all-arg2 .given))) → Typed.Mo T33
-      m20 = λ before given. s31 .next (m19 (before .before) (before .ask-all-arg2 .given)) given
+      abbrev pub m20 : (before : After-restore-in) → (given : s30 .gives (m19 (before .before) (After-restore-in·gave before))) → Typed.Mo T32
+      m20 = λ before given. s30 .next (m19 (before .before) (After-restore-in·gave before)) given
 
-      abbrev pub m21 : (before : After-ask-all-arg2) → (given : s31 .gives (m19 (before .before) (before .ask-all-arg2 .given))) → Typed.Mo T34
-      m21 = λ before given. s32 .next (m20 before given)
-
-      module _ (before· : After-ask-all-arg2) where
-        pub record After-ask-all-arg3·own : Type 0 where
-          pub given : s31 .gives (m19 (before· .before) (before· .ask-all-arg2 .given))
-
-      pub record After-ask-all-arg3 : Type 0 where
-        pub before : After-ask-all-arg2
-        pub ask-all-arg3 : After-ask-all-arg3·own before
-
-      abbrev pub m22 : (before : After-ask-all-arg3) → (given : s34 .gives (m21 (before .before) (before .ask-all-arg3 .given))) → Typed.Mo T36
-      m22 = λ before given. s34 .next (m21 (before .before) (before .ask-all-arg3 .given)) given
-
-      abbrev pub m23 : (before : After-ask-all-arg3) → (given : s34 .gives (m21 (before .before) (before .ask-all-arg3 .given))) → Typed.Mo T37
-      m23 = λ before given. s35 .next (m22 before given)
-
-      module _ (before· : After-ask-all-arg3) where
-        pub record After-ask-all-arg4·own : Type 0 where
-          pub given : s34 .gives (m21 (before· .before) (before· .ask-all-arg3 .given))
-
-      pub record After-ask-all-arg4 : Type 0 where
-        pub before : After-ask-all-arg3
-        pub ask-all-arg4 : After-ask-all-arg4·own before
-
-      abbrev pub Need-ask-all-requires : Type 0
-      Need-ask-all-requires = (c : After-ask-all-arg4) → s36 .asks (m23 (c .before) (c .ask-all-arg4 .given))
-
-      abbrev pub m24 : (before : After-ask-all-arg4) → (given : s36 .gives (m23 (before .before) (before .ask-all-arg4 .given))) → Typed.Mo T38
-      m24 = λ before given. s36 .next (m23 (before .before) (before .ask-all-arg4 .given)) given
-
-      module _ (before· : After-ask-all-arg4) where
-        abbrev pub After-ask-all·own : Type 0
-        After-ask-all·own = Called.Called ps·2 r·2 (claims· .5) T37 (record { pos = 1; ty = Syntax.tyRef (Syntax.named 0) Syntax.imm (Syntax.tyInt Syntax.w32); ref = λ x. x }, (record { pos = 2; ty = Syntax.tyRef (Syntax.named 1) Syntax.imm (Syntax.tyInt Syntax.w32); ref = λ x. x }, (record { pos = 3; ty = Syntax.tyRef (Syntax.named 2) Syntax.imm (Syntax.tyInt Syntax.w32); ref = λ x. x }, (record { pos = 17; ty = Syntax.tyRef Syntax.erased Syntax.mut (Syntax.tyInt Syntax.w32); ref = λ x. x }, (record { pos = 19; ty = Syntax.tyRef Syntax.erased Syntax.mut (Syntax.tyInt Syntax.w32); ref = λ x. x }, (record { pos = 21; ty = Syntax.tyRef Syntax.erased Syntax.mut (Syntax.tyInt Syntax.w32); ref = λ x. x }, (record { pos = 23; ty = Syntax.tyRef Syntax.erased Syntax.mut Rec.named; ref = λ x. x }, tt))))))) (m23 (before· .before) (before· .ask-all-arg4 .given))
-
-      pub record After-ask-all : Type 0 where
-        pub before : After-ask-all-arg4
-        pub ask-all : After-ask-all·own before
-
-      abbrev pub After-ask-all·gave : (c : After-ask-all) → s36 .gives (m23 (c .before .before) (c .before .ask-all-arg4 .given))
-      After-ask-all·gave = λ c. Called.given ps·2 r·2 (claims· .5) T37 (record { pos = 1; ty = Syntax.tyRef (Syntax.named 0) Syntax.imm (Syntax.tyInt Syntax.w32); ref = λ x. x }, (record { pos = 2; ty = Syntax.tyRef (Syntax.named 1) Syntax.imm (Syntax.tyInt Syntax.w32); ref = λ x. x }, (record { pos = 3; ty = Syntax.tyRef (Syntax.named 2) Syntax.imm (Syntax.tyInt Syntax.w32); ref = λ x. x }, (record { pos = 17; ty = Syntax.tyRef Syntax.erased Syntax.mut (Syntax.tyInt Syntax.w32); ref = λ x. x }, (record { pos = 19; ty = Syntax.tyRef Syntax.erased Syntax.mut (Syntax.tyInt Syntax.w32); ref = λ x. x }, (record { pos = 21; ty = Syntax.tyRef Syntax.erased Syntax.mut (Syntax.tyInt Syntax.w32); ref = λ x. x }, (record { pos = 23; ty = Syntax.tyRef Syntax.erased Syntax.mut Rec.named; ref = λ x. x }, tt))))))) (m23 (c .before .before) (c .before .ask-all-arg4 .given)) (c .ask-all)
-
-      abbrev pub m25 : (before : After-ask-all) → (given : s38 .gives (m24 (before .before) (After-ask-all·gave before))) → Typed.Mo T40
-      m25 = λ before given. s38 .next (m24 (before .before) (After-ask-all·gave before)) given
-
-      module _ (before· : After-ask-all) where
+      module _ (before· : After-restore-in) where
         pub record After-out2·own : Type 0 where
-          pub given : s38 .gives (m24 (before· .before) (After-ask-all·gave before·))
+          pub given : s30 .gives (m19 (before· .before) (After-restore-in·gave before·))
 
       pub record After-out2 : Type 0 where
-        pub before : After-ask-all
+        pub before : After-restore-in
         pub out2 : After-out2·own before
 
-      abbrev pub m26 : (before : After-out2) → (given : s41 .gives (m25 (before .before) (before .out2 .given))) → Typed.Mo T43
-      m26 = λ before given. s41 .next (m25 (before .before) (before .out2 .given)) given
+      abbrev pub m21 : (before : After-out2) → (given : s33 .gives (m20 (before .before) (before .out2 .given))) → Typed.Mo T35
+      m21 = λ before given. s33 .next (m20 (before .before) (before .out2 .given)) given
 
       module _ (before· : After-out2) where
         pub record After-values2·own : Type 0 where
-          pub given : s41 .gives (m25 (before· .before) (before· .out2 .given))
+          pub given : s33 .gives (m20 (before· .before) (before· .out2 .given))
 
       pub record After-values2 : Type 0 where
         pub before : After-out2
         pub values2 : After-values2·own before
 
-      abbrev pub m27 : (before : After-values2) → (given : s44 .gives (m26 (before .before) (before .values2 .given))) → Typed.Mo T46
-      m27 = λ before given. s44 .next (m26 (before .before) (before .values2 .given)) given
+      abbrev pub m22 : (before : After-values2) → (given : s36 .gives (m21 (before .before) (before .values2 .given))) → Typed.Mo T38
+      m22 = λ before given. s36 .next (m21 (before .before) (before .values2 .given)) given
 
       module _ (before· : After-values2) where
         pub record After-scratch·own : Type 0 where
-          pub given : s44 .gives (m26 (before· .before) (before· .values2 .given))
+          pub given : s36 .gives (m21 (before· .before) (before· .values2 .given))
 
       pub record After-scratch : Type 0 where
         pub before : After-values2
         pub scratch : After-scratch·own before
 
-      abbrev pub m28 : (before : After-scratch) → (given : s47 .gives (m27 (before .before) (before .scratch .given))) → Typed.Mo T49
-      m28 = λ before given. s47 .next (m27 (before .before) (before .scratch .given)) given
+      abbrev pub m23 : (before : After-scratch) → (given : s39 .gives (m22 (before .before) (before .scratch .given))) → Typed.Mo T41
+      m23 = λ before given. s39 .next (m22 (before .before) (before .scratch .given)) given
 
       module _ (before· : After-scratch) where
-        pub record After-arcs2·own : Type 0 where
-          pub given : s47 .gives (m27 (before· .before) (before· .scratch .given))
+        pub record After-arcs·own : Type 0 where
+          pub given : s39 .gives (m22 (before· .before) (before· .scratch .given))
 
-      pub record After-arcs2 : Type 0 where
+      pub record After-arcs : Type 0 where
         pub before : After-scratch
-        pub arcs2 : After-arcs2·own before
+        pub arcs : After-arcs·own before
 
-      abbrev pub m29 : (before : After-arcs2) → (given : s50 .gives (m28 (before .before) (before .arcs2 .given))) → Typed.Mo T52
-      m29 = λ before given. s50 .next (m28 (before .before) (before .arcs2 .given)) given
+      abbrev pub m24 : (before : After-arcs) → (given : s42 .gives (m23 (before .before) (before .arcs .given))) → Typed.Mo T44
+      m24 = λ before given. s42 .next (m23 (before .before) (before .arcs .given)) given
 
-      abbrev pub m30 : (before : After-arcs2) → (given : s50 .gives (m28 (before .before) (before .arcs2 .given))) → Typed.Mo T53
+      abbrev pub m25 : (before : After-arcs) → (given : s42 .gives (m23 (before .before) (before .arcs .given))) → Typed.Mo T45
+      m25 = λ before given. s43 .next (m24 before given)
+
+      module _ (before· : After-arcs) where
+        pub record After-clear-arg3·own : Type 0 where
+          pub given : s42 .gives (m23 (before· .before) (before· .arcs .given))
+
+      pub record After-clear-arg3 : Type 0 where
+        pub before : After-arcs
+        pub clear-arg3 : After-clear-arg3·own before
+
+      abbrev pub Need-clear-requires-3 : Type 0
+      Need-clear-requires-3 = (c : After-clear-arg3) → s44 .asks (m25 (c .before) (c .clear-arg3 .given))
+
+      abbrev pub m26 : (before : After-clear-arg3) → (given : s44 .gives (m25 (before .before) (before .clear-arg3 .given))) → Typed.Mo T46
+      m26 = λ before given. s44 .next (m25 (before .before) (before .clear-arg3 .given)) given
+
+      module _ (before· : After-clear-arg3) where
+        abbrev pub After-clear3·own : Type 0
+        After-clear3·own = Called.Called ps·0 r·0 (claims· .1) T45 (record { pos = 23; ty = Syntax.tyRef Syntax.erased Syntax.mut (Syntax.tyInt Syntax.w32); ref = λ x. x }, tt) (m25 (before· .before) (before· .clear-arg3 .given))
+
+      pub record After-clear3 : Type 0 where
+        pub before : After-clear-arg3
+        pub clear3 : After-clear3·own before
+
+      abbrev pub After-clear3·gave : (c : After-clear3) → s44 .gives (m25 (c .before .before) (c .before .clear-arg3 .given))
+      After-clear3·gave = λ c. Called.given ps·0 r·0 (claims· .1) T45 (record { pos = 23; ty = Syntax.tyRef Syntax.erased Syntax.mut (Syntax.tyInt Syntax.w32); ref = λ x. x }, tt) (m25 (c .before .before) (c .before .clear-arg3 .given)) (c .clear3)
+
+      abbrev pub m27 : (before : After-clear-arg3) → (given : s44 .gives (m25 (before .before) (before .clear-arg3 .given))) → Typed.Mo T47
+      m27 = λ before given. s45 (m26 before given)
+
+      abbrev pub m28 : (before : After-clear3) → (given : s47 .gives (m27 (before .before) (After-clear3·gave before))) → Typed.Mo T49
+      m28 = λ before given. s47 .next (m27 (before .before) (After-clear3·gave before)) given
+
+      module _ (before· : After-clear3) where
+        pub record After-scratch2·own : Type 0 where
+          pub given : s47 .gives (m27 (before· .before) (After-clear3·gave before·))
+
+      pub record After-scratch2 : Type 0 where
+        pub before : After-clear3
+        pub scratch2 : After-scratch2·own before
+
+      abbrev pub m29 : (before : After-scratch2) → (given : s50 .gives (m28 (before .before) (before .scratch2 .given))) → Typed.Mo T52
+      m29 = λ before given. s50 .next (m28 (before .before) (before .scratch2 .given)) given
+
+      abbrev pub m30 : (before : After-scratch2) → (given : s50 .gives (m28 (before .before) (before .scratch2 .given))) → Typed.Mo T53
       m30 = λ before given. s51 .next (m29 before given)
 
-      module _ (before· : After-arcs2) where
+      module _ (before· : After-scratch2) where
         pub record After-clear-arg4·own : Type 0 where
-          pub given : s50 .gives (m28 (before· .before) (before· .arcs2 .given))
+          pub given : s50 .gives (m28 (before· .before) (before· .scratch2 .given))
 
       pub record After-clear-arg4 : Type 0 where
-        pub before : After-arcs2
+        pub before : After-scratch2
         pub clear-arg4 : After-clear-arg4·own before
 
       abbrev pub Need-clear-requires-4 : Type 0
@@ -1806,14 +1644,14 @@ module _ (claims· : Claims) where
 
       module _ (before· : After-clear-arg4) where
         abbrev pub After-clear4·own : Type 0
-        After-clear4·own = Called.Called ps·0 r·0 (claims· .1) T53 (record { pos = 25; ty = Syntax.tyRef Syntax.erased Syntax.mut (Syntax.tyInt Syntax.w32); ref = λ x. x }, tt) (m30 (before· .before) (before· .clear-arg4 .given))
+        After-clear4·own = Called.Called ps·2 r·2 (claims· .5) T53 (record { pos = 25; ty = Syntax.tyRef Syntax.erased Syntax.mut Rec.named; ref = λ x. x }, tt) (m30 (before· .before) (before· .clear-arg4 .given))
 
       pub record After-clear4 : Type 0 where
         pub before : After-clear-arg4
         pub clear4 : After-clear4·own before
 
       abbrev pub After-clear4·gave : (c : After-clear4) → s52 .gives (m30 (c .before .before) (c .before .clear-arg4 .given))
-      After-clear4·gave = λ c. Called.given ps·0 r·0 (claims· .1) T53 (record { pos = 25; ty = Syntax.tyRef Syntax.erased Syntax.mut (Syntax.tyInt Syntax.w32); ref = λ x. x }, tt) (m30 (c .before .before) (c .before .clear-arg4 .given)) (c .clear4)
+      After-clear4·gave = λ c. Called.given ps·2 r·2 (claims· .5) T53 (record { pos = 25; ty = Syntax.tyRef Syntax.erased Syntax.mut Rec.named; ref = λ x. x }, tt) (m30 (c .before .before) (c .before .clear-arg4 .given)) (c .clear4)
 
       abbrev pub m32 : (before : After-clear-arg4) → (given : s52 .gives (m30 (before .before) (before .clear-arg4 .given))) → Typed.Mo T55
       m32 = λ before given. s53 (m31 before given)
@@ -1821,106 +1659,58 @@ module _ (claims· : Claims) where
       abbrev pub m33 : (before : After-clear4) → (given : s55 .gives (m32 (before .before) (After-clear4·gave before))) → Typed.Mo T57
       m33 = λ before given. s55 .next (m32 (before .before) (After-clear4·gave before)) given
 
+      abbrev pub m34 : (before : After-clear4) → (given : s55 .gives (m32 (before .before) (After-clear4·gave before))) → Typed.Mo T59
+      m34 = λ before given. s57 (m33 before given)
+
+      abbrev pub m35 : (before : After-clear4) → (given : s55 .gives (m32 (before .before) (After-clear4·gave before))) → Typed.Mo T60
+      m35 = λ before given. s58 (m34 before given)
+
       module _ (before· : After-clear4) where
-        pub record After-scratch2·own : Type 0 where
+        pub record After-arcs2·own : Type 0 where
           pub given : s55 .gives (m32 (before· .before) (After-clear4·gave before·))
 
-      pub record After-scratch2 : Type 0 where
+      pub record After-arcs2 : Type 0 where
         pub before : After-clear4
-        pub scratch2 : After-scratch2·own before
-
-      abbrev pub m34 : (before : After-scratch2) → (given : s58 .gives (m33 (before .before) (before .scratch2 .given))) → Typed.Mo T60
-      m34 = λ before given. s58 .next (m33 (before .before) (before .scratch2 .given)) given
-
-      abbrev pub m35 : (before : After-scratch2) → (given : s58 .gives (m33 (before .before) (before .scratch2 .given))) → Typed.Mo T61
-      m35 = λ before given. s59 .next (m34 before given)
-
-      module _ (before· : After-scratch2) where
-        pub record After-clear-arg5·own : Type 0 where
-          pub given : s58 .gives (m33 (before· .before) (before· .scratch2 .given))
-
-      pub record After-clear-arg5 : Type 0 where
-        pub before : After-scratch2
-        pub clear-arg5 : After-clear-arg5·own before
-
-      abbrev pub Need-clear-requires-5 : Type 0
-      Need-clear-requires-5 = (c : After-clear-arg5) → s60 .asks (m35 (c .before) (c .clear-arg5 .given))
-
-      abbrev pub m36 : (before : After-clear-arg5) → (given : s60 .gives (m35 (before .before) (before .clear-arg5 .given))) → Typed.Mo T62
-      m36 = λ before given. s60 .next (m35 (before .before) (before .clear-arg5 .given)) given
-
-      module _ (before· : After-clear-arg5) where
-        abbrev pub After-clear5·own : Type 0
-        After-clear5·own = Called.Called ps·1 r·1 (claims· .3) T61 (record { pos = 27; ty = Syntax.tyRef Syntax.erased Syntax.mut Rec.named; ref = λ x. x }, tt) (m35 (before· .before) (before· .clear-arg5 .given))
-
-      pub record After-clear5 : Type 0 where
-        pub before : After-clear-arg5
-        pub clear5 : After-clear5·own before
-
-      abbrev pub After-clear5·gave : (c : After-clear5) → s60 .gives (m35 (c .before .before) (c .before .clear-arg5 .given))
-      After-clear5·gave = λ c. Called.given ps·1 r·1 (claims· .3) T61 (record { pos = 27; ty = Syntax.tyRef Syntax.erased Syntax.mut Rec.named; ref = λ x. x }, tt) (m35 (c .before .before) (c .before .clear-arg5 .given)) (c .clear5)
-
-      abbrev pub m37 : (before : After-clear-arg5) → (given : s60 .gives (m35 (before .before) (before .clear-arg5 .given))) → Typed.Mo T63
-      m37 = λ before given. s61 (m36 before given)
-
-      abbrev pub m38 : (before : After-clear5) → (given : s63 .gives (m37 (before .before) (After-clear5·gave before))) → Typed.Mo T65
-      m38 = λ before given. s63 .next (m37 (before .before) (After-clear5·gave before)) given
-
-      abbrev pub m39 : (before : After-clear5) → (given : s63 .gives (m37 (before .before) (After-clear5·gave before))) → Typed.Mo T67
-      m39 = λ before given. s65 (m38 before given)
-
-      abbrev pub m40 : (before : After-clear5) → (given : s63 .gives (m37 (before .before) (After-clear5·gave before))) → Typed.Mo T68
-      m40 = λ before given. s66 (m39 before given)
-
-      module _ (before· : After-clear5) where
-        pub record After-arcs3·own : Type 0 where
-          pub given : s63 .gives (m37 (before· .before) (After-clear5·gave before·))
-
-      pub record After-arcs3 : Type 0 where
-        pub before : After-clear5
-        pub arcs3 : After-arcs3·own before
+        pub arcs2 : After-arcs2·own before
 
       abbrev pub Need-same-length : Type 0
-      Need-same-length = (c : After-arcs3) → MutSlice.SameLen (Row.get 4 (T68 .locals) (m40 (c .before) (c .arcs3 .given))) (dens (c .before .before .before .before .before .before .before .before .before .before .before .before .before .before .before .before .before .before .before .before .before .before .before .before .κs) (c .before .before .before .before .before .before .before .before .before .before .before .before .before .before .before .before .before .before .before .before .before .before .before .before .args) .1 .1 .1 .0)
+      Need-same-length = (c : After-arcs2) → MutSlice.SameLen (Row.get 4 (T60 .locals) (m35 (c .before) (c .arcs2 .given))) (dens (c .before .before .before .before .before .before .before .before .before .before .before .before .before .before .before .before .before .before .before .before .before .κs) (c .before .before .before .before .before .before .before .before .before .before .before .before .before .before .before .before .before .before .before .before .before .args) .1 .1 .1 .0)
 
       abbrev pub Need-same-length-2 : Type 0
-      Need-same-length-2 = (c : After-arcs3) → MutSlice.SameLen (Row.get 5 (T68 .locals) (m40 (c .before) (c .arcs3 .given))) (dens (c .before .before .before .before .before .before .before .before .before .before .before .before .before .before .before .before .before .before .before .before .before .before .before .before .κs) (c .before .before .before .before .before .before .before .before .before .before .before .before .before .before .before .before .before .before .before .before .before .before .before .before .args) .1 .1 .1 .1 .0)
+      Need-same-length-2 = (c : After-arcs2) → MutSlice.SameLen (Row.get 5 (T60 .locals) (m35 (c .before) (c .arcs2 .given))) (dens (c .before .before .before .before .before .before .before .before .before .before .before .before .before .before .before .before .before .before .before .before .before .κs) (c .before .before .before .before .before .before .before .before .before .before .before .before .before .before .before .before .before .before .before .before .before .args) .1 .1 .1 .1 .0)
 
       abbrev pub Need-same-length-3 : Type 0
-      Need-same-length-3 = (c : After-arcs3) → MutSlice.SameLen (Row.get 6 (T68 .locals) (m40 (c .before) (c .arcs3 .given))) (dens (c .before .before .before .before .before .before .before .before .before .before .before .before .before .before .before .before .before .before .before .before .before .before .before .before .κs) (c .before .before .before .before .before .before .before .before .before .before .before .before .before .before .before .before .before .before .before .before .before .before .before .before .args) .1 .1 .1 .1 .1 .0)
+      Need-same-length-3 = (c : After-arcs2) → MutSlice.SameLen (Row.get 6 (T60 .locals) (m35 (c .before) (c .arcs2 .given))) (dens (c .before .before .before .before .before .before .before .before .before .before .before .before .before .before .before .before .before .before .before .before .before .κs) (c .before .before .before .before .before .before .before .before .before .before .before .before .before .before .before .before .before .before .before .before .before .args) .1 .1 .1 .1 .1 .0)
 
       abbrev pub Need-same-length-4 : Type 0
-      Need-same-length-4 = (c : After-arcs3) → MutSlice.SameLen (Row.get 7 (T68 .locals) (m40 (c .before) (c .arcs3 .given))) (dens (c .before .before .before .before .before .before .before .before .before .before .before .before .before .before .before .before .before .before .before .before .before .before .before .before .κs) (c .before .before .before .before .before .before .before .before .before .before .before .before .before .before .before .before .before .before .before .before .before .before .before .before .args) .1 .1 .1 .1 .1 .1 .0)
+      Need-same-length-4 = (c : After-arcs2) → MutSlice.SameLen (Row.get 7 (T60 .locals) (m35 (c .before) (c .arcs2 .given))) (dens (c .before .before .before .before .before .before .before .before .before .before .before .before .before .before .before .before .before .before .before .before .before .κs) (c .before .before .before .before .before .before .before .before .before .before .before .before .before .before .before .before .before .before .before .before .before .args) .1 .1 .1 .1 .1 .1 .0)
 
       abbrev pub Need-returns : Type 0
-      Need-returns = (c : After-arcs3) → Post· (c .before .before .before .before .before .before .before .before .before .before .before .before .before .before .before .before .before .before .before .before .before .before .before .before .κs) (dens (c .before .before .before .before .before .before .before .before .before .before .before .before .before .before .before .before .before .before .before .before .before .before .before .before .κs) (c .before .before .before .before .before .before .before .before .before .before .before .before .before .before .before .before .before .before .before .before .before .before .before .before .args)) (Function.resV r (c .before .before .before .before .before .before .before .before .before .before .before .before .before .before .before .before .before .before .before .before .before .before .before .before .κs) (m40 (c .before) (c .arcs3 .given) .0)) (Clauses.atExit (FnKinds.endedOf 7 ps r) (c .before .before .before .before .before .before .before .before .before .before .before .before .before .before .before .before .before .before .before .before .before .before .before .before .κs) (dens (c .before .before .before .before .before .before .before .before .before .before .before .before .before .before .before .before .before .before .before .before .before .before .before .before .κs) (c .before .before .before .before .before .before .before .before .before .before .before .before .before .before .before .before .before .before .before .before .before .before .before .before .args)) (Enter.lastsP (c .before .before .before .before .before .before .before .before .before .before .before .before .before .before .before .before .before .before .before .before .before .before .before .before .κs) 1 ps xs (dens (c .before .before .before .before .before .before .before .before .before .before .before .before .before .before .before .before .before .before .before .before .before .before .before .before .κs) (c .before .before .before .before .before .before .before .before .before .before .before .before .before .before .before .before .before .before .before .before .before .before .before .before .args)) (m40 (c .before) (c .arcs3 .given) .1)))
+      Need-returns = (c : After-arcs2) → Post· (c .before .before .before .before .before .before .before .before .before .before .before .before .before .before .before .before .before .before .before .before .before .κs) (dens (c .before .before .before .before .before .before .before .before .before .before .before .before .before .before .before .before .before .before .before .before .before .κs) (c .before .before .before .before .before .before .before .before .before .before .before .before .before .before .before .before .before .before .before .before .before .args)) (Function.resV r (c .before .before .before .before .before .before .before .before .before .before .before .before .before .before .before .before .before .before .before .before .before .κs) (m35 (c .before) (c .arcs2 .given) .0)) (Clauses.atExit (FnKinds.endedOf 7 ps r) (c .before .before .before .before .before .before .before .before .before .before .before .before .before .before .before .before .before .before .before .before .before .κs) (dens (c .before .before .before .before .before .before .before .before .before .before .before .before .before .before .before .before .before .before .before .before .before .κs) (c .before .before .before .before .before .before .before .before .before .before .before .before .before .before .before .before .before .before .before .before .before .args)) (Enter.lastsP (c .before .before .before .before .before .before .before .before .before .before .before .before .before .before .before .before .before .before .before .before .before .κs) 1 ps xs (dens (c .before .before .before .before .before .before .before .before .before .before .before .before .before .before .before .before .before .before .before .before .before .κs) (c .before .before .before .before .before .before .before .before .before .before .before .before .before .before .before .before .before .before .before .before .before .args)) (m35 (c .before) (c .arcs2 .given) .1)))
 
-      module _ (clear-requires : Need-clear-requires) (clear-requires-2 : Need-clear-requires-2) (clear-requires-3 : Need-clear-requires-3) (ask-all-requires : Need-ask-all-requires) (clear-requires-4 : Need-clear-requires-4) (clear-requires-5 : Need-clear-requires-5) (same-length : Need-same-length) (same-length-2 : Need-same-length-2) (same-length-3 : Need-same-length-3) (same-length-4 : Need-same-length-4) (returns : Need-returns) where
-        lay6 : (c : After-clear5) → at6 (W0 (c .before .before .before .before .before .before .before .before .before .before .before .before .before .before .before .before .before .before .before .before .before .before .before .κs) (c .before .before .before .before .before .before .before .before .before .before .before .before .before .before .before .before .before .before .before .before .before .before .before .args)) (m36 (c .before) (After-clear5·gave c))
-        lay6 = λ c. (Path.refl, λ g. ((Path.refl, (Path.refl, (Path.refl, (MutSlice.fix-len (Row.get 4 (T68 .locals) (m40 record { before = c .before; clear5 = c .clear5 } g) .ptr) (Row.get 4 (T68 .locals) (m40 record { before = c .before; clear5 = c .clear5 } g) .name) (Row.get 4 (T68 .locals) (m40 record { before = c .before; clear5 = c .clear5 } g) .now) (dens (c .before .before .before .before .before .before .before .before .before .before .before .before .before .before .before .before .before .before .before .before .before .before .before .κs) (c .before .before .before .before .before .before .before .before .before .before .before .before .before .before .before .before .before .before .before .before .before .before .before .args) .1 .1 .1 .0 .now) (same-length record { before = record { before = c .before; clear5 = c .clear5 }; arcs3 = record { given = g } }), (MutSlice.fix-len (Row.get 5 (T68 .locals) (m40 record { before = c .before; clear5 = c .clear5 } g) .ptr) (Row.get 5 (T68 .locals) (m40 record { before = c .before; clear5 = c .clear5 } g) .name) (Row.get 5 (T68 .locals) (m40 record { before = c .before; clear5 = c .clear5 } g) .now) (dens (c .before .before .before .before .before .before .before .before .before .before .before .before .before .before .before .before .before .before .before .before .before .before .before .κs) (c .before .before .before .before .before .before .before .before .before .before .before .before .before .before .before .before .before .before .before .before .before .before .before .args) .1 .1 .1 .1 .0 .now) (same-length-2 record { before = record { before = c .before; clear5 = c .clear5 }; arcs3 = record { given = g } }), (MutSlice.fix-len (Row.get 6 (T68 .locals) (m40 record { before = c .before; clear5 = c .clear5 } g) .ptr) (Row.get 6 (T68 .locals) (m40 record { before = c .before; clear5 = c .clear5 } g) .name) (Row.get 6 (T68 .locals) (m40 record { before = c .before; clear5 = c .clear5 } g) .now) (dens (c .before .before .before .before .before .before .before .before .before .before .before .before .before .before .before .before .before .before .before .before .before .before .before .κs) (c .before .before .before .before .before .before .before .before .before .before .before .before .before .before .before .before .before .before .before .before .before .before .before .args) .1 .1 .1 .1 .1 .0 .now) (same-length-3 record { before = record { before = c .before; clear5 = c .clear5 }; arcs3 = record { given = g } }), (MutSlice.fix-len (Row.get 7 (T68 .locals) (m40 record { before = c .before; clear5 = c .clear5 } g) .ptr) (Row.get 7 (T68 .locals) (m40 record { before = c .before; clear5 = c .clear5 } g) .name) (Row.get 7 (T68 .locals) (m40 record { before = c .before; clear5 = c .clear5 } g) .now) (dens (c .before .before .before .before .before .before .before .before .before .before .before .before .before .before .before .before .before .before .before .before .before .before .before .κs) (c .before .before .before .before .before .before .before .before .before .before .before .before .before .before .before .before .before .before .before .before .before .before .before .args) .1 .1 .1 .1 .1 .1 .0 .now) (same-length-4 record { before = record { before = c .before; clear5 = c .clear5 }; arcs3 = record { given = g } }), tt))))))), returns record { before = record { before = c .before; clear5 = c .clear5 }; arcs3 = record { given = g } }))
+      module _ (clear-requires : Need-clear-requires) (clear-requires-2 : Need-clear-requires-2) (restore-in-requires : Need-restore-in-requires) (clear-requires-3 : Need-clear-requires-3) (clear-requires-4 : Need-clear-requires-4) (same-length : Need-same-length) (same-length-2 : Need-same-length-2) (same-length-3 : Need-same-length-3) (same-length-4 : Need-same-length-4) (returns : Need-returns) where
+        lay5 : (c : After-clear4) → at6 (W0 (c .before .before .before .before .before .before .before .before .before .before .before .before .before .before .before .before .before .before .before .before .κs) (c .before .before .before .before .before .before .before .before .before .before .before .before .before .before .before .before .before .before .before .before .args)) (m31 (c .before) (After-clear4·gave c))
+        lay5 = λ c. (Path.refl, λ g. ((Path.refl, (Path.refl, (Path.refl, (MutSlice.fix-len (Row.get 4 (T60 .locals) (m35 record { before = c .before; clear4 = c .clear4 } g) .ptr) (Row.get 4 (T60 .locals) (m35 record { before = c .before; clear4 = c .clear4 } g) .name) (Row.get 4 (T60 .locals) (m35 record { before = c .before; clear4 = c .clear4 } g) .now) (dens (c .before .before .before .before .before .before .before .before .before .before .before .before .before .before .before .before .before .before .before .before .κs) (c .before .before .before .before .before .before .before .before .before .before .before .before .before .before .before .before .before .before .before .before .args) .1 .1 .1 .0 .now) (same-length record { before = record { before = c .before; clear4 = c .clear4 }; arcs2 = record { given = g } }), (MutSlice.fix-len (Row.get 5 (T60 .locals) (m35 record { before = c .before; clear4 = c .clear4 } g) .ptr) (Row.get 5 (T60 .locals) (m35 record { before = c .before; clear4 = c .clear4 } g) .name) (Row.get 5 (T60 .locals) (m35 record { before = c .before; clear4 = c .clear4 } g) .now) (dens (c .before .before .before .before .before .before .before .before .before .before .before .before .before .before .before .before .before .before .before .before .κs) (c .before .before .before .before .before .before .before .before .before .before .before .before .before .before .before .before .before .before .before .before .args) .1 .1 .1 .1 .0 .now) (same-length-2 record { before = record { before = c .before; clear4 = c .clear4 }; arcs2 = record { given = g } }), (MutSlice.fix-len (Row.get 6 (T60 .locals) (m35 record { before = c .before; clear4 = c .clear4 } g) .ptr) (Row.get 6 (T60 .locals) (m35 record { before = c .before; clear4 = c .clear4 } g) .name) (Row.get 6 (T60 .locals) (m35 record { before = c .before; clear4 = c .clear4 } g) .now) (dens (c .before .before .before .before .before .before .before .before .before .before .before .before .before .before .before .before .before .before .before .before .κs) (c .before .before .before .before .before .before .before .before .before .before .before .before .before .before .before .before .before .before .before .before .args) .1 .1 .1 .1 .1 .0 .now) (same-length-3 record { before = record { before = c .before; clear4 = c .clear4 }; arcs2 = record { given = g } }), (MutSlice.fix-len (Row.get 7 (T60 .locals) (m35 record { before = c .before; clear4 = c .clear4 } g) .ptr) (Row.get 7 (T60 .locals) (m35 record { before = c .before; clear4 = c .clear4 } g) .name) (Row.get 7 (T60 .locals) (m35 record { before = c .before; clear4 = c .clear4 } g) .now) (dens (c .before .before .before .before .before .before .before .before .before .before .before .before .before .before .before .before .before .before .before .before .κs) (c .before .before .before .before .before .before .before .before .before .before .before .before .before .before .before .before .before .before .before .before .args) .1 .1 .1 .1 .1 .1 .0 .now) (same-length-4 record { before = record { before = c .before; clear4 = c .clear4 }; arcs2 = record { given = g } }), tt))))))), returns record { before = record { before = c .before; clear4 = c .clear4 }; arcs2 = record { given = g } }))
 
-        lay5 : (c : After-clear4) → at14 (W0 (c .before .before .before .before .before .before .before .before .before .before .before .before .before .before .before .before .before .before .before .before .κs) (c .before .before .before .before .before .before .before .before .before .before .before .before .before .before .before .before .before .before .before .before .args)) (m31 (c .before) (After-clear4·gave c))
-        lay5 = λ c. (Path.refl, λ g. λ g'. (Path.refl, (clear-requires-5 record { before = record { before = record { before = c .before; clear4 = c .clear4 }; scratch2 = record { given = g } }; clear-arg5 = record { given = g' } }, λ g''. lay6 record { before = record { before = record { before = record { before = c .before; clear4 = c .clear4 }; scratch2 = record { given = g } }; clear-arg5 = record { given = g' } }; clear5 = Called.called ps·1 r·1 (claims· .3) T61 (record { pos = 27; ty = Syntax.tyRef Syntax.erased Syntax.mut Rec.named; ref = λ x. x }, tt) (m35 record { before = record { before = c .before; clear4 = c .clear4 }; scratch2 = record { given = g } } g') g'' })))
+        lay4 : (c : After-clear3) → at14 (W0 (c .before .before .before .before .before .before .before .before .before .before .before .before .before .before .before .before .before .κs) (c .before .before .before .before .before .before .before .before .before .before .before .before .before .before .before .before .before .args)) (m26 (c .before) (After-clear3·gave c))
+        lay4 = λ c. (Path.refl, λ g. λ g'. (Path.refl, (clear-requires-4 record { before = record { before = record { before = c .before; clear3 = c .clear3 }; scratch2 = record { given = g } }; clear-arg4 = record { given = g' } }, λ g''. lay5 record { before = record { before = record { before = record { before = c .before; clear3 = c .clear3 }; scratch2 = record { given = g } }; clear-arg4 = record { given = g' } }; clear4 = Called.called ps·2 r·2 (claims· .5) T53 (record { pos = 25; ty = Syntax.tyRef Syntax.erased Syntax.mut Rec.named; ref = λ x. x }, tt) (m30 record { before = record { before = c .before; clear3 = c .clear3 }; scratch2 = record { given = g } } g') g'' })))
 
-        lay4 : (c : After-ask-all) → at30 (W0 (c .before .before .before .before .before .before .before .before .before .before .before .before .before .before .κs) (c .before .before .before .before .before .before .before .before .before .before .before .before .before .before .args)) (m24 (c .before) (After-ask-all·gave c))
-        lay4 = λ c. (Path.refl, λ g. (Path.refl, λ g'. (Path.refl, λ g''. (Path.refl, λ g'3. λ g'4. (Path.refl, (clear-requires-4 record { before = record { before = record { before = record { before = record { before = record { before = c .before; ask-all = c .ask-all }; out2 = record { given = g } }; values2 = record { given = g' } }; scratch = record { given = g'' } }; arcs2 = record { given = g'3 } }; clear-arg4 = record { given = g'4 } }, λ g'5. lay5 record { before = record { before = record { before = record { before = record { before = record { before = record { before = c .before; ask-all = c .ask-all }; out2 = record { given = g } }; values2 = record { given = g' } }; scratch = record { given = g'' } }; arcs2 = record { given = g'3 } }; clear-arg4 = record { given = g'4 } }; clear4 = Called.called ps·0 r·0 (claims· .1) T53 (record { pos = 25; ty = Syntax.tyRef Syntax.erased Syntax.mut (Syntax.tyInt Syntax.w32); ref = λ x. x }, tt) (m30 record { before = record { before = record { before = record { before = record { before = c .before; ask-all = c .ask-all }; out2 = record { given = g } }; values2 = record { given = g' } }; scratch = record { given = g'' } }; arcs2 = record { given = g'3 } } g'4) g'5 }))))))
+        lay3 : (c : After-restore-in) → at30 (W0 (c .before .before .before .before .before .before .before .before .before .before .before .κs) (c .before .before .before .before .before .before .before .before .before .before .before .args)) (m19 (c .before) (After-restore-in·gave c))
+        lay3 = λ c. (Path.refl, λ g. (Path.refl, λ g'. (Path.refl, λ g''. (Path.refl, λ g'3. λ g'4. (Path.refl, (clear-requires-3 record { before = record { before = record { before = record { before = record { before = record { before = c .before; restore-in = c .restore-in }; out2 = record { given = g } }; values2 = record { given = g' } }; scratch = record { given = g'' } }; arcs = record { given = g'3 } }; clear-arg3 = record { given = g'4 } }, λ g'5. lay4 record { before = record { before = record { before = record { before = record { before = record { before = record { before = c .before; restore-in = c .restore-in }; out2 = record { given = g } }; values2 = record { given = g' } }; scratch = record { given = g'' } }; arcs = record { given = g'3 } }; clear-arg3 = record { given = g'4 } }; clear3 = Called.called ps·0 r·0 (claims· .1) T45 (record { pos = 23; ty = Syntax.tyRef Syntax.erased Syntax.mut (Syntax.tyInt Syntax.w32); ref = λ x. x }, tt) (m25 record { before = record { before = record { before = record { before = record { before = c .before; restore-in = c .restore-in }; out2 = record { given = g } }; values2 = record { given = g' } }; scratch = record { given = g'' } }; arcs = record { given = g'3 } } g'4) g'5 }))))))
 
-        lay3 : (c : After-clear3) → at47 (W0 (c .before .before .before .before .before .before .before .before .κs) (c .before .before .before .before .before .before .before .before .args)) (m13 (c .before) (After-clear3·gave c))
-        lay3 = λ c. (Path.refl, λ g. λ g'. (Path.refl, λ g''. (Path.refl, λ g'3. (Path.refl, λ g'4. (Path.refl, (ask-all-requires record { before = record { before = record { before = record { before = record { before = record { before = c .before; clear3 = c .clear3 }; arcs = record { given = g } }; ask-all-arg = record { given = g' } }; ask-all-arg2 = record { given = g'' } }; ask-all-arg3 = record { given = g'3 } }; ask-all-arg4 = record { given = g'4 } }, λ g'5. lay4 record { before = record { before = record { before = record { before = record { before = record { before = record { before = c .before; clear3 = c .clear3 }; arcs = record { given = g } }; ask-all-arg = record { given = g' } }; ask-all-arg2 = record { given = g'' } }; ask-all-arg3 = record { given = g'3 } }; ask-all-arg4 = record { given = g'4 } }; ask-all = Called.called ps·2 r·2 (claims· .5) T37 (record { pos = 1; ty = Syntax.tyRef (Syntax.named 0) Syntax.imm (Syntax.tyInt Syntax.w32); ref = λ x. x }, (record { pos = 2; ty = Syntax.tyRef (Syntax.named 1) Syntax.imm (Syntax.tyInt Syntax.w32); ref = λ x. x }, (record { pos = 3; ty = Syntax.tyRef (Syntax.named 2) Syntax.imm (Syntax.tyInt Syntax.w32); ref = λ x. x }, (record { pos = 17; ty = Syntax.tyRef Syntax.erased Syntax.mut (Syntax.tyInt Syntax.w32); ref = λ x. x }, (record { pos = 19; ty = Syntax.tyRef Syntax.erased Syntax.mut (Syntax.tyInt Syntax.w32); ref = λ x. x }, (record { pos = 21; ty = Syntax.tyRef Syntax.erased Syntax.mut (Syntax.tyInt Syntax.w32); ref = λ x. x }, (record { pos = 23; ty = Syntax.tyRef Syntax.erased Syntax.mut Rec.named; ref = λ x. x }, tt))))))) (m23 record { before = record { before = record { before = record { before = record { before = c .before; clear3 = c .clear3 }; arcs = record { given = g } }; ask-all-arg = record { given = g' } }; ask-all-arg2 = record { given = g'' } }; ask-all-arg3 = record { given = g'3 } } g'4) g'5 }))))))
+        lay2 : (c : After-clear2) → at47 (W0 (c .before .before .before .before .before .κs) (c .before .before .before .before .before .args)) (m8 (c .before) (After-clear2·gave c))
+        lay2 = λ c. (Path.refl, λ g. λ g'. (Path.refl, λ g''. (Path.refl, λ g'3. (Path.refl, λ g'4. (Path.refl, (restore-in-requires record { before = record { before = record { before = record { before = record { before = record { before = c .before; clear2 = c .clear2 }; values = record { given = g } }; restore-in-arg = record { given = g' } }; restore-in-arg2 = record { given = g'' } }; restore-in-arg3 = record { given = g'3 } }; restore-in-arg4 = record { given = g'4 } }, λ g'5. lay3 record { before = record { before = record { before = record { before = record { before = record { before = record { before = c .before; clear2 = c .clear2 }; values = record { given = g } }; restore-in-arg = record { given = g' } }; restore-in-arg2 = record { given = g'' } }; restore-in-arg3 = record { given = g'3 } }; restore-in-arg4 = record { given = g'4 } }; restore-in = Called.called ps·1 r·1 (claims· .3) T29 (record { pos = 1; ty = Syntax.tyRef (Syntax.named 0) Syntax.imm (Syntax.tyInt Syntax.w32); ref = λ x. x }, (record { pos = 2; ty = Syntax.tyRef (Syntax.named 1) Syntax.imm (Syntax.tyInt Syntax.w32); ref = λ x. x }, (record { pos = 3; ty = Syntax.tyRef (Syntax.named 2) Syntax.imm (Syntax.tyInt Syntax.w32); ref = λ x. x }, (record { pos = 15; ty = Syntax.tyRef Syntax.erased Syntax.mut (Syntax.tyInt Syntax.w32); ref = λ x. x }, (record { pos = 17; ty = Syntax.tyRef Syntax.erased Syntax.mut (Syntax.tyInt Syntax.w32); ref = λ x. x }, (record { pos = 19; ty = Syntax.tyRef Syntax.erased Syntax.mut (Syntax.tyInt Syntax.w32); ref = λ x. x }, (record { pos = 21; ty = Syntax.tyRef Syntax.erased Syntax.mut Rec.named; ref = λ x. x }, tt))))))) (m18 record { before = record { before = record { before = record { before = record { before = c .before; clear2 = c .clear2 }; values = record { given = g } }; restore-in-arg = record { given = g' } }; restore-in-arg2 = record { given = g'' } }; restore-in-arg3 = record { given = g'3 } } g'4) g'5 }))))))
 
-        lay2 : (c : After-clear2) → at55 (W0 (c .before .before .before .before .before .κs) (c .before .before .before .before .before .args)) (m8 (c .before) (After-clear2·gave c))
-        lay2 = λ c. (Path.refl, λ g. λ g'. (Path.refl, (clear-requires-3 record { before = record { before = record { before = c .before; clear2 = c .clear2 }; values = record { given = g } }; clear-arg3 = record { given = g' } }, λ g''. lay3 record { before = record { before = record { before = record { before = c .before; clear2 = c .clear2 }; values = record { given = g } }; clear-arg3 = record { given = g' } }; clear3 = Called.called ps·1 r·1 (claims· .3) T20 (record { pos = 15; ty = Syntax.tyRef Syntax.erased Syntax.mut Rec.named; ref = λ x. x }, tt) (m12 record { before = record { before = c .before; clear2 = c .clear2 }; values = record { given = g } } g') g'' })))
-
-        lay1 : (c : After-clear) → at63 (W0 (c .before .before .κs) (c .before .before .args)) (m3 (c .before) (After-clear·gave c))
+        lay1 : (c : After-clear) → at55 (W0 (c .before .before .κs) (c .before .before .args)) (m3 (c .before) (After-clear·gave c))
         lay1 = λ c. (Path.refl, λ g. λ g'. (Path.refl, (clear-requires-2 record { before = record { before = record { before = c .before; clear = c .clear }; out = record { given = g } }; clear-arg2 = record { given = g' } }, λ g''. lay2 record { before = record { before = record { before = record { before = c .before; clear = c .clear }; out = record { given = g } }; clear-arg2 = record { given = g' } }; clear2 = Called.called ps·0 r·0 (claims· .1) T12 (record { pos = 13; ty = Syntax.tyRef Syntax.erased Syntax.mut (Syntax.tyInt Syntax.w32); ref = λ x. x }, tt) (m7 record { before = record { before = c .before; clear = c .clear }; out = record { given = g } } g') g'' })))
 
-        pub laid : (c : Start) → at67 (W0 (c .κs) (c .args)) (m0 (c .κs) (c .args))
+        pub laid : (c : Start) → at59 (W0 (c .κs) (c .args)) (m0 (c .κs) (c .args))
         laid = λ c. λ g. (Path.refl, (clear-requires record { before = c; clear-arg = record { given = g } }, λ g'. lay1 record { before = record { before = c; clear-arg = record { given = g } }; clear = Called.called ps·0 r·0 (claims· .1) T4 (record { pos = 11; ty = Syntax.tyRef Syntax.erased Syntax.mut (Syntax.tyInt Syntax.w32); ref = λ x. x }, tt) (m2 c g) g' }))
 
         module _ (κs : Lifetimes.Lfts 7) (qs : Lifetimes.Shares 7) where
           pub asked : (a : FnKinds.Dens κs ps) → (good : FnKinds.GoodsP κs ps a) → (pre : Pre· κs a) → (bs : L.List Nat.ℕ) → Φ (Any.wantQ 7 ps r xs m κs qs a (Post· κs a)) (Function.init 7 ps r xs m κs qs a)
           asked = λ a good pre bs. laid record { κs = κs; args = record { network = a .0; stack = a .1 .0; pair = a .1 .1 .0; out = a .1 .1 .1 .0; values = a .1 .1 .1 .1 .0; scratch = a .1 .1 .1 .1 .1 .0; arcs = a .1 .1 .1 .1 .1 .1 .0 }; good = good; pre = pre }
 
-        module _ {M : Type 1} (𝓤 : URA.URA M) (H : Wp.Heap 𝓤) (A : Atoms.Atoms 𝓤) (W : Kit.Given 𝓤 H A) (𝓣 : Wp.Tables 𝓤 H) (known0 : Plain.Known 𝓤 H A W 𝓣 1 ps·0 r·0 (claims· .0) (claims· .1) "loops::clear") (known1 : Plain.Known 𝓤 H A W 𝓣 1 ps·1 r·1 (claims· .2) (claims· .3) "network::list::clear") (known2 : Plain.Known 𝓤 H A W 𝓣 7 ps·2 r·2 (claims· .4) (claims· .5) "restoration::ask_all") where
+        module _ {M : Type 1} (𝓤 : URA.URA M) (H : Wp.Heap 𝓤) (A : Atoms.Atoms 𝓤) (W : Kit.Given 𝓤 H A) (𝓣 : Wp.Tables 𝓤 H) (known0 : Plain.Known 𝓤 H A W 𝓣 1 ps·0 r·0 (claims· .0) (claims· .1) "loops::clear") (known1 : Plain.Known 𝓤 H A W 𝓣 7 ps·1 r·1 (claims· .2) (claims· .3) "restoration::restore_in") (known2 : Plain.Known 𝓤 H A W 𝓣 1 ps·2 r·2 (claims· .4) (claims· .5) "network::list::clear") where
           pub spec : Statement.Triple 𝓤 (Wp.WpFn 𝓤 H (𝓣 .C) (𝓣 .Λ) (Function.fnOf 7 ps r xs m hs body)) (Function.plainOf 𝓤 H A 7 ps r Pre· Post·)
           spec = Plain.t-fn-plain 𝓤 H A W 𝓣 7 ps r xs m hs body (λ κs qs bs. Φ) (λ κs qs bs bd. typed κs qs 𝓤 H A W 𝓣 (known0, known1, known2) bs bd) Pre· Post· asked

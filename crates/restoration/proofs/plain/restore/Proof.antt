@@ -4,6 +4,8 @@ mod Tie
 use borrow.Author.Needs.{needs}
 use Rattle.restoration.proofs.plain.restore.Statement.{statement}
 use Rattle.restoration.proofs.plain.restore.Proof.Tie as tie
+use Rattle.restoration.proofs.Lent.plain_restore.Reads as reads
+use Rattle.restoration.proofs.Lent.plain_restore.Lts as lts
 
 no-arc-requires : tie.Need-no-arc-requires
 no-arc-requires c κs = search needs
