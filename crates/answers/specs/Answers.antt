@@ -4,11 +4,12 @@ use mathlib.Core.Option.{Option, some, none}
 use Prim.Native.Nat.{ℕ, _+_, _*_, _≤_}
 use lib.IntN.{ℤ}
 use lib.ListN.{length, take, drop, replicate}
-use Rattle.network.specs.Record.{word, endOf, figures}
+use Rattle.network.specs.Record.{word, endOf, figures, readOf}
 use Rattle.network.specs.Output.{wordOf}
 use Rattle.reduction.specs.declared.Answer.{Answer}
 use Rattle.reduction.specs.declared.Answer.the-variants.{Reduced, NoFlow, Refused}
-use Rattle.reduction.specs.Reduce.{questions, answerOf, outputOf, stackWords, numberOf, valuesOf}
+use Rattle.reduction.specs.Reduce.{refusalOf, answerOf, outputOf, stackOf, numberOf, valuesOf}
+use Rattle.rules.specs.Table.{reduced}
 use Rattle.text.specs.Text.{wordsOf}
 use Rattle.text.specs.Line.{lineOf}
 use Rattle.text.specs.Placed.{Put}
@@ -54,7 +55,8 @@ reducedLines (Refused q) net stack = refusedBytes ++ lineOf (wordOf (numberOf (R
 -- a network's words, reduced into slices of the lengths that question 1 asks for
 abbrev pub reducedText : List ℤ → List ℕ
 reducedText xs =
-    reducedLines (answerOf xs (questions xs 1410 257 10240 96)) (outputOf xs 1410 (questions xs 1410 257 10240 96)) (stackWords xs 257 (questions xs 1410 257 10240 96))
+    reducedLines (answerOf (refusalOf xs 1410 257 10240 96) (reduced (readOf xs))) (outputOf (refusalOf xs 1410 257 10240 96) (reduced (readOf xs)) 1410)
+    (stackOf (refusalOf xs 1410 257 10240 96) (reduced (readOf xs)) 257)
 
 -- question 14 first
 abbrev pub onWords : Option (List ℤ) → List ℕ

@@ -10,10 +10,10 @@ use Rattle.network.specs.declared.record.Size.{Size}
 use Rattle.network.specs.declared.record.Size.the-variants.{Is, Off}
 use Rattle.network.specs.Record.{word, sizeOf, figures, readOf}
 use Rattle.network.specs.Output.{wordOf}
-use Rattle.reduction.specs.Search.{ranOf}
+use Rattle.rules.specs.Table.{reduced}
 use Rattle.restoration.specs.declared.Answer.{Answer}
 use Rattle.restoration.specs.declared.Answer.the-variants.{Restored, Refused}
-use Rattle.restoration.specs.Restore.{refusalOf, answerOf, numberOf, outBy, valuesBy, backFrom}
+use Rattle.restoration.specs.Restore.{refusalOf, answerOf, numberOf, outOf, valuesOf, broughtBack}
 use Rattle.text.specs.Text.{wordsOf}
 use Rattle.text.specs.Line.{lineOf}
 use Rattle.answers.specs.declared.restoring.Split.{Split}
@@ -63,8 +63,8 @@ restoredLines (Refused q) pair values = refusedBytes ++ lineOf (wordOf (numberOf
 -- restored into slices of the lengths that question 1 asks for
 abbrev pub restoredText : List ℤ → List ℤ → List ℤ → List ℕ
 restoredText xs zs ys =
-    restoredLines (answerOf (refusalOf xs zs ys 258 4 10240 96)) (outBy (refusalOf xs zs ys 258 4 10240 96) (readOf xs) (backFrom (readOf xs) (ranOf (readOf xs)) ys) 258)
-    (valuesBy (refusalOf xs zs ys 258 4 10240 96) (readOf xs) (ranOf (readOf xs)) ys (backFrom (readOf xs) (ranOf (readOf xs)) ys) 4)
+    restoredLines (answerOf (refusalOf xs zs ys 258 4 10240 96)) (outOf (refusalOf xs zs ys 258 4 10240 96) (readOf xs) (broughtBack (reduced (readOf xs)) ys) 258)
+    (valuesOf (refusalOf xs zs ys 258 4 10240 96) (readOf xs) (reduced (readOf xs)) ys (broughtBack (reduced (readOf xs)) ys) 4)
 
 -- "the rest is the pair"
 abbrev pub onSplit : List ℤ → Split → List ℕ

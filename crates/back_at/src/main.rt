@@ -5,11 +5,11 @@
 // does not fit, 2 where all fit, 3 where a question about the record is answered by no or it is longer; then the
 // prices and flows before the step where all fit, otherwise zeros.
 ghost use Prim.Native.Nat.{_≤_, _<_};
-use network::Kind;
 use network::Net;
 use network::pair::Pair;
 use network::record::Asked;
-use restoration::back::Back;
+use step::Outcome;
+use step::Undone;
 
 fn read_prices(input: &[u8], at: usize, p: Pair) -> Pair
     requires { ⌜ at < 50000 ⌝ }
@@ -47,32 +47,30 @@ fn put_flows(out: &mut [u8], at: usize, pair: Pair)
     }
 }
 
-fn put_back(out: &mut [u8], at: usize, b: Back)
+fn put_pair(out: &mut [u8], at: usize, pair: Pair)
     requires { ⌜ at < 40000 ⌝ }
 {
-    if b.fits {
-        let pair = b.pair;
-        wire::put(out, at, 2);
-        put_prices(out, at + 4, pair);
-        put_flows(out, at + 52, pair);
-    } else {
-        wire::put(out, at, 1);
+    wire::put(out, at, 2);
+    put_prices(out, at + 4, pair);
+    put_flows(out, at + 52, pair);
+}
+
+fn put_undone(out: &mut [u8], at: usize, pair: Pair, u: Undone)
+    requires { ⌜ at < 40000 ⌝ }
+{
+    match u {
+        Undone::Wide => wire::put(out, at, 1),
+        Undone::Restores(r) => put_pair(out, at, step::restore(pair, r)),
     }
 }
 
 fn undo(net: Net, k: usize, i: usize, pair: Pair, out: &mut [u8], at: usize)
     requires { ⌜ at < 40000 ⌝ }
 {
-    let tried = reduction::search::try_rule(net, k, i);
-    let kind = tried.kind;
-    match kind {
-        Kind::Passes => wire::put(out, at, 0),
-        Kind::NoFlow => wire::put(out, at, 0),
-        Kind::Changes => put_back(
-            out,
-            at,
-            restoration::back::step_back(restoration::trace::trace_step(net, k, i), pair),
-        ),
+    match trial::try_rule(net, k, i) {
+        Outcome::Passes => wire::put(out, at, 0),
+        Outcome::NoFlow => wire::put(out, at, 0),
+        Outcome::Changes(c) => put_undone(out, at, pair, rules::undo(k, c.old, pair)),
     }
 }
 

@@ -1,11 +1,12 @@
--- The marked instances of document 01, as one table: what the definitions compute, and what the document says. Assumes nothing.
+-- The marked instances of document 01, as one table: what the definitions compute, and what the document says.
 use mathlib.Core.Path.{_≡_, refl}
-use mathlib.Core.List.{List, [], _∷_, _++_}
+use mathlib.Core.Bool.{Bool, true, false}
+use mathlib.Core.List.{List, [], _∷_, _++_, map}
 use Prim.Native.Nat.{ℕ, _+_, _-_}
 use lib.IntN.{ℤ, pos, negℤ}
 use lib.ListN.{length}
 use Rattle.integer.specs.Gcd.{gcd, gcdBy}
-use Rattle.loops.specs.Loops.{zeros, build, upto, count, all, any, scan, runs}
+use Rattle.loops.specs.Loops.{zeros, build, upto, count, all, any, scan}
 use Rattle.fraction.specs.declared.Fraction.{Fraction}
 use Rattle.fraction.specs.declared.Worked.{Worked}
 use Rattle.fraction.specs.declared.Worked.the-variants.{Fits, Misfit}
@@ -13,28 +14,35 @@ use Rattle.fraction.specs.Exact.{over, noUpper, isOperand, isProper, fitted, re
 use Rattle.fraction.specs.Formula.{pairOf, _⊕_, _⊖_, _⊗_, _⊘_, ⊝_}
 use Rattle.network.specs.declared.Arc.{Arc}
 use Rattle.network.specs.declared.Net.{Net}
-use Rattle.network.specs.declared.Tried.{Tried}
-use Rattle.network.specs.declared.Kind.{Kind}
-use Rattle.network.specs.declared.Kind.the-variants.{Passes, Changes}
-use Rattle.network.specs.declared.record.Asked.{Asked}
-use Rattle.network.specs.Network.{emptyNet, withArc, withSupply, withNode, without, applied, isTouching, degreeOf, touchingAfter, isRoot, farEnd, sideOf}
+use Rattle.network.specs.Network.{noArc, emptyNet, updatesOf, withArc, withSupply, withNode, without, applied, isTouching, degreeOf, touchingAfter, isRoot, farEnd, sideOf}
+use Rattle.network.specs.declared.ArcUpdate.{ArcUpdate}
 use Rattle.network.specs.Record.{figureAt, sizesOf, roleOf, isPermitted, isEnd, hasEnds, arcIn, isWeighted, figuresAsked, askedOf, netOf, readOf}
 use Rattle.network.specs.Pair.{withPrice, withFlow, hasSizes, isPair, pairOf as pairRead}
 use Rattle.network.specs.Output.{arcRank, rankOf, packNode, packArc, packedOf, arraysOf, wordOf, roleFigure, figureOf, hasRoom, networkOf}
-use Rattle.reduction.specs.declared.Answer.{Answer}
-use Rattle.reduction.specs.declared.Answer.the-variants.{Reduced, NoFlow}
-use Rattle.reduction.specs.Rules.{supplyLess, droppedOf, atFlow, closedArc, ruleOne, bareNode, ruleTwo, singleArc, ruleThree, isOpenRoot, isCostlier, hasPartner, hasPair, isCandidate, ruleFour, sameSign, farMultiplier, farSupply, keptCost, boundFrom, keptLower, keptUpper, keptOf, twoArcs, keepFirst, keepOne, ruleFive, hasSignAt, signedAfter, isFree, isApart, crossedOf, fourOf, crossingAt, withThree, withTwo, withOne, crossingOf, bothSigns, signsOf, ruleSix, nodeRule, ruleAt}
-use Rattle.reduction.specs.Search.{stepAt, lastPlace, ranked, nextOf, stepped, ranOf}
-use Rattle.reduction.specs.Stack.{stackOf}
-use Rattle.reduction.specs.Reduce.{isRoomy, questions, answerOf, outputOf, stackWords}
 use Rattle.optimality.specs.Figures.{balanceOf, reducedCost, valueOf, allFit, isWithin, isAt, keepsRule, verdictOf}
 use Rattle.optimality.specs.Test.{examined}
+use Rattle.step.specs.declared.Outcome.{Outcome}
+use Rattle.step.specs.declared.Outcome.the-variants.{Passes, NoFlow as NoFlow·outcome, Changes}
+use Rattle.step.specs.Outcome.{onlyWhere, noFlowWhere, fits}
+use Rattle.step.specs.Dropped.{supplyLess, dropped, lowerBack}
+use Rattle.step.specs.Back.{figure, restored, quoteAt}
+use Rattle.step.specs.Run.{upward, nextFrom, runBy, runOf, backFrom, wayBack}
+use Rattle.closed_arc.specs.ClosedArc.{closed}
+use Rattle.bare_node.specs.BareNode.{bare, bareNode, bareBack}
+use Rattle.single_arc.specs.SingleArc.{forcedOut, singleArc, singleBack}
+use Rattle.costly_arc.specs.CostlyArc.{isOpenRoot, isCostlier, hasPair, costlyArc}
+use Rattle.two_arcs.specs.TwoArcs.{sameSign, tighter, imageOf, merged, kept, twoArcs, twoBack}
+use Rattle.crossing.specs.Crossing.{hasSignAt, signedAfter, isFree, isApart, crossed as crossedArc, crossedAt, crossing, crossingBack}
+use Rattle.rules.specs.Table.{reduced}
+use Rattle.postsolve.specs.Postsolve.{spreadOf}
+use Rattle.reduction.specs.declared.Answer.{Answer}
+use Rattle.reduction.specs.declared.Answer.the-variants.{Reduced, NoFlow}
+use Rattle.reduction.specs.Stack.{stackRecord, sameWords}
+use Rattle.reduction.specs.Stack as Stack
+use Rattle.reduction.specs.Reduce.{isRoomy, refusalOf, answerOf, outputOf, stackOf}
 use Rattle.restoration.specs.declared.Answer.{Answer as AnswerBack}
 use Rattle.restoration.specs.declared.Answer.the-variants.{Restored, Refused as RefusedBack}
-use Rattle.restoration.specs.Trace.{oldArc, crossedTrace, traceOf}
-use Rattle.restoration.specs.Back.{putFlow, putPrice, needed, quoteOf, backRemoved, backBare, backSingle, mergedFlow, keptCost as costBack, mergedPrice, backMerged, crossedFlow, crossedFlows, backCrossed, backOf, undone}
-use Rattle.restoration.specs.Way.{spreadOf, after, traceAt, backOver, wayBack}
-use Rattle.restoration.specs.Restore.{isStack, backFrom, ranRefusal, isRoomy as isRoomyBack, refusalOf, answerOf as answerBack, outBy, valuesBy, pairFigure, pairWords}
+use Rattle.restoration.specs.Restore.{isRoomy as isRoomyBack, runRefusal, refusalOf as refusalBack, answerOf as answerBack, outOf, valuesOf, broughtBack, pairFigure, pairWords}
 
 pub record Row : Type 1 where
   pub Compared : Type 0
@@ -52,20 +60,20 @@ All (r ∷ rs) = (r .computed ≡ r .documented) × All rs
 -- ---- A, E and F: reducing, with the least that may be lent: 1410 words for the network, 257 for the stack, 10240 of scratch, 96 records
 
 -- the answer, all words of the network output and all words of the stack
-abbrev Outcome : Type 0
-Outcome = Answer × (List ℤ × List ℤ)
+abbrev Reducing : Type 0
+Reducing = Answer × (List ℤ × List ℤ)
 
-abbrev outcomeBy : List ℤ → Asked → Outcome
-outcomeBy xs q = (answerOf xs q, (outputOf xs 1410 q, stackWords xs 257 q))
+abbrev reducingBy : ℕ → List ℤ → Reducing
+reducingBy q xs = (answerOf q (reduced (readOf xs)), (outputOf q (reduced (readOf xs)) 1410, stackOf q (reduced (readOf xs)) 257))
 
-abbrev reducing : List ℤ → Outcome
-reducing xs = outcomeBy xs (questions xs 1410 257 10240 96)
+abbrev reducing : List ℤ → Reducing
+reducing xs = reducingBy (refusalOf xs 1410 257 10240 96) xs
 
 -- "words behind a record are zero"
 abbrev filled : ℕ → List ℤ → List ℤ
 filled k xs = xs ++ zeros (k - length xs)
 
-abbrev outcome : Answer → List ℤ → List ℤ → Outcome
+abbrev outcome : Answer → List ℤ → List ℤ → Reducing
 outcome r net stack = (r, (filled 1410 net, filled 257 stack))
 
 abbrev neg : ℕ → ℤ
@@ -89,7 +97,7 @@ abbrev stack : List ℤ
 stack = pos 1 ∷ pos 3 ∷ pos 3 ∷ []
 
 abbrev A : Row
-A = row Outcome (reducing given) (outcome Reduced left stack)
+A = row Reducing (reducing given) (outcome Reduced left stack)
 
 -- A and B: restoring, with the least that may be lent: 258 words for the pair, 4 for the values, 10240 of scratch, 96 records
 
@@ -99,10 +107,10 @@ Return = AnswerBack × (List ℤ × List ℤ)
 
 abbrev returnBy : ℕ → List ℤ → List ℤ → Return
 returnBy q xs ys =
-    (answerBack q, (outBy q (readOf xs) (backFrom (readOf xs) (ranOf (readOf xs)) ys) 258, valuesBy q (readOf xs) (ranOf (readOf xs)) ys (backFrom (readOf xs) (ranOf (readOf xs)) ys) 4))
+    (answerBack q, (outOf q (readOf xs) (broughtBack (reduced (readOf xs)) ys) 258, valuesOf q (readOf xs) (reduced (readOf xs)) ys (broughtBack (reduced (readOf xs)) ys) 4))
 
 abbrev restoring : List ℤ → List ℤ → List ℤ → Return
-restoring xs zs ys = returnBy (refusalOf xs zs ys 258 4 10240 96) xs ys
+restoring xs zs ys = returnBy (refusalBack xs zs ys 258 4 10240 96) xs ys
 
 -- A, its restoring half: prices 2 and 0, flows 3 and 1
 abbrev offered : ℕ → ℕ → List ℤ
@@ -124,7 +132,7 @@ abbrev nothing : List ℤ
 nothing = pos 0 ∷ pos 0 ∷ []
 
 abbrev E : Row
-E = row Outcome (reducing nothing) (outcome Reduced nothing (pos 0 ∷ []))
+E = row Reducing (reducing nothing) (outcome Reduced nothing (pos 0 ∷ []))
 
 -- F. One node, supply 1, no arc: no flow, rule 2, place 1; supply 0: one step
 abbrev oneNode : ℤ → List ℤ
@@ -132,7 +140,7 @@ oneNode r = pos 1 ∷ pos 0 ∷ r ∷ pos 1 ∷ []
 
 abbrev F : Row
 F =
-    row (Outcome × Outcome) (reducing (oneNode (pos 1)), reducing (oneNode (pos 0)))
+    row (Reducing × Reducing) (reducing (oneNode (pos 1)), reducing (oneNode (pos 0)))
     (outcome (NoFlow 2 1) [] (pos 0 ∷ []), outcome Reduced nothing (pos 1 ∷ pos 2 ∷ pos 1 ∷ []))
 
 -- ---- G, H and I: a rule at one place of a small network
@@ -160,20 +168,28 @@ costing c =
     ∷ arc 2 2 (whole 3) (whole 0) noUpper (whole 1) (whole 0)
     ∷ [])
 
--- the kind of answer at arc 1
+-- whether a rule gives a step, and the arcs that it puts
+abbrev puts : Outcome → Bool × List Arc
+puts Passes = (false, [])
+puts NoFlow·outcome = (false, [])
+puts (Changes c) = (true, map (λ (u : ArcUpdate). u .arc) (updatesOf (c .edit)))
+
+abbrev isStep : Outcome → Bool
+isStep o = puts o .0
+
+-- at arc 1
 abbrev G : Row
-G = row (Kind × Kind) (ruleFour (costing 6) 1 .kind, ruleFour (costing 5) 1 .kind) (Changes, Passes)
+G = row (Bool × Bool) (isStep (costlyArc (costing 6) 1), isStep (costlyArc (costing 5) 1)) (true, false)
 
 -- H. Rule 5, r = 0, ej = -1/2, oj = 1, cj = 3, bounds 0 and none; ek = 1, ok = -1, ck = 1, bounds 0 and 4: multipliers 1 and -1/2, cost 7/2, bounds 0 and 8
 abbrev twoArcsAtOne : Net
 twoArcsAtOne = network 3 (arc 1 2 (whole 3) (whole 0) noUpper (over (neg 1) 2) (whole 1) ∷ arc 1 3 (whole 1) (whole 0) (whole 4) (whole 1) (over (neg 1) 1) ∷ [])
 
--- the kind of answer at node 1, and the kept arc
-abbrev keptBy : Tried → Kind × Arc
-keptBy t = (t .kind, t .change .one .arc)
-
+-- at node 1: the kept arc, and none for k
 abbrev H : Row
-H = row (Kind × Arc) (keptBy (ruleFive twoArcsAtOne 1)) (Changes, arc 2 3 (over (pos 7) 2) (whole 0) (whole 8) (whole 1) (over (neg 1) 2))
+H =
+    row (Bool × List Arc) (puts (twoArcs twoArcsAtOne 1))
+    (true, arc 2 3 (over (pos 7) 2) (whole 0) (whole 8) (whole 1) (over (neg 1) 2) ∷ noArc ∷ noArc ∷ noArc ∷ [])
 
 -- I. Rule 6, N: e -1/2, o 1, c 1; P: e 2, o -1, c 4: multipliers 2 and -1/2, cost 4
 abbrev arcN : ℕ → Arc
@@ -186,14 +202,11 @@ arcP k = arc 1 k (whole 4) (whole 0) noUpper (whole 2) (over (neg 1) 1)
 abbrev crossed : ℕ → ℕ → Arc
 crossed i k = arc i k (whole 4) (whole 0) noUpper (whole 2) (over (neg 1) 2)
 
--- the kind of answer at node 1, and the four new arcs
-abbrev crossedBy : Tried → Kind × List Arc
-crossedBy t = (t .kind, t .change .one .arc ∷ t .change .two .arc ∷ t .change .three .arc ∷ t .change .four .arc ∷ [])
-
+-- at node 1: the four new arcs
 abbrev I : Row
 I =
-    row (Kind × List Arc) (crossedBy (ruleSix (network 5 (arcN 2 ∷ arcN 3 ∷ arcP 4 ∷ arcP 5 ∷ [])) 1))
-    (Changes, crossed 2 4 ∷ crossed 2 5 ∷ crossed 3 4 ∷ crossed 3 5 ∷ [])
+    row (Bool × List Arc) (puts (crossing (network 5 (arcN 2 ∷ arcN 3 ∷ arcP 4 ∷ arcP 5 ∷ [])) 1))
+    (true, crossed 2 4 ∷ crossed 2 5 ∷ crossed 3 4 ∷ crossed 3 5 ∷ [])
 
 -- ---- J: an operation on its own
 
@@ -207,5 +220,5 @@ abbrev pub table : List Row
 table = A ∷ A-back ∷ B ∷ E ∷ F ∷ G ∷ H ∷ I ∷ J ∷ []
 
 pub marked : All table
-unfolding gcd gcdBy build upto count all any scan runs isOperand isProper fitted reduceOf sumOf productOf differenceOf quotientOf negationOf reciprocalOf isLess isSame isZero fromWords denWord pairOf _⊕_ _⊖_ _⊗_ _⊘_ ⊝_ withArc withSupply withNode without applied isTouching degreeOf touchingAfter isRoot farEnd sideOf figureAt sizesOf roleOf isPermitted isEnd hasEnds arcIn isWeighted figuresAsked askedOf netOf readOf rankOf packNode packArc packedOf arraysOf wordOf roleFigure figureOf hasRoom networkOf isFinite supplyLess droppedOf atFlow closedArc ruleOne bareNode ruleTwo singleArc ruleThree isOpenRoot isCostlier hasPartner hasPair isCandidate ruleFour sameSign farMultiplier farSupply keptCost boundFrom keptLower keptUpper keptOf twoArcs keepFirst keepOne ruleFive hasSignAt signedAfter isFree isApart crossedOf fourOf crossingAt withThree withTwo withOne crossingOf bothSigns signsOf ruleSix nodeRule ruleAt stepAt lastPlace ranked nextOf stepped ranOf stackOf isRoomy questions withPrice withFlow hasSizes isPair pairRead balanceOf reducedCost valueOf allFit isWithin isAt keepsRule verdictOf examined oldArc crossedTrace traceOf putFlow putPrice needed quoteOf backRemoved backBare backSingle mergedFlow costBack mergedPrice backMerged crossedFlow crossedFlows backCrossed backOf undone arcRank spreadOf after traceAt backOver wayBack isStack backFrom ranRefusal isRoomyBack refusalOf pairFigure pairWords
+unfolding gcd gcdBy build upto count all any scan isOperand isProper fitted reduceOf sumOf productOf differenceOf quotientOf negationOf reciprocalOf isLess isSame isZero isFinite fromWords denWord pairOf _⊕_ _⊖_ _⊗_ _⊘_ ⊝_ withArc withSupply withNode without applied isTouching degreeOf touchingAfter isRoot farEnd sideOf figureAt sizesOf roleOf isPermitted isEnd hasEnds arcIn isWeighted figuresAsked askedOf netOf readOf rankOf packNode packArc packedOf arraysOf wordOf roleFigure figureOf hasRoom networkOf withPrice withFlow hasSizes isPair pairRead balanceOf reducedCost valueOf allFit isWithin isAt keepsRule verdictOf examined onlyWhere noFlowWhere fits supplyLess dropped lowerBack figure restored quoteAt upward nextFrom runBy runOf backFrom wayBack closed bare bareNode bareBack forcedOut singleArc singleBack isOpenRoot isCostlier hasPair costlyArc sameSign tighter imageOf merged kept twoArcs twoBack hasSignAt signedAfter isFree isApart crossedArc crossedAt crossing crossingBack arcRank spreadOf stackRecord Stack.stackOf sameWords isRoomy refusalOf isRoomyBack runRefusal refusalBack broughtBack pairFigure pairWords
 marked = (refl, (refl, (refl, (refl, (refl, (refl, (refl, (refl, (refl, tt)))))))))

@@ -1,29 +1,33 @@
--- The numbers that an answer of reducing can have. Assumes nothing.
-use mathlib.Core.Path.{_≡_, refl}
+-- The numbers that an answer of reducing can have.
+use mathlib.Core.Path.{_≡_, refl, sym}
 use mathlib.Core.Bool.{Bool, true, false, cond}
-use mathlib.Core.List.{List}
-use Prim.Native.Nat.{ℕ, _+_, _*_}
+use mathlib.Core.List.{List, [], _∷_}
+use mathlib.Core.Logic.{_⊎_, inl, inr}
+use Prim.Native.Nat.{ℕ, zero, suc, _+_, _*_, _≤_}
 use native.Mathlib.Omega.{arith}
+use native.Mathlib.Numerals.{add-one}
 use lib.Dec.{eqb}
 use lib.IntN.{ℤ}
 use lib.ListN.{length}
 use Rattle.fraction.specs.Laws.{never}
-use Rattle.loops.specs.Loops.{all, runs}
+use Rattle.loops.specs.Loops.{all}
 use Rattle.network.specs.declared.Arc.{Arc}
 use Rattle.network.specs.declared.Net.{Net}
-use Rattle.network.specs.declared.Kind.{Kind}
-use Rattle.network.specs.declared.Kind.the-variants.{Passes, NoFlow as NoFlow·kind, Changes}
 use Rattle.network.specs.declared.record.Size.{Size}
 use Rattle.network.specs.declared.record.Size.the-variants.{Is, Off}
 use Rattle.network.specs.declared.record.Asked.{Asked}
 use Rattle.network.specs.declared.record.Asked.the-variants.{Go, No}
 use Rattle.network.specs.Record.{word, figures, sizeOf, sized, sizesOf, isInForm, hasEnds, isWeightedAt, byFigures, figuresAsked, onSizes, askedOf, readOf}
+use Rattle.step.specs.declared.Next.{Next}
+use Rattle.step.specs.declared.Next.the-variants.{Stops, Refuted, Takes}
+use Rattle.rules.specs.Table.{rules, reduced}
 use Rattle.reduction.specs.declared.Answer.{Answer}
 use Rattle.reduction.specs.declared.Answer.the-variants.{Reduced, NoFlow, Refused}
-use Rattle.reduction.specs.Search.{started, moveOf, ranOf}
-use Rattle.reduction.specs.Reduce.{roomBy, isRoomy, questions, answerBy, answerOf, Reduction}
-use Rattle.reduction.proofs.Order.{next-first}
-use Rattle.reduction.proofs.RunLaws.{last-place-le}
+use Rattle.search.specs.Search.{askedNumber}
+use Rattle.reduction.specs.Questions.{question, _⊳_}
+use Rattle.reduction.specs.Reduce.{isRoomy, refusalOf, endAnswer, answerOf, Reduction}
+use Rattle.reduction.proofs.Named.{Shown}
+use Rattle.reduction.proofs.Entry.{no-flow-named}
 use Rattle.patskvime.specs.Codes.{Within, codeOf, Ranged}
 
 -- a refusal of a network is 1 to 5
@@ -59,34 +63,42 @@ asked-refuses xs = by (sizesOf xs) (sized-refuses (length xs) (sizeOf (word xs 0
     by (No q) h = h
     by (Go n m) h = figures-refuses xs n m
 
+-- a rule that shows no flow is one of six, at one of its places
+shown-within : (net : Net) {i r : ℕ} → Shown 1 rules net r i → Within 1 6 r × Within 1 96 i
+shown-within net (inl h) = ((omega (arith, h .0), omega (arith, h .0)), (h .1, omega (arith, h .2)))
+shown-within net (inr (inl h)) = ((omega (arith, h .0), omega (arith, h .0)), (h .1, omega (arith, h .2)))
+shown-within net (inr (inr (inl h))) = ((omega (arith, h .0), omega (arith, h .0)), (h .1, omega (arith, h .2)))
+shown-within net (inr (inr (inr (inl h)))) = ((omega (arith, h .0), omega (arith, h .0)), (h .1, omega (arith, h .2)))
+shown-within net (inr (inr (inr (inr (inl h))))) = ((omega (arith, h .0), omega (arith, h .0)), (h .1, omega (arith, h .2)))
+shown-within net (inr (inr (inr (inr (inr (inl h)))))) = ((omega (arith, h .0), omega (arith, h .0)), (h .1, omega (arith, h .2)))
+shown-within net (inr (inr (inr (inr (inr (inr h)))))) = absurd h
+
 module _ (xs : List ℤ) (o s w k : ℕ) where
-  questions-refuse : Refuses (questions xs o s w k)
-  unfolding questions
-  questions-refuse = by (isRoomy o s w k)
+  few : refusalOf xs o s w k ≤ 5
+  unfolding refusalOf
+  few = by (isRoomy o s w k) (askedOf xs) (asked-refuses xs)
     where
-      by : (b : Bool) → Refuses (roomBy b xs)
-      by true = asked-refuses xs
-      by false = (omega arith, omega arith)
+      by : (b : Bool) (a : Asked) → Refuses a → (question 1 b ⊳ askedNumber a) ≤ 5
+      by false a h = omega arith
+      by true (No q) h = h .1
+      by true (Go n m) h = omega arith
 
-  -- the answer of a run
-  ran-ranged : (net : Net) → Ranged (answerBy (ranOf net .last .kind) (ranOf net))
-  unfolding ranOf
-  ran-ranged net = by (ranOf net .last .kind) refl
+  answer-ranged : (r : Answer) → r ≡ answerOf (refusalOf xs o s w k) (reduced (readOf xs)) → Ranged r
+  answer-ranged Reduced e = tt
+  answer-ranged (NoFlow rule place) e = shown-within _ (no-flow-named xs o s w k rule place (sym e))
+  answer-ranged (Refused q) e = by (refusalOf xs o s w k) few e
     where
-      by : (t : Kind) → ranOf net .last .kind ≡ t → Ranged (answerBy t (ranOf net))
-      by Passes e = tt
-      by Changes e = tt
-      by NoFlow·kind e = let f = next-first (runs moveOf 128 (started net) .net) (λ q. never cc) in ((f .rule-low, f .rule-high), (f .place-low, omega (arith, f .place-high, last-place-le (ranOf net .last .rule))))
+      on : (n : Next) → Refused q ≡ endAnswer n → Within 1 5 q
+      on Stops e = never cc
+      on (Takes s) e = never cc
+      on (Refuted a b) e = never cc
 
-  answer-ranged : Ranged (answerOf xs (questions xs o s w k))
-  answer-ranged = by (questions xs o s w k) questions-refuse
-    where
-      by : (q : Asked) → Refuses q → Ranged (answerOf xs q)
-      by (No q) h = h
-      by (Go n m) h = ran-ranged (readOf xs)
+      by : (p : ℕ) → p ≤ 5 → Refused q ≡ answerOf p (reduced (readOf xs)) → Within 1 5 q
+      by zero l e = on (reduced (readOf xs) .ends) e
+      by (suc p) l e = let z : q ≡ suc p = cc in rw z (omega (arith, add-one p), l)
 
   pub ranged : {r : Answer} {out stack scratch : List ℤ} {arcs : List Arc} → Reduction xs o s w k r out stack scratch arcs → Ranged r
-  ranged h = rw (h .result) answer-ranged
+  ranged {r} h = answer-ranged r (h .result)
 
 -- a code tells the answer
 pub code-tells : (a b : Answer) → Ranged a → Ranged b → codeOf a ≡ codeOf b → a ≡ b

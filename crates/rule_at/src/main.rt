@@ -6,12 +6,11 @@
 // dropped. All of an arc or a supply is 0 where nothing is put, and the figures of an arc dropped are 0.
 ghost use Prim.Native.Nat.{_≤_, _<_};
 use network::Arc;
-use network::Change;
-use network::Kind;
-use network::Level;
-use network::Put;
-use network::Tried;
+use network::ArcUpdate;
+use network::Edit;
+use network::SupplyUpdate;
 use network::record::Asked;
+use step::Outcome;
 
 fn put_ends(out: &mut [u8], at: usize, t: Arc)
     requires { ⌜ at < 90000 ⌝ }
@@ -30,7 +29,7 @@ fn put_figures(out: &mut [u8], at: usize, t: Arc)
     wire::put_figure(out, at + 32, t.b);
 }
 
-fn put_arc(out: &mut [u8], at: usize, p: Put)
+fn put_arc(out: &mut [u8], at: usize, p: ArcUpdate)
     requires { ⌜ at < 70000 ⌝ }
 {
     if p.number == 0 {
@@ -42,7 +41,7 @@ fn put_arc(out: &mut [u8], at: usize, p: Put)
     put_figures(out, at + 12, t);
 }
 
-fn put_supply(out: &mut [u8], at: usize, l: Level)
+fn put_supply(out: &mut [u8], at: usize, l: SupplyUpdate)
     requires { ⌜ at < 70000 ⌝ }
 {
     if l.node == 0 {
@@ -52,7 +51,7 @@ fn put_supply(out: &mut [u8], at: usize, l: Level)
     wire::put_figure(out, at + 4, l.supply);
 }
 
-fn put_change(out: &mut [u8], at: usize, c: Change)
+fn put_edit(out: &mut [u8], at: usize, c: Edit)
     requires { ⌜ at < 60000 ⌝ }
 {
     put_arc(out, at, c.one);
@@ -64,16 +63,15 @@ fn put_change(out: &mut [u8], at: usize, c: Change)
     wire::put_number(out, at + 232, c.gone);
 }
 
-fn put_tried(out: &mut [u8], at: usize, t: Tried)
+fn put_outcome(out: &mut [u8], at: usize, x: Outcome)
     requires { ⌜ at < 50000 ⌝ }
 {
-    let kind = t.kind;
-    match kind {
-        Kind::Passes => wire::put(out, at, 0),
-        Kind::NoFlow => wire::put(out, at, 1),
-        Kind::Changes => {
+    match x {
+        Outcome::Passes => wire::put(out, at, 0),
+        Outcome::NoFlow => wire::put(out, at, 1),
+        Outcome::Changes(change) => {
             wire::put(out, at, 2);
-            put_change(out, at + 4, t.change);
+            put_edit(out, at + 4, change.edit);
         },
     }
 }
@@ -83,11 +81,7 @@ fn answer(xs: &[i32], k: usize, i: usize, out: &mut [u8], at: usize)
 {
     match network::record::ask(xs) {
         Asked::No(_) => wire::put(out, at, 3),
-        Asked::Go(_, _) => put_tried(
-            out,
-            at,
-            reduction::search::try_rule(network::record::read(xs), k, i),
-        ),
+        Asked::Go(_, _) => put_outcome(out, at, trial::try_rule(network::record::read(xs), k, i)),
     }
 }
 
