@@ -112,7 +112,7 @@ class Crate:
         if re.match(r'[iu](8|16|32|64|size)$', ty): return '0'
         mm = re.match(r'\[(.*);\s*([^;\]]+)\]$', ty)
         if mm: return '[%s; %s]' % (self.default(mm.group(1), scope), mm.group(2))
-        at = declares(name, scope)
+        at = ALL.get(ty.split('::')[0]) or declares(name, scope)
         mp, k, t = at.types[name]
         name = '::'.join(('crate' if at is self else at.name,) + mp + (name,))
         if k == 'struct':
@@ -171,6 +171,8 @@ def named_types():
 
 
 TYPES = named_types()
+for c in ALL:  # and the crates of which a type alone is named
+    if c != crate and c not in NAMED and IN in USES.get(c, []) and set(ALL[c].types) & TYPES: NAMED[c] = []
 
 
 def declares(name, scope):
