@@ -1,9 +1,5 @@
-pub mod Ring
-pub mod Solver
-pub mod Ordered
-pub mod Int
+pub mod Ratio
+pub mod Same
 pub mod Rat
-pub mod Order
-pub mod Inverse
 pub mod Frac
 pub mod Sum

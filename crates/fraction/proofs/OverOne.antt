@@ -17,7 +17,7 @@ use Rattle.integer.specs.Machine.{back32, sfits-by}
 use Rattle.fraction.specs.declared.Fraction.{Fraction}
 use Rattle.fraction.specs.declared.Worked.the-variants.{Fits, Misfit}
 use Rattle.fraction.specs.Exact.{over, isOperand, isProper, fitted, reduceOf}
-use Rattle.fraction.specs.Laws.{never, fitted-yes, fitted-no-num, reduce-by}
+use Rattle.fraction.proofs.Laws.{never, fitted-yes, fitted-no-num, reduce-by}
 
 gcd-one : (a : ℕ) → gcd a 1 ≡ 1
 gcd-one a = omega (arith, gcd-pos a 1 (omega arith), gcd-le a 1 (omega arith))

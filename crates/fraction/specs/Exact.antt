@@ -1,4 +1,4 @@
--- What each operation on fractions answers, over numbers of any size (01, "The problem and its figures"). Assumes nothing.
+-- What each operation on fractions answers, over numbers of any size (01, "The problem and its figures").
 use mathlib.Core.Path.{_≡_}
 use mathlib.Core.Bool.{Bool, cond, _&&_, not}
 use Prim.Native.Nat.{ℕ, _*_, _/_, _≤_, _<_}

@@ -1,4 +1,4 @@
--- Formulas on what operations answer: × and ÷ before + and -, left to right; a misfit stays one. Assumes nothing.
+-- Formulas on what operations answer: × and ÷ before + and -, left to right; a misfit stays one.
 use mathlib.Core.Bool.{Bool, true, false}
 use Rattle.fraction.specs.declared.Fraction.{Fraction}
 use Rattle.fraction.specs.declared.Worked.{Worked}

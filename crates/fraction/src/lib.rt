@@ -9,6 +9,8 @@ ghost use lib.Signed.{ltZ};
 ghost use Rattle.fraction.specs.Exact.{noLower, noUpper, Operand, isOperand, isProper, isSame, isZero, isLess, fitted, reduceOf, sumOf, differenceOf, productOf, quotientOf, negationOf, reciprocalOf, fromWords, denWord};
 ghost use Rattle.fraction.specs.Formula.{pairOf, isFit, figureOf, _⊕_, _⊖_, _⊗_, _⊘_, ⊝_};
 
+pub mod words;
+
 // A figure: a numerator over a denominator, or a mark, which is written over 0.
 pub struct Fraction {
     pub num: i32,

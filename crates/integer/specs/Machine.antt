@@ -1,7 +1,6 @@
--- A signed value goes through its bits at each use, `toZ w (ofZ w z)`: what the machine reads back of numbers that fit. Assumes nothing.
+-- A signed value goes through its bits at each use, `toZ w (ofZ w z)`: what the machine reads back of numbers that fit.
 use mathlib.Core.Path.{_≡_, sym, ap, _∙_}
-use mathlib.Core.Bool.{Bool, true, false}
-use Prim.Native.Nat.{ℕ, _*_, _≤_, _<_, _^_}
+use Prim.Native.Nat.{ℕ, _≤_, _<_, _^_}
 use native.Mathlib.Nat.{mul-le-mul, lt-of-le-of-lt, le-refl, le-suc}
 use native.Mathlib.Omega.{arith}
 use borrow.Author.Needs.{sfits-of}

@@ -1,8 +1,8 @@
--- Whole numbers: a size with a sign, and the laws of `lib.IntN`'s numbers that the library lacks. Assumes nothing.
+-- Whole numbers: a size with a sign, and the laws of `lib.IntN`'s numbers that the library lacks.
 use mathlib.Core.Path.{_≡_, refl, sym, ap, ap₂, _∙_}
 use mathlib.Core.Bool.{Bool, true, false, not, cond}
 use Prim.Native.Nat.{ℕ, zero, suc, _+_, _*_, _-_, _≤_, _<_}
-use native.Mathlib.Nat.{mul-assoc, mul-pos, zero-mul, zero-lt-suc, le-refl}
+use native.Mathlib.Nat.{mul-assoc, mul-pos, zero-lt-suc, le-refl}
 use native.Mathlib.Omega.{arith}
 use borrow.Author.Tests.{ltb-true, eqb-true, eq-eqb}
 use lib.Dec.{T, ltb, eqb, ltb→lt}

@@ -1,4 +1,4 @@
--- A loop's invariant is a record of this file, and its four answers are one law each: where it begins, a turn, an early end, the end. Assumes nothing.
+-- A loop's invariant is a record of this file, and its four answers are one law each: where it begins, a turn, an early end, the end.
 use mathlib.Core.Path.{_≡_, refl, sym, ap, _∙_}
 use mathlib.Core.List.{List, [], _∷_, _++_, append-assoc}
 use Prim.Native.Nat.{ℕ, zero, suc, _+_, _-_, _≤_, _<_}

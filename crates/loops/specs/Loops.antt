@@ -1,4 +1,4 @@
--- The shapes of loops that the other definitions are said with. Assumes nothing.
+-- The shapes of loops that the other definitions are said with.
 use mathlib.Core.List.{List, [], _∷_, _++_}
 use mathlib.Core.Bool.{Bool, true, false, _&&_, _||_}
 use mathlib.Core.Option.{Option, some, none}

@@ -1,4 +1,4 @@
--- `fraction::both` meets its contract. Assumes nothing.
+-- `fraction::both` meets its contract.
 use Rattle.fraction.specs.Formula.{pairOf}
 use borrow.Author.Needs.{needs}
 use Rattle.fraction.proofs.both.Statement.{statement}

@@ -1,4 +1,4 @@
--- `fraction::cross_less` meets its contract. Assumes nothing.
+-- `fraction::cross_less` meets its contract.
 use Rattle.integer.specs.Machine.{back32, back64}
 use borrow.Author.Needs.{needs}
 use Rattle.fraction.proofs.cross_less.Statement.{statement}

@@ -1,4 +1,4 @@
--- `fraction::cross_sum` meets its contract. Assumes nothing.
+-- `fraction::cross_sum` meets its contract.
 use Rattle.fraction.proofs.Machine.{cross-sum-fits, cross-sum-is}
 use borrow.Author.Needs.{needs}
 use Rattle.fraction.proofs.cross_sum.Statement.{statement}

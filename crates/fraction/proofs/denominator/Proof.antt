@@ -1,4 +1,4 @@
--- `fraction::denominator` meets its contract. Assumes nothing.
+-- `fraction::denominator` meets its contract.
 use Rattle.fraction.proofs.Machine.{product-below}
 use borrow.Author.Needs.{needs}
 use Rattle.fraction.proofs.denominator.Statement.{statement}

@@ -1,4 +1,4 @@
--- `fraction::num_size` meets its contract. Assumes nothing.
+-- `fraction::num_size` meets its contract.
 use Rattle.integer.specs.Machine.{wide, widened}
 use borrow.Author.Needs.{needs}
 use lib.IntN.{natAbs}

@@ -1,4 +1,4 @@
--- `fraction::operands` meets its contract. Assumes nothing.
+-- `fraction::operands` meets its contract.
 use borrow.Author.Needs.{needs}
 use Rattle.fraction.proofs.operands.Statement.{statement}
 use Rattle.fraction.proofs.operands.Tie as tie

@@ -1,4 +1,4 @@
--- `integer::cross` meets its contract. Assumes nothing.
+-- `integer::cross` meets its contract.
 use borrow.Author.Needs.{needs}
 use lib.IntN.{pos}
 use lib.Signed.{natAbs-le}

@@ -1,7 +1,5 @@
 -- `integer::divisor` meets its contract. The loop's invariant: the divisor of high and low is that of a and b. The measure is low.
--- Assumes nothing.
 use mathlib.Core.Path.{_≡_, refl, sym, _∙_, subst}
-use Prim.Native.Nat.{ℕ, _<_, _≤_}
 use native.Mathlib.Nat.{mod-lt}
 use native.Mathlib.Omega.{arith}
 use Rattle.integer.specs.Gcd.{gcd, gcd-le, gcd-pos, gcd-step, gcd-zero}

@@ -1,4 +1,4 @@
--- `integer::product` meets its contract. Assumes nothing.
+-- `integer::product` meets its contract.
 use borrow.Author.Needs.{needs}
 use native.Mathlib.Omega.{arith}
 use lib.Signed.{natAbs-le}

@@ -1,10 +1,9 @@
--- `integer::size` meets its contract. A negative number z is first made z + 1, whose negation fits. Assumes nothing.
+-- `integer::size` meets its contract. A negative number z is first made z + 1, whose negation fits.
 use borrow.Author.Needs.{needs}
-use mathlib.Core.Path.{_≡_, ap, _∙_}
+use mathlib.Core.Path.{_≡_, _∙_}
 use mathlib.Core.Bool.{true}
-use Prim.Native.Nat.{_+_, _<_}
 use native.Mathlib.Omega.{arith}
-use lib.IntN.{ℤ, pos, negℤ, natAbs, _+ℤ_, _-ℤ_, +ℤ-idl, negℤ-negℤ}
+use lib.IntN.{ℤ, pos, negℤ, _+ℤ_, _-ℤ_, +ℤ-idl, negℤ-negℤ}
 use lib.Signed.{ltZ, mag, natAbs-le}
 use mir.Syntax.{w64}
 use mir.Val.{SFits, toZ, ofZ}

@@ -1,4 +1,4 @@
--- `integer::with_sign` meets its contract. Assumes nothing.
+-- `integer::with_sign` meets its contract.
 use borrow.Author.Needs.{needs}
 use mathlib.Core.Path.{_≡_}
 use native.Mathlib.Omega.{arith}

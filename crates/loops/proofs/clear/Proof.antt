@@ -1,4 +1,4 @@
--- `loops::clear` meets its contract. Assumes nothing.
+-- `loops::clear` meets its contract.
 use mathlib.Core.Path.{_∙_}
 use Prim.Native.Nat.{_-_}
 use native.Mathlib.Omega.{arith}

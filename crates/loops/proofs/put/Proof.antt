@@ -1,4 +1,4 @@
--- `loops::put` meets its contract. Assumes nothing.
+-- `loops::put` meets its contract.
 use borrow.Author.Needs.{needs}
 use mathlib.Core.Path.{sym}
 use lib.Seq.{set-out}

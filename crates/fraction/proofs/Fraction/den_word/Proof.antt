@@ -1,4 +1,4 @@
--- `fraction::Fraction::den_word` meets its contract. Assumes nothing.
+-- `fraction::Fraction::den_word` meets its contract.
 use Rattle.fraction.specs.Exact.{denWord}
 use Rattle.integer.specs.Machine.{sfits-by}
 use borrow.Author.Tests.{le-leb, lt-leb}

@@ -1,4 +1,4 @@
--- `fraction::Fraction::difference` meets its contract. Assumes nothing.
+-- `fraction::Fraction::difference` meets its contract.
 use Rattle.fraction.specs.Exact.{differenceOf}
 use borrow.Author.Needs.{needs}
 use Rattle.fraction.proofs.Fraction.difference.Statement.{statement}

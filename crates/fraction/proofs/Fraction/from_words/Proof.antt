@@ -1,4 +1,4 @@
--- `fraction::Fraction::from_words` meets its contract. Assumes nothing.
+-- `fraction::Fraction::from_words` meets its contract.
 use Rattle.fraction.proofs.Machine.{from-negative, from-unsigned, unsigned-ok}
 use borrow.Author.Needs.{needs}
 use Rattle.fraction.proofs.Fraction.from_words.Statement.{statement}

@@ -1,4 +1,4 @@
--- `fraction::Fraction::is_operand` meets its contract. Assumes nothing.
+-- `fraction::Fraction::is_operand` meets its contract.
 use Rattle.fraction.specs.Exact.{isOperand}
 use borrow.Author.Needs.{needs}
 use borrow.Author.Tests.{le-leb, le-ltb, lt-leb, lt-ltb}

@@ -1,4 +1,4 @@
--- `fraction::Fraction::is_proper` meets its contract. Assumes nothing.
+-- `fraction::Fraction::is_proper` meets its contract.
 use Rattle.fraction.proofs.OverOne.{proper-whole}
 use Rattle.fraction.specs.Exact.{isProper}
 use borrow.Author.Needs.{needs}

@@ -1,4 +1,4 @@
--- `fraction::Fraction::is_zero` meets its contract. Assumes nothing.
+-- `fraction::Fraction::is_zero` meets its contract.
 use borrow.Author.Needs.{needs}
 use Rattle.fraction.specs.Exact.{isZero}
 use Rattle.fraction.proofs.Fraction.is_zero.Statement.{statement}

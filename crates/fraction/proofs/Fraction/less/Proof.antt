@@ -1,4 +1,4 @@
--- `fraction::Fraction::less` meets its contract. Assumes nothing.
+-- `fraction::Fraction::less` meets its contract.
 use Rattle.fraction.specs.Exact.{isLess}
 use Rattle.integer.specs.Machine.{back32}
 use borrow.Author.Needs.{needs}

@@ -1,7 +1,7 @@
--- `fraction::Fraction::negation` meets its contract. Assumes nothing.
+-- `fraction::Fraction::negation` meets its contract.
 use Rattle.fraction.proofs.Machine.{minus-fits, minus-is}
 use Rattle.fraction.specs.Exact.{negationOf, over}
-use Rattle.fraction.specs.Laws.{operand-is}
+use Rattle.fraction.proofs.Laws.{operand-is}
 use Rattle.fraction.specs.declared.Worked.the-variants.{Fits}
 use borrow.Author.Needs.{needs}
 use lib.IntN.{ℤ}

@@ -1,4 +1,4 @@
--- `fraction::Fraction::product` meets its contract. Assumes nothing.
+-- `fraction::Fraction::product` meets its contract.
 use Rattle.fraction.proofs.Machine.{multiplied}
 use Rattle.fraction.specs.Exact.{productOf, reduceOf}
 use borrow.Author.Needs.{needs}

@@ -1,4 +1,4 @@
--- `fraction::Fraction::quotient` meets its contract. Assumes nothing.
+-- `fraction::Fraction::quotient` meets its contract.
 use Rattle.fraction.specs.Exact.{quotientOf}
 use borrow.Author.Needs.{needs}
 use Rattle.fraction.proofs.Fraction.quotient.Statement.{statement}

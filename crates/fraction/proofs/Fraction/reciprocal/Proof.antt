@@ -1,7 +1,7 @@
--- `fraction::Fraction::reciprocal` meets its contract. Assumes nothing.
+-- `fraction::Fraction::reciprocal` meets its contract.
 use Rattle.fraction.proofs.Machine.{narrow-fits, narrow-is}
 use Rattle.fraction.specs.Exact.{Operand, over, reciprocalOf}
-use Rattle.fraction.specs.Laws.{operand-is}
+use Rattle.fraction.proofs.Laws.{operand-is}
 use Rattle.fraction.specs.declared.Worked.the-variants.{Fits}
 use Rattle.integer.specs.Machine.{wide, widened}
 use Rattle.integer.specs.Whole.{signed}

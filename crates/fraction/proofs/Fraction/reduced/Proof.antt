@@ -1,9 +1,9 @@
--- `fraction::Fraction::reduced` meets its contract. Assumes nothing.
+-- `fraction::Fraction::reduced` meets its contract.
 use Prim.Native.Nat.{ℕ, _*_, _/_, _<_, _≤_}
 use Rattle.fraction.proofs.Machine.{narrow-fits, narrow-is}
 use Rattle.fraction.proofs.OverOne.{reduce-whole}
 use Rattle.fraction.specs.Exact.{fitted, over, reduceOf}
-use Rattle.fraction.specs.Laws.{fitted-no-den, fitted-no-num, fitted-yes, reduce-by, reduce-zero}
+use Rattle.fraction.proofs.Laws.{fitted-no-den, fitted-no-num, fitted-yes, reduce-by, reduce-zero}
 use Rattle.fraction.specs.declared.Worked.the-variants.{Fits}
 use Rattle.integer.specs.Gcd.{gcd, gcd-pos}
 use Rattle.integer.specs.Whole.{natAbs-signed, signed}

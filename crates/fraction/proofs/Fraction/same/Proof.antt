@@ -1,4 +1,4 @@
--- `fraction::Fraction::same` meets its contract. Assumes nothing.
+-- `fraction::Fraction::same` meets its contract.
 use Rattle.fraction.specs.Exact.{isSame}
 use Rattle.integer.specs.Machine.{eqb-words}
 use borrow.Author.Needs.{needs}

@@ -1,6 +1,6 @@
--- `fraction::Fraction::sum` meets its contract. Assumes nothing.
+-- `fraction::Fraction::sum` meets its contract.
 use Rattle.fraction.specs.Exact.{reduceOf, sumOf}
-use Rattle.fraction.specs.Laws.{operands-are}
+use Rattle.fraction.proofs.Laws.{operands-are}
 use Rattle.integer.specs.Machine.{back64}
 use borrow.Author.Needs.{needs}
 use lib.IntN.{ℤ}

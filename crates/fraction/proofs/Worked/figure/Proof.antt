@@ -1,4 +1,4 @@
--- `fraction::Worked::figure` meets its contract. Assumes nothing.
+-- `fraction::Worked::figure` meets its contract.
 use borrow.Author.Needs.{needs}
 use mathlib.Core.Path.{refl}
 use Rattle.fraction.proofs.Worked.figure.Statement.{statement}

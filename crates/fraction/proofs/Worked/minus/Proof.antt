@@ -1,4 +1,4 @@
--- `fraction::Worked::minus` meets its contract. Assumes nothing.
+-- `fraction::Worked::minus` meets its contract.
 use Rattle.fraction.specs.Formula.{_⊖_}
 use borrow.Author.Needs.{needs}
 use Rattle.fraction.proofs.Worked.minus.Statement.{statement}

@@ -1,4 +1,4 @@
--- `fraction::Worked::plus` meets its contract. Assumes nothing.
+-- `fraction::Worked::plus` meets its contract.
 use Rattle.fraction.specs.Formula.{_⊕_}
 use borrow.Author.Needs.{needs}
 use Rattle.fraction.proofs.Worked.plus.Statement.{statement}

@@ -1,0 +1,9 @@
+pub mod Ring
+pub mod Solver
+pub mod Ordered
+pub mod Int
+pub mod Rat
+pub mod Order
+pub mod Inverse
+pub mod Frac
+pub mod Sum
