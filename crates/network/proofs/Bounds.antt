@@ -1,18 +1,18 @@
--- Bounds in exact numbers: which of them are numbers, and how they compare. Assumes nothing.
+-- Bounds in exact numbers: which of them are numbers, and how they compare.
 use mathlib.Core.Path.{_≡_, refl, sym, ap, _∙_, subst}
 use mathlib.Core.Bool.{true, false}
 use mathlib.Core.Logic.{inl, inr}
 use mathlib.Core.Option.{some, none}
 use native.Mathlib.Omega.{arith}
 use borrow.Author.Tests.{ne-eqb}
-use Rattle.algebra.specs.Rat.{ℚ, _≤ℚ_ as _≤_}
-use Rattle.algebra.specs.Order.{_<_}
-use Rattle.presolve.specs.Bounds.{some-inj, none-some}
+use Rattle.algebra.specs.Rat.{ℚ, _≤ℚ_, _<ℚ_}
+use Rattle.presolve.proofs.Bounds.{some-inj, none-some}
 use Rattle.fraction.specs.declared.Fraction.{Fraction}
 use Rattle.fraction.specs.Exact.{Proper, noLower, noUpper, isFinite, isLess}
 use Rattle.fraction.specs.Value.{value}
-use Rattle.fraction.specs.Laws.{never}
-use Rattle.fraction.specs.Extended.{absent-lower, absent-upper, proper-figure, less-is, less-value, not-less}
+use Rattle.fraction.proofs.Laws.{never}
+use Rattle.fraction.specs.Extended.{absent-lower, absent-upper}
+use Rattle.fraction.proofs.Extended.{proper-figure, less-is, less-value, not-less}
 use Rattle.network.specs.Legal.{Bound}
 use Rattle.network.specs.Program.{boundOf}
 
@@ -58,23 +58,23 @@ both-proper (inr m) (inr n) = absurd (less-is absent-lower absent-lower .0 (subs
 -- ---- a fraction v within bounds, or outside of them
 
 module _ {v : Fraction} (p : Proper v) where
-  pub not-under : {l : Fraction} → Bound noLower l → isLess v l ≡ false → (q : ℚ) → boundOf l ≡ some q → q ≤ value v
+  pub not-under : {l : Fraction} → Bound noLower l → isLess v l ≡ false → (q : ℚ) → boundOf l ≡ some q → q ≤ℚ value v
   not-under b e q f = let n = lower-number b f in rw (← n .is) (not-less p (n .proper) e)
 
-  pub not-over : {u : Fraction} → Bound noUpper u → isLess u v ≡ false → (q : ℚ) → boundOf u ≡ some q → value v ≤ q
+  pub not-over : {u : Fraction} → Bound noUpper u → isLess u v ≡ false → (q : ℚ) → boundOf u ≡ some q → value v ≤ℚ q
   not-over b e q f = let n = upper-number b f in rw (← n .is) (not-less (n .proper) p e)
 
   -- what lies beyond a bound, the bound is a number
-  pub under : {l : Fraction} → Bound noLower l → isLess v l ≡ true → (boundOf l ≡ some (value l)) × (value v < value l)
+  pub under : {l : Fraction} → Bound noLower l → isLess v l ≡ true → (boundOf l ≡ some (value l)) × (value v <ℚ value l)
   under (inl q) e = (bound-is q, less-value p q e)
   under (inr m) e = absurd (less-is (proper-figure p) absent-lower .0 (rw m at e))
 
-  pub over : {u : Fraction} → Bound noUpper u → isLess u v ≡ true → (boundOf u ≡ some (value u)) × (value u < value v)
+  pub over : {u : Fraction} → Bound noUpper u → isLess u v ≡ true → (boundOf u ≡ some (value u)) × (value u <ℚ value v)
   over (inl q) e = (bound-is q, less-value q p e)
   over (inr m) e = absurd (less-is absent-upper (proper-figure p) .0 (rw m at e))
 
 -- bounds that cross are two numbers
-pub crossing : {l u : Fraction} → Bound noLower l → Bound noUpper u → isLess u l ≡ true → (boundOf l ≡ some (value l)) × (boundOf u ≡ some (value u)) × (value u < value l)
+pub crossing : {l u : Fraction} → Bound noLower l → Bound noUpper u → isLess u l ≡ true → (boundOf l ≡ some (value l)) × (boundOf u ≡ some (value u)) × (value u <ℚ value l)
 crossing (inl p) b e = let o = over p b e in (bound-is p, o .0, o .1)
 crossing (inr m) (inl q) e = absurd (less-is (proper-figure q) absent-lower .0 (rw m at e))
 crossing (inr m) (inr n) e = absurd (less-is absent-upper absent-lower .0 (rw (m, n) at e))

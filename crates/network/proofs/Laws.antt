@@ -1,4 +1,4 @@
--- Laws that several proofs cite. Assumes nothing.
+-- Laws that several proofs cite.
 use mathlib.Core.Path.{_≡_, refl, sym, _∙_}
 use mathlib.Core.List.{List, map}
 use Prim.Native.Nat.{ℕ, zero, suc, _+_, _-_, _≤_, _<_}

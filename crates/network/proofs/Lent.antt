@@ -3,8 +3,6 @@ pub mod Rec
 pub mod list_clear
 pub mod list_count
 pub mod list_degrees
-pub mod list_load
-pub mod list_load_arcs
 pub mod list_put_edit
 pub mod list_put_update
 pub mod list_read

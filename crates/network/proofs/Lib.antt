@@ -1,15 +1,8 @@
 pub mod Laws
 pub mod Tally
-pub mod Questions
-pub mod Pairs
-pub mod Arrays
-pub mod Legal
+pub mod Numbers
 pub mod Kept
-pub mod Packed
 pub mod Sane
-pub mod Ranks
-pub mod Survivors
 pub mod Bounds
-pub mod Paired
 pub mod Lent
 pub mod Lists

@@ -5,7 +5,6 @@
 --     loaded-net                      a cleared list, loaded, has the network of the record
 --     updates-put                     arcs replaced one after the other
 --     changed-net                     the records of a step's change replaced: the network after the step
--- Assumes nothing.
 use mathlib.Core.Bool.{Bool, true, false}
 use mathlib.Core.List.{List, _∷_, [], _++_}
 use mathlib.Core.Path.{_≡_, refl, sym, ap, _∙_}
@@ -13,22 +12,18 @@ use Prim.Native.Nat.{ℕ, zero, suc, _+_, _-_, _<_, _≤_}
 use native.Mathlib.Numerals.{add-one}
 use native.Mathlib.Omega.{arith}
 use lib.Dec.{leb}
-use lib.IntN.{ℤ}
-use lib.ListN.{length, getD, set, take, replicate, length-set, length-replicate, List·getD-eq-default}
+use lib.ListN.{length, getD, set, take, replicate, length-set, List·getD-eq-default}
 use lib.Seq.{set-out, take-suc, take-set-lt, take-set-le}
 use borrow.Author.Tests.{le-leb, leb-true, leb-false}
-use Rattle.loops.specs.Loops.{build, upto}
-use Rattle.loops.proofs.Laws.{Filled, filled-more, getD-build, build-const, build-same, upto-keeps}
+use Rattle.loops.specs.Loops.{build}
+use Rattle.loops.proofs.Laws.{Filled, filled-more, getD-build, build-const, build-same}
 use Rattle.network.specs.declared.Arc.{Arc}
 use Rattle.network.specs.declared.Net.{Net}
 use Rattle.network.specs.declared.Nodes.{Nodes}
 use Rattle.network.specs.declared.ArcUpdate.{ArcUpdate}
 use Rattle.network.specs.declared.Edit.{Edit}
-use Rattle.network.specs.declared.record.Asked.{Asked}
-use Rattle.network.specs.declared.record.Asked.the-variants.{Go, No}
-use Rattle.network.specs.Network.{noArc, emptyNet, arcAt, withArc, withUpdate, withUpdates, updatesOf, withSupply, withNode, without, applied}
-use Rattle.network.specs.Record.{figures, arcIn, sizesOf, nodeTurn, arcTurn, netOf, netBy, readOf}
-use Rattle.network.specs.ArcList.{recordAt, replaced, replacedBy, replacedAll, noArcs, loadTurn, loadedBy, loaded, arcsIn, nodesOf, joined, netIn}
+use Rattle.network.specs.Network.{noArc, arcAt, withArc, withUpdate, withUpdates, updatesOf, withSupply, without, applied}
+use Rattle.network.specs.ArcList.{recordAt, replaced, replacedBy, replacedAll, noArcs, arcsIn, nodesOf, joined, netIn}
 
 -- ---- a record by its number
 
@@ -111,46 +106,6 @@ arcs-none k = build-same 97 (recordAt (noArcs k)) (λ _. noArc) (λ i l. getD-no
     getD-none zero i = refl
     getD-none (suc n) zero = refl
     getD-none (suc n) (suc i) = getD-none n i
-
--- ---- the list loaded
-
-pub length-turns : (words : List ℤ) (n t m : ℕ) (xs : List Arc) → length (upto (loadTurn words n t) m xs) ≡ length xs
-length-turns words n t m xs =
-    upto-keeps (λ (ys : List Arc). length ys ≡ length xs) (loadTurn words n t) (λ j ys e. length-replaced ys (j + 1) (arcIn words n t j) ∙ e) m xs refl
-
-load-turns : (words : List ℤ) (n t m : ℕ) (net : Net) (xs : List Arc) → 96 ≤ length xs → net .arcs ≡ arcsIn xs → upto (arcTurn words n t) m net .arcs ≡ arcsIn (upto (loadTurn words n t) m xs)
-unfolding upto
-load-turns words n t zero net xs l e = e
-load-turns words n t (suc m) net xs l e =
-    arcs-put
-    (upto (arcTurn words n t) m net)
-    (upto (loadTurn words n t) m xs)
-    (m + 1)
-    (arcIn words n t m)
-    (rw (length-turns words n t m xs) l)
-    (load-turns words n t m net xs l e)
-
-pub length-loaded : (words : List ℤ) (xs : List Arc) → length (loaded words xs) ≡ length xs
-unfolding loaded
-length-loaded words xs = by-sizes (sizesOf words)
-  where
-    by-sizes : (q : Asked) → length (loadedBy words q xs) ≡ length xs
-    by-sizes (No q) = refl
-    by-sizes (Go n m) = length-turns words n (figures n m) m xs
-
-pub loaded-net : (words : List ℤ) (k : ℕ) → 96 ≤ k → joined (nodesOf (readOf words)) (arcsIn (loaded words (noArcs k))) ≡ readOf words
-unfolding loaded readOf netOf withNode withSupply
-loaded-net words k l = by-sizes (sizesOf words)
-  where
-    long : 96 ≤ length (noArcs k)
-    long = rw (length-replicate k noArc) l
-
-    kept : (n m : ℕ) → upto (nodeTurn words (figures n m)) n (emptyNet n m) .arcs ≡ arcsIn (noArcs k)
-    kept n m = upto-keeps (λ (net : Net). net .arcs ≡ arcsIn (noArcs k)) (nodeTurn words (figures n m)) (λ i net e. e) n (emptyNet n m) (sym (arcs-none k))
-
-    by-sizes : (q : Asked) → joined (nodesOf (netBy words q)) (arcsIn (loadedBy words q (noArcs k))) ≡ netBy words q
-    by-sizes (No q) = ap (joined (nodesOf (emptyNet 0 0))) (arcs-none k)
-    by-sizes (Go n m) = ap (joined (nodesOf (netOf words n m))) (sym (load-turns words n (figures n m) m (upto (nodeTurn words (figures n m)) n (emptyNet n m)) (noArcs k) long (kept n m)))
 
 -- ---- a step's change
 

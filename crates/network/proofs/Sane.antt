@@ -1,4 +1,4 @@
--- A legal network in exact numbers: its arcs in use are legal there, and their ends are in use. Assumes nothing.
+-- A legal network in exact numbers: its arcs in use are legal there, and their ends are in use.
 use mathlib.Core.Path.{_≡_, refl, sym, ap, _∙_, subst}
 use mathlib.Core.Bool.{Bool, true, false}
 use Prim.Native.Nat.{ℕ, _≤_, _<_}
@@ -6,17 +6,17 @@ use native.Mathlib.Omega.{arith}
 use lib.Dec.{T}
 use lib.IntN.{natAbs}
 use borrow.Author.Tests.{not-true, eqb-false, eq-eqb, ne-eqb}
-use Rattle.presolve.specs.Net.{Sane}
-use Rattle.presolve.specs.Net as Exact
+use Rattle.presolve.proofs.Net.{Sane}
+use Rattle.presolve.proofs.Net as Exact
 use Rattle.algebra.specs.Rat.{0ℚ}
 use Rattle.fraction.specs.declared.Fraction.{Fraction}
 use Rattle.fraction.specs.Exact.{Proper, zeroFraction, isZero}
-use Rattle.fraction.specs.Value.{value, zero-value, same-is}
-use Rattle.fraction.specs.Worked.{nonzero-value}
+use Rattle.fraction.specs.Value.{value}
+use Rattle.fraction.proofs.Value.{zero-value, same-is}
+use Rattle.fraction.proofs.Formulas.{nonzero-value}
 use Rattle.network.specs.declared.Arc.{Arc}
 use Rattle.network.specs.declared.Net.{Net}
-use Rattle.network.specs.Network.{arcAt, isHere, isRoot}
-use Rattle.network.specs.Output.{isUsed}
+use Rattle.network.specs.Network.{arcAt, isHere, isRoot, isUsed}
 use Rattle.network.specs.Legal.{LegalArc, Legal}
 use Rattle.network.specs.Program.{exactOf, exactArc}
 use Rattle.network.proofs.Kept.{here-number}

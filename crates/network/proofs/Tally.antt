@@ -1,4 +1,4 @@
--- The degrees of all nodes, counted in one pass over the arcs. Assumes nothing.
+-- The degrees of all nodes, counted in one pass over the arcs.
 use mathlib.Core.Path.{_≡_, refl, sym, ap, _∙_}
 use mathlib.Core.Bool.{Bool, true, false, cond, _||_}
 use mathlib.Core.List.{List}
@@ -14,7 +14,7 @@ use Rattle.loops.specs.Loops.{tally, count}
 use Rattle.loops.proofs.Laws.{count-le}
 use Rattle.network.specs.declared.Arc.{Arc}
 use Rattle.network.specs.declared.Net.{Net}
-use Rattle.network.specs.Network.{arcAt, isTouching, isRoot, raised, countedAt, Countable, numbersTo, AreDegreesTo}
+use Rattle.network.specs.Network.{arcAt, isTouching, isRoot, raised, countedAt, Countable, AreDegreesTo}
 
 raised-long : (ds : List ℕ) (f : ℕ) → length (raised ds f) ≡ length ds
 raised-long ds f = by (ltb f 33)

@@ -1,18 +1,14 @@
--- The lent list of arc records (01, "Records": "the working arcs stand as a lent list of arc records, one for each number"), and the network whose arcs stand in it. Assumes nothing.
+-- The lent list of arc records (01, "Records": "the working arcs stand as a lent list of arc records, one for each number"), and the network whose arcs stand in it.
 use mathlib.Core.List.{List, [], _∷_}
-use Prim.Native.Nat.{ℕ, zero, suc, _+_}
-use lib.IntN.{ℤ}
+use Prim.Native.Nat.{ℕ, zero, suc}
 use lib.ListN.{getD, set, replicate}
-use Rattle.loops.specs.Loops.{build, upto}
+use Rattle.loops.specs.Loops.{build}
 use Rattle.network.specs.declared.Arc.{Arc}
 use Rattle.network.specs.declared.Net.{Net}
 use Rattle.network.specs.declared.Nodes.{Nodes}
 use Rattle.network.specs.declared.ArcUpdate.{ArcUpdate}
 use Rattle.network.specs.declared.Edit.{Edit}
-use Rattle.network.specs.declared.record.Asked.{Asked}
-use Rattle.network.specs.declared.record.Asked.the-variants.{Go, No}
 use Rattle.network.specs.Network.{noArc, updatesOf}
-use Rattle.network.specs.Record.{figures, arcIn, sizesOf}
 
 -- the record of number j, from 1; zeros where there is none
 unfoldable pub recordAt : List Arc → ℕ → Arc
@@ -34,17 +30,6 @@ replacedAll xs c = replacedBy xs (updatesOf c)
 -- "every figure in it zero": k records all of whose numbers are 0
 abbrev pub noArcs : ℕ → List Arc
 noArcs k = replicate k noArc
-
--- the arcs of a network's record put into the list, where question 2 is answered by yes
-abbrev pub loadTurn : List ℤ → ℕ → ℕ → ℕ → List Arc → List Arc
-loadTurn words n t j xs = replaced xs (j + 1) (arcIn words n t j)
-
-abbrev pub loadedBy : List ℤ → Asked → List Arc → List Arc
-loadedBy words (No q) xs = xs
-loadedBy words (Go n m) xs = upto (loadTurn words n (figures n m)) m xs
-
-unfoldable pub loaded : List ℤ → List Arc → List Arc
-loaded words xs = loadedBy words (sizesOf words) xs
 
 -- ---- a network whose arcs stand in the list
 

@@ -1,4 +1,4 @@
--- The form of a network that the questions let pass, and that every step keeps. Assumes nothing.
+-- The form of a network that the questions let pass, and that every step keeps.
 use mathlib.Core.Path.{_≡_}
 use mathlib.Core.Bool.{true, false}
 use mathlib.Core.Logic.{_⊎_}

@@ -1,7 +1,7 @@
--- The network that a reduction works on (01, "The problem and its figures"), and what a step changes in it. Assumes nothing.
+-- The network that a reduction works on (01, "The problem and its figures"), and what a step changes in it.
 use mathlib.Core.Path.{_≡_}
 use mathlib.Core.List.{List, [], _∷_}
-use mathlib.Core.Bool.{Bool, true, false, cond, _||_, _&&_}
+use mathlib.Core.Bool.{Bool, true, false, cond, not, _||_, _&&_}
 use Prim.Native.Nat.{ℕ, zero, suc, _+_, _-_, _<_, _≤_}
 use lib.Dec.{eqb, leb, ltb}
 use lib.ListN.{getD, set, replicate}
@@ -32,6 +32,10 @@ supplyAt net i = getD (net .supply) i noFigure
 
 abbrev pub isHere : Net → ℕ → Bool
 isHere net i = getD (net .here) i false
+
+-- whether arc j is in use
+abbrev pub isUsed : Net → ℕ → Bool
+isUsed net j = not (eqb (arcAt net j .from) 0)
 
 -- whether k is a number from 1 to top
 abbrev pub isNumber : ℕ → ℕ → Bool

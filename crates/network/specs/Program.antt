@@ -1,4 +1,4 @@
--- A network in exact numbers: the linear program over ℚ that 01, "The problem and its figures", says. Nodes are its rows and arcs its columns, at their numbers. Assumes nothing.
+-- A network in exact numbers: the linear program over ℚ that 01, "The problem and its figures", says. Nodes are its rows and arcs its columns, at their numbers.
 use mathlib.Core.Bool.{cond, not}
 use mathlib.Core.Option.{Option, some, none}
 use lib.Dec.{eqb}

@@ -1,4 +1,4 @@
-// A network (01, "The problem and its figures") as a reduction works on it, its record read and written.
+// A network (01, "The problem and its figures") as a reduction works on it.
 ghost use mathlib.Core.Path.{_≡_};
 ghost use Prim.Native.Nat.{_≤_};
 ghost use mathlib.Core.List.{List};
@@ -11,9 +11,7 @@ ghost use Rattle.network.specs.Network.{isTouching, degreeOf, raised, co
 use fraction::Fraction;
 
 pub mod list;
-pub mod output;
 pub mod pair;
-pub mod record;
 
 // An arc's seven figures: its from and to node, cost c, lower bound l, upper bound u, multipliers a and b.
 // A number not in use has from 0.

@@ -3,17 +3,15 @@
 // The next line is for tools/lift.py:
 // lent: Arc [i8; 56]
 ghost use mathlib.Core.Path.{_≡_};
-ghost use Prim.Native.Nat.{_+_, _*_, _≤_};
+ghost use Prim.Native.Nat.{_+_};
 ghost use lib.ListN.{length};
-ghost use Rattle.loops.specs.Loops.{upto};
 ghost use Rattle.network.specs.declared.Nodes.{Nodes};
-ghost use Rattle.network.specs.ArcList.{recordAt, replaced, replacedAll, noArcs, arcsIn, netIn, loadTurn, loaded};
+ghost use Rattle.network.specs.ArcList.{recordAt, replaced, replacedAll, noArcs, arcsIn, netIn};
 ghost use Rattle.network.specs.Network.{AreDegreesTo, touchingAfter};
 use crate::Arc;
 use crate::ArcUpdate;
 use crate::Degrees;
 use crate::Edit;
-use crate::record::Asked;
 
 // How many records there are.
 pub fn count(arcs: &[Arc]) -> usize
@@ -123,29 +121,4 @@ pub fn put_edit(arcs: &mut [Arc], c: Edit)
     put_update(arcs, c.two);
     put_update(arcs, c.three);
     put_update(arcs, c.four);
-}
-
-// The arcs 1 to m of a network's record.
-pub(crate) fn load_arcs(arcs: &mut [Arc], network: &[i32], n: usize, t: usize, m: usize)
-    requires { ⌜ (2 + 2 * t ≤ length (now network)) × (n + 7 * m ≤ t) ⌝ }
-    ensures { λ _. ⌜ now (arcs .exit) ≡ upto (loadTurn (now (network .entry)) n t) m (now (arcs .entry)) ⌝ }
-{
-    let mut j = 0;
-    while j < m {
-        let a = crate::record::arc_in(network, n, t, j);
-        replace(arcs, j + 1, a);
-        j += 1;
-    }
-}
-
-// The arcs of a network's record, where question 2 is answered by yes.
-pub fn load(arcs: &mut [Arc], network: &[i32])
-    ensures { λ _. ⌜ now (arcs .exit) ≡ loaded (now (network .entry)) (now (arcs .entry)) ⌝ }
-{
-    match crate::record::sizes(network) {
-        Asked::No(_) => {},
-        Asked::Go(n, m) => {
-            load_arcs(arcs, network, n, n + 7 * m, m);
-        },
-    }
 }

@@ -1,4 +1,4 @@
--- `network::add_one` meets its contract. Assumes nothing.
+-- `network::add_one` meets its contract.
 use borrow.Author.Needs.{needs}
 use borrow.Author.Tests.{le-ltb, lt-ltb}
 use Rattle.network.proofs.add_one.Statement.{statement}

@@ -1,4 +1,4 @@
--- `network::arc_at` meets its contract. Assumes nothing.
+-- `network::arc_at` meets its contract.
 use Rattle.network.proofs.Laws.{length-mapped}
 use Rattle.network.specs.Network.{noArc}
 use borrow.Author.Needs.{needs}

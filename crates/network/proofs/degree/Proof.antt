@@ -1,4 +1,4 @@
--- `network::degree` meets its contract. Assumes nothing.
+-- `network::degree` meets its contract.
 use Prim.Native.Nat.{_-_}
 use Rattle.loops.proofs.Laws.{Counted, counted-all, counted-no, counted-none, counted-yes}
 use Rattle.network.specs.Network.{arcAt, degreeOf, isTouching}

@@ -1,4 +1,4 @@
--- `network::drop_node` meets its contract. Assumes nothing.
+-- `network::drop_node` meets its contract.
 use Rattle.network.specs.Network.{without}
 use borrow.Author.Needs.{needs}
 use borrow.Author.Tests.{le-leb, lt-leb}

@@ -1,4 +1,4 @@
--- `network::edit_one` meets its contract. Assumes nothing.
+-- `network::edit_one` meets its contract.
 use borrow.Author.Needs.{needs}
 use Rattle.network.proofs.edit_one.Statement.{statement}
 use Rattle.network.proofs.edit_one.Tie as tie

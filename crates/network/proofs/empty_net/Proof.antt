@@ -1,4 +1,4 @@
--- `network::empty_net` meets its contract. Assumes nothing.
+-- `network::empty_net` meets its contract.
 use borrow.Author.Needs.{needs}
 use Rattle.network.proofs.empty_net.Statement.{statement}
 use Rattle.network.proofs.empty_net.Tie as tie

@@ -1,4 +1,4 @@
--- `network::far_end` meets its contract. Assumes nothing.
+-- `network::far_end` meets its contract.
 use Rattle.network.specs.Network.{farEnd}
 use borrow.Author.Needs.{needs}
 use Rattle.network.proofs.far_end.Statement.{statement}

@@ -1,4 +1,4 @@
--- `network::is_here` meets its contract. Assumes nothing.
+-- `network::is_here` meets its contract.
 use Rattle.network.proofs.Laws.{length-mapped}
 use borrow.Author.Needs.{needs}
 use lib.ListN.{List·getD-eq-default, length}

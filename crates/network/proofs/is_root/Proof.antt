@@ -1,4 +1,4 @@
--- `network::is_root` meets its contract. Assumes nothing.
+-- `network::is_root` meets its contract.
 use Rattle.network.specs.Network.{isRoot}
 use mathlib.Core.Path.{refl}
 use Rattle.network.proofs.is_root.Statement.{statement}

@@ -1,4 +1,4 @@
--- `network::no_edit` meets its contract. Assumes nothing.
+-- `network::no_edit` meets its contract.
 use borrow.Author.Needs.{needs}
 use Rattle.network.proofs.no_edit.Statement.{statement}
 use Rattle.network.proofs.no_edit.Tie as tie

@@ -1,4 +1,4 @@
--- `network::put_supply` meets its contract. Assumes nothing.
+-- `network::put_supply` meets its contract.
 use Rattle.network.specs.Network.{withSupply}
 use borrow.Author.Needs.{needs}
 use borrow.Author.Tests.{le-leb, lt-leb}

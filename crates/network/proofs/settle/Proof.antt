@@ -1,4 +1,4 @@
--- `network::settle` meets its contract. Assumes nothing.
+-- `network::settle` meets its contract.
 use mathlib.Core.Path.{_∙_, ap}
 use Rattle.network.specs.declared.Nodes.{Nodes}
 use Rattle.network.specs.Network.{withArc, withSupply, without, withUpdates, updatesOf, applied}

@@ -1,4 +1,4 @@
--- `network::side_at` meets its contract. Assumes nothing.
+-- `network::side_at` meets its contract.
 use Rattle.network.specs.Network.{sideOf}
 use borrow.Author.Needs.{needs}
 use borrow.Author.Tests.{eq-eqb, ne-eqb}

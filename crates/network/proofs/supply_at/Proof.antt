@@ -1,4 +1,4 @@
--- `network::supply_at` meets its contract. Assumes nothing.
+-- `network::supply_at` meets its contract.
 use Rattle.network.proofs.Laws.{length-mapped}
 use Rattle.fraction.specs.Exact.{noFigure}
 use borrow.Author.Needs.{needs}

@@ -1,4 +1,4 @@
--- `network::supply_of` meets its contract. Assumes nothing.
+-- `network::supply_of` meets its contract.
 use Rattle.fraction.specs.Exact.{noFigure}
 use Rattle.network.proofs.Laws.{length-mapped}
 use borrow.Author.Needs.{needs}

@@ -1,4 +1,4 @@
--- `network::touches` meets its contract. Assumes nothing.
+-- `network::touches` meets its contract.
 use Rattle.network.specs.Network.{isTouching}
 use borrow.Author.Tests.{eq-eqb, ne-eqb}
 use Rattle.network.proofs.touches.Statement.{statement}

@@ -1,4 +1,4 @@
--- `network::touching` meets its contract. Assumes nothing.
+-- `network::touching` meets its contract.
 use Prim.Native.Nat.{_+_, _-_}
 use Rattle.loops.proofs.Laws.{Scanned, scanned-all, scanned-none}
 use Rattle.network.proofs.Laws.{sought-no, sought-past, sought-yes}

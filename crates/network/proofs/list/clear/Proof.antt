@@ -1,5 +1,4 @@
 -- `network::list::clear` meets its contract. The part that follows the code is `Proof/Tie.antt`, made by tools/lift.py.
--- Assumes nothing.
 mod Tie
 use mathlib.Core.Path.{_∙_}
 use native.Mathlib.Omega.{arith}

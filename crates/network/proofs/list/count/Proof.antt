@@ -1,5 +1,4 @@
 -- `network::list::count` meets its contract. The part that follows the code is `Proof/Tie.antt`, made by tools/lift.py.
--- Assumes nothing.
 mod Tie
 use borrow.Author.Needs.{needs}
 use Rattle.network.proofs.list.count.Statement.{statement}

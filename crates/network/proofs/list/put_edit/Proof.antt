@@ -1,5 +1,4 @@
 -- `network::list::put_edit` meets its contract. The part that follows the code is `Proof/Tie.antt`, made by tools/lift.py.
--- Assumes nothing.
 mod Tie
 use Rattle.network.specs.ArcList.{replacedAll}
 use borrow.Author.Needs.{needs}

@@ -1,4 +1,4 @@
--- `network::pair::no_pair` meets its contract. Assumes nothing.
+-- `network::pair::no_pair` meets its contract.
 use borrow.Author.Needs.{needs}
 use Rattle.network.proofs.pair.no_pair.Statement.{statement}
 use Rattle.network.proofs.pair.no_pair.Tie as tie
