@@ -1,0 +1,3 @@
+-- Made by tools/lift.py: not to be edited.
+pub mod Kinds
+pub mod Reads

@@ -1,0 +1,10 @@
+pub mod Questions
+pub mod Tables
+pub mod Pairs
+pub mod Arrays
+pub mod Legal
+pub mod Paired
+pub mod Written
+pub mod Logged
+pub mod Lent
+pub mod Loaded

@@ -1,0 +1,75 @@
+-- The pair and the values read back from the words written are those written.
+use mathlib.Core.Path.{_≡_, refl, sym, ap, _∙_}
+use mathlib.Core.List.{List, _∷_, _++_}
+use Prim.Native.Nat.{ℕ, zero, suc, _+_, _-_, _≤_, _<_}
+use native.Mathlib.Numerals.{add-one}
+use native.Mathlib.Omega.{arith}
+use lib.IntN.{ℤ, pos}
+use lib.ListN.{length, set}
+use borrow.Author.Tests.{le-leb, lt-leb}
+use Rattle.loops.specs.Loops.{zeros}
+use Rattle.fraction.specs.declared.Fraction.{Fraction}
+use Rattle.fraction.specs.Exact.{most, fromWords, denWord}
+use Rattle.network.specs.declared.pair.Pair.{Pair}
+use Rattle.fraction.specs.Words.{word}
+use Rattle.records.specs.Arrays.{figureAt}
+use Rattle.network.specs.Pair.{priceAt, flowAt}
+use Rattle.records.specs.Pair.{pairOf}
+use Rattle.records.proofs.Arrays.{first-at, second-at}
+use Rattle.records.proofs.Pairs.{is-room}
+use Rattle.records.proofs.Paired.{price-read, flow-read}
+use Rattle.records.specs.Pair.{pairFigure, pairWords}
+use Rattle.records.specs.Values.{twoWords, fourWords, withValue}
+
+-- a figure's two words
+pub words-read : (x : Fraction) → x .den ≤ most → fromWords (x .num) (denWord (x .den)) ≡ x
+unfolding fromWords denWord
+words-read x h = rw (le-leb (x .den) most h) refl
+
+-- ---- a pair's record
+
+module _ (n m : ℕ) (pair : Pair) (room : ℕ) (h : n ≤ 32) (k : m ≤ 96) (l : 258 ≤ room) where
+  -- figure i of the record
+  pub figure-read : (i : ℕ) → i < n + m → pairFigure n pair i .den ≤ most → figureAt (pairWords n m pair room) (n + m) i ≡ pairFigure n pair i
+  unfolding figureAt pairWords
+  figure-read i b d =
+      let e : 2 + i ≡ suc (suc i) = omega (arith, add-one i, add-one (suc i)) in
+      let q : 2 + (n + m) + i ≡ suc (suc (n + m + i)) = omega (arith, add-one (n + m + i), add-one (suc (n + m + i))) in
+      rw (is-room n m room h k l, e, q, first-at (pairFigure n pair) (n + m) (room - 2) i b, second-at (pairFigure n pair) (n + m) (room - 2) i b)
+      (words-read (pairFigure n pair i) d)
+
+  price-figure : (i : ℕ) → i < n → pairFigure n pair i ≡ priceAt pair (i + 1)
+  unfolding pairFigure
+  price-figure i b = rw (le-leb (i + 1) n (omega arith))
+
+  flow-figure : (j : ℕ) → pairFigure n pair (n + j) ≡ flowAt pair (j + 1)
+  unfolding pairFigure
+  flow-figure j = let e : n + j - n + 1 ≡ j + 1 = omega arith in rw (lt-leb (n + j + 1) n (omega arith), e)
+
+  pub price-written : (i : ℕ) → i < n → priceAt pair (i + 1) .den ≤ most → priceAt (pairOf (pairWords n m pair room) n m) (i + 1) ≡ priceAt pair (i + 1)
+  price-written i b d =
+      let e = price-figure i b in
+      price-read (pairWords n m pair room) n m h k i b ∙ figure-read i (omega arith) (rw e d) ∙ e
+
+  pub flow-written : (j : ℕ) → j < m → flowAt pair (j + 1) .den ≤ most → flowAt (pairOf (pairWords n m pair room) n m) (j + 1) ≡ flowAt pair (j + 1)
+  flow-written j b d =
+      let e = flow-figure j in
+      flow-read (pairWords n m pair room) n m h k j b ∙ figure-read (n + j) (omega arith) (rw e d) ∙ e
+
+-- ---- values over the first words of a slice of zeros, and read back
+
+zeros-but : (n k : ℕ) → n ≤ k → zeros k ≡ zeros n ++ zeros (k - n)
+zeros-but zero k h = let e : k - 0 ≡ k = omega arith in ap zeros (sym e)
+zeros-but (suc n) zero h = absurd (omega (arith, add-one n))
+zeros-but (suc n) (suc k) h = let e : suc k - suc n ≡ k - n = omega (arith, add-one n, add-one k) in ap (λ l. pos 0 ∷ l) (zeros-but n k (omega (arith, add-one n, add-one k)) ∙ ap (λ j. zeros n ++ zeros j) (sym e))
+
+pub one-value : (x : Fraction) (l : List ℤ) → l ≡ zeros (length l) → 2 ≤ length l → withValue l 0 x ≡ twoWords x (length l)
+unfolding withValue
+one-value x l e h = ap (λ (t : List ℤ). set (set t 0 (x .num)) 1 (denWord (x .den))) (e ∙ zeros-but 2 (length l) h)
+
+pub both-values : (x y : Fraction) (l : List ℤ) → l ≡ zeros (length l) → 4 ≤ length l → withValue (withValue l 0 x) 2 y ≡ fourWords x y (length l)
+unfolding withValue
+both-values x y l e h = ap (λ (t : List ℤ). set (set (set (set t 0 (x .num)) 1 (denWord (x .den))) 2 (y .num)) 3 (denWord (y .den))) (e ∙ zeros-but 4 (length l) h)
+
+pub value-written : (x y : Fraction) (room : ℕ) → y .den ≤ most → fromWords (word (fourWords x y room) 2) (word (fourWords x y room) 3) ≡ y
+value-written x y room h = words-read y h

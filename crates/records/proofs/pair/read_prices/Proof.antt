@@ -1,0 +1,42 @@
+-- `records::read_prices` meets its contract.
+use Prim.Native.Nat.{_-_}
+use Rattle.loops.proofs.Laws.{Folded, folded-all, folded-more, folded-none}
+use Rattle.network.proofs.Numbers.{number}
+use Rattle.records.specs.Pair.{priceTurn}
+use Rattle.network.specs.Pair.{withPrice}
+use borrow.Author.Needs.{needs}
+use native.Mathlib.Omega.{arith}
+use Rattle.records.proofs.pair.read_prices.Statement.{statement}
+use Rattle.records.proofs.pair.read_prices.Tie as tie
+
+abbrev Inv-loop : tie.InvT-loop
+Inv-loop words t n at₀ i₀ at i = Folded (priceTurn words t) n at₀ i at
+
+abbrev μ-loop : tie.MeasureT-loop
+μ-loop words t n at₀ i₀ at i = n - i
+
+loop-holds : tie.Need-loop-holds Inv-loop μ-loop
+loop-holds c = folded-none _ _ _
+
+loop-again : tie.Need-loop-again Inv-loop μ-loop
+unfolding withPrice
+loop-again c = folded-more _ (c .before .before .loop .inv) (omega arith) (rw (number 32 (c .before .before .loop .i) (omega arith), c .figure-at .ensures))
+
+returns : tie.Need-returns Inv-loop μ-loop
+returns c = folded-all _ (c .before .loop .inv) (omega arith)
+
+pub read-prices-spec : {M : Type 1} → statement M
+read-prices-spec =
+    tie.close
+    (tie.spec
+    Inv-loop
+    μ-loop
+    loop-holds
+    (λ c κs. search needs)
+    (λ c. search needs)
+    (λ c. search needs)
+    (λ c. search needs)
+    (λ c. search needs)
+    (λ c. search needs)
+    loop-again
+    returns)

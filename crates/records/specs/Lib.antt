@@ -1,0 +1,9 @@
+pub mod Arrays
+pub mod Questions
+pub mod Network
+pub mod Pair
+pub mod Cut
+pub mod Stack
+pub mod Logged
+pub mod Values
+pub mod Examples

@@ -1,0 +1,56 @@
+-- A pair's record (01, "Records"): question 8, the pair that it holds, and the record of a pair.
+use mathlib.Core.Bool.{Bool, true, false, cond, _&&_}
+use mathlib.Core.List.{List, _∷_}
+use Prim.Native.Nat.{ℕ, _+_, _-_, _*_}
+use lib.Dec.{eqb, leb}
+use lib.IntN.{ℤ, pos}
+use lib.ListN.{length}
+use Rattle.integer.specs.Whole.{eqZ}
+use Rattle.loops.specs.Loops.{all, upto, zeros}
+use Rattle.fraction.specs.declared.Fraction.{Fraction}
+use Rattle.fraction.specs.Exact.{isProper}
+use Rattle.fraction.specs.Words.{word, wordOf}
+use Rattle.network.specs.declared.pair.Pair.{Pair}
+use Rattle.network.specs.Pair.{noPair, priceAt, flowAt, withPrice, withFlow}
+use Rattle.records.specs.Arrays.{figureAt, arraysOf}
+
+-- ---- 8. "Has the pair the reduced sizes, length and only fractions?"
+
+unfoldable pub hasSizes : List ℤ → ℕ → ℕ → Bool
+hasSizes ys n m = eqb (length ys) (2 + 2 * (n + m)) && (eqZ (word ys 0) (pos n) && eqZ (word ys 1) (pos m))
+
+abbrev pub isFraction : List ℤ → ℕ → ℕ → Bool
+isFraction ys t k = isProper (figureAt ys t k)
+
+unfoldable pub isPair : List ℤ → ℕ → ℕ → Bool
+isPair ys n m = hasSizes ys n m && all (isFraction ys (n + m)) (n + m)
+
+-- ---- the pair that a record holds: "node prices p, then flows"
+
+abbrev pub priceTurn : List ℤ → ℕ → ℕ → Pair → Pair
+priceTurn ys t i pair = withPrice pair (i + 1) (figureAt ys t i)
+
+abbrev pub flowTurn : List ℤ → ℕ → ℕ → ℕ → Pair → Pair
+flowTurn ys n t j pair = withFlow pair (j + 1) (figureAt ys t (n + j))
+
+-- none where the sizes are beyond the limits
+abbrev pub pairBy : Bool → List ℤ → ℕ → ℕ → Pair
+pairBy true ys n m = upto (flowTurn ys n (n + m)) m (upto (priceTurn ys (n + m)) n noPair)
+pairBy false ys n m = noPair
+
+unfoldable pub pairOf : List ℤ → ℕ → ℕ → Pair
+pairOf ys n m = pairBy (leb n 32 && leb m 96) ys n m
+
+-- ---- the record of a pair
+
+-- figure k of a pair's record: "node prices p, then flows"
+unfoldable pub pairFigure : ℕ → Pair → ℕ → Fraction
+pairFigure n pair k = cond (leb (k + 1) n) (priceAt pair (k + 1)) (flowAt pair (k - n + 1))
+
+-- sizes within the limits, and the room that question 1 asks for
+unfoldable pub pairRoom : ℕ → ℕ → ℕ → Bool
+pairRoom n m room = leb n 32 && (leb m 96 && leb 258 room)
+
+-- "n, m; then n + m numerators; then denominators", and zeros: room words; zeros alone where it has no room
+unfoldable pub pairWords : ℕ → ℕ → Pair → ℕ → List ℤ
+pairWords n m pair room = cond (pairRoom n m room) (wordOf n ∷ wordOf m ∷ arraysOf (pairFigure n pair) (n + m) (room - 2)) (zeros room)

@@ -1,0 +1,103 @@
+// The records of 01, "Records": network, stack, pair and values, each with its questions, its reading and its writing.
+ghost use mathlib.Core.Path.{_≡_};
+ghost use mathlib.Core.List.{_++_};
+ghost use Prim.Native.Nat.{_+_, _-_, _≤_};
+ghost use lib.ListN.{length, getD};
+ghost use Rattle.loops.specs.Loops.{zeros};
+ghost use Rattle.fraction.specs.Exact.{noFigure};
+ghost use Rattle.fraction.specs.Words.{word, naturalOf};
+ghost use Rattle.records.specs.Arrays.{figureAt, denominators, arraysOf};
+ghost use Rattle.records.specs.Network.{sizeOf};
+use fraction::Fraction;
+
+pub mod net;
+pub mod pair;
+pub mod stack;
+pub mod values;
+
+// A size within its limit.
+pub enum Size {
+    Is(usize),
+    Off,
+}
+
+// The word t + k places behind the two sizes; 0 outside.
+fn word_behind(xs: &[i32], t: usize, k: usize) -> i32
+    ensures { λ r. ⌜ r ≡ word (now (xs .entry)) (2 + t + k) ⌝ }
+{
+    if xs.len() < 2 {
+        return 0;
+    }
+    if xs.len() - 2 < t {
+        return 0;
+    }
+    if k < xs.len() - 2 - t {
+        return xs[2 + t + k];
+    }
+    0
+}
+
+// Figure k of the t figures of a record that begins with two sizes.
+pub fn figure_at(xs: &[i32], t: usize, k: usize) -> Fraction
+    ensures { λ r. ⌜ r ≡ figureAt (now (xs .entry)) t k ⌝ }
+{
+    Fraction::from_words(word_behind(xs, 0, k), word_behind(xs, t, k))
+}
+
+// A word as a size, up to a limit; 0 outside.
+pub fn size_at(xs: &[i32], at: usize, limit: usize) -> Size
+    ensures { λ r. ⌜ r ≡ sizeOf (word (now (xs .entry)) at) limit ⌝ }
+{
+    if at < xs.len() {
+        let n = xs[at];
+        if n < 0 {
+            return Size::Off;
+        }
+        let k = n as usize;
+        if k <= limit {
+            return Size::Is(k);
+        }
+        return Size::Off;
+    }
+    Size::Is(0)
+}
+
+// A word as a number; 0 below zero and outside.
+pub fn number_at(xs: &[i32], at: usize) -> usize
+    ensures { λ r. ⌜ r ≡ naturalOf (word (now (xs .entry)) at) ⌝ }
+{
+    if at < xs.len() {
+        let z = xs[at];
+        if z < 0 {
+            return 0;
+        }
+        return z as usize;
+    }
+    0
+}
+
+// ---- writing
+
+// The denominators of t figures, and zeros behind them: the rest of an output slice, behind the numerators.
+fn write_denominators(figures: [Fraction; 704], t: usize, rest: &mut [i32])
+    requires { ⌜ (t ≤ 704) × (t ≤ length (now rest)) ⌝ }
+    ensures { λ _. ⌜ now (rest .exit) ≡ denominators (λ k. getD figures k noFigure) t ++ zeros (length (now (rest .entry)) - t) ⌝ }
+{
+    for k in 0..t {
+        let f = figures[k];
+        loops::put(rest, k, f.den_word());
+    }
+    loops::clear(&mut rest[t..]);
+}
+
+// The numerators of t figures, then as many denominators, and zeros behind them.
+pub(crate) fn write_figures(figures: [Fraction; 704], t: usize, out: &mut [i32])
+    requires { ⌜ (t ≤ 704) × (t + t ≤ length (now out)) ⌝ }
+    ensures { λ _. ⌜ now (out .exit) ≡ arraysOf (λ k. getD figures k noFigure) t (length (now (out .entry))) ⌝ }
+{
+    for k in 0..t {
+        let f = figures[k];
+        loops::put(out, k, f.num);
+    }
+    write_denominators(figures, t, &mut out[t..]);
+}

@@ -1,0 +1,369 @@
+// A network's record: the questions 2 to 5 before work, the network that it holds, and the record of a network.
+// The next line is for tools/lift.py:
+// lent: network::Arc [i8; 56]
+ghost use mathlib.Core.Path.{_≡_};
+ghost use mathlib.Core.List.{List, _∷_};
+ghost use Prim.Native.Nat.{_+_, _-_, _*_, _≤_, _<_};
+ghost use lib.ListN.{length, replicate};
+ghost use Rattle.loops.specs.Loops.{all, upto, written};
+ghost use Rattle.fraction.specs.Exact.{noFigure};
+ghost use Rattle.network.specs.declared.Arc.{Arc};
+ghost use Rattle.network.specs.declared.Nodes.{Nodes};
+ghost use Rattle.fraction.specs.Words.{wordOf};
+ghost use Rattle.network.specs.Network.{emptyNet};
+ghost use Rattle.network.specs.ArcList.{noArcs, nodesOf, joined};
+ghost use Rattle.records.specs.Arrays.{figureAt, arraysOf};
+ghost use Rattle.records.specs.Questions.{firstNo};
+ghost use Rattle.records.specs.Network.{figures, sizesRight, roleOf, isPermitted, isInForm, isEnd, hasEnds, arcIn, isWeightedAt, questions, nodeTurn, arcTurn, netOf, readOf, loadTurn, loaded, roleFigure, figureOf, hasRoom, networkOf};
+use crate::Size;
+use fraction::Fraction;
+use network::Arc;
+use network::Net;
+use network::Nodes;
+
+// ---- the questions, and reading
+
+// The same, of a record that is long enough.
+fn figure_in(xs: &[i32], t: usize, k: usize) -> Fraction
+    requires { ⌜ (2 + 2 * t ≤ length (now xs)) × (k < t) ⌝ }
+    ensures { λ r. ⌜ r ≡ figureAt (now (xs .entry)) t k ⌝ }
+{
+    let num = xs[2 + k];
+    let den = xs[2 + t + k];
+    Fraction::from_words(num, den)
+}
+
+// Question 2: whether the sizes are within limits and the length is right.
+pub(crate) fn has_sizes(xs: &[i32]) -> bool
+    ensures { λ r. ⌜ r ≡ sizesRight (now (xs .entry)) ⌝ }
+{
+    match crate::size_at(xs, 0, 32) {
+        Size::Off => false,
+        Size::Is(n) => match crate::size_at(xs, 1, 96) {
+            Size::Off => false,
+            Size::Is(m) => xs.len() == 2 + 2 * (n + 7 * m),
+        },
+    }
+}
+
+// Which of an arc's seven figures figure k is, from 0; of a supply 0.
+fn role_of(n: usize, k: usize) -> usize
+    ensures { λ r. ⌜ r ≡ roleOf n k ⌝ }
+{
+    if k < n { 0 } else { (k - n) % 7 }
+}
+
+// Whether figure k is a fraction in form, or the mark that its place permits.
+fn permitted(n: usize, k: usize, f: Fraction) -> bool
+    ensures { λ r. ⌜ r ≡ isPermitted (roleOf n k) f ⌝ }
+{
+    if f.is_proper() {
+        return true;
+    }
+    let role = role_of(n, k);
+    match role {
+        3 => f.same(Fraction::NO_LOWER),
+        4 => f.same(Fraction::NO_UPPER),
+        _ => false,
+    }
+}
+
+// Question 3: whether each figure is a fraction in form or a permitted mark.
+fn all_in_form(xs: &[i32], n: usize, t: usize) -> bool
+    requires { ⌜ 2 + 2 * t ≤ length (now xs) ⌝ }
+    ensures { λ r. ⌜ r ≡ all (isInForm (now (xs .entry)) n t) t ⌝ }
+{
+    for k in 0..t {
+        let f = figure_in(xs, t, k);
+        if permitted(n, k, f) {} else {
+            return false;
+        }
+    }
+    true
+}
+
+// Whether a figure is whole and from 1 to n.
+fn is_end(n: usize, f: Fraction) -> bool
+    ensures { λ r. ⌜ r ≡ isEnd n f ⌝ }
+{
+    if f.den == 1 {
+        let i = fraction::words::natural_of(f);
+        return 1 <= i && i <= n;
+    }
+    false
+}
+
+// Whether both ends of the arc of number j + 1 are right.
+fn has_ends(xs: &[i32], n: usize, t: usize, j: usize) -> bool
+    requires { ⌜ (2 + 2 * t ≤ length (now xs)) × (n + 7 * j + 7 ≤ t) ⌝ }
+    ensures { λ r. ⌜ r ≡ hasEnds (now (xs .entry)) n t j ⌝ }
+{
+    let k = n + 7 * j;
+    is_end(n, figure_in(xs, t, k)) && is_end(n, figure_in(xs, t, k + 1))
+}
+
+// Question 4: whether all ends are whole and from 1 to n.
+fn all_ends(xs: &[i32], n: usize, t: usize, m: usize) -> bool
+    requires { ⌜ (2 + 2 * t ≤ length (now xs)) × (n + 7 * m ≤ t) ⌝ }
+    ensures { λ r. ⌜ r ≡ all (hasEnds (now (xs .entry)) n t) m ⌝ }
+{
+    for j in 0..m {
+        if has_ends(xs, n, t, j) {} else {
+            return false;
+        }
+    }
+    true
+}
+
+// The arc of number j + 1.
+pub(crate) fn arc_in(xs: &[i32], n: usize, t: usize, j: usize) -> Arc
+    requires { ⌜ (2 + 2 * t ≤ length (now xs)) × (n + 7 * j + 7 ≤ t) ⌝ }
+    ensures { λ r. ⌜ r ≡ arcIn (now (xs .entry)) n t j ⌝ }
+{
+    let k = n + 7 * j;
+    let from = fraction::words::natural_of(figure_in(xs, t, k));
+    let to = fraction::words::natural_of(figure_in(xs, t, k + 1));
+    let cost = figure_in(xs, t, k + 2);
+    let lower = figure_in(xs, t, k + 3);
+    let upper = figure_in(xs, t, k + 4);
+    let a = figure_in(xs, t, k + 5);
+    let b = figure_in(xs, t, k + 6);
+    Arc {
+        from,
+        to,
+        cost,
+        lower,
+        upper,
+        a,
+        b,
+    }
+}
+
+// Whether of the arc of number j + 1 a is nonzero, and b zero exactly where from = to.
+fn has_weights(xs: &[i32], n: usize, t: usize, j: usize) -> bool
+    requires { ⌜ (2 + 2 * t ≤ length (now xs)) × (n + 7 * j + 7 ≤ t) ⌝ }
+    ensures { λ r. ⌜ r ≡ isWeightedAt (now (xs .entry)) n t j ⌝ }
+{
+    let k = n + 7 * j;
+    if figure_in(xs, t, k + 5).is_zero() {
+        return false;
+    }
+    let z = figure_in(xs, t, k + 6).is_zero();
+    let from = fraction::words::natural_of(figure_in(xs, t, k));
+    let to = fraction::words::natural_of(figure_in(xs, t, k + 1));
+    if from == to {
+        return z;
+    }
+    !z
+}
+
+// Question 5: whether every a is nonzero, and b zero exactly where from = to.
+fn all_weighted(xs: &[i32], n: usize, t: usize, m: usize) -> bool
+    requires { ⌜ (2 + 2 * t ≤ length (now xs)) × (n + 7 * m ≤ t) ⌝ }
+    ensures { λ r. ⌜ r ≡ all (isWeightedAt (now (xs .entry)) n t) m ⌝ }
+{
+    for j in 0..m {
+        if has_weights(xs, n, t, j) {} else {
+            return false;
+        }
+    }
+    true
+}
+
+// The first of the questions 2 to 5 that is answered by no; 0 where none is.
+pub fn ask(network: &[i32]) -> usize
+    ensures { λ r. ⌜ r ≡ firstNo (questions (now (network .entry))) ⌝ }
+{
+    if has_sizes(network) {} else {
+        return 2;
+    }
+    let n = crate::number_at(network, 0);
+    let m = crate::number_at(network, 1);
+    let t = n + 7 * m;
+    if all_in_form(network, n, t) {} else {
+        return 3;
+    }
+    if all_ends(network, n, t, m) {} else {
+        return 4;
+    }
+    if all_weighted(network, n, t, m) {} else {
+        return 5;
+    }
+    0
+}
+
+// No node in use yet, of n nodes and m arcs.
+fn no_nodes(n: usize, m: usize) -> Nodes
+    ensures { λ r. ⌜ r ≡ nodesOf (emptyNet n m) ⌝ }
+{
+    let f = network::no_figure();
+    Nodes {
+        n,
+        m,
+        here: [false; 33],
+        supply: [f; 33],
+    }
+}
+
+// Nodes 1 to n, with their supplies, whatever the arcs.
+fn read_nodes(xs: &[i32], n: usize, m: usize) -> Nodes
+    requires { ⌜ (n ≤ 32) × (m ≤ 96) × (2 + 2 * (n + 7 * m) ≤ length (now xs)) ⌝ }
+    ensures { λ r. ⌜ ((arcs : List Arc) → joined r arcs ≡ upto (nodeTurn (now (xs .entry)) (n + 7 * m)) n (joined (nodesOf (emptyNet n m)) arcs)) ⌝ }
+{
+    let t = n + 7 * m;
+    let mut at = no_nodes(n, m);
+    for i in 0..n {
+        let f = figure_in(xs, t, i);
+        at.supply[i + 1] = f;
+        at.here[i + 1] = true;
+    }
+    at
+}
+
+// Arcs 1 to m, whatever the nodes.
+fn read_arcs(xs: &[i32], n: usize, t: usize, m: usize) -> [Arc; 97]
+    requires { ⌜ (m ≤ 96) × (2 + 2 * t ≤ length (now xs)) × (n + 7 * m ≤ t) ⌝ }
+    ensures { λ r. ⌜ ((nodes : Nodes) → joined nodes r ≡ upto (arcTurn (now (xs .entry)) n t) m (joined nodes (noArcs 97))) ⌝ }
+{
+    let z = network::no_arc();
+    let mut at = [z; 97];
+    for j in 0..m {
+        let a = arc_in(xs, n, t, j);
+        at[j + 1] = a;
+    }
+    at
+}
+
+// The network of a record with these sizes.
+fn read_sized(xs: &[i32], n: usize, m: usize) -> Net
+    requires { ⌜ (n ≤ 32) × (m ≤ 96) × (2 + 2 * (n + 7 * m) ≤ length (now xs)) ⌝ }
+    ensures { λ r. ⌜ r ≡ netOf (now (xs .entry)) n m ⌝ }
+{
+    network::join(read_nodes(xs, n, m), read_arcs(xs, n, n + 7 * m, m))
+}
+
+// The network of a record; one without nodes and arcs where question 2 is answered by no.
+pub fn read(network: &[i32]) -> Net
+    ensures { λ r. ⌜ r ≡ readOf (now (network .entry)) ⌝ }
+{
+    if has_sizes(network) {
+        return read_sized(
+            network,
+            crate::number_at(network, 0),
+            crate::number_at(network, 1),
+        );
+    }
+    network::empty_net(0, 0)
+}
+
+// The nodes of a record's network.
+pub fn read_beside(network: &[i32]) -> Nodes
+    ensures { λ r. ⌜ r ≡ nodesOf (readOf (now (network .entry))) ⌝ }
+{
+    if has_sizes(network) {
+        return read_nodes(
+            network,
+            crate::number_at(network, 0),
+            crate::number_at(network, 1),
+        );
+    }
+    no_nodes(0, 0)
+}
+
+// ---- reading into the lent list
+
+// The arcs 1 to m of a network's record.
+pub(crate) fn load_arcs(arcs: &mut [Arc], network: &[i32], n: usize, t: usize, m: usize)
+    requires { ⌜ (2 + 2 * t ≤ length (now network)) × (n + 7 * m ≤ t) ⌝ }
+    ensures { λ _. ⌜ now (arcs .exit) ≡ upto (loadTurn (now (network .entry)) n t) m (now (arcs .entry)) ⌝ }
+{
+    let mut j = 0;
+    while j < m {
+        let a = arc_in(network, n, t, j);
+        network::list::replace(arcs, j + 1, a);
+        j += 1;
+    }
+}
+
+// The arcs of a network's record, where question 2 is answered by yes.
+pub fn load(arcs: &mut [Arc], network: &[i32])
+    ensures { λ _. ⌜ now (arcs .exit) ≡ loaded (now (network .entry)) (now (arcs .entry)) ⌝ }
+{
+    if has_sizes(network) {
+        let n = crate::number_at(network, 0);
+        let m = crate::number_at(network, 1);
+        load_arcs(arcs, network, n, n + 7 * m, m);
+    }
+}
+
+// ---- writing
+
+// An arc's seven figures, in their order.
+pub fn role_figure(t: Arc, role: usize) -> Fraction
+    ensures { λ r. ⌜ r ≡ roleFigure t role ⌝ }
+{
+    match role {
+        0 => fraction::words::whole(t.from),
+        1 => fraction::words::whole(t.to),
+        2 => t.cost,
+        3 => t.lower,
+        4 => t.upper,
+        5 => t.a,
+        _ => t.b,
+    }
+}
+
+// Whether the sizes are within the limits, and the room is what question 1 asks for.
+fn has_room(net: Net, room: usize) -> bool
+    ensures { λ r. ⌜ r ≡ hasRoom net room ⌝ }
+{
+    if net.n <= 32 {
+        return net.m <= 96 && 1410 <= room;
+    }
+    false
+}
+
+// The figures of a network's record, in their order.
+fn figures_of(net: Net) -> [Fraction; 704]
+    requires { ⌜ (net .n ≤ 32) × (net .m ≤ 96) ⌝ }
+    ensures { λ r. ⌜ r ≡ written (figures (net .n) (net .m)) (figureOf net) (replicate 704 noFigure) ⌝ }
+{
+    let n = net.n;
+    let t = n + 7 * net.m;
+    let z = network::no_figure();
+    let mut at = [z; 704];
+    for k in 0..t {
+        let mut f = network::no_figure();
+        if k < n {
+            f = net.supply[k + 1];
+        } else {
+            let d = k - n;
+            let j = d / 7 + 1;
+            let a = net.arcs[j];
+            f = role_figure(a, d % 7);
+        }
+        at[k] = f;
+    }
+    at
+}
+
+// The sizes, the numerators and the denominators.
+fn write_sized(net: Net, out: &mut [i32])
+    requires { ⌜ (net .n ≤ 32) × (net .m ≤ 96) × (1410 ≤ length (now out)) ⌝ }
+    ensures { λ _. ⌜ now (out .exit) ≡ wordOf (net .n) ∷ wordOf (net .m) ∷ arraysOf (figureOf net) (figures (net .n) (net .m)) (length (now (out .entry)) - 2) ⌝ }
+{
+    loops::put(out, 0, fraction::words::word_of(net.n));
+    loops::put(out, 1, fraction::words::word_of(net.m));
+    crate::write_figures(figures_of(net), net.n + 7 * net.m, &mut out[2..]);
+}
+
+// A network's record, and zeros behind it; zeros alone where it has no room.
+pub fn write_network(net: Net, out: &mut [i32])
+    ensures { λ _. ⌜ now (out .exit) ≡ networkOf net (length (now (out .entry))) ⌝ }
+{
+    if has_room(net, out.len()) {
+        write_sized(net, out);
+    } else {
+        loops::clear(out);
+    }
+}

@@ -1,0 +1,170 @@
+// A pair's record: question 8, the pair that it holds, and the record of a pair.
+ghost use mathlib.Core.Path.{_≡_};
+ghost use mathlib.Core.List.{_∷_};
+ghost use Prim.Native.Nat.{_+_, _-_, _*_, _≤_};
+ghost use lib.Dec.{eqb};
+ghost use lib.IntN.{pos};
+ghost use lib.ListN.{length, replicate};
+ghost use Rattle.integer.specs.Whole.{eqZ};
+ghost use Rattle.loops.specs.Loops.{all, upto, written};
+ghost use Rattle.fraction.specs.Exact.{noFigure};
+ghost use Rattle.fraction.specs.Words.{word, wordOf};
+ghost use Rattle.records.specs.Arrays.{arraysOf};
+ghost use Rattle.records.specs.Pair.{hasSizes, isFraction, isPair, priceTurn, flowTurn, pairOf, pairFigure, pairRoom, pairWords};
+use crate::Size;
+use fraction::Fraction;
+use network::pair::Pair;
+
+// Whether the word at a place is this number.
+pub fn is_size(pair: &[i32], at: usize, n: usize) -> bool
+    ensures { λ r. ⌜ r ≡ eqZ (word (now (pair .entry)) at) (pos n) ⌝ }
+{
+    match crate::size_at(pair, at, n) {
+        Size::Is(k) => k == n,
+        Size::Off => false,
+    }
+}
+
+// Whether so many words are two sizes and twice n + m figures.
+fn is_long(len: usize, n: usize, m: usize) -> bool
+    ensures { λ r. ⌜ r ≡ eqb len (2 + 2 * (n + m)) ⌝ }
+{
+    if len < 2 {
+        return false;
+    }
+    let half = (len - 2) / 2;
+    if half < n {
+        return false;
+    }
+    if half - n == m {
+        return len == 2 + 2 * half;
+    }
+    false
+}
+
+// Whether the record has these sizes, and their length.
+fn has_sizes(pair: &[i32], n: usize, m: usize) -> bool
+    ensures { λ r. ⌜ r ≡ hasSizes (now (pair .entry)) n m ⌝ }
+{
+    if is_long(pair.len(), n, m) {
+        return is_size(pair, 0, n) && is_size(pair, 1, m);
+    }
+    false
+}
+
+// Whether all t figures are fractions in form.
+fn all_fractions(pair: &[i32], t: usize) -> bool
+    ensures { λ r. ⌜ r ≡ all (isFraction (now (pair .entry)) t) t ⌝ }
+{
+    for k in 0..t {
+        let f = crate::figure_at(pair, t, k);
+        if f.is_proper() {} else {
+            return false;
+        }
+    }
+    true
+}
+
+// Question 8.
+pub fn is_pair(pair: &[i32], n: usize, m: usize) -> bool
+    ensures { λ r. ⌜ r ≡ isPair (now (pair .entry)) n m ⌝ }
+{
+    if has_sizes(pair, n, m) {
+        return all_fractions(pair, n + m);
+    }
+    false
+}
+
+// Prices of the nodes 1 to n.
+fn read_prices(pair: Pair, words: &[i32], t: usize, n: usize) -> Pair
+    requires { ⌜ n ≤ 32 ⌝ }
+    ensures { λ r. ⌜ r ≡ upto (priceTurn (now (words .entry)) t) n pair ⌝ }
+{
+    let mut at = pair;
+    for i in 0..n {
+        let f = crate::figure_at(words, t, i);
+        at.price[i + 1] = f;
+    }
+    at
+}
+
+// Flows of the arcs 1 to m.
+fn read_flows(pair: Pair, words: &[i32], n: usize, t: usize, m: usize) -> Pair
+    requires { ⌜ (n ≤ 32) × (m ≤ 96) ⌝ }
+    ensures { λ r. ⌜ r ≡ upto (flowTurn (now (words .entry)) n t) m pair ⌝ }
+{
+    let mut at = pair;
+    for j in 0..m {
+        let f = crate::figure_at(words, t, n + j);
+        at.flow[j + 1] = f;
+    }
+    at
+}
+
+// The pair of a record with these sizes; none where they are beyond the limits.
+pub fn read_pair(words: &[i32], n: usize, m: usize) -> Pair
+    ensures { λ r. ⌜ r ≡ pairOf (now (words .entry)) n m ⌝ }
+{
+    let p = network::pair::no_pair();
+    if 32 < n {
+        return p;
+    }
+    if 96 < m {
+        return p;
+    }
+    let q = read_prices(p, words, n + m, n);
+    read_flows(q, words, n, n + m, m)
+}
+
+// ---- writing
+
+// The figures of a pair's record, in their order.
+fn figures_of(n: usize, m: usize, pair: Pair) -> [Fraction; 704]
+    requires { ⌜ (n ≤ 32) × (m ≤ 96) ⌝ }
+    ensures { λ r. ⌜ r ≡ written (n + m) (pairFigure n pair) (replicate 704 noFigure) ⌝ }
+{
+    let t = n + m;
+    let z = network::no_figure();
+    let mut at = [z; 704];
+    for k in 0..t {
+        let mut f = network::no_figure();
+        if k + 1 <= n {
+            f = pair.price[k + 1];
+        } else {
+            f = pair.flow[k - n + 1];
+        }
+        at[k] = f;
+    }
+    at
+}
+
+// Whether the sizes are within the limits, and the room is what question 1 asks for.
+fn has_room(n: usize, m: usize, room: usize) -> bool
+    ensures { λ r. ⌜ r ≡ pairRoom n m room ⌝ }
+{
+    if n <= 32 {
+        return m <= 96 && 258 <= room;
+    }
+    false
+}
+
+// The sizes, the numerators and the denominators.
+fn write_sized(n: usize, m: usize, pair: Pair, out: &mut [i32])
+    requires { ⌜ (n ≤ 32) × (m ≤ 96) × (258 ≤ length (now out)) ⌝ }
+    ensures { λ _. ⌜ now (out .exit) ≡ wordOf n ∷ wordOf m ∷ arraysOf (pairFigure n pair) (n + m) (length (now (out .entry)) - 2) ⌝ }
+{
+    loops::put(out, 0, fraction::words::word_of(n));
+    loops::put(out, 1, fraction::words::word_of(m));
+    crate::write_figures(figures_of(n, m, pair), n + m, &mut out[2..]);
+}
+
+// A pair's record, and zeros behind it; zeros alone where it has no room.
+pub fn write_pair(n: usize, m: usize, pair: Pair, out: &mut [i32])
+    ensures { λ _. ⌜ now (out .exit) ≡ pairWords n m pair (length (now (out .entry))) ⌝ }
+{
+    if has_room(n, m, out.len()) {
+        write_sized(n, m, pair, out);
+    } else {
+        loops::clear(out);
+    }
+}

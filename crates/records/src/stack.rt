@@ -1,0 +1,60 @@
+// The stack's record, word by word, from the log; and question 7, whether the stack offered is that one.
+ghost use mathlib.Core.Path.{_≡_};
+ghost use Prim.Native.Nat.{_+_, _*_, _≤_};
+ghost use lib.ListN.{length};
+ghost use Rattle.loops.specs.Loops.{written};
+ghost use Rattle.records.specs.Logged.{stackWord, withStack, isStackOf};
+
+// Word k of the record of s steps.
+pub fn word_at(log: &[i32], s: usize, k: usize) -> i32
+    ensures { λ r. ⌜ r ≡ stackWord (now (log .entry)) s k ⌝ }
+{
+    if k == 0 {
+        return fraction::words::word_of(s);
+    }
+    if k <= s {
+        return fraction::words::word_of(log::rule_at(log, k - 1));
+    }
+    fraction::words::word_of(log::place_at(log, k - 1 - s))
+}
+
+// The record of s steps, over the first words of a slice that has room.
+fn write_words(log: &[i32], s: usize, out: &mut [i32])
+    requires { ⌜ (s ≤ 128) × (257 ≤ length (now out)) ⌝ }
+    ensures { λ _. ⌜ now (out .exit) ≡ written (1 + 2 * s) (stackWord (now (log .entry)) s) (now (out .entry)) ⌝ }
+{
+    let end = 1 + 2 * s;
+    for k in 0..end {
+        loops::put(out, k, word_at(log, s, k));
+    }
+}
+
+// It; nothing is written where there are more steps than a run has, or no room.
+pub fn write(log: &[i32], s: usize, out: &mut [i32])
+    ensures { λ _. ⌜ now (out .exit) ≡ withStack (now (log .entry)) s (now (out .entry)) ⌝ }
+{
+    if s <= 128 {
+        if 257 <= out.len() {
+            write_words(log, s, out);
+        }
+    }
+}
+
+// Whether the words are the record of the s steps in the log, of which a run has at most 128.
+pub fn is_stack(log: &[i32], s: usize, stack: &[i32]) -> bool
+    ensures { λ r. ⌜ r ≡ isStackOf (now (log .entry)) s (now (stack .entry)) ⌝ }
+{
+    if 128 < s {
+        return false;
+    }
+    let end = 1 + 2 * s;
+    if stack.len() == end {
+        for k in 0..end {
+            if stack[k] != word_at(log, s, k) {
+                return false;
+            }
+        }
+        return true;
+    }
+    false
+}

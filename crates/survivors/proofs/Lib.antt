@@ -1,0 +1,4 @@
+pub mod Packed
+pub mod Ranks
+pub mod Survivors
+pub mod Tidy

@@ -1,0 +1,70 @@
+-- What is left of a network, numbered from 1 (01, "Records"), and a pair of it at the original numbers.
+use mathlib.Core.Bool.{Bool, true, false, cond, _&&_}
+use mathlib.Core.List.{List}
+use Prim.Native.Nat.{ℕ, _+_}
+use lib.Dec.{ltb, leb}
+use lib.ListN.{getD}
+use Rattle.loops.specs.Loops.{build, count, upto}
+use Rattle.fraction.specs.declared.Fraction.{Fraction}
+use Rattle.fraction.specs.Exact.{noFigure}
+use Rattle.network.specs.declared.Arc.{Arc}
+use Rattle.network.specs.declared.Net.{Net}
+use Rattle.network.specs.declared.pair.Pair.{Pair}
+use Rattle.network.specs.Network.{emptyNet, arcAt, supplyAt, isHere, isUsed, withArc, withNode}
+use Rattle.network.specs.Pair.{priceAt, flowAt}
+
+-- ---- "survivors keep their order and are numbered from 1"
+
+-- the new number of node i: how many nodes up to it are left
+unfoldable pub rankOf : Net → ℕ → ℕ
+rankOf net i = count (λ k. isHere net k && leb k i) 33
+
+unfoldable pub arcRank : Net → ℕ → ℕ
+arcRank net j = count (λ k. isUsed net k && leb k j) 97
+
+-- an arc with these ends
+abbrev pub between : ℕ → ℕ → Arc → Arc
+between i k t = record { from = i; to = k; cost = t .cost; lower = t .lower; upper = t .upper; a = t .a; b = t .b }
+
+abbrev pub renumbered : Net → Arc → Arc
+renumbered net t = between (rankOf net (t .from)) (rankOf net (t .to)) t
+
+-- the new number of node i, where those of the numbers 0 to 32 are listed
+abbrev pub placed : List ℕ → ℕ → ℕ
+placed l i = cond (ltb i 33) (getD l i 0) (getD l 32 0)
+
+abbrev pub withSizes : Net → ℕ → ℕ → Net
+withSizes p n m = record { n = n; m = m; here = p .here; supply = p .supply; arcs = p .arcs }
+
+-- node i + 1 of net, where it is left, behind the nodes of p
+abbrev pub behindNodes : Bool → Bool → Net → ℕ → Net → Net
+behindNodes true true net i p = withNode (withSizes p (p .n + 1) (p .m)) (p .n + 1) (supplyAt net i)
+behindNodes true false net i p = p
+behindNodes false room net i p = p
+
+unfoldable pub packNode : Net → ℕ → Net → Net
+packNode net i p = behindNodes (isHere net (i + 1)) (ltb (p .n) 32) net (i + 1) p
+
+-- arc j + 1 of net, where it is left, behind the arcs of p
+abbrev pub behindArcs : Bool → Bool → Net → Arc → Net → Net
+behindArcs true room net t p = p
+behindArcs false true net t p = withArc (withSizes p (p .n) (p .m + 1)) (p .m + 1) (renumbered net t)
+behindArcs false false net t p = p
+
+unfoldable pub packArc : Net → ℕ → Net → Net
+packArc net j p = behindArcs (ltb (arcAt net (j + 1) .from) 1) (ltb (p .m) 96) net (arcAt net (j + 1)) p
+
+unfoldable pub packedOf : Net → Net
+packedOf net = upto (packArc net) 96 (upto (packNode net) 32 (emptyNet 0 0))
+
+-- ---- a pair at the original numbers
+
+-- prices of the nodes in use, flows of the arcs in use
+abbrev pub spreadPrice : Net → Pair → ℕ → Fraction
+spreadPrice net pair i = cond (isHere net i) (priceAt pair (rankOf net i)) noFigure
+
+abbrev pub spreadFlow : Net → Pair → ℕ → Fraction
+spreadFlow net pair j = cond (isUsed net j) (flowAt pair (arcRank net j)) noFigure
+
+unfoldable pub spreadOf : Net → Pair → Pair
+spreadOf net pair = record { price = build 33 (spreadPrice net pair); flow = build 97 (spreadFlow net pair) }
