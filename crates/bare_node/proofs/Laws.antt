@@ -1,7 +1,8 @@
 -- Rule 2 keeps the laws of a rule.
 use mathlib.Core.Path.{_≡_, refl, sym, ap, _∙_, subst}
 use mathlib.Core.Bool.{Bool, true, false}
-use mathlib.Core.Logic.{inl, ⊎-elim}
+use mathlib.Core.List.{[]}
+use mathlib.Core.Logic.{_⊎_, inl, inr, ⊎-elim}
 use Prim.Native.Nat.{ℕ}
 use native.Mathlib.Omega.{arith}
 use lib.Dec.{lit≤}
@@ -9,29 +10,28 @@ use native.Mathlib.Decide.{ℕ-discrete}
 use borrow.Author.Tests.{eqb-true, not-true}
 use Rattle.algebra.specs.Rat.{0ℚ}
 use Rattle.presolve.specs.LP as LP
-use Rattle.presolve.specs.Named.{once-mem}
-use Rattle.presolve.specs.Bare.{Untouched, bare-back, bare-sound, bare-no-flow}
-use Rattle.presolve.specs.Net.{rhs-out}
+use Rattle.presolve.proofs.Named.{once-mem}
+use Rattle.presolve.proofs.Bare.{Untouched, bare-back, bare-sound, bare-no-flow}
+use Rattle.presolve.proofs.Net.{rhs-out}
 use Rattle.fraction.specs.Exact.{noFigure, isZero}
-use Rattle.fraction.specs.Laws.{never}
+use Rattle.algebra.proofs.Sum.{none}
 use Rattle.fraction.specs.Value.{value}
-use Rattle.fraction.specs.Worked.{zero-proper, zero-is, nonzero-value}
+use Rattle.fraction.proofs.Formulas.{zero-proper, zero-is, nonzero-value}
 use Rattle.network.specs.declared.Net.{Net}
 use Rattle.network.specs.declared.Edit.{Edit}
-use Rattle.network.specs.Network.{supplyAt, isHere, degreeOf, noUpdate, noSupplyUpdate, editOne, applied}
+use Rattle.network.specs.Network.{arcAt, supplyAt, isHere, isTouching, degreeOf, noUpdate, noSupplyUpdate, editOne, applied}
 use Rattle.network.specs.Legal.{Legal}
 use Rattle.network.specs.Program.{exactOf, programOf}
 use Rattle.network.proofs.Kept.{here-number}
-use Rattle.step.specs.declared.Change.{Change}
+use Rattle.step.specs.declared.Outcome.{Outcome}
 use Rattle.step.specs.declared.Outcome.the-variants.{NoFlow, Changes}
 use Rattle.step.specs.Back.{oldOne}
 use Rattle.step.proofs.Frame.{no-updates, no-names, supply-same, here-same, node-gone}
-use Rattle.step.proofs.Touch.{none-touching}
 use Rattle.step.proofs.Fewer.{Tame, fewer}
-use Rattle.step.proofs.Exactly.{false-not, zero-figure, listed-node, rhs-is, unseen, column-kept, rhs-off, rhs-on}
-use Rattle.step.proofs.Lines.{only-met, flow-met, change-is, only-shown, flow-shown, not-shown, restored-is, met}
+use Rattle.step.proofs.Exactly.{false-not, zero-figure, listed-node, rhs-is, alone, column-kept, rhs-off, rhs-on}
+use Rattle.step.proofs.Lines.{Answers, only-met, flow-met, change-is, not-shown, not-changed, restored-is, met}
 use Rattle.step.proofs.Removing.{dropped-legal, no-level, still-off}
-use Rattle.step.proofs.Node.{number}
+use Rattle.step.proofs.Node.{arcs-here, among}
 use Rattle.step.proofs.Figures.{itself, price-restored}
 use Rattle.step.proofs.Laws.{no-old, Right, RuleLaws}
 use Rattle.bare_node.specs.BareNode.{bare, bareNode, bareBack, rule}
@@ -39,43 +39,38 @@ use Rattle.bare_node.specs.BareNode.{bare, bareNode, bareBack, rule}
 abbrev dropping : ℕ → Edit
 dropping i = editOne noUpdate noSupplyUpdate noSupplyUpdate i
 
--- what an answer says of the node
-record Bare (net : Net) (i : ℕ) (zero : Bool) : Type 0 where
+-- what an answer says of the node: it has a supply; or it has none, and is dropped
+record Bare (net : Net) (i : ℕ) (x : Outcome) : Type 0 where
   here : isHere net i ≡ true
   bare : degreeOf net i ≡ 0
-  supply : isZero (supplyAt net i) ≡ zero
+  shows : ((isZero (supplyAt net i) ≡ false) × (NoFlow ≡ x)) ⊎ ((isZero (supplyAt net i) ≡ true) × (Changes (record { edit = dropping i; old = oldOne i noFigure noUpdate }) ≡ x))
 
-bare-met : (net : Net) (i : ℕ) {c : Change} → bareNode net i ≡ Changes c → Bare net i true × (c ≡ record { edit = dropping i; old = oldOne i noFigure noUpdate })
+bare-met : (net : Net) (i : ℕ) {x : Outcome} → Answers x → bareNode net i ≡ x → Bare net i x
 unfolding bareNode bare
-bare-met net i e =
-    let h = only-met _ _ e in
-    let d = only-met _ _ (h .1) in
-    let z = flow-met _ _ (d .1) in
-    (record { here = h .0; bare = eqb-true _ _ (d .0); supply = met _ (z .0) }, change-is (z .1))
+bare-met net i a e =
+    let h = only-met a _ _ e in
+    let d = only-met a _ _ (h .1) in
+    record { here = h .0; bare = eqb-true _ _ (d .0); shows = ⊎-elim (λ z. inl (not-true _ (z .0), z .1)) (λ z. inr (met _ (z .0), z .1)) (flow-met _ _ (d .1)) }
 
-bare-shown : (net : Net) (i : ℕ) → bareNode net i ≡ NoFlow → Bare net i false
-unfolding bareNode bare
-bare-shown net i e =
-    let h = only-shown _ _ e in
-    let d = only-shown _ _ (h .1) in
-    record { here = h .0; bare = eqb-true _ _ (d .0); supply = ⊎-elim (λ z. not-true _ z) (λ z. not-shown (z .1)) (flow-shown _ _ (d .1)) }
+module _ (net : Net) (g : Legal net) (i : ℕ) {x : Outcome} (m : Bare net i x) where
+  no-arc : (k : ℕ) → isTouching (arcAt net k) i ≡ true → ⊥
+  no-arc = among net g i (m .here) (arcs-here net g i (m .here) [] (m .bare) tt)
 
-module _ (net : Net) (g : Legal net) (i : ℕ) where
-  untouched : {z : Bool} → Bare net i z → Untouched (programOf net) i
-  untouched m k l = unseen net g i k (none-touching net i (number net g i (m .here)) (m .bare) k)
+  untouched : Untouched (programOf net) i
+  untouched k l = alone net g i [] no-arc k none
 
-  rhs-same : Bare net i true → (s : ℕ) (b : Bool) → isHere net s ≡ b → Dec (s ≡ i) → programOf (applied net (dropping i)) .rhs s ≡ programOf net .rhs s
+  rhs-same : isZero (supplyAt net i) ≡ true → (s : ℕ) (b : Bool) → isHere net s ≡ b → Dec (s ≡ i) → programOf (applied net (dropping i)) .rhs s ≡ programOf net .rhs s
   unfolding exactOf
-  rhs-same m s true h (no n) =
+  rhs-same zero s true h (no n) =
       rhs-on net (dropping i) s (here-same net (dropping i) s (λ l. n) ∙ h) ∙ ap value (supply-same net (dropping i) s (λ l. absurd (omega arith)) (λ l. absurd (omega arith))) ∙ sym (rhs-is net g s h)
-  rhs-same m s true h (yes e) = rhs-off net (dropping i) s (rw e (node-gone net (dropping i) g (here-number g i (m .here)))) ∙ sym (rw e (rhs-is net g i (m .here) ∙ zero-figure _ (m .supply)))
-  rhs-same m s false h d = rhs-off net (dropping i) s (still-off net g (dropping i) s h) ∙ sym (rhs-out (exactOf net) s (false-not h))
+  rhs-same zero s true h (yes e) = rhs-off net (dropping i) s (rw e (node-gone net (dropping i) g (here-number g i (m .here)))) ∙ sym (rw e (rhs-is net g i (m .here) ∙ zero-figure _ zero))
+  rhs-same zero s false h d = rhs-off net (dropping i) s (still-off net g (dropping i) s h) ∙ sym (rhs-out (exactOf net) s (false-not h))
 
-  right : Bare net i true → Right net (record { edit = dropping i; old = oldOne i noFigure noUpdate }) (bareBack (oldOne i noFigure noUpdate))
+  right : isZero (supplyAt net i) ≡ true → Right net (record { edit = dropping i; old = oldOne i noFigure noUpdate }) (bareBack (oldOne i noFigure noUpdate))
   unfolding bareBack exactOf
-  right m =
+  right zero =
       record {
-        legal = dropped-legal net g 0 noSupplyUpdate noSupplyUpdate i no-level no-level (λ k l t. never (let f = sym t ∙ none-touching net i (number net g i (m .here)) (m .bare) k in cc));
+        legal = dropped-legal net g 0 noSupplyUpdate noSupplyUpdate i no-level no-level (λ k l t. absurd (no-arc k t));
         fewer = fewer g (dropping i) (no-updates (Tame net) (inl refl)) (inl (m .here));
         handed-on = record { arcs = no-old g; named = λ x u. u; node = here-number g i (m .here) .1; supply = lit≤ tt; first = omega arith; second = omega arith; third = omega arith; fourth = omega arith };
         exact = bare-back i 0ℚ;
@@ -85,24 +80,24 @@ module _ (net : Net) (g : Legal net) (i : ℕ) where
               sound =
                   bare-sound 0ℚ
                   (record {
-                    bare = untouched m;
+                    bare = untouched;
                     rows-same = refl;
                     cols-same = refl;
                     same = λ k l. column-kept net (dropping i) k (no-names k);
-                    rhs-is = λ s l. rhs-same m s (isHere net s) refl (ℕ-discrete s i);
+                    rhs-is = λ s l. rhs-same zero s (isHere net s) refl (ℕ-discrete s i);
                     constant-is = refl;
                   });
             };
         agrees = λ pair z q. rw (restored-is q) (price-restored (itself z) i _ (here-number g i (m .here)) (inl zero-proper) zero-is);
       }
 
-  no-flow : Bare net i false → LP.NoFlow (programOf net)
-  no-flow m = bare-no-flow i (untouched m) (once-mem (listed-node net g i (m .here))) (λ z. nonzero-value (g .supply-proper i (m .here)) (m .supply) (sym (rhs-is net g i (m .here)) ∙ z))
+  no-flow : isZero (supplyAt net i) ≡ false → LP.NoFlow (programOf net)
+  no-flow nonzero = bare-no-flow i untouched (once-mem (listed-node net g i (m .here))) (λ z. nonzero-value (g .supply-proper i (m .here)) nonzero (sym (rhs-is net g i (m .here)) ∙ z))
 
 -- RULE 2
 pub laws : {P : Net → Type 0} → RuleLaws P rule
 laws = record {
   few-places = omega arith;
-  no-flow = λ net g p i e. no-flow net g i (bare-shown net i e);
-  right = λ net g p i e. let m = bare-met net i e in subst (λ c. Right net c (bareBack (c .old))) (sym (m .1)) (right net g i (m .0));
+  no-flow = λ net g p i e. let m = bare-met net i tt e in ⊎-elim (λ z. no-flow net g i m (z .0)) (λ z. not-shown (z .1)) (m .shows);
+  right = λ net g p i e. let m = bare-met net i tt e in ⊎-elim (λ z. not-changed (z .1)) (λ z. subst (λ c. Right net c (bareBack (c .old))) (sym (change-is (z .1))) (right net g i m (z .0))) (m .shows);
 }

@@ -1,7 +1,7 @@
 -- What is known of earlier searches, and that a run keeps it.
-use mathlib.Core.Path.{_≡_, refl, _∙_}
+use mathlib.Core.Path.{_≡_, _∙_}
 use mathlib.Core.List.{List, [], _∷_}
-use mathlib.Core.Bool.{Bool, true, false, cond, and-false}
+use mathlib.Core.Bool.{true, false, and-false}
 use Prim.Native.Nat.{ℕ, zero, suc, _≤_, _<_}
 use native.Mathlib.Omega.{arith}
 use borrow.Author.Tests.{lt-leb, ltb-true, ltb-false, eqb-true, eqb-false}
@@ -13,6 +13,7 @@ use Rattle.network.specs.declared.Net.{Net}
 use Rattle.network.specs.declared.Edit.{Edit}
 use Rattle.network.specs.Network.{arcAt, withArc, withSupply, without, applied}
 use Rattle.step.proofs.Frame.{arc-left}
+use Rattle.step.proofs.Lines.{split}
 use Rattle.costly_arc.specs.declared.Seen.{Seen}
 use Rattle.costly_arc.specs.CostlyArc.{hasPair}
 use Rattle.costly_arc.specs.Seen.{isOld, Searched, Known, nothingSeen, putNow, marked, markedAll}
@@ -57,13 +58,13 @@ abbrev pub soughtNow : Seen → ℕ → ℕ → Seen
 soughtNow seen j now = record { put = seen .put; sought = set (seen .sought) j now }
 
 pub known-sought : {net : Net} {now : ℕ} {seen : Seen} → Known net now seen → (j : ℕ) → hasPair net (arcAt net j) ≡ false → Known net now (soughtNow seen j now)
-known-sought {net} {now} {seen} k j e = record { past = λ i. set-le (seen .sought) j i now now (k .past i) (omega arith); long = k .long; vain = λ i. vain i (eqb i j) refl }
+known-sought {net} {now} {seen} k j e = record { past = λ i. set-le (seen .sought) j i now now (k .past i) (omega arith); long = k .long; vain = vain }
   where
-    vain : (i : ℕ) (b : Bool) → eqb i j ≡ b → Searched net (soughtNow seen j now) (getD (set (seen .sought) j now) i 0) (arcAt net i)
-    vain i true f x y l m p q = rw (eqb-true i j f) (each-pair net (arcAt net j) e x y l m)
-    vain i false f x y l m p q =
-        let o : getD (set (seen .sought) j now) i 0 ≡ getD (seen .sought) i 0 = getD-set-other (seen .sought) j i now 0 (eqb-false i j f) in
-        k .vain i x y l m (rw o at p) (rw o at q)
+    vain : (i : ℕ) → Searched net (soughtNow seen j now) (getD (set (seen .sought) j now) i 0) (arcAt net i)
+    vain i x y l m p q =
+        split (eqb i j) (λ f. rw (eqb-true i j f) (each-pair net (arcAt net j) e x y l m))
+        (λ f. let o : getD (set (seen .sought) j now) i 0 ≡ getD (seen .sought) i 0 = getD-set-other (seen .sought) j i now 0 (eqb-false i j f) in
+        k .vain i x y l m (rw o at p) (rw o at q))
 
 -- ---- arcs are put
 
@@ -74,49 +75,33 @@ put-out net k a j g = rw (lt-leb k 96 (omega arith), and-false)
 
 known-put : {net : Net} {now : ℕ} {seen : Seen} → Known net now seen → (k : ℕ) (a : Arc) → Known (withArc net k a) now (marked seen k now)
 unfolding marked
-known-put {net} {now} {seen} h k a = by (ltb k 97) refl
+known-put {net} {now} {seen} h k a =
+    split (ltb k 97)
+    (λ e. rw e (record { past = λ j. set-le (seen .sought) k j _ now (h .past j) (omega arith); long = length-set (seen .put) k now ∙ h .long; vain = vain (ltb-true k 97 e) }))
+    (λ e. let same : (j : ℕ) → arcAt to j ≡ arcAt net j = λ j. put-out net k a j (ltb-false k 97 e) in
+    rw e (record { past = h .past; long = h .long; vain = λ j x y l m p q. rw (same j, same x, same y) (h .vain j x y l m p q) }))
   where
     to : Net
     to = withArc net k a
-
-    others : (j : ℕ) → (j ≡ k → ⊥) → arcAt to j ≡ arcAt net j
-    others j ne = arc-left net k a j (λ _. ne)
 
     after : Seen
     after = putNow seen k now
 
     -- what is old still is no arc that was put, and was old
     old : k < 97 → (w x : ℕ) → w ≤ now → isOld after w x ≡ true → (x ≡ k → ⊥) × (isOld seen w x ≡ true)
-    old l w x p e = (ne, rw (getD-set-other (seen .put) k x now 0 ne) at e)
-      where
-        ne : x ≡ k → ⊥
-        ne q =
-            let s : getD (set (seen .put) k now) x 0 ≡ now = rw q (getD-set-same (seen .put) k now 0 (omega (arith, h .long))) in
-            omega (arith, ltb-true (getD (set (seen .put) k now) x 0) w e, s)
+    old l w x p e =
+        let ne : x ≡ k → ⊥ = λ q. let s : getD (set (seen .put) k now) x 0 ≡ now = rw q (getD-set-same (seen .put) k now 0 (omega (arith, h .long))) in omega (arith, ltb-true (getD (set (seen .put) k now) x 0) w e, s) in
+        (ne, rw (getD-set-other (seen .put) k x now 0 ne) at e)
 
-    vain : k < 97 → (j : ℕ) (b : Bool) → eqb j k ≡ b → Searched to after (getD (after .sought) j 0) (arcAt to j)
-    vain l j true f x y lx ly p q =
-        let z : getD (after .sought) k 0 ≤ 0 = set-zero (seen .sought) k in
-        let p′ : isOld after (getD (after .sought) k 0) x ≡ true = rw (eqb-true j k f) at p in
-        absurd (omega (arith, ltb-true (getD (after .put) x 0) (getD (after .sought) k 0) p′, z))
-    vain l j false f x y lx ly p q =
-        let ne = eqb-false j k f in
+    vain : k < 97 → (j : ℕ) → Searched to after (getD (after .sought) j 0) (arcAt to j)
+    vain l j x y lx ly p q =
+        split (eqb j k)
+        (λ f. let p′ : isOld after (getD (after .sought) k 0) x ≡ true = rw (eqb-true j k f) at p in absurd (omega (arith, ltb-true (getD (after .put) x 0) (getD (after .sought) k 0) p′, set-zero (seen .sought) k)))
+        (λ f. let ne = eqb-false j k f in
         let o : getD (after .sought) j 0 ≡ getD (seen .sought) j 0 = getD-set-other (seen .sought) k j _ 0 ne in
         let u = old l _ x (h .past j) (rw o at p) in
         let v = old l _ y (h .past j) (rw o at q) in
-        rw (others j ne, others x (u .0), others y (v .0)) (h .vain j x y lx ly (u .1) (v .1))
-
-    by : (b : Bool) → ltb k 97 ≡ b → Known to now (cond b after seen)
-    by true e =
-        let l : k < 97 = ltb-true k 97 e in
-        record {
-          past = λ j. set-le (seen .sought) k j _ now (h .past j) (omega arith);
-          long = length-set (seen .put) k now ∙ h .long;
-          vain = λ j. vain l j (eqb j k) refl;
-        }
-    by false e =
-        let same : (j : ℕ) → arcAt to j ≡ arcAt net j = λ j. put-out net k a j (ltb-false k 97 e) in
-        record { past = h .past; long = h .long; vain = λ j x y l m p q. rw (same j, same x, same y) (h .vain j x y l m p q) }
+        rw (arc-left net k a j (λ _. ne), arc-left net k a x (λ _. u .0), arc-left net k a y (λ _. v .0)) (h .vain j x y lx ly (u .1) (v .1)))
 
 -- a step taken now
 pub known-after : {net : Net} {now : ℕ} {seen : Seen} → Known net now seen → (edit : Edit) → Known (applied net edit) now (markedAll seen edit now)

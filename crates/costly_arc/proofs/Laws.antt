@@ -1,54 +1,55 @@
 -- Rule 4 keeps the laws of a rule, where rule 1 passes.
 use mathlib.Core.Path.{_≡_, refl, sym, ap, _∙_}
-use mathlib.Core.Bool.{Bool, true, false}
+use mathlib.Core.Bool.{true, false}
 use mathlib.Core.Option.{none}
 use Prim.Native.Nat.{ℕ, _≤_}
 use native.Mathlib.Omega.{arith}
 use lib.Dec.{eqb}
 use borrow.Author.Tests.{eqb-true, eqb-false, not-true}
-use Rattle.algebra.specs.Rat.{ℚ, _*ℚ_ as _*_, 0ℚ, invℚ}
-use Rattle.algebra.specs.Order.{_<_}
-use Rattle.presolve.specs.Removed.{Removed}
-use Rattle.presolve.specs.Costly.{CostlyArc, costly-sound}
-use Rattle.presolve.specs.TakeOut.{costly-arc}
+use Rattle.algebra.specs.Rat.{ℚ, _*ℚ_, 0ℚ, invℚ, _<ℚ_}
+use Rattle.presolve.proofs.Removed.{Removed}
+use Rattle.presolve.proofs.Costly.{CostlyArc, costly-sound}
+use Rattle.presolve.proofs.TakeOut.{costly-arc}
 use Rattle.fraction.specs.declared.Fraction.{Fraction}
 use Rattle.fraction.specs.declared.Worked.{Worked}
 use Rattle.fraction.specs.declared.Worked.the-variants.{Fits, Misfit}
 use Rattle.fraction.specs.Exact.{Proper, isFinite, isLess}
-use Rattle.fraction.specs.Value.{value, same-is}
-use Rattle.fraction.specs.Extended.{less-value}
+use Rattle.fraction.specs.Value.{value}
+use Rattle.fraction.proofs.Value.{same-is}
+use Rattle.fraction.proofs.Extended.{less-value}
 use Rattle.fraction.specs.Formula.{_⊕_, _⊗_, _⊘_}
-use Rattle.fraction.specs.Worked.{Gives, given, times-gives, over-gives, plus-gives, over-fits, plus-fits, zero-proper, zero-is}
-use Rattle.fraction.specs.Laws.{and-both, never}
+use Rattle.fraction.proofs.Formulas.{Gives, given, times-gives, over-gives, plus-gives, over-fits, plus-fits, zero-proper, zero-is}
+use Rattle.fraction.proofs.Laws.{and-both, never}
 use Rattle.loops.proofs.Laws.{any-some}
 use Rattle.network.specs.declared.Arc.{Arc}
 use Rattle.network.specs.declared.Net.{Net}
 use Rattle.network.specs.declared.Edit.{Edit}
 use Rattle.network.specs.Network.{arcAt, isRoot}
-use Rattle.network.specs.Legal.{LegalArc, Legal}
+use Rattle.network.specs.Legal.{Legal}
 use Rattle.network.specs.Program.{boundOf, exactOf, programOf}
 use Rattle.network.proofs.Sane.{sane}
 use Rattle.network.proofs.Kept.{here-number, used-number}
 use Rattle.network.proofs.Bounds.{bound-is, no-upper, finite-proper, not-over}
 use Rattle.step.specs.declared.Change.{Change}
-use Rattle.step.specs.declared.Outcome.the-variants.{NoFlow, Changes}
+use Rattle.step.specs.declared.Outcome.{Outcome}
+use Rattle.step.specs.declared.Outcome.the-variants.{Changes}
 use Rattle.step.specs.Dropped.{droppedAt, lowerBack}
 use Rattle.step.proofs.Exactly.{arc-in, arc-place}
-use Rattle.step.proofs.Lines.{only-met, only-shown}
+use Rattle.step.proofs.Lines.{Answers, only-met, split}
 use Rattle.step.proofs.Removing.{after, lower-right, dropped-shows}
 use Rattle.step.proofs.Laws.{Right, RuleLaws}
-use Rattle.step.proofs.RunLaws.{Passing}
+use Rattle.step.specs.Applies.{Passing}
 use Rattle.closed_arc.specs.ClosedArc as Closed
 use Rattle.closed_arc.proofs.Laws.{uncrossed}
 use Rattle.costly_arc.specs.CostlyArc.{isPositive, isUnder, isOpenRoot, isCostlier, hasPair, costlyArc, rule}
 
 -- a formula that fits and is above 0, or below c
 module _ {q : ℚ} where
-  positive-is : (w : Worked) → Gives w q → ((z : Fraction) → w ≡ Fits z → Proper z) → isPositive w ≡ true → 0ℚ < q
+  positive-is : (w : Worked) → Gives w q → ((z : Fraction) → w ≡ Fits z → Proper z) → isPositive w ≡ true → 0ℚ <ℚ q
   positive-is Misfit h p e = never cc
   positive-is (Fits x) h p e = rw (← h x refl, ← zero-is) (less-value zero-proper (p x refl) e)
 
-  under-is : (w : Worked) (c : Fraction) → Proper c → Gives w q → ((z : Fraction) → w ≡ Fits z → Proper z) → isUnder w c ≡ true → q < value c
+  under-is : (w : Worked) (c : Fraction) → Proper c → Gives w q → ((z : Fraction) → w ≡ Fits z → Proper z) → isUnder w c ≡ true → q <ℚ value c
   under-is Misfit c k h p e = never cc
   under-is (Fits x) c k h p e = rw (← h x refl) (less-value (p x refl) k e)
 
@@ -72,25 +73,28 @@ module _ (net : Net) (g : Legal net) where
   record Pays (t : Arc) (k m : ℕ) : Type 0 where
     first : isOpenRoot (arcAt net k) (t .from) ≡ true
     second : isOpenRoot (arcAt net m) (t .to) ≡ true
-    costlier : isCostlier t (arcAt net k) (arcAt net m) ≡ true
+    rate₁ : isPositive (Fits (t .a) ⊘ Fits (arcAt net k .a)) ≡ true
+    rate₂ : isPositive (Fits (t .b) ⊘ Fits (arcAt net m .a)) ≡ true
+    under : isUnder (Fits (arcAt net k .cost) ⊗ Fits (t .a) ⊘ Fits (arcAt net k .a) ⊕ Fits (arcAt net m .cost) ⊗ Fits (t .b) ⊘ Fits (arcAt net m .a)) (t .cost) ≡ true
 
   pays : (t : Arc) → hasPair net t ≡ true → (k : ℕ) × (m : ℕ) × Pays t k m
-  unfolding hasPair
+  unfolding hasPair isCostlier
   pays t e =
       let x = any-some _ 97 e in
       let y = and-both (isOpenRoot (arcAt net (x .0)) (t .from)) _ (x .2) in
       let z = any-some _ 97 (y .1) in
       let u = and-both (isOpenRoot (arcAt net (z .0)) (t .to)) _ (z .2) in
-      (x .0, z .0, record { first = y .0; second = u .0; costlier = u .1 })
+      let p = and-both (isPositive (Fits (t .a) ⊘ Fits (arcAt net (x .0) .a))) _ (u .1) in
+      let q = and-both (isPositive (Fits (t .b) ⊘ Fits (arcAt net (z .0) .a))) _ (p .1) in
+      (x .0, z .0, record { first = y .0; second = u .0; rate₁ = p .0; rate₂ = q .0; under = q .1 })
 
   -- an arc that is no root arc is in use
   rootless-used : (j : ℕ) → isRoot (arcAt net j) ≡ false → 1 ≤ arcAt net j .from
   unfolding isRoot
-  rootless-used j e = by (eqb (arcAt net j .from) 0) refl
-    where
-      by : (b : Bool) → eqb (arcAt net j .from) 0 ≡ b → 1 ≤ arcAt net j .from
-      by true q = never (let z = sym e ∙ ap (λ (t : Arc). eqb (t .from) (t .to)) (g .unused j (eqb-true _ _ q)) in cc)
-      by false q = let n = eqb-false (arcAt net j .from) 0 q in omega arith
+  rootless-used j e =
+      split (eqb (arcAt net j .from) 0)
+      (λ q. never (let z = sym e ∙ ap (λ (t : Arc). eqb (t .from) (t .to)) (g .unused j (eqb-true _ _ q)) in cc))
+      (λ q. let n = eqb-false (arcAt net j .from) 0 q in omega arith)
 
   -- the arc and a pair of root arcs in exact numbers, where the bounds do not cross
   module _ (j : ℕ) (root : isRoot (arcAt net j) ≡ false) (finite : isFinite (arcAt net j .lower) ≡ true) (room : isLess (arcAt net j .upper) (arcAt net j .lower) ≡ false) (k m : ℕ) (w : Pays (arcAt net j) k m) where
@@ -103,71 +107,50 @@ module _ (net : Net) (g : Legal net) where
     abbrev y : Arc
     y = arcAt net m
 
-    used : 1 ≤ t .from
-    used = rootless-used j root
-
-    legal : LegalArc net t
-    legal = g .used j used
-
-    proper : Proper (t .lower)
-    proper = finite-proper (legal .lower-bound) finite
-
-    first : OpenRoot k (t .from)
-    first = open-root k (t .from) used (w .first)
-
-    second : OpenRoot m (t .to)
-    second = open-root m (t .to) (here-number g (t .to) (legal .to-here) .0) (w .second)
-
-    tests : (isPositive (Fits (t .a) ⊘ Fits (x .a)) ≡ true) × (isPositive (Fits (t .b) ⊘ Fits (y .a)) ≡ true) × (isUnder (Fits (x .cost) ⊗ Fits (t .a) ⊘ Fits (x .a) ⊕ Fits (y .cost) ⊗ Fits (t .b) ⊘ Fits (y .a)) (t .cost) ≡ true)
-    unfolding isCostlier
-    tests =
-        let p = and-both (isPositive (Fits (t .a) ⊘ Fits (x .a))) _ (w .costlier) in
-        let q = and-both (isPositive (Fits (t .b) ⊘ Fits (y .a))) _ (p .1) in
-        (p .0, q .0, q .1)
-
-    ratio : (a b : Fraction) → isPositive (Fits a ⊘ Fits b) ≡ true → 0ℚ < value a * invℚ (value b)
+    ratio : (a b : Fraction) → isPositive (Fits a ⊘ Fits b) ≡ true → 0ℚ <ℚ value a *ℚ invℚ (value b)
     ratio a b e = positive-is (Fits a ⊘ Fits b) (over-gives (given a) (given b)) (λ z q. over-fits q .is .proper) e
 
-    share : (c a b : Fraction) → Gives (Fits c ⊗ Fits a ⊘ Fits b) (value c * value a * invℚ (value b))
+    share : (c a b : Fraction) → Gives (Fits c ⊗ Fits a ⊘ Fits b) (value c *ℚ value a *ℚ invℚ (value b))
     share c a b = over-gives (times-gives (given c) (given a)) (given b)
 
     pair-arc : (c : Edit) → Removed (programOf net) (after net g j c (value (t .lower))) j (value (t .lower))
         → CostlyArc (programOf net) (after net g j c (value (t .lower))) j k m (t .from) (t .to) (value (t .a)) (value (t .b)) (value (x .a)) (value (y .a)) (value (t .lower))
     unfolding exactOf isRoot
     pair-arc c r =
+        let used = rootless-used j root in
+        let legal = g .used j used in
+        let proper = finite-proper (legal .lower-bound) finite in
+        let first = open-root k (t .from) used (w .first) in
+        let second = open-root m (t .to) (here-number g (t .to) (legal .to-here) .0) (w .second) in
         let C =
         costly-arc (exactOf net) (sane g) j k m (arc-place net g j used) (arc-in net j used) (arc-place net g k (first .used)) (arc-in net k (first .used)) (arc-place net g m (second .used)) (arc-in net m (second .used)) (value (t .lower))
-        (eqb-false _ _ root) (first .loops) (second .loops) (first .at) (second .at) (first .unbounded) (second .unbounded) (ratio (t .a) (x .a) (tests .0)) (ratio (t .b) (y .a) (tests .1))
-        (under-is _ (t .cost) (legal .cost-proper) (plus-gives (share (x .cost) (t .a) (x .a)) (share (y .cost) (t .b) (y .a))) (λ z q. plus-fits q .is .proper) (tests .2))
+        (eqb-false _ _ root) (first .loops) (second .loops) (first .at) (second .at) (first .unbounded) (second .unbounded) (ratio (t .a) (x .a) (w .rate₁)) (ratio (t .b) (y .a) (w .rate₂))
+        (under-is _ (t .cost) (legal .cost-proper) (plus-gives (share (x .cost) (t .a) (x .a)) (share (y .cost) (t .b) (y .a))) (λ z q. plus-fits q .is .proper) (w .under))
         (bound-is proper) (not-over proper (legal .upper-bound) room) in
         record { ends = C .ends; root₁ = C .root₁; root₂ = C .root₂; different = C .different; rate₁ = C .rate₁; rate₂ = C .rate₂; costly = C .costly; lower-is = C .lower-is; room = C .room; removed = r }
 
   -- what an answer says
-  record Costly (j : ℕ) (c : Change) : Type 0 where
+  record Costly (j : ℕ) (x : Outcome) : Type 0 where
     no-root : isRoot (arcAt net j) ≡ false
     finite : isFinite (arcAt net j .lower) ≡ true
     pair : hasPair net (arcAt net j) ≡ true
-    dropped : droppedAt net j (arcAt net j .lower) ≡ Changes c
+    dropped : droppedAt net j (arcAt net j .lower) ≡ x
 
-  costly-met : (j : ℕ) {c : Change} → costlyArc net j ≡ Changes c → Costly j c
+  costly-met : (j : ℕ) {x : Outcome} → Answers x → costlyArc net j ≡ x → Costly j x
   unfolding costlyArc
-  costly-met j e =
-      let a = only-met _ _ e in
-      let b = only-met _ _ (a .1) in
-      let c = only-met _ _ (b .1) in
-      record { no-root = not-true _ (a .0); finite = b .0; pair = c .0; dropped = c .1 }
+  costly-met j a e =
+      let r = only-met a _ _ e in
+      let f = only-met a _ _ (r .1) in
+      let p = only-met a _ _ (f .1) in
+      record { no-root = not-true _ (r .0); finite = f .0; pair = p .0; dropped = p .1 }
 
-  costly-shows : {X : Type 0} (j : ℕ) → costlyArc net j ≡ NoFlow → X
-  unfolding costlyArc
-  costly-shows j e = dropped-shows net j _ (only-shown _ _ (only-shown _ _ (only-shown _ _ e .1) .1) .1)
-
-  right : (j : ℕ) {c : Change} → isLess (arcAt net j .upper) (arcAt net j .lower) ≡ false → Costly j c → Right net c (lowerBack (c .old))
+  right : (j : ℕ) {c : Change} → isLess (arcAt net j .upper) (arcAt net j .lower) ≡ false → Costly j (Changes c) → Right net c (lowerBack (c .old))
   right j {c} room h = let w = pays (arcAt net j) (h .pair) in lower-right net g j (rootless-used j (h .no-root)) (h .dropped) (λ e r. costly-sound (pair-arc j (h .no-root) (h .finite) room (w .0) (w .1) (w .2) e r))
 
 -- RULE 4
 pub laws : {P : Net → Type 0} → ((net : Net) → P net → Passing Closed.rule net) → RuleLaws P rule
 laws first = record {
   few-places = omega arith;
-  no-flow = λ net g p j e. costly-shows net g j e;
-  right = λ net g p j e. let h = costly-met net g j e in let u = rootless-used net g j (h .no-root) in let n = used-number g j u in right net g j (uncrossed net j u (first net p j (n .0) (n .1))) h;
+  no-flow = λ net g p j e. dropped-shows net j _ (costly-met net g j tt e .dropped);
+  right = λ net g p j e. let h = costly-met net g j tt e in let u = rootless-used net g j (h .no-root) in let n = used-number g j u in right net g j (uncrossed net j u (first net p j (n .0) (n .1))) h;
 }

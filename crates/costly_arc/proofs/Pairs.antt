@@ -17,7 +17,8 @@ use Rattle.fraction.specs.declared.Worked.{Worked}
 use Rattle.fraction.specs.declared.Worked.the-variants.{Fits, Misfit}
 use Rattle.fraction.specs.Exact.{noFigure, isOperand, sumOf}
 use Rattle.fraction.specs.Formula.{figureOf, pairOf, _⊕_, _⊗_, _⊘_}
-use Rattle.fraction.specs.Laws.{never}
+use Rattle.fraction.proofs.Laws.{and-both}
+use Rattle.step.proofs.Lines.{split, or-neither}
 use Rattle.network.specs.declared.Arc.{Arc}
 use Rattle.network.specs.declared.Net.{Net}
 use Rattle.network.specs.Network.{arcAt}
@@ -37,10 +38,6 @@ any-none : (p : ℕ → Bool) (n : ℕ) → ((i : ℕ) → i < n → p i ≡ fal
 unfolding any
 any-none p zero h = refl
 any-none p (suc n) h = rw (any-none p n (λ i l. h i (omega (arith, add-one n)))) (h n (omega (arith, add-one n)))
-
-or-neither : (s t : Bool) → (s || t) ≡ false → (s ≡ false) × (t ≡ false)
-or-neither true t e = never (let f = sym e in cc)
-or-neither false t e = (refl, e)
 
 none-any : (p : ℕ → Bool) (n : ℕ) → any p n ≡ false → (i : ℕ) → i < n → p i ≡ false
 unfolding any
@@ -128,12 +125,7 @@ module _ (net : Net) (seen : Seen) (w : ℕ) (t : Arc) (h : Searched net seen w 
 
   -- x is before the bar of node i: both it and y are old, or y is no root arc there
   barred : (i x y : ℕ) → y < 97 → isOld seen (barOf (not (isFresh times w i)) w) x ≡ true → (p : Bool) → (isOld seen w x ≡ true → isOld seen w y ≡ true → p ≡ false) → (isOpenRoot (arcAt net y) i ≡ false → p ≡ false) → p ≡ false
-  barred i x y m e p old other = by (isFresh times w i) refl (isOpenRoot (arcAt net y) i) refl e
-    where
-      by : (b : Bool) → isFresh times w i ≡ b → (r : Bool) → isOpenRoot (arcAt net y) i ≡ r → isOld seen (barOf (not b) w) x ≡ true → p ≡ false
-      by true f r g d = never-old x d
-      by false f true g d = old d (stale w i y m f g)
-      by false f false g d = other g
+  barred i x y m e p old other = split (isFresh times w i) (λ f. never-old x (rw f at e)) (λ f. split (isOpenRoot (arcAt net y) i) (λ g. old (rw f at e) (stale w i y m f g)) other)
 
   -- so a way that is left out is of no pair
   barred-from : (x y : ℕ) → x < 97 → y < 97 → isOld seen (barOf (not (isFresh times w (t .to))) w) x ≡ true → pairAt net t x y ≡ false
@@ -146,11 +138,7 @@ module _ (net : Net) (seen : Seen) (w : ℕ) (t : Arc) (h : Searched net seen w 
 
   -- nor are two old ones
   due-one : (x y : ℕ) → x < 97 → y < 97 → (b : Bool) → isOld seen w x ≡ b → (not (isOld seen (barOf b w) y) && pairAt net t x y) ≡ pairAt net t x y
-  due-one x y l m true e = by (isOld seen w y) refl
-    where
-      by : (b : Bool) → isOld seen w y ≡ b → (not b && pairAt net t x y) ≡ pairAt net t x y
-      by true f = sym (h x y l m e f)
-      by false f = refl
+  due-one x y l m true e = split (isOld seen w y) (λ f. rw f (sym (h x y l m e f))) (λ f. rw f refl)
   due-one x y l m false e = rw (le-ltb (getD (seen .put) y 0) 0 (omega arith))
 
   way-at : (v i : ℕ) (e : Fraction) (k : ℕ) → k < 97 → getD (waysOf net seen v i e) k noFigure ≡ dueWay (isOld seen v k) (arcAt net k) i e
@@ -164,15 +152,13 @@ module _ (net : Net) (seen : Seen) (w : ℕ) (t : Arc) (h : Searched net seen w 
   toWays = waysOf net seen (barOf (not (isFresh times w (t .from))) w) (t .to) (t .b)
 
   due-under : (x y : ℕ) → x < 97 → y < 97 → isDueUnder seen (barOf (isOld seen w x) w) (getD fromWays x noFigure) toWays (t .cost) y ≡ pairAt net t x y
-  due-under x y l m = rw (way-at _ (t .from) (t .a) x l, way-at _ (t .to) (t .b) y m) (by _ refl _ refl)
-    where
-      none : (s : Bool) → s ≡ false → pairAt net t x y ≡ false → (not (isOld seen (barOf (isOld seen w x) w) y) && s) ≡ pairAt net t x y
-      none s f g = rw (f, g, and-false)
-
-      by : (p : Bool) → isOld seen (barOf (not (isFresh times w (t .to))) w) x ≡ p → (q : Bool) → isOld seen (barOf (not (isFresh times w (t .from))) w) y ≡ q → (not (isOld seen (barOf (isOld seen w x) w) y) && isUnder (sumOf (dueWay p (arcAt net x) (t .from) (t .a)) (dueWay q (arcAt net y) (t .to) (t .b))) (t .cost)) ≡ pairAt net t x y
-      by true e q f = none _ (none-left noFigure _ (t .cost) refl) (barred-from x y l m e)
-      by false e true f = none _ (none-right _ (t .cost)) (barred-to x y l m f)
-      by false e false f = rw (pair-way t (arcAt net x) (arcAt net y)) (due-one x y l m (isOld seen w x) refl)
+  due-under x y l m =
+      rw (way-at _ (t .from) (t .a) x l, way-at _ (t .to) (t .b) y m)
+      (split (isOld seen (barOf (not (isFresh times w (t .to))) w) x)
+      (λ e. rw (e, none-left noFigure _ (t .cost) refl, barred-from x y l m e, and-false))
+      (λ e. split (isOld seen (barOf (not (isFresh times w (t .from))) w) y)
+      (λ f. rw (e, f, none-right _ (t .cost), barred-to x y l m f, and-false))
+      (λ f. rw (e, f, pair-way t (arcAt net x) (arcAt net y)) (due-one x y l m (isOld seen w x) refl))))
 
   pub due-is : any (isDueFrom seen w fromWays toWays (t .cost)) 97 ≡ hasPair net t
   due-is = any-same _ _ 97 (λ x l. any-same _ _ 97 (λ y m. due-under x y l m)) ∙ sym (pair-is net t)
@@ -180,22 +166,16 @@ module _ (net : Net) (seen : Seen) (w : ℕ) (t : Arc) (h : Searched net seen w 
   -- where none is due there is no pair
   pub due-none : isCandidate t ≡ true → isDue times w t ≡ false → hasPair net t ≡ false
   unfolding isDue isPair
-  due-none d e = no-pair net t (λ x y l m. each x y l m (isOpenRoot (arcAt net x) (t .from)) refl (isOpenRoot (arcAt net y) (t .to)) refl)
+  due-none d e =
+      no-pair net t (λ x y l m. split (isOpenRoot (arcAt net x) (t .from))
+      (λ f. split (isOpenRoot (arcAt net y) (t .to)) (λ g. by x y l m f g (isFresh times 0 (t .from)) refl (isFresh times 0 (t .to)) refl (rw d at e)) (λ g. rw (f, g)))
+      (λ f. rw f))
     where
       by : (x y : ℕ) → x < 97 → y < 97 → isOpenRoot (arcAt net x) (t .from) ≡ true → isOpenRoot (arcAt net y) (t .to) ≡ true → (a : Bool) → isFresh times 0 (t .from) ≡ a → (b : Bool) → isFresh times 0 (t .to) ≡ b → (a && (b && (isFresh times w (t .from) || isFresh times w (t .to)))) ≡ false → pairAt net t x y ≡ false
       by x y l m f g true p true q z = let n = or-neither (isFresh times w (t .from)) _ z in h x y l m (stale w _ x l (n .0) f) (stale w _ y m (n .1) g)
       by x y l m f g true p false q z = never-old y (stale 0 _ y m q g)
       by x y l m f g false p b q z = never-old x (stale 0 _ x l p f)
 
-      each : (x y : ℕ) → x < 97 → y < 97 → (r : Bool) → isOpenRoot (arcAt net x) (t .from) ≡ r → (s : Bool) → isOpenRoot (arcAt net y) (t .to) ≡ s → pairAt net t x y ≡ false
-      each x y l m true f true g = by x y l m f g (isFresh times 0 (t .from)) refl (isFresh times 0 (t .to)) refl (rw d at e)
-      each x y l m true f false g = rw (f, g)
-      each x y l m false f s g = rw f
-
 pub due-candidate : (times : List ℕ) (w : ℕ) (t : Arc) → isDue times w t ≡ true → isCandidate t ≡ true
 unfolding isDue
-due-candidate times w t e = by (isCandidate t) _ e
-  where
-    by : (b s : Bool) → (b && s) ≡ true → b ≡ true
-    by true s f = refl
-    by false s f = never (let g = f in cc)
+due-candidate times w t e = and-both (isCandidate t) _ e .0

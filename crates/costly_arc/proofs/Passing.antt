@@ -1,13 +1,13 @@
 -- Where rule 4 passes, and where the search for it may be left out.
 use mathlib.Core.Path.{_≡_, refl, sym, _∙_}
-use mathlib.Core.Bool.{Bool, true, false, cond, _&&_, not}
+use mathlib.Core.Bool.{Bool, true, false, cond, _&&_, not, and-false}
 use mathlib.Core.Logic.{_⊎_, ⊎-elim}
-use Prim.Native.Nat.{ℕ, _≤_, _<_}
+use Prim.Native.Nat.{ℕ, _<_}
 use native.Mathlib.Omega.{arith}
 use lib.Dec.{eqb}
 use denote.Enum.Declared.{tagOf}
-use Rattle.fraction.specs.Exact.{noFigure, noUpper, isFinite, isSame}
-use Rattle.fraction.specs.Laws.{never}
+use Rattle.fraction.specs.Exact.{isFinite, isSame}
+use Rattle.fraction.proofs.Laws.{never}
 use Rattle.network.specs.declared.Net.{Net}
 use Rattle.network.specs.Network.{noArc, arcAt, isRoot}
 use Rattle.step.specs.declared.Outcome.{Outcome}
@@ -18,6 +18,7 @@ use Rattle.step.specs.Dropped.{droppedAt}
 use Rattle.step.specs.Run.{upward}
 use Rattle.step.proofs.Outcome.{the-type}
 use Rattle.step.proofs.Removing.{dropped-shows}
+use Rattle.step.proofs.Lines.{split}
 use Rattle.costly_arc.specs.CostlyArc.{isOpenRoot, hasPair, costlyArc}
 use Rattle.costly_arc.specs.Seen.{isCandidate}
 use Rattle.costly_arc.proofs.Upward.{upward-none}
@@ -38,49 +39,24 @@ module _ (net : Net) (j : ℕ) where
   passes-plain e = costly-is ∙ rw e refl
 
   pub passes-vain : (isCandidate (arcAt net j) ≡ true → hasPair net (arcAt net j) ≡ false) → costlyArc net j ≡ Passes
-  passes-vain h = by (isCandidate (arcAt net j)) refl
-    where
-      by : (b : Bool) → isCandidate (arcAt net j) ≡ b → costlyArc net j ≡ Passes
-      by true e = costly-is ∙ rw (e, h e) refl
-      by false e = passes-plain e
+  passes-vain h = split (isCandidate (arcAt net j)) (λ e. costly-is ∙ rw (e, h e) refl) passes-plain
 
   -- the arc stays for a figure that doesn't fit: a drop shows no flow nowhere
   pub passes-kept : (x : Outcome) → x ≡ droppedAt net j (arcAt net j .lower) → (tagOf the-type x ≡ 0) ⊎ (tagOf the-type x ≡ 1) → costlyArc net j ≡ Passes
-  passes-kept Passes e w = costly-is ∙ rw (← e) (by (isCandidate (arcAt net j) && hasPair net (arcAt net j)))
-    where
-      by : (b : Bool) → cond b Passes Passes ≡ Passes
-      by true = refl
-      by false = refl
+  passes-kept Passes e w = costly-is ∙ rw (← e) (split (isCandidate (arcAt net j) && hasPair net (arcAt net j)) (λ f. rw f refl) (λ f. rw f refl))
   passes-kept NoFlow e w = dropped-shows net j _ (sym e)
   passes-kept (Changes c) e w = ⊎-elim (λ e. let h : _≡_ {A = ℕ} 2 0 = e in absurd (omega arith)) (λ e. let h : _≡_ {A = ℕ} 2 1 = e in absurd (omega arith)) w
 
   pub drops : isCandidate (arcAt net j) ≡ true → hasPair net (arcAt net j) ≡ true → costlyArc net j ≡ droppedAt net j (arcAt net j .lower)
   drops e f = costly-is ∙ rw (e, f) refl
 
--- ---- where the whole search may be left out
-
-module _ (net : Net) (rest : Next) where
-  abbrev Skipped : Type 0
-  Skipped = upward (costlyArc net) 4 96 1 rest ≡ rest
-
-  -- no arc is a candidate
-  pub no-candidate : ((j : ℕ) → 1 ≤ j → j ≤ 96 → isCandidate (arcAt net j) ≡ false) → Skipped
-  no-candidate h = upward-none (costlyArc net) 4 rest 96 1 (λ j l m. passes-plain net j (h j l (omega arith)))
-
-  -- no arc is a root arc without upper bound
-  pub no-open-root : ((k : ℕ) → k < 97 → isOpenRoot (arcAt net k) (arcAt net k .from) ≡ false) → Skipped
-  no-open-root h = upward-none (costlyArc net) 4 rest 96 1 (λ j l m. passes-vain net j (λ _. no-root-from net (arcAt net j) (λ k n. none k n (arcAt net j .from) (isOpenRoot (arcAt net k) (arcAt net j .from)) refl)))
-    where
-      none : (k : ℕ) → k < 97 → (i : ℕ) (b : Bool) → isOpenRoot (arcAt net k) i ≡ b → isOpenRoot (arcAt net k) i ≡ false
-      none k l i true e = never (let u = sym (h k l) ∙ root-at (arcAt net k) i e .1 in cc)
-      none k l i false e = e
+-- where no arc is a root arc without upper bound, the whole search may be left out
+pub no-open-root : (net : Net) (rest : Next) → ((k : ℕ) → k < 97 → isOpenRoot (arcAt net k) (arcAt net k .from) ≡ false) → upward (costlyArc net) 4 96 1 rest ≡ rest
+no-open-root net rest h =
+    upward-none (costlyArc net) 4 rest 96 1
+    (λ j l m. passes-vain net j (λ _. no-root-from net (arcAt net j) (λ k n. split (isOpenRoot (arcAt net k) (arcAt net j .from)) (λ e. never (let u = sym (h k n) ∙ root-at (arcAt net k) _ e .1 in cc)) (λ e. e))))
 
 -- a number not in use has no root arc
 pub unused-root : (i : ℕ) → isOpenRoot noArc i ≡ false
 unfolding isOpenRoot isSame
-unused-root i = by (isRoot noArc) (eqb 0 i)
-  where
-    by : (r b : Bool) → (r && (b && isSame noFigure noUpper)) ≡ false
-    by true true = refl
-    by true false = refl
-    by false b = refl
+unused-root i = rw (and-false (eqb 0 i), and-false (isRoot noArc))

@@ -1,25 +1,28 @@
 -- Rule 3 keeps the laws of a rule.
 use mathlib.Core.Path.{_≡_, refl, sym, ap, ap₂, _∙_, subst}
 use mathlib.Core.Bool.{true, false}
+use mathlib.Core.List.{[], _∷_}
 use mathlib.Core.Logic.{_⊎_, inl, inr, ⊎-elim}
 use Prim.Native.Nat.{ℕ, _≤_}
 use native.Mathlib.Omega.{arith}
 use borrow.Author.Tests.{eqb-true}
-use Rattle.algebra.specs.Ring.{combo}
-use Rattle.algebra.specs.Solver.{_:+_, _:*_, _:-_, :0, :1, _:=_, ring1, ring3}
-use Rattle.algebra.specs.Rat.{ℚ-ring, _+ℚ_ as _+_, _*ℚ_ as _*_, -ℚ_ as -_, _≤ℚ_, 0ℚ, invℚ, mulℚ-inv}
-use Rattle.algebra.specs.Sum.{only, only-other}
+use Rattle.algebra.proofs.Ring.{combo}
+use Rattle.algebra.proofs.Solver.{_:+_, _:*_, _:-_, :0, :1, _:=_, ring1, ring3}
+use Rattle.algebra.proofs.Rat.{ℚ-ring, mulℚ-inv}
+use Rattle.algebra.specs.Rat.{_+ℚ_, _*ℚ_, -ℚ_, _≤ℚ_, 0ℚ, invℚ}
+use Rattle.algebra.proofs.Sum.{none, step, only-other}
+use Rattle.algebra.specs.Sum.{only}
 use Rattle.presolve.specs.LP.{InBounds}
 use Rattle.presolve.specs.LP as LP
-use Rattle.presolve.specs.Removed.{Removed}
-use Rattle.presolve.specs.Single.{SingleAt, forced, single-back, single-sound, single-no-flow}
-use Rattle.presolve.specs.Spoke.{spoke-e}
+use Rattle.presolve.proofs.Removed.{Removed}
+use Rattle.presolve.proofs.Single.{SingleAt, forced, single-back, single-sound, single-no-flow}
+use Rattle.presolve.proofs.Spoke.{spoke-e}
 use Rattle.fraction.specs.declared.Fraction.{Fraction}
 use Rattle.fraction.specs.declared.Worked.the-variants.{Fits}
 use Rattle.fraction.specs.Exact.{Proper, noFigure, isLess}
 use Rattle.fraction.specs.Formula.{_⊘_}
 use Rattle.fraction.specs.Value.{value}
-use Rattle.fraction.specs.Worked.{given, over-gives, over-fits}
+use Rattle.fraction.proofs.Formulas.{given, over-gives, over-fits}
 use Rattle.network.specs.declared.Arc.{Arc}
 use Rattle.network.specs.declared.Net.{Net}
 use Rattle.network.specs.declared.Side.{Side}
@@ -30,45 +33,25 @@ use Rattle.network.specs.Pair.{exactPair}
 use Rattle.network.specs.Program.{programOf}
 use Rattle.network.proofs.Kept.{here-number}
 use Rattle.network.proofs.Bounds.{not-under, not-over, under, over}
-use Rattle.optimality.proofs.Values.{same}
+use Rattle.fraction.proofs.Exactly.{same}
 use Rattle.step.specs.declared.Change.{Change}
+use Rattle.step.specs.declared.Outcome.{Outcome}
 use Rattle.step.specs.declared.Outcome.the-variants.{NoFlow, Changes}
 use Rattle.step.specs.declared.Restored.{Restored}
 use Rattle.step.specs.declared.Undone.the-variants.{Restores}
 use Rattle.step.specs.Dropped.{supplyLess, dropping}
 use Rattle.step.specs.Back.{oldOne, restored}
 use Rattle.step.proofs.Small.{supply-small}
-use Rattle.step.proofs.Touch.{One, touches, one-touching}
+use Rattle.step.proofs.Touch.{These, touches, touching-first}
 use Rattle.step.proofs.Exactly.{listed-node, column-is, rhs-is, spokeOf, spoke-at, alone}
-use Rattle.step.proofs.Lines.{only-met, flow-met, fits-met, change-is, only-shown, flow-shown, fits-shown, not-shown, figure-met, restored-is}
+use Rattle.step.proofs.Lines.{Answers, only-met, flow-met, fits-met, change-is, not-shown, not-changed, figure-met, restored-is}
 use Rattle.step.proofs.Removing.{supply-less, dropped-legal, dropped-fewer, no-level, level-less, one-removed, after}
-use Rattle.step.proofs.Node.{number, used-at, quote-exactly}
+use Rattle.step.proofs.Node.{arcs-here, among, used-at, quote-exactly}
 use Rattle.step.proofs.Figures.{Sized, Holds, itself, both-restored, over-exactly}
 use Rattle.step.proofs.Laws.{no-old, Right, RuleLaws}
 use Rattle.single_arc.specs.SingleArc.{forcedOut, singleArc, singleBack, rule}
 
 -- ---- what an answer says
-
--- the flow fits, and it is within the bounds; this is the change
-record Forced (i j : ℕ) (t : Arc) (w : Side) (r r′ : Fraction) (c : Change) : Type 0 where
-  v : Fraction
-  s : Fraction
-  flow : (Fits r ⊘ Fits (w .e)) ≡ Fits v
-  not-below : isLess v (t .lower) ≡ false
-  not-above : isLess (t .upper) v ≡ false
-  supply : supplyLess (w .other) r′ (w .o) v ≡ Fits s
-  is : c ≡ record { edit = dropping j (w .other) s 0 noFigure i; old = oldOne i r (record { number = j; arc = t }) }
-
--- or it is outside
-record Outside (t : Arc) (w : Side) (r : Fraction) : Type 0 where
-  v : Fraction
-  flow : (Fits r ⊘ Fits (w .e)) ≡ Fits v
-  out : (isLess v (t .lower) ≡ true) ⊎ (isLess (t .upper) v ≡ true)
-
--- at a node of degree 1
-record At (net : Net) (i : ℕ) : Type 0 where
-  here : isHere net i ≡ true
-  single : degreeOf net i ≡ 1
 
 abbrev arc : Net → ℕ → ℕ
 arc net i = touchingAfter net i 0
@@ -76,28 +59,38 @@ arc net i = touchingAfter net i 0
 abbrev side : Net → ℕ → Side
 side net i = sideOf (arcAt net (arc net i)) i
 
-single-met : (net : Net) (i : ℕ) {c : Change} → singleArc net i ≡ Changes c → At net i × Forced i (arc net i) (arcAt net (arc net i)) (side net i) (supplyAt net i) (supplyAt net (side net i .other)) c
-unfolding singleArc forcedOut
-single-met net i e =
-    let h = only-met _ _ e in
-    let d = only-met _ _ (h .1) in
-    let v = fits-met _ _ (d .1) in
-    let a = flow-met _ _ (v .2) in
-    let b = flow-met _ _ (a .1) in
-    let s = fits-met _ _ (b .1) in
-    (record { here = h .0; single = eqb-true _ _ (d .0) }, record { v = v .0; s = s .0; flow = v .1; not-below = a .0; not-above = b .0; supply = s .1; is = change-is (s .2) })
+-- at a node of degree 1 the flow v fits
+record Single (net : Net) (i : ℕ) (x : Outcome) : Type 0 where
+  here : isHere net i ≡ true
+  single : degreeOf net i ≡ 1
+  v : Fraction
+  flow : (Fits (supplyAt net i) ⊘ Fits (side net i .e)) ≡ Fits v
 
-single-shown : (net : Net) (i : ℕ) → singleArc net i ≡ NoFlow → At net i × Outside (arcAt net (arc net i)) (side net i) (supplyAt net i)
+-- it is outside the bounds
+abbrev Outside : Arc → Fraction → Type 0
+Outside t v = (isLess v (t .lower) ≡ true) ⊎ (isLess (t .upper) v ≡ true)
+
+-- or within them; this is the change
+record Forced (i j : ℕ) (t : Arc) (w : Side) (r r′ v : Fraction) (x : Outcome) : Type 0 where
+  s : Fraction
+  not-below : isLess v (t .lower) ≡ false
+  not-above : isLess (t .upper) v ≡ false
+  supply : supplyLess (w .other) r′ (w .o) v ≡ Fits s
+  is : Changes (record { edit = dropping j (w .other) s 0 noFigure i; old = oldOne i r (record { number = j; arc = t }) }) ≡ x
+
+single-met : (net : Net) (i : ℕ) {x : Outcome} → Answers x → singleArc net i ≡ x → (m : Single net i x) × ((Outside (arcAt net (arc net i)) (m .v) × (NoFlow ≡ x)) ⊎ Forced i (arc net i) (arcAt net (arc net i)) (side net i) (supplyAt net i) (supplyAt net (side net i .other)) (m .v) x)
 unfolding singleArc forcedOut
-single-shown net i e =
-    let h = only-shown _ _ e in
-    let d = only-shown _ _ (h .1) in
-    let v = fits-shown _ _ (d .1) in
-    (record { here = h .0; single = eqb-true _ _ (d .0) }, record { v = v .0; flow = v .1; out = ⊎-elim inl (λ a. ⊎-elim inr (λ b. not-shown (fits-shown _ _ (b .1) .2)) (flow-shown _ _ (a .1))) (flow-shown _ _ (v .2)) })
+single-met net i a e =
+    let h = only-met a _ _ e in
+    let d = only-met a _ _ (h .1) in
+    let v = fits-met a _ _ (d .1) in (
+      record { here = h .0; single = eqb-true _ _ (d .0); v = v .0; flow = v .1 },
+      ⊎-elim (λ o. inl (inl (o .0), o .1)) (λ l. ⊎-elim (λ o. inl (inr (o .0), o .1)) (λ u. let s = fits-met a _ _ (u .1) in inr (record { s = s .0; not-below = l .0; not-above = u .0; supply = s .1; is = s .2 })) (flow-met _ _ (l .1))) (flow-met _ _ (v .2)),
+    )
 
 -- ---- in exact numbers
 
-module _ (net : Net) (g : Legal net) (i : ℕ) (m : At net i) where
+module _ (net : Net) (g : Legal net) (i : ℕ) {x : Outcome} (m : Single net i x) where
   abbrev j : ℕ
   j = arc net i
 
@@ -110,67 +103,72 @@ module _ (net : Net) (g : Legal net) (i : ℕ) (m : At net i) where
   abbrev N : LP.LP
   N = programOf net
 
-  one : One (touches net i) j
-  one = one-touching net i (number net g i (m .here)) (m .single)
+  one : These (touches net i) 0 (j ∷ [])
+  one = arcs-here net g i (m .here) _ (m .single) (touching-first net i 0, tt)
+
+  abbrev touch : touches net i j ≡ true
+  touch = one .each .0 .passes
 
   used : 1 ≤ t .from
-  used = used-at net g i (m .here) j (one .first .passes)
+  used = used-at net g i (m .here) j touch
 
   single-at : SingleAt N i (spokeOf net i j)
-  single-at = record { listed-i = listed-node net g i (m .here); at-j = spoke-at net g i j (m .here) (one .first .passes); alone = λ c m n. alone net g i j (one .all) c n }
+  single-at = record { listed-i = listed-node net g i (m .here); at-j = spoke-at net g i j (m .here) touch; alone = λ c l n. alone net g i (j ∷ []) (among net g i (m .here) one) c (step n none) }
 
-  module _ {v : Fraction} (flow : (Fits (supplyAt net i) ⊘ Fits (w .e)) ≡ Fits v) where
-    proper : Proper v
-    proper = over-fits flow .is .proper
+  abbrev v : Fraction
+  v = m .v
 
-    -- the flow that the rule works out is the forced one
-    flow-is : value v ≡ forced N i (spokeOf net i j)
-    flow-is = over-gives (given (supplyAt net i)) (given (w .e)) v flow ∙ ap (λ r. r * invℚ (value (w .e))) (sym (rhs-is net g i (m .here)))
+  proper : Proper v
+  proper = over-fits (m .flow) .is .proper
 
-    removed : {x : Fraction} → supplyLess (w .other) (supplyAt net (w .other)) (w .o) v ≡ Fits x → Removed N (after net g j (dropping j (w .other) x 0 noFigure i) (value v)) j (value v)
-    unfolding applied withArc withSupply without
-    removed {x} q = one-removed net g j (record { node = w .other; supply = x }) (record { node = 0; supply = noFigure }) i (value v) used (record { stays = stays; goes = λ h. goes })
-      where
-        ends : (s : ℕ) → (s ≡ i → ⊥) → N .col j .coef s ≡ only (w .other) (value (w .o)) s
-        ends s n = single-at .at-j .ends s ∙ ap (λ k. k + only (w .other) (value (w .o)) s) (only-other i s (value (w .e)) (λ e. n (sym e))) ∙ ring1 ℚ-ring (only (w .other) (value (w .o)) s) (λ o. :0 :+ o := o) refl
+  -- the flow that the rule works out is the forced one
+  flow-is : value v ≡ forced N i (spokeOf net i j)
+  flow-is = over-gives (given (supplyAt net i)) (given (w .e)) v (m .flow) ∙ ap (λ r. r *ℚ invℚ (value (w .e))) (sym (rhs-is net g i (m .here)))
 
-        stays : (s : ℕ) → isHere net s ≡ true → (s ≡ i → ⊥) → value (supplyAt (withSupply net (w .other) x) s) ≡ value (supplyAt net s) + - (N .col j .coef s * value v)
-        stays s h n = level-less net (w .other) (supplyAt net (w .other)) (w .o) v (g .supply-long) (λ l. refl) q s (here-number g s h) ∙ ap (λ k. value (supplyAt net s) + - (k * value v)) (sym (ends s n))
+  removed : {x : Fraction} → supplyLess (w .other) (supplyAt net (w .other)) (w .o) v ≡ Fits x → Removed N (after net g j (dropping j (w .other) x 0 noFigure i) (value v)) j (value v)
+  unfolding applied withArc withSupply without
+  removed {x} q = one-removed net g j (record { node = w .other; supply = x }) (record { node = 0; supply = noFigure }) i (value v) used (record { stays = stays; goes = λ h. goes })
+    where
+      ends : (s : ℕ) → (s ≡ i → ⊥) → N .col j .coef s ≡ only (w .other) (value (w .o)) s
+      ends s n = single-at .at-j .ends s ∙ ap (λ k. k +ℚ only (w .other) (value (w .o)) s) (only-other i s (value (w .e)) (λ e. n (sym e))) ∙ ring1 ℚ-ring (only (w .other) (value (w .o)) s) (λ o. :0 :+ o := o) refl
 
-        goes : 0ℚ ≡ value (supplyAt net i) + - (N .col j .coef i * value v)
-        goes =
-            combo ℚ-ring (value (supplyAt net i)) (mulℚ-inv (value (w .e)) (single-at .at-j .nonzero))
-            (ring3 ℚ-ring (value (supplyAt net i)) (value (w .e)) (invℚ (value (w .e))) (λ r e i. :0 :- (r :- e :* (r :* i)) := r :* (e :* i :- :1)) refl)
-            ∙ ap₂ (λ k f. value (supplyAt net i) + - (k * f)) (sym (spoke-e (single-at .at-j))) (sym (flow-is ∙ ap (λ r. r * invℚ (value (w .e))) (rhs-is net g i (m .here))))
+      stays : (s : ℕ) → isHere net s ≡ true → (s ≡ i → ⊥) → value (supplyAt (withSupply net (w .other) x) s) ≡ value (supplyAt net s) +ℚ -ℚ (N .col j .coef s *ℚ value v)
+      stays s h n = level-less net (w .other) (supplyAt net (w .other)) (w .o) v (g .supply-long) (λ l. refl) q s (here-number g s h) ∙ ap (λ k. value (supplyAt net s) +ℚ -ℚ (k *ℚ value v)) (sym (ends s n))
 
-    within : isLess v (t .lower) ≡ false → isLess (t .upper) v ≡ false → InBounds (N .col j) (forced N i (spokeOf net i j))
-    within a b =
-        record {
-          above = λ z e. subst (λ k. z ≤ℚ k) flow-is (not-under proper (g .used j used .lower-bound) a z (sym (ap (λ k. k .lower) (column-is net g j used)) ∙ e));
-          below = λ z e. subst (λ k. k ≤ℚ z) flow-is (not-over proper (g .used j used .upper-bound) b z (sym (ap (λ k. k .upper) (column-is net g j used)) ∙ e));
-        }
+      goes : 0ℚ ≡ value (supplyAt net i) +ℚ -ℚ (N .col j .coef i *ℚ value v)
+      goes =
+          combo ℚ-ring (value (supplyAt net i)) (mulℚ-inv (value (w .e)) (single-at .at-j .nonzero))
+          (ring3 ℚ-ring (value (supplyAt net i)) (value (w .e)) (invℚ (value (w .e))) (λ r e i. :0 :- (r :- e :* (r :* i)) := r :* (e :* i :- :1)) refl)
+          ∙ ap₂ (λ k f. value (supplyAt net i) +ℚ -ℚ (k *ℚ f)) (sym (spoke-e (single-at .at-j))) (sym (flow-is ∙ ap (λ r. r *ℚ invℚ (value (w .e))) (rhs-is net g i (m .here))))
 
-    outside : (isLess v (t .lower) ≡ true) ⊎ (isLess (t .upper) v ≡ true) → ¬ (InBounds (N .col j) (forced N i (spokeOf net i j)))
-    outside (inl a) k =
-        let u = under proper (g .used j used .lower-bound) a in
-        u .1 (subst (λ z. value (t .lower) ≤ℚ z) (sym flow-is) (k .above _ (ap (λ k. k .lower) (column-is net g j used) ∙ u .0)))
-    outside (inr b) k =
-        let u = over proper (g .used j used .upper-bound) b in
-        u .1 (subst (λ z. z ≤ℚ value (t .upper)) (sym flow-is) (k .below _ (ap (λ k. k .upper) (column-is net g j used) ∙ u .0)))
+  within : isLess v (t .lower) ≡ false → isLess (t .upper) v ≡ false → InBounds (N .col j) (forced N i (spokeOf net i j))
+  within a b =
+      record {
+        above = λ z e. subst (λ k. z ≤ℚ k) flow-is (not-under proper (g .used j used .lower-bound) a z (sym (ap (λ k. k .lower) (column-is net g j used)) ∙ e));
+        below = λ z e. subst (λ k. k ≤ℚ z) flow-is (not-over proper (g .used j used .upper-bound) b z (sym (ap (λ k. k .upper) (column-is net g j used)) ∙ e));
+      }
 
-  no-flow : Outside t w (supplyAt net i) → LP.NoFlow N
-  no-flow o = single-no-flow single-at (outside (o .flow) (o .out))
+  outside : Outside t v → ¬ (InBounds (N .col j) (forced N i (spokeOf net i j)))
+  outside (inl a) k =
+      let u = under proper (g .used j used .lower-bound) a in
+      u .1 (subst (λ z. value (t .lower) ≤ℚ z) (sym flow-is) (k .above _ (ap (λ k. k .lower) (column-is net g j used) ∙ u .0)))
+  outside (inr b) k =
+      let u = over proper (g .used j used .upper-bound) b in
+      u .1 (subst (λ z. z ≤ℚ value (t .upper)) (sym flow-is) (k .below _ (ap (λ k. k .upper) (column-is net g j used) ∙ u .0)))
 
-  right : {c : Change} → Forced i j t w (supplyAt net i) (supplyAt net (w .other)) c → Right net c (singleBack (c .old))
+  no-flow : Outside t v → LP.NoFlow N
+  no-flow o = single-no-flow single-at (outside o)
+
+  right : {c : Change} → Forced i j t w (supplyAt net i) (supplyAt net (w .other)) v (Changes c) → Right net c (singleBack (c .old))
   unfolding singleBack
   right f =
-      subst (λ c. Right net c (singleBack (c .old))) (sym (f .is))
+      subst (λ c. Right net c (singleBack (c .old))) (sym (change-is (f .is)))
       (record {
-        legal = dropped-legal net g j _ _ i (supply-less (w .other) _ _ _ (f .supply)) no-level (λ k l t. one .all k t);
+        legal = dropped-legal net g j _ _ i (supply-less (w .other) _ _ _ (f .supply)) no-level (λ k l t. ⊎-elim (λ e. e) (λ z. absurd z) (among net g i (m .here) one k t));
         fewer = dropped-fewer net g j _ _ i used;
-        handed-on = record { arcs = ((one .first .within, refl), no-old g .1); named = λ x u. u; node = here-number g i (m .here) .1; supply = supply-small g i (m .here); first = omega arith; second = omega arith; third = omega arith; fourth = omega arith };
+        handed-on = record { arcs = ((one .each .0 .within, refl), no-old g .1); named = λ x u. u; node = here-number g i (m .here) .1; supply = supply-small g i (m .here); first = omega arith; second = omega arith; third = omega arith; fourth = omega arith };
         exact = single-back N i (spokeOf net i j);
-        sound = record { shift = _; sound = single-sound (record { place = single-at; within = within (f .flow) (f .not-below) (f .not-above); removed = subst (λ ξ. Removed N (after net g j (dropping j (w .other) (f .s) 0 noFigure i) ξ) j ξ) (flow-is (f .flow)) (removed (f .flow) (f .supply)) }) };
+        sound = record { shift = _; sound = single-sound (record { place = single-at; within = within (f .not-below) (f .not-above); removed = subst (λ ξ. Removed N (after net g j (dropping j (w .other) (f .s) 0 noFigure i) ξ) j ξ) flow-is (removed (f .supply)) }) };
         agrees = λ pair z q. undone pair z q;
       })
     where
@@ -178,14 +176,14 @@ module _ (net : Net) (g : Legal net) (i : ℕ) (m : At net i) where
       undone pair z e =
           let v = figure-met _ _ e in
           let p = figure-met _ _ (v .2) in
-          let a = same (ap (λ r. r * invℚ (value (w .e))) (sym (rhs-is net g i (m .here)))) (over-exactly (given _) (given _)) (v .0) (v .1) in
-          let b = quote-exactly net g i (m .here) j (one .first .passes) pair (p .0) (p .1) in
-          rw (restored-is (p .2)) (both-restored (itself z) j (v .0) i (p .0) (one .first .one, one .first .within) (inl (a .0)) (a .1) (here-number g i (m .here)) (inl (b .0)) (b .1))
+          let a = same (ap (λ r. r *ℚ invℚ (value (w .e))) (sym (rhs-is net g i (m .here)))) (over-exactly (given _) (given _)) (v .0) (v .1) in
+          let b = quote-exactly net g i (m .here) j touch pair (p .0) (p .1) in
+          rw (restored-is (p .2)) (both-restored (itself z) j (v .0) i (p .0) (one .each .0 .above, one .each .0 .within) (inl (a .0)) (a .1) (here-number g i (m .here)) (inl (b .0)) (b .1))
 
 -- RULE 3
 pub laws : {P : Net → Type 0} → RuleLaws P rule
 laws = record {
   few-places = omega arith;
-  no-flow = λ net g p i e. let m = single-shown net i e in no-flow net g i (m .0) (m .1);
-  right = λ net g p i e. let m = single-met net i e in right net g i (m .0) (m .1);
+  no-flow = λ net g p i e. let m = single-met net i tt e in ⊎-elim (λ o. no-flow net g i (m .0) (o .0)) (λ f. not-shown (f .is)) (m .1);
+  right = λ net g p i e. let m = single-met net i tt e in ⊎-elim (λ o. not-changed (o .1)) (right net g i (m .0)) (m .1);
 }

@@ -1,6 +1,10 @@
 -- A fact of each of a list, and of one of them.
-use mathlib.Core.List.{List, [], _∷_}
+use mathlib.Core.Path.{_≡_}
+use mathlib.Core.List.{List, [], _∷_, List·Memᴰ, List·Memᴰ·head, List·Memᴰ·tail}
 use mathlib.Core.Logic.{_⊎_, inl, inr}
+use Prim.Native.Nat.{ℕ}
+use Rattle.algebra.proofs.Sum.{Absent, none, step}
+use Rattle.presolve.proofs.Named.{Distinct, nil, cons}
 
 abbrev pub All : {A : Type 0} → (A → Type 0) → List A → Type 0
 All P [] = Unit {0}
@@ -18,3 +22,22 @@ pub none-any : {A : Type 0} (P : A → Type 0) (xs : List A) → All (λ x. P x 
 none-any P [] n a = a
 none-any P (x ∷ xs) n (inl p) = n .0 p
 none-any P (x ∷ xs) n (inr a) = none-any P xs (n .1) a
+
+-- ---- numbers
+
+pub any-mem : {x : ℕ} (xs : List ℕ) → Any (λ y. x ≡ y) xs → List·Memᴰ x xs
+any-mem (y ∷ ys) (inl e) = List·Memᴰ·head e
+any-mem (y ∷ ys) (inr a) = List·Memᴰ·tail (any-mem ys a)
+
+-- no two are the same
+abbrev pub Apart : List ℕ → Type 0
+Apart [] = Unit {0}
+Apart (x ∷ xs) = All (λ y. x ≡ y → ⊥) xs × Apart xs
+
+absent-of : {x : ℕ} (xs : List ℕ) → All (λ y. x ≡ y → ⊥) xs → Absent x xs
+absent-of [] h = none
+absent-of (y ∷ ys) h = step (h .0) (absent-of ys (h .1))
+
+pub apart-distinct : (xs : List ℕ) → Apart xs → Distinct xs
+apart-distinct [] h = nil
+apart-distinct (x ∷ xs) h = cons (absent-of xs (h .0)) (apart-distinct xs (h .1))

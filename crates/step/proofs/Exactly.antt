@@ -1,42 +1,47 @@
 -- A legal network in exact numbers: its arcs as they are seen from their nodes, and what a sound change is.
-use mathlib.Core.Path.{_≡_, refl, sym, ap, _∙_, subst}
-use mathlib.Core.Bool.{Bool, true, false, cond, not, _||_}
+use mathlib.Core.Path.{_≡_, sym, ap, _∙_, subst}
+use mathlib.Core.Bool.{Bool, true, false, cond, not}
+use mathlib.Core.List.{List}
+use mathlib.Core.Logic.{⊎-elim}
 use Prim.Native.Nat.{ℕ, _≤_, _<_}
 use native.Mathlib.Omega.{arith}
 use lib.Dec.{T, eqb}
 use borrow.Author.Tests.{eqb-false, ne-eqb, not-true}
 use Rattle.algebra.specs.Rat.{ℚ, 0ℚ, _+ℚ_}
-use Rattle.algebra.specs.Sum.{Once, only, range-once}
+use Rattle.algebra.proofs.Sum.{Absent, Once, range-once}
+use Rattle.algebra.specs.Sum.{only}
+use Rattle.presolve.proofs.Named.{absent-mem}
 use Rattle.presolve.specs.LP.{LP, Pair, Solved, NoFlow}
-use Rattle.presolve.specs.Step.{SoundStep, with-constant, feasible-constant, solved-constant, stay, then, shifted, no-flow}
-use Rattle.presolve.specs.Price.{root, only-zero}
-use Rattle.presolve.specs.Spoke.{Spoke, SpokeAt}
-use Rattle.presolve.specs.Net.{columnAt, tail-of, head-of, column-in, column-out, column-same, touch-off, rhs-in, rhs-out}
+use Rattle.presolve.proofs.Step.{SoundStep, with-constant, feasible-constant, solved-constant, stay, then, shifted, no-flow}
+use Rattle.presolve.proofs.Price.{root, only-zero}
+use Rattle.presolve.proofs.Spoke.{Spoke, SpokeAt}
+use Rattle.presolve.specs.Net.{columnAt}
+use Rattle.presolve.proofs.Net.{tail-of, head-of, column-in, column-out, column-same, touch-off, rhs-in, rhs-out}
 use Rattle.presolve.specs.Net as Exact
+use Rattle.presolve.proofs.Net as ExactLaws
 use Rattle.fraction.specs.declared.Fraction.{Fraction}
 use Rattle.fraction.specs.Exact.{zeroFraction, isZero}
-use Rattle.fraction.specs.Value.{value, same-is}
-use Rattle.fraction.specs.Worked.{zero-is}
-use Rattle.fraction.specs.Laws.{never}
+use Rattle.fraction.specs.Value.{value}
+use Rattle.fraction.proofs.Value.{same-is}
+use Rattle.fraction.proofs.Formulas.{zero-is}
+use Rattle.fraction.proofs.Laws.{never}
 use Rattle.network.specs.declared.Arc.{Arc}
 use Rattle.network.specs.declared.Net.{Net}
 use Rattle.network.specs.declared.Edit.{Edit}
 use Rattle.network.specs.Network.{noArc, arcAt, supplyAt, isHere, isTouching, isRoot, farEnd, sideOf, updatesOf, applied}
 use Rattle.network.specs.Legal.{Legal}
 use Rattle.network.specs.Program.{exactArc, exactOf, programOf}
-use Rattle.network.proofs.Sane.{sane}
+use Rattle.network.proofs.Sane.{sane, is-true as true-is}
 use Rattle.network.proofs.Kept.{here-number, used-number, touching-used}
 use Rattle.step.proofs.Frame.{Unnamed, arc-same}
-use Rattle.step.proofs.Sides.{Seen, at-from, at-to, seen}
+use Rattle.step.proofs.Sides.{seen}
+use Rattle.step.proofs.Each.{Any, any-mem}
+use Rattle.step.proofs.Lines.{split, or-neither}
 
 -- ---- what is in
 
 pub is-true : {b : Bool} → b ≡ true → T b
 is-true e = subst T (sym e) tt
-
-pub true-is : (b : Bool) → T b → b ≡ true
-true-is true t = refl
-true-is false t = absurd t
 
 pub false-not : {b : Bool} → b ≡ false → ¬ (T b)
 false-not {b} e t = never (let f = sym e ∙ true-is b t in cc)
@@ -59,9 +64,6 @@ unfolding isZero
 zero-figure x e = ap value (same-is x zeroFraction e) ∙ zero-is
 
 module _ (net : Net) (g : Legal net) where
-  node-place : (i : ℕ) → isHere net i ≡ true → (i < 33) × T (isHere net i)
-  node-place i e = (omega (arith, here-number g i e .1), is-true e)
-
   -- the places of arcs and of nodes
   pub arc-place : (j : ℕ) → 1 ≤ arcAt net j .from → j < 97
   arc-place j l = omega (arith, used-number g j l .1)
@@ -72,7 +74,7 @@ module _ (net : Net) (g : Legal net) where
 
   pub listed-node : (i : ℕ) → isHere net i ≡ true → Once i (programOf net .rows)
   unfolding exactOf
-  listed-node i e = range-once i 33 (node-place i e .0)
+  listed-node i e = range-once i 33 (omega (arith, here-number g i e .1))
 
   -- the column of an arc in use, and the right-hand side of a node in use
   pub column-is : (j : ℕ) → 1 ≤ arcAt net j .from → programOf net .col j ≡ Exact.column (exactArc (arcAt net j))
@@ -104,7 +106,10 @@ spoke-root {N} {i} {a} t z s =
 module _ (net : Net) (g : Legal net) where
   pub spoke-at : (i j : ℕ) → isHere net i ≡ true → isTouching (arcAt net j) i ≡ true → SpokeAt (programOf net) i (spokeOf net i j)
   unfolding exactOf isRoot farEnd
-  spoke-at i j here touches = by (seen t i touches)
+  spoke-at i j here touches =
+      ⊎-elim
+      (λ w. rw (w .1) (subst (λ k. SpokeAt (programOf net) k (record { arc = j; e = value (t .a); far = farEnd t; o = value (t .b) })) (w .0) far))
+      (λ w. rw (w .2) (subst (λ k. SpokeAt (programOf net) k (ExactLaws.head-spoke j (exactArc t))) (w .1) (head (λ e. w .0 (e ∙ w .1))))) (seen t i touches)
     where
       t : Arc
       t = arcAt net j
@@ -112,41 +117,27 @@ module _ (net : Net) (g : Legal net) where
       used : 1 ≤ t .from
       used = touching-used g j i (here-number g i here .0) touches
 
-      tail : SpokeAt (programOf net) (t .from) (Exact.tail-spoke j (exactArc t))
+      tail : SpokeAt (programOf net) (t .from) (ExactLaws.tail-spoke j (exactArc t))
       tail = tail-of (exactOf net) (sane g) j (arc-place net g j used) (arc-in net j used)
 
-      head : (t .from ≡ t .to → ⊥) → SpokeAt (programOf net) (t .to) (Exact.head-spoke j (exactArc t))
+      head : (t .from ≡ t .to → ⊥) → SpokeAt (programOf net) (t .to) (ExactLaws.head-spoke j (exactArc t))
       head n = head-of (exactOf net) (sane g) j (arc-place net g j used) (arc-in net j used) n
 
-      far : (b : Bool) → isRoot t ≡ b → SpokeAt (programOf net) (t .from) (record { arc = j; e = value (t .a); far = cond b 0 (t .to); o = value (t .b) })
-      far false e = tail
-      far true e = spoke-root 0 (zero-figure (t .b) (g .used j used .b-zero ∙ e)) tail
-
-      by : Seen t i → SpokeAt (programOf net) i (spokeOf net i j)
-      by (at-from a is) = rw is (subst (λ k. SpokeAt (programOf net) k (record { arc = j; e = value (t .a); far = farEnd t; o = value (t .b) })) a (far (isRoot t) refl))
-      by (at-to a b is) = rw is (subst (λ k. SpokeAt (programOf net) k (Exact.head-spoke j (exactArc t))) b (head (λ e. a (e ∙ b))))
+      far : SpokeAt (programOf net) (t .from) (record { arc = j; e = value (t .a); far = cond (isRoot t) 0 (t .to); o = value (t .b) })
+      far = split (isRoot t) (λ e. rw e (spoke-root 0 (zero-figure (t .b) (g .used j used .b-zero ∙ e)) tail)) (λ e. rw e tail)
 
   -- an arc that does not touch a node has no coefficient there
-  pub unseen : (i c : ℕ) → isTouching (arcAt net c) i ≡ false → columnAt (exactOf net) c .coef i ≡ 0ℚ
+  unseen : (i c : ℕ) → isTouching (arcAt net c) i ≡ false → columnAt (exactOf net) c .coef i ≡ 0ℚ
   unfolding exactOf isTouching
-  unseen i c e = by (eqb (arcAt net c .from) i) refl (eqb (arcAt net c .to) i) refl e
-    where
-      in-or-out : (b : Bool) → exactOf net .arc? c ≡ b → (arcAt net c .from ≡ i → ⊥) → (arcAt net c .to ≡ i → ⊥) → columnAt (exactOf net) c .coef i ≡ 0ℚ
-      in-or-out true k n m = ap (λ k. k .coef i) (column-in (exactOf net) c (is-true k)) ∙ touch-off (exactArc (arcAt net c)) i n m
-      in-or-out false k n m = ap (λ k. k .coef i) (column-out (exactOf net) c (false-not k))
+  unseen i c e =
+      let n = or-neither (eqb (arcAt net c .from) i) _ e in
+      split (exactOf net .arc? c)
+      (λ k. ap (λ k. k .coef i) (column-in (exactOf net) c (is-true k)) ∙ touch-off (exactArc (arcAt net c)) i (eqb-false _ _ (n .0)) (eqb-false _ _ (n .1)))
+      (λ k. ap (λ k. k .coef i) (column-out (exactOf net) c (false-not k)))
 
-      by : (s : Bool) → eqb (arcAt net c .from) i ≡ s → (r : Bool) → eqb (arcAt net c .to) i ≡ r → (s || r) ≡ false → columnAt (exactOf net) c .coef i ≡ 0ℚ
-      by true a r b e = never cc
-      by false a true b e = never cc
-      by false a false b e = in-or-out (exactOf net .arc? c) refl (eqb-false _ _ a) (eqb-false _ _ b)
-
-  -- the one arc that touches a node: no other column sees it
-  pub alone : (i j : ℕ) → ((c : ℕ) → isTouching (arcAt net c) i ≡ true → c ≡ j) → (c : ℕ) → (c ≡ j → ⊥) → columnAt (exactOf net) c .coef i ≡ 0ℚ
-  alone i j all c n = unseen i c (by (isTouching (arcAt net c) i) refl)
-    where
-      by : (b : Bool) → isTouching (arcAt net c) i ≡ b → isTouching (arcAt net c) i ≡ false
-      by true e = absurd (n (all c e))
-      by false e = e
+  -- no arc but those named touches a node: no other column sees it
+  pub alone : (i : ℕ) (names : List ℕ) → ((c : ℕ) → isTouching (arcAt net c) i ≡ true → Any (λ y. c ≡ y) names) → (c : ℕ) → Absent c names → columnAt (exactOf net) c .coef i ≡ 0ℚ
+  alone i names all c a = split (isTouching (arcAt net c) i) (λ e. absurd (absent-mem a (any-mem names (all c e)))) (unseen i c)
 
 -- ---- before and after a change
 

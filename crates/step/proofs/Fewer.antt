@@ -1,5 +1,5 @@
 -- The nodes and arcs that are left: a change that puts arcs only at numbers in use, and drops a node or an arc in use, leaves fewer.
-use mathlib.Core.Path.{_≡_, refl, sym, _∙_}
+use mathlib.Core.Path.{_≡_, sym, _∙_}
 use mathlib.Core.Bool.{Bool, true, false}
 use mathlib.Core.List.{List, [], _∷_}
 use mathlib.Core.Logic.{_⊎_, inl, inr, ⊎-elim}
@@ -18,6 +18,7 @@ use Rattle.network.proofs.Kept.{here-number, used-number, arc-either, here-eith
 use Rattle.step.proofs.Each.{All}
 use Rattle.step.proofs.Frame.{node-gone}
 use Rattle.step.proofs.Touch.{unlike}
+use Rattle.step.proofs.Lines.{split}
 
 abbrev pub hasArc : Net → ℕ → Bool
 hasArc net j = leb 1 (arcAt net j .from)
@@ -29,11 +30,9 @@ leftOf net = count (isHere net) 33 + count (hasArc net) 97
 count-within : (p : ℕ → Bool) (top : ℕ) → p 0 ≡ false → ((k : ℕ) → top < k → p k ≡ false) → (n : ℕ) → count p n ≤ top
 unfolding count
 count-within p top first beyond zero = omega arith
-count-within p top first beyond (suc n) = by (ltb top n) refl (count-within p top first beyond n)
-  where
-    by : (b : Bool) → ltb top n ≡ b → count p n ≤ top → count p (suc n) ≤ top
-    by true e c = rw (beyond n (ltb-true top n e)) c
-    by false e c = omega (arith, count-but-first p n first, ltb-false top n e)
+count-within p top first beyond (suc n) =
+    let c = count-within p top first beyond n in
+    split (ltb top n) (λ e. rw (beyond n (ltb-true top n e)) c) (λ e. omega (arith, count-but-first p n first, ltb-false top n e))
 
 module _ {net : Net} (g : Legal net) where
   pub left-within : leftOf net ≤ net .n + net .m

@@ -1,6 +1,6 @@
 -- Figures restored to a pair, in exact numbers.
 use mathlib.Core.Path.{_≡_, refl, sym, ap₂, _∙_, fun-ext}
-use mathlib.Core.Bool.{Bool, true, false, cond}
+use mathlib.Core.Bool.{true, cond}
 use mathlib.Core.List.{List}
 use mathlib.Core.Logic.{_⊎_, inl, inr}
 use Prim.Native.Nat.{ℕ, _≤_, _<_}
@@ -9,27 +9,29 @@ use lib.Dec.{eqb}
 use lib.ListN.{length, getD, set, length-set}
 use lib.Seq.{getD-set-same, getD-set-other}
 use borrow.Author.Tests.{le-leb, eqb-true, eqb-false}
-use Rattle.algebra.specs.Rat.{ℚ, -ℚ_, ≤ℚ-dec}
+use Rattle.algebra.specs.Rat.{ℚ, 0ℚ, -ℚ_, _<ℚ_}
+use Rattle.algebra.proofs.Rat.{≤ℚ-dec}
 use Rattle.algebra.specs.Sum.{upd}
 use Rattle.presolve.specs.LP as LP
-use Rattle.presolve.specs.Closed.{closed-back}
-use Rattle.presolve.specs.Bare.{bare-back}
-use Rattle.presolve.specs.Bounds.{choose}
-use Rattle.presolve.specs.Spoke as Spoke
+use Rattle.presolve.proofs.Closed.{closed-back}
+use Rattle.presolve.proofs.Bare.{bare-back}
+use Rattle.presolve.proofs.Bounds.{choose}
+use Rattle.presolve.proofs.Spoke as Spoke
 use Rattle.fraction.specs.declared.Fraction.{Fraction}
 use Rattle.fraction.specs.declared.Worked.{Worked}
-use Rattle.fraction.specs.Exact.{Operand, Proper, noFigure, isLess}
+use Rattle.fraction.specs.Exact.{Operand, Proper, noFigure, zeroFraction, isLess}
 use Rattle.fraction.specs.Formula.{_⊘_, ⊝_}
 use Rattle.fraction.specs.Value.{value}
-use Rattle.fraction.specs.Extended.{less-value, not-less}
-use Rattle.fraction.specs.Worked.{Gives, overℚ, over-fits, over-gives, negated-fits, negated-gives}
+use Rattle.fraction.proofs.Extended.{less-value, not-less}
+use Rattle.fraction.proofs.Formulas.{Gives, overℚ, over-fits, over-gives, negated-fits, negated-gives, zero-proper, zero-is}
 use Rattle.network.specs.declared.pair.Pair.{Pair}
 use Rattle.network.specs.Network.{isNumber}
 use Rattle.network.specs.Pair.{priceAt, flowAt, withPrice, withFlow, exactPair}
-use Rattle.optimality.proofs.Values.{Exactly, gives}
+use Rattle.fraction.proofs.Exactly.{Exactly, gives}
 use Rattle.step.specs.declared.FlowUpdate.{FlowUpdate}
 use Rattle.step.specs.declared.Restored.{Restored}
 use Rattle.step.specs.Figure.{larger}
+use Rattle.step.proofs.Lines.{split}
 use Rattle.step.specs.Back.{flowOnly, priceOnly, flowAndPrice, restored}
 
 -- ---- figures, and pairs of them
@@ -68,18 +70,10 @@ module _ (top : ℕ) (l : List Fraction) (k : ℕ) (f : Fraction) (long : top < 
   put-long = rw put-is (length-set l k f)
 
   put-formed : Formed f → ((i : ℕ) → Formed (getD l i noFigure)) → (i : ℕ) → Formed (getD put i noFigure)
-  put-formed h all i = by (eqb i k) refl
-    where
-      by : (b : Bool) → eqb i k ≡ b → Formed (getD put i noFigure)
-      by true e = rw (eqb-true i k e, put-at) h
-      by false e = rw (put-left i (eqb-false i k e)) (all i)
+  put-formed h all i = split (eqb i k) (λ e. rw (eqb-true i k e, put-at) h) (λ e. rw (put-left i (eqb-false i k e)) (all i))
 
   put-value : (i : ℕ) → value (getD put i noFigure) ≡ upd (λ i. value (getD l i noFigure)) k (value f) i
-  put-value i = by (eqb i k) refl
-    where
-      by : (b : Bool) → eqb i k ≡ b → value (getD put i noFigure) ≡ cond b (value f) (value (getD l i noFigure))
-      by true e = rw (eqb-true i k e, put-at)
-      by false e = rw (put-left i (eqb-false i k e))
+  put-value i = split (eqb i k) (λ e. rw (e, eqb-true i k e, put-at)) (λ e. rw (e, put-left i (eqb-false i k e)))
 
 -- a pair is known by its figures
 pub pair-is : (x y p q : ℕ → ℚ) → ((j : ℕ) → x j ≡ y j) → ((i : ℕ) → p i ≡ q i) → _≡_ {A = LP.Pair} (record { flow = x; price = p }) (record { flow = y; price = q })
@@ -99,49 +93,34 @@ module _ {pair : Pair} {s : LP.Pair} (h : Holds pair s) where
   flow-put : (j : ℕ) (f : Fraction) {q : ℚ} → (1 ≤ j) × (j ≤ 96) → Formed f → value f ≡ q → Holds (withFlow pair j f) (closed-back j q s)
   unfolding withFlow
   flow-put j f l form is =
+      let long : 96 < length (pair .flow) = omega (arith, h .sized .flows-long) in
       record {
         exact = pair-is _ _ _ _ (put-value 96 (pair .flow) j f long l) (λ i. refl) ∙ ap₂ (λ q s. closed-back j q s) is (h .exact);
         sized = record { prices-long = h .sized .prices-long; flows-long = put-long 96 (pair .flow) j f long l ∙ h .sized .flows-long; price-formed = h .sized .price-formed; flow-formed = put-formed 96 (pair .flow) j f long l form (h .sized .flow-formed) };
       }
-    where
-      long : 96 < length (pair .flow)
-      long = omega (arith, h .sized .flows-long)
 
   price-put : (i : ℕ) (f : Fraction) {q : ℚ} → (1 ≤ i) × (i ≤ 32) → Formed f → value f ≡ q → Holds (withPrice pair i f) (bare-back i q s)
   unfolding withPrice
   price-put i f l form is =
+      let long : 32 < length (pair .price) = omega (arith, h .sized .prices-long) in
       record {
         exact = pair-is _ _ _ _ (λ j. refl) (put-value 32 (pair .price) i f long l) ∙ ap₂ (λ q s. bare-back i q s) is (h .exact);
         sized = record { prices-long = put-long 32 (pair .price) i f long l ∙ h .sized .prices-long; flows-long = h .sized .flows-long; price-formed = put-formed 32 (pair .price) i f long l form (h .sized .price-formed); flow-formed = h .sized .flow-formed };
       }
-    where
-      long : 32 < length (pair .price)
-      long = omega (arith, h .sized .prices-long)
 
   -- number 0 puts nothing
-  no-flow-put : (f : Fraction) → Holds (withFlow pair 0 f) s
-  unfolding withFlow
-  no-flow-put f = record { exact = h .exact; sized = record { prices-long = h .sized .prices-long; flows-long = h .sized .flows-long; price-formed = h .sized .price-formed; flow-formed = h .sized .flow-formed } }
-
-  no-price-put : (f : Fraction) → Holds (withPrice pair 0 f) s
-  unfolding withPrice
-  no-price-put f = record { exact = h .exact; sized = record { prices-long = h .sized .prices-long; flows-long = h .sized .flows-long; price-formed = h .sized .price-formed; flow-formed = h .sized .flow-formed } }
-
-three-more : {pair : Pair} {s : LP.Pair} → Holds pair s → Holds (withFlow (withFlow (withFlow pair 0 noFigure) 0 noFigure) 0 noFigure) s
-three-more h = no-flow-put (no-flow-put (no-flow-put h _) _) _
-
-module _ {pair : Pair} {s : LP.Pair} (h : Holds pair s) where
   pub flow-restored : (j : ℕ) (x : Fraction) {q : ℚ} → (1 ≤ j) × (j ≤ 96) → Formed x → value x ≡ q → Holds (restored pair (flowOnly j x)) (closed-back j q s)
-  unfolding restored
-  flow-restored j x l f e = no-price-put (three-more (flow-put h j x l f e)) _
+  unfolding restored withFlow withPrice
+  flow-restored = flow-put
 
   pub price-restored : (i : ℕ) (p : Fraction) {q : ℚ} → (1 ≤ i) × (i ≤ 32) → Formed p → value p ≡ q → Holds (restored pair (priceOnly i p)) (bare-back i q s)
-  unfolding restored
-  price-restored i p l f e = price-put (three-more (no-flow-put h _)) i p l f e
+  unfolding restored withFlow withPrice
+  price-restored = price-put
 
+module _ {pair : Pair} {s : LP.Pair} (h : Holds pair s) where
   pub both-restored : (j : ℕ) (x : Fraction) (i : ℕ) (p : Fraction) {q π : ℚ} → (1 ≤ j) × (j ≤ 96) → Formed x → value x ≡ q → (1 ≤ i) × (i ≤ 32) → Formed p → value p ≡ π → Holds (restored pair (flowAndPrice j x i p)) (bare-back i π (closed-back j q s))
-  unfolding restored
-  both-restored j x i p l f e m g d = price-put (three-more (flow-put h j x l f e)) i p m g d
+  unfolding restored withFlow withPrice
+  both-restored j x i p l f e m g d = price-put (flow-put h j x l f e) i p m g d
 
 -- ---- formulas
 
@@ -176,8 +155,15 @@ all-restored r h x y z w l f e = price-put (flow-put (flow-put (flow-put (flow-p
 -- the larger of two
 pub larger-is : {x y : Fraction} {p q : ℚ} → Proper x × (value x ≡ p) → Proper y × (value y ≡ q) → Proper (larger x y) × (value (larger x y) ≡ Spoke.larger p q)
 unfolding Spoke.larger
-larger-is {x} {y} {p} {q} a b = by (isLess x y) refl
-  where
-    by : (t : Bool) → isLess x y ≡ t → Proper (cond t y x) × (value (cond t y x) ≡ choose (≤ℚ-dec q p) p q)
-    by true e = (b .0, b .1 ∙ sym (choose-no (≤ℚ-dec q p) p q (λ l. less-value (a .0) (b .0) e (rw (a .1, b .1) l))))
-    by false e = (a .0, a .1 ∙ sym (choose-yes (≤ℚ-dec q p) p q (rw (← a .1, ← b .1) (not-less (a .0) (b .0) e))))
+larger-is {x} {y} {p} {q} a b =
+    split (isLess x y)
+    (λ e. rw e (b .0, b .1 ∙ sym (choose-no (≤ℚ-dec q p) p q (λ l. less-value (a .0) (b .0) e (rw (a .1, b .1) l)))))
+    (λ e. rw e (a .0, a .1 ∙ sym (choose-yes (≤ℚ-dec q p) p q (rw (← a .1, ← b .1) (not-less (a .0) (b .0) e)))))
+
+-- ---- signs
+
+pub above-zero : {x : Fraction} → Proper x → isLess zeroFraction x ≡ true → 0ℚ <ℚ value x
+above-zero p e = rw zero-is at (less-value zero-proper p e)
+
+pub below-zero : {x : Fraction} → Proper x → isLess x zeroFraction ≡ true → value x <ℚ 0ℚ
+below-zero p e = rw zero-is at (less-value p zero-proper e)

@@ -1,6 +1,6 @@
 -- What a change does to a legal network, for every rule.
 use mathlib.Core.Path.{_≡_, refl, sym, ap, _∙_}
-use mathlib.Core.Bool.{Bool, true, false}
+use mathlib.Core.Bool.{true, false}
 use mathlib.Core.List.{List, [], _∷_}
 use mathlib.Core.Logic.{inl, inr, ⊎-elim}
 use Prim.Native.Nat.{ℕ, zero, suc, _≤_}
@@ -18,8 +18,9 @@ use Rattle.network.specs.declared.Edit.{Edit}
 use Rattle.network.specs.Network.{noArc, arcAt, supplyAt, isHere, isNumber, isTouching, withArc, withSupply, without, noUpdate, noEdit, withUpdate, withUpdates, updatesOf, withSupplyUpdate, applied}
 use Rattle.network.specs.Legal.{Legal, MayPut}
 use Rattle.network.proofs.Kept.{long, used-number, touching-used, moved, arc-either, supply-either, here-either, arc-kept, supply-kept, node-kept}
-use Rattle.fraction.specs.Laws.{never}
+use Rattle.fraction.proofs.Laws.{never}
 use Rattle.step.proofs.Each.{All, Any, all-map, none-any}
+use Rattle.step.proofs.Lines.{split}
 
 -- what may be put at a number where node `gone` is dropped: no arc, or a legal one that does not touch it
 pub record Puts (net : Net) (gone : ℕ) (p : ArcUpdate) : Type 0 where
@@ -68,10 +69,9 @@ module _ (net : Net) (k : ℕ) (t : Arc) where
 
   -- an arc that still touches a node, where one is put that does not: its number is another, and it touched before
   still : (i j : ℕ) → length (net .arcs) ≡ 97 → isTouching t i ≡ false → (1 ≤ j) × (j ≤ 96) → isTouching (arcAt (withArc net k t) j) i ≡ true → (j ≡ k → ⊥) × (isTouching (arcAt net j) i ≡ true)
-  still i j h c l e = (ne, rw (arc-left j (λ l. ne)) at e)
-    where
-      ne : j ≡ k → ⊥
-      ne q = never (let z = sym e ∙ ap (λ (n : ℕ). isTouching (arcAt (withArc net k t) n) i) q ∙ ap (λ (t : Arc). isTouching t i) (arc-put h (rw q at l)) ∙ c in cc)
+  still i j h c l e =
+      let ne : j ≡ k → ⊥ = λ q. never (let z = sym e ∙ ap (λ (n : ℕ). isTouching (arcAt (withArc net k t) n) i) q ∙ ap (λ (t : Arc). isTouching t i) (arc-put h (rw q at l)) ∙ c in cc) in
+      (ne, rw (arc-left j (λ l. ne)) at e)
 
   -- what may be put before may be put after
   again : {gone : ℕ} (p : ArcUpdate) → Puts net gone p → Puts (withArc net k t) gone p
@@ -117,13 +117,10 @@ framed-kept net g c f = node-kept (supply-kept (supply-kept now _ _ (f .left)) _
     now = puts-kept (c .gone) (updatesOf c) g (f .arcs)
 
     free : 1 ≤ c .gone → (j : ℕ) → isTouching (arcAt (withUpdates net (updatesOf c)) j) (c .gone) ≡ false
-    free l j = off (isTouching (arcAt (withUpdates net (updatesOf c)) j) (c .gone)) refl
-      where
-        off : (b : Bool) → isTouching (arcAt (withUpdates net (updatesOf c)) j) (c .gone) ≡ b → isTouching (arcAt (withUpdates net (updatesOf c)) j) (c .gone) ≡ false
-        off false e = e
-        off true e =
-            let s = puts-still (c .gone) (updatesOf c) g (f .arcs) l j (used-number now j (touching-used now j (c .gone) l e)) e in
-            absurd (none-any (λ p. j ≡ p .number) (updatesOf c) (s .0) (f .only j l (s .1)))
+    free l j =
+        split (isTouching (arcAt (withUpdates net (updatesOf c)) j) (c .gone))
+        (λ e. let s = puts-still (c .gone) (updatesOf c) g (f .arcs) l j (used-number now j (touching-used now j (c .gone) l e)) e in absurd (none-any (λ p. j ≡ p .number) (updatesOf c) (s .0) (f .only j l (s .1))))
+        (λ e. e)
 
 -- ---- what stands where after a change
 
@@ -154,10 +151,6 @@ module _ (net : Net) (c : Edit) where
     pub arc-stands : (k : ℕ) → (1 ≤ getD (updatesOf c) k noUpdate .number) × (getD (updatesOf c) k noUpdate .number ≤ 96) → Unnamed (drop (suc k) (updatesOf c)) (getD (updatesOf c) k noUpdate .number) → arcAt (applied net c) (getD (updatesOf c) k noUpdate .number) ≡ getD (updatesOf c) k noUpdate .arc
     unfolding applied withSupply without
     arc-stands k l u = arcs-put (updatesOf c) k net (g .arcs-long) l u
-
-    pub supply-one : (1 ≤ c .left .node) × (c .left .node ≤ 32) → (1 ≤ c .right .node → c .left .node ≡ c .right .node → ⊥) → supplyAt (applied net c) (c .left .node) ≡ c .left .supply
-    unfolding applied withArc without
-    supply-one l n = supply-left _ _ _ _ n ∙ supply-put _ _ _ (g .supply-long) l
 
     pub node-gone : (1 ≤ c .gone) × (c .gone ≤ 32) → isHere (applied net c) (c .gone) ≡ false
     unfolding applied withArc withSupply without

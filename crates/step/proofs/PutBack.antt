@@ -1,15 +1,13 @@
 -- The old arcs of a change, put back on the network after it, give the arcs from before it.
-use mathlib.Core.Path.{_≡_, refl, sym, ap, _∙_}
-use mathlib.Core.Bool.{Bool, true, false}
+use mathlib.Core.Path.{_≡_, sym, ap, _∙_}
 use mathlib.Core.List.{List, [], _∷_}
 use mathlib.Core.Logic.{_⊎_, inl, inr, ⊎-elim}
 use Prim.Native.Nat.{ℕ, _≤_}
-use native.Mathlib.Decide.{ℕ-discrete}
 use native.Mathlib.Omega.{arith}
-use lib.Dec.{ltb}
+use lib.Dec.{ltb, eqb}
 use lib.ListN.{length, getD}
 use lib.Seq.{ext-getD}
-use borrow.Author.Tests.{ltb-true, ltb-false}
+use borrow.Author.Tests.{ltb-true, ltb-false, eqb-true, eqb-false}
 use Rattle.network.specs.declared.Arc.{Arc}
 use Rattle.network.specs.declared.Net.{Net}
 use Rattle.network.specs.declared.ArcUpdate.{ArcUpdate}
@@ -21,6 +19,7 @@ use Rattle.step.specs.declared.Step.{Step}
 use Rattle.step.specs.Back.{oldArcsOf}
 use Rattle.step.proofs.Each.{All}
 use Rattle.step.proofs.Frame.{Unnamed, arc-put, arc-left, arc-same, long-put, long-puts}
+use Rattle.step.proofs.Lines.{split}
 use Rattle.step.proofs.Laws.{OldAt, HandedOn}
 
 abbrev pub putBack : Net → Old → Net
@@ -33,21 +32,13 @@ putBackAll (s ∷ steps) net = putBack (putBackAll steps net) (s .change .old)
 
 -- an update names j, or it doesn't
 names? : (p : ArcUpdate) (j : ℕ) → ((1 ≤ j) × (j ≡ p .number)) ⊎ (1 ≤ p .number → j ≡ p .number → ⊥)
-names? p j = by (ℕ-discrete j (p .number)) (ltb j 1) refl
-  where
-    by : Dec (j ≡ p .number) → (b : Bool) → ltb j 1 ≡ b → ((1 ≤ j) × (j ≡ p .number)) ⊎ (1 ≤ p .number → j ≡ p .number → ⊥)
-    by (yes e) true q = inr (λ l z. omega (arith, ltb-true j 1 q))
-    by (yes e) false q = inl (ltb-false j 1 q, e)
-    by (no n) b q = inr (λ l. n)
+names? p j = split (eqb j (p .number)) (λ e. split (ltb j 1) (λ q. inr (λ l z. omega (arith, ltb-true j 1 q))) (λ q. inl (ltb-false j 1 q, eqb-true _ _ e))) (λ e. inr (λ l. eqb-false _ _ e))
 
 module _ (net : Net) (j : ℕ) where
   -- old arcs put one after the other: arc j is right then, if it is where none of them is j's
   put-arcs : (ps : List ArcUpdate) (m : Net) → length (m .arcs) ≡ 97 → All (OldAt net) ps → (Unnamed ps j → arcAt m j ≡ arcAt net j) → arcAt (withUpdates m ps) j ≡ arcAt net j
   put-arcs [] m l o h = h tt
-  put-arcs (p ∷ ps) m l o h = put-arcs ps (withUpdate m p) (long-put m _ _ l) (o .1) (⊎-elim (λ w u. put w) (λ n u. arc-left m _ _ j n ∙ h (n, u)) (names? p j))
-    where
-      put : (1 ≤ j) × (j ≡ p .number) → arcAt (withUpdate m p) j ≡ arcAt net j
-      put (k, e) = ap (arcAt (withUpdate m p)) e ∙ arc-put m (p .number) (p .arc) l (rw e at k, o .0 .0) ∙ o .0 .1 ∙ ap (arcAt net) (sym e)
+  put-arcs (p ∷ ps) m l o h = put-arcs ps (withUpdate m p) (long-put m _ _ l) (o .1) (⊎-elim (λ w u. ap (arcAt (withUpdate m p)) (w .1) ∙ arc-put m (p .number) (p .arc) l (rw (w .1) at (w .0), o .0 .0) ∙ o .0 .1 ∙ ap (arcAt net) (sym (w .1))) (λ n u. arc-left m _ _ j n ∙ h (n, u)) (names? p j))
 
 -- ARCS FROM BEFORE
 pub put-back : {net : Net} → Legal net → (c : Change) → Legal (applied net (c .edit)) → HandedOn net c → (m : Net) → m .arcs ≡ applied net (c .edit) .arcs → putBack m (c .old) .arcs ≡ net .arcs

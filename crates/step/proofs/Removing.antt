@@ -7,24 +7,26 @@ use native.Mathlib.Omega.{arith}
 use native.Mathlib.Decide.{ℕ-discrete}
 use lib.Dec.{eqb, lit≤}
 use lib.ListN.{length}
-use borrow.Author.Tests.{eqb-false, ne-eqb, eq-eqb}
-use Rattle.algebra.specs.Solver.{_:+_, _:*_, _:-_, :0, _:=_, ring1, ring2, ring4}
-use Rattle.algebra.specs.Rat.{ℚ, ℚ-ring, _+ℚ_ as _+_, _*ℚ_ as _*_, -ℚ_ as -_, 0ℚ}
-use Rattle.algebra.specs.Sum.{only, only-same, only-other}
+use borrow.Author.Tests.{eqb-true, eqb-false, ne-eqb, eq-eqb}
+use Rattle.algebra.proofs.Solver.{_:+_, _:*_, _:-_, :0, _:=_, ring1, ring4}
+use Rattle.algebra.specs.Rat.{ℚ, _+ℚ_, _*ℚ_, -ℚ_, 0ℚ}
+use Rattle.algebra.proofs.Rat.{ℚ-ring, mulℚ-comm as mul-comm}
+use Rattle.algebra.specs.Sum.{only}
+use Rattle.algebra.proofs.Sum.{only-same, only-other}
 use Rattle.presolve.specs.LP.{LP}
-use Rattle.presolve.specs.Step.{SoundStep, with-constant}
-use Rattle.presolve.specs.Named.{once-mem}
-use Rattle.presolve.specs.Removed.{Removed}
-use Rattle.presolve.specs.Closed.{closed-back}
-use Rattle.presolve.specs.Spoke.{SpokeAt}
-use Rattle.presolve.specs.Net.{gone-out, row-out, rhs-out}
+use Rattle.presolve.proofs.Price.{only-scale}
+use Rattle.presolve.proofs.Step.{SoundStep, with-constant}
+use Rattle.presolve.proofs.Named.{once-mem}
+use Rattle.presolve.proofs.Removed.{Removed}
+use Rattle.presolve.proofs.Closed.{closed-back}
+use Rattle.presolve.proofs.Net.{gone-out, row-out, rhs-out}
 use Rattle.fraction.specs.declared.Fraction.{Fraction}
 use Rattle.fraction.specs.declared.Worked.{Worked}
 use Rattle.fraction.specs.declared.Worked.the-variants.{Fits}
 use Rattle.fraction.specs.Exact.{Proper, noFigure, noLower}
 use Rattle.fraction.specs.Value.{value}
 use Rattle.fraction.specs.Formula.{_⊖_, _⊗_}
-use Rattle.fraction.specs.Worked.{given, minus-gives, times-gives, minus-fits}
+use Rattle.fraction.proofs.Formulas.{Gives, given, minus-gives, times-gives, minus-fits}
 use Rattle.network.specs.declared.Arc.{Arc}
 use Rattle.network.specs.declared.Net.{Net}
 use Rattle.network.specs.declared.SupplyUpdate.{SupplyUpdate}
@@ -35,14 +37,15 @@ use Rattle.network.specs.Program.{exactOf, programOf}
 use Rattle.network.proofs.Sane.{sane}
 use Rattle.network.proofs.Kept.{here-number, used-number}
 use Rattle.step.specs.declared.Change.{Change}
+use Rattle.step.specs.declared.Outcome.{Outcome}
 use Rattle.step.specs.declared.Outcome.the-variants.{NoFlow, Changes}
 use Rattle.step.specs.Back.{oldArc, oldOne}
 use Rattle.step.specs.Dropped.{supplyLess, dropping, dropped, droppedAt, lowerBack}
 use Rattle.step.proofs.Frame.{Puts, Levels, no-updates, no-names, framed-kept, arc-stands, supply-put, supply-left, long-supply, here-same, node-gone}
 use Rattle.step.proofs.Touch.{unlike}
 use Rattle.step.proofs.Fewer.{Tame, Fewer, fewer, nodes-under}
-use Rattle.step.proofs.Exactly.{false-not, arc-off, listed-arc, rhs-is, spokeOf, spoke-at, column-kept, rhs-off, rhs-on}
-use Rattle.step.proofs.Lines.{fits-met, change-is, restored-is, fits-shown, not-shown}
+use Rattle.step.proofs.Exactly.{false-not, arc-off, listed-arc, rhs-is, spoke-at, column-kept, rhs-off, rhs-on}
+use Rattle.step.proofs.Lines.{Answers, fits-met, change-is, restored-is, not-shown, split}
 use Rattle.step.proofs.Figures.{Formed, itself, flow-restored}
 use Rattle.step.proofs.Laws.{no-old, Right}
 
@@ -82,42 +85,36 @@ module _ (net : Net) (g : Legal net) where
 
 -- ---- in exact numbers
 
--- a supply s less e × v, at a node or nowhere: what the supplies are then
+-- a supply r less y, at a node or nowhere: what the supplies are then
+pub level-is : (net : Net) (end : ℕ) (r : Fraction) {y : Worked} {p : ℚ} {x : Fraction} → length (net .supply) ≡ 33 → (1 ≤ end → r ≡ supplyAt net end) → Gives y p → cond (eqb end 0) (Fits noFigure) (Fits r ⊖ y) ≡ Fits x → (s : ℕ) → (1 ≤ s) × (s ≤ 32)
+    → value (supplyAt (withSupply net end x) s) ≡ value (supplyAt net s) +ℚ -ℚ only end p s
+level-is net end r {p = p} {x} h is g q s l =
+    split (eqb s end)
+    (λ e. let z = eqb-true s end e in let k = rw z at l in
+    rw z (ap value (supply-put net end x h k) ∙ minus-gives (given r) g x (rw (ne-eqb end 0 (λ z. omega (arith, k .0))) at q) ∙ ap₂ (λ f v. value f +ℚ -ℚ v) (is (k .0)) (sym (only-same end p))))
+    (λ e. let n = eqb-false s end e in
+    ap value (supply-left net end x s (λ _. n)) ∙ ring1 ℚ-ring (value (supplyAt net s)) (λ r. r := r :- :0) refl ∙ ap (λ v. value (supplyAt net s) +ℚ -ℚ v) (sym (only-other end s p (λ z. n (sym z)))))
+
 pub level-less : (net : Net) (end : ℕ) (r e v : Fraction) {x : Fraction} → length (net .supply) ≡ 33 → (1 ≤ end → r ≡ supplyAt net end) → supplyLess end r e v ≡ Fits x → (s : ℕ) → (1 ≤ s) × (s ≤ 32)
-    → value (supplyAt (withSupply net end x) s) ≡ value (supplyAt net s) + - (only end (value e) s * value v)
+    → value (supplyAt (withSupply net end x) s) ≡ value (supplyAt net s) +ℚ -ℚ (only end (value e) s *ℚ value v)
 unfolding supplyLess
-level-less net end r e v {x} h is q s l = by (ℕ-discrete end s)
-  where
-    less : 1 ≤ end → value x ≡ value r + - (value e * value v)
-    less k = minus-gives (given r) (times-gives (given e) (given v)) x (rw (ne-eqb end 0 (λ z. omega arith)) at q)
-
-    at : (1 ≤ end) × (end ≤ 32) → value (supplyAt (withSupply net end x) end) ≡ value (supplyAt net end) + - (only end (value e) end * value v)
-    at k = ap value (supply-put net end x h k) ∙ less (k .0) ∙ ap₂ (λ p q. value p + - (q * value v)) (is (k .0)) (sym (only-same end (value e)))
-
-    by : Dec (end ≡ s) → value (supplyAt (withSupply net end x) s) ≡ value (supplyAt net s) + - (only end (value e) s * value v)
-    by (yes z) = subst (λ k. value (supplyAt (withSupply net end x) k) ≡ value (supplyAt net k) + - (only end (value e) k * value v)) z (at (rw (← z) at l))
-    by (no n) =
-        ap value (supply-left net end x s (λ k z. n (sym z)))
-        ∙ ring2 ℚ-ring (value (supplyAt net s)) (value v) (λ r v. r := r :- :0 :* v) refl
-        ∙ ap (λ k. value (supplyAt net s) + - (k * value v)) (sym (only-other end s (value e) n))
+level-less net end r e v h is q s l =
+    level-is net end r h is (times-gives (given e) (given v)) q s l
+    ∙ ap (λ k. value (supplyAt net s) +ℚ -ℚ k) (ap (λ k. only end k s) (mul-comm (value e) (value v)) ∙ only-scale end (value v) (value e) s ∙ mul-comm (value v) (only end (value e) s))
 
 module _ (net : Net) (g : Legal net) where
   -- a node that is not in use stays so
   pub still-off : (c : Edit) (s : ℕ) → isHere net s ≡ false → isHere (applied net c) s ≡ false
-  still-off c s h = off (isHere (applied net c) s) refl
-    where
-      off : (b : Bool) → isHere (applied net c) s ≡ b → isHere (applied net c) s ≡ false
-      off true e = unlike (sym h ∙ nodes-under net c s e)
-      off false e = e
+  still-off c s h = split (isHere (applied net c) s) (λ e. unlike (sym h ∙ nodes-under net c s e)) (λ e. e)
 
   -- the program after it, where arc j was at the flow ξ
   abbrev pub after : ℕ → Edit → ℚ → LP
-  after j c ξ = with-constant (programOf (applied net c)) (0ℚ + programOf net .col j .cost * ξ)
+  after j c ξ = with-constant (programOf (applied net c)) (0ℚ +ℚ programOf net .col j .cost *ℚ ξ)
 
   -- the supplies of the nodes that stay, and of the one that is dropped
   pub record Settles (j : ℕ) (c : Edit) (ξ : ℚ) : Type 0 where
-    pub stays : (s : ℕ) → isHere net s ≡ true → (s ≡ c .gone → ⊥) → value (supplyAt (applied net c) s) ≡ value (supplyAt net s) + - (programOf net .col j .coef s * ξ)
-    pub goes : isHere net (c .gone) ≡ true → 0ℚ ≡ value (supplyAt net (c .gone)) + - (programOf net .col j .coef (c .gone) * ξ)
+    pub stays : (s : ℕ) → isHere net s ≡ true → (s ≡ c .gone → ⊥) → value (supplyAt (applied net c) s) ≡ value (supplyAt net s) +ℚ -ℚ (programOf net .col j .coef s *ℚ ξ)
+    pub goes : isHere net (c .gone) ≡ true → 0ℚ ≡ value (supplyAt net (c .gone)) +ℚ -ℚ (programOf net .col j .coef (c .gone) *ℚ ξ)
 
   pub one-removed : (j : ℕ) (left right : SupplyUpdate) (gone : ℕ) (ξ : ℚ) → 1 ≤ arcAt net j .from → Settles j (editOne (record { number = j; arc = noArc }) left right gone) ξ → Removed (programOf net) (after j (editOne (record { number = j; arc = noArc }) left right gone) ξ) j ξ
   unfolding exactOf
@@ -135,16 +132,16 @@ module _ (net : Net) (g : Legal net) where
       c : Edit
       c = editOne (record { number = j; arc = noArc }) left right gone
 
-      before : (s : ℕ) → isHere net s ≡ true → value (supplyAt net s) + - (programOf net .col j .coef s * ξ) ≡ programOf net .rhs s + - (programOf net .col j .coef s * ξ)
-      before s h = ap (λ r. r + - (programOf net .col j .coef s * ξ)) (sym (rhs-is net g s h))
+      before : (s : ℕ) → isHere net s ≡ true → value (supplyAt net s) +ℚ -ℚ (programOf net .col j .coef s *ℚ ξ) ≡ programOf net .rhs s +ℚ -ℚ (programOf net .col j .coef s *ℚ ξ)
+      before s h = ap (λ r. r +ℚ -ℚ (programOf net .col j .coef s *ℚ ξ)) (sym (rhs-is net g s h))
 
-      by : (s : ℕ) (b : Bool) → isHere net s ≡ b → Dec (s ≡ gone) → programOf (applied net c) .rhs s ≡ programOf net .rhs s + - (programOf net .col j .coef s * ξ)
+      by : (s : ℕ) (b : Bool) → isHere net s ≡ b → Dec (s ≡ gone) → programOf (applied net c) .rhs s ≡ programOf net .rhs s +ℚ -ℚ (programOf net .col j .coef s *ℚ ξ)
       by s true h (no n) = rhs-on net c s (here-same net c s (λ l. n) ∙ h) ∙ b .stays s h n ∙ before s h
       by s true h (yes z) = rhs-off net c s (rw z (node-gone net c g (here-number g gone (rw z at h)))) ∙ rw (← z) at (b .goes (rw z at h)) ∙ before s h
       by s false h d =
           rhs-off net c s (still-off c s h)
           ∙ ring1 ℚ-ring ξ (λ x. :0 := :0 :- :0 :* x) refl
-          ∙ ap₂ (λ r k. r + - (k * ξ)) (sym (rhs-out (exactOf net) s (false-not h))) (sym (row-out (exactOf net) (sane g) j s (once-mem (listed-arc net g j used)) (false-not h)))
+          ∙ ap₂ (λ r k. r +ℚ -ℚ (k *ℚ ξ)) (sym (rhs-out (exactOf net) s (false-not h))) (sym (row-out (exactOf net) (sane g) j s (once-mem (listed-arc net g j used)) (false-not h)))
 
   -- rules 1 and 4: arc j dropped at the flow v
   pub flow-removed : (j : ℕ) (v : Fraction) {x y : Fraction} → 1 ≤ arcAt net j .from
@@ -157,45 +154,38 @@ module _ (net : Net) (g : Legal net) where
       t : Arc
       t = arcAt net j
 
-      from-here : isHere net (t .from) ≡ true
-      from-here = g .used j used .from-here
+      ends : (s : ℕ) → programOf net .col j .coef s ≡ only (t .from) (value (t .a)) s +ℚ only (farEnd t) (value (t .b)) s
+      ends s = rw (eq-eqb (t .from) (t .from) refl) at (spoke-at net g (t .from) j (g .used j used .from-here) (rw (eq-eqb (t .from) (t .from) refl)) .ends s)
 
-      at : SpokeAt (programOf net) (t .from) (spokeOf net (t .from) j)
-      at = spoke-at net g (t .from) j from-here (rw (eq-eqb (t .from) (t .from) refl))
-
-      ends : (s : ℕ) → programOf net .col j .coef s ≡ only (t .from) (value (t .a)) s + only (farEnd t) (value (t .b)) s
-      ends s = rw (eq-eqb (t .from) (t .from) refl) at (at .ends s)
-
-      stays : (s : ℕ) → isHere net s ≡ true → value (supplyAt (withSupply (withSupply net (t .from) x) (farEnd t) y) s) ≡ value (supplyAt net s) + - (programOf net .col j .coef s * value v)
+      stays : (s : ℕ) → isHere net s ≡ true → value (supplyAt (withSupply (withSupply net (t .from) x) (farEnd t) y) s) ≡ value (supplyAt net s) +ℚ -ℚ (programOf net .col j .coef s *ℚ value v)
       stays s h =
           level-less (withSupply net (t .from) x) (farEnd t) (supplyAt net (t .to)) (t .b) v (long-supply net (t .from) x (g .supply-long)) apart q s (here-number g s h)
-          ∙ ap (λ r. r + - (only (farEnd t) (value (t .b)) s * value v)) (level-less net (t .from) (supplyAt net (t .from)) (t .a) v (g .supply-long) (λ l. refl) p s (here-number g s h))
+          ∙ ap (λ r. r +ℚ -ℚ (only (farEnd t) (value (t .b)) s *ℚ value v)) (level-less net (t .from) (supplyAt net (t .from)) (t .a) v (g .supply-long) (λ l. refl) p s (here-number g s h))
           ∙ ring4 ℚ-ring (value (supplyAt net s)) (only (t .from) (value (t .a)) s) (only (farEnd t) (value (t .b)) s) (value v) (λ r a b v. r :- a :* v :- b :* v := r :- (a :+ b) :* v) refl
-          ∙ ap (λ k. value (supplyAt net s) + - (k * value v)) (sym (ends s))
+          ∙ ap (λ k. value (supplyAt net s) +ℚ -ℚ (k *ℚ value v)) (sym (ends s))
         where
           apart : 1 ≤ farEnd t → supplyAt net (t .to) ≡ supplyAt (withSupply net (t .from) x) (farEnd t)
-          apart l = by (eqb (t .from) (t .to)) refl l
-            where
-              by : (b : Bool) → eqb (t .from) (t .to) ≡ b → 1 ≤ cond b 0 (t .to) → supplyAt net (t .to) ≡ supplyAt (withSupply net (t .from) x) (cond b 0 (t .to))
-              by true e l = absurd (omega arith)
-              by false e l = sym (supply-left net (t .from) x (t .to) (λ k z. eqb-false _ _ e (sym z)))
+          apart l =
+              split (eqb (t .from) (t .to))
+              (λ e. let z : 1 ≤ 0 = rw e at l in absurd (omega arith))
+              (λ e. rw e (sym (supply-left net (t .from) x (t .to) (λ k z. eqb-false _ _ e (sym z)))))
 
 -- ---- rules 1 and 4
 
 -- the change that they answer: both supplies fit
-pub record Dropped (net : Net) (j : ℕ) (v : Fraction) (c : Change) : Type 0 where
+pub record Dropped (net : Net) (j : ℕ) (v : Fraction) (x : Outcome) : Type 0 where
   pub r : Fraction
   pub s : Fraction
   pub r-is : supplyLess (arcAt net j .from) (supplyAt net (arcAt net j .from)) (arcAt net j .a) v ≡ Fits r
   pub s-is : supplyLess (farEnd (arcAt net j)) (supplyAt net (arcAt net j .to)) (arcAt net j .b) v ≡ Fits s
-  pub is : c ≡ record { edit = dropping j (arcAt net j .from) r (farEnd (arcAt net j)) s 0; old = oldOne 0 noFigure (oldArc net j) }
+  pub is : Changes (record { edit = dropping j (arcAt net j .from) r (farEnd (arcAt net j)) s 0; old = oldOne 0 noFigure (oldArc net j) }) ≡ x
 
-pub dropped-met : (net : Net) (j : ℕ) (v : Fraction) {c : Change} → droppedAt net j v ≡ Changes c → Dropped net j v c
+dropped-met : (net : Net) (j : ℕ) (v : Fraction) {x : Outcome} → Answers x → droppedAt net j v ≡ x → Dropped net j v x
 unfolding dropped
-dropped-met net j v e =
-    let a = fits-met _ _ e in
-    let b = fits-met _ _ (a .2) in
-    record { r = a .0; s = b .0; r-is = a .1; s-is = b .1; is = change-is (b .2) }
+dropped-met net j v a e =
+    let r = fits-met a _ _ e in
+    let s = fits-met a _ _ (r .2) in
+    record { r = r .0; s = s .0; r-is = r .1; s-is = s .1; is = s .2 }
 
 lower-formed : {f : Fraction} → Bound noLower f → Formed f
 lower-formed (inl p) = inl p
@@ -206,26 +196,19 @@ pub lower-right : (net : Net) (g : Legal net) (j : ℕ) {c : Change} → 1 ≤ a
     → ((e : Edit) → Removed (programOf net) (after net g j e (value (arcAt net j .lower))) j (value (arcAt net j .lower)) → SoundStep (programOf net) (after net g j e (value (arcAt net j .lower))) (closed-back j (value (arcAt net j .lower))))
     → Right net c (lowerBack (c .old))
 unfolding lowerBack
-lower-right net g j {c} used e sound = subst (λ c. Right net c (lowerBack (c .old))) (sym (d .is)) now
-  where
-    t : Arc
-    t = arcAt net j
-
-    d : Dropped net j (t .lower) c
-    d = dropped-met net j (t .lower) e
-
-    now : Right net (record { edit = dropping j (t .from) (d .r) (farEnd t) (d .s) 0; old = oldOne 0 noFigure (oldArc net j) }) (lowerBack (oldOne 0 noFigure (oldArc net j)))
-    now =
-        record {
-          legal = dropped-legal net g j _ _ 0 (supply-less (t .from) _ _ _ (d .r-is)) (supply-less (farEnd t) _ _ _ (d .s-is)) (λ k l. absurd (omega arith));
-          fewer = dropped-fewer net g j _ _ 0 used;
-          handed-on = record { arcs = ((used-number g j used .1, refl), no-old g .1); named = λ x u. u; node = omega arith; supply = lit≤ tt; first = omega arith; second = omega arith; third = omega arith; fourth = omega arith };
-          exact = closed-back j (value (t .lower));
-          sound = record { shift = _; sound = sound _ (flow-removed net g j (t .lower) used (d .r-is) (d .s-is)) };
-          agrees = λ pair z q. rw (restored-is q) (flow-restored (itself z) j (t .lower) (used-number g j used) (lower-formed (g .used j used .lower-bound)) refl);
-        }
+lower-right net g j {c} used e sound =
+    let t = arcAt net j in
+    let d : Dropped net j (t .lower) (Changes c) = dropped-met net j (t .lower) tt e in
+    subst (λ c. Right net c (lowerBack (c .old))) (sym (change-is (d .is)))
+    (record {
+      legal = dropped-legal net g j _ _ 0 (supply-less (t .from) _ _ _ (d .r-is)) (supply-less (farEnd t) _ _ _ (d .s-is)) (λ k l. absurd (omega arith));
+      fewer = dropped-fewer net g j _ _ 0 used;
+      handed-on = record { arcs = ((used-number g j used .1, refl), no-old g .1); named = λ x u. u; node = omega arith; supply = lit≤ tt; first = omega arith; second = omega arith; third = omega arith; fourth = omega arith };
+      exact = closed-back j (value (t .lower));
+      sound = record { shift = _; sound = sound _ (flow-removed net g j (t .lower) used (d .r-is) (d .s-is)) };
+      agrees = λ pair z q. rw (restored-is q) (flow-restored (itself z) j (t .lower) (used-number g j used) (lower-formed (g .used j used .lower-bound)) refl);
+    })
 
 -- a drop shows nothing
 pub dropped-shows : {X : Type 0} (net : Net) (j : ℕ) (v : Fraction) → droppedAt net j v ≡ NoFlow → X
-unfolding dropped
-dropped-shows net j v e = not-shown (fits-shown _ _ (fits-shown _ _ e .2) .2)
+dropped-shows net j v e = not-shown (dropped-met net j v tt e .is)

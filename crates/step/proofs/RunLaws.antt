@@ -9,7 +9,8 @@ use native.Mathlib.Omega.{arith}
 use lib.ListN.{length}
 use borrow.Author.Tests.{eq-eqb, ne-eqb}
 use Rattle.presolve.specs.LP as LP
-use Rattle.fraction.specs.Laws.{never}
+use Rattle.presolve.proofs.Duality as Duality
+use Rattle.fraction.proofs.Laws.{never}
 use Rattle.network.specs.declared.Net.{Net}
 use Rattle.network.specs.declared.pair.Pair.{Pair}
 use Rattle.network.specs.Network.{applied}
@@ -26,6 +27,7 @@ use Rattle.step.specs.declared.Step.{Step}
 use Rattle.step.specs.declared.Next.{Next}
 use Rattle.step.specs.declared.Next.the-variants.{Stops, Refuted, Takes}
 use Rattle.step.specs.Back.{restored}
+use Rattle.step.specs.Applies.{Passing, NoneApplies}
 use Rattle.step.specs.Run.{Rule, orElse, upward, nextFrom, nextBy, Run, runBy, runOf, backFrom, backOf, Way, wide, at, arrived, undo, wayBack}
 use Rattle.step.proofs.Exactly.{SoundTo, sound-stay, sound-then, sound-solved, sound-no-flow}
 use Rattle.step.proofs.Fewer.{leftOf}
@@ -37,10 +39,6 @@ use Rattle.step.proofs.PutBack.{putBackAll, put-back}
 
 -- ---- the table
 
--- rule R passes at all its places
-abbrev pub Passing : Rule → Net → Type 0
-Passing R net = (i : ℕ) → 1 ≤ i → i ≤ R .last → R .at net i ≡ Passes
-
 -- each rule's laws, where the rules before it pass; P is known of the network at the start
 abbrev pub Lawful : (Net → Type 0) → List Rule → Type 0
 Lawful P [] = Unit {0}
@@ -48,29 +46,22 @@ Lawful P (R ∷ rules) = RuleLaws P R × Lawful (λ net. P net × Passing R net)
 
 -- ---- one rule at its places
 
-data Upward (rule : ℕ → Outcome) (k many i : ℕ) (rest n : Next) : Type 0 where
-  refutes : (j : ℕ) → rule j ≡ NoFlow → n ≡ Refuted k j → Upward rule k many i rest n
-  takes : (j : ℕ) (c : Change) → j < i + many → rule j ≡ Changes c → n ≡ Takes (record { rule = k; place = j; change = c }) → Upward rule k many i rest n
-  passes : ((j : ℕ) → i ≤ j → j < i + many → rule j ≡ Passes) → n ≡ rest → Upward rule k many i rest n
-
-upward-is : (rule : ℕ → Outcome) (k many i : ℕ) (rest : Next) → Upward rule k many i rest (upward rule k many i rest)
+-- what holds of no flow and of a change at any of them, and of the rest where all pass
+upward-each : (P : Next → Type 0) (rule : ℕ → Outcome) (k many i : ℕ) (rest : Next) → ((j : ℕ) → rule j ≡ NoFlow → P (Refuted k j)) → ((j : ℕ) (c : Change) → j < i + many → rule j ≡ Changes c → P (Takes (record { rule = k; place = j; change = c })))
+    → (((j : ℕ) → i ≤ j → j < i + many → rule j ≡ Passes) → P rest) → P (upward rule k many i rest)
 unfolding upward
-upward-is rule k zero i rest = passes (λ j l h. absurd (omega arith)) refl
-upward-is rule k (suc many) i rest = by (rule i) refl (upward-is rule k many (suc i) rest)
+upward-each P rule k zero i rest r t p = p (λ j l h. absurd (omega arith))
+upward-each P rule k (suc many) i rest r t p =
+    by (rule i) refl (λ e. upward-each P rule k many (suc i) rest r (λ j c l. t j c (omega (arith, l, add-one i, add-one many))) (λ f. p (λ j l h. each e f j l h (ℕ-discrete j i))))
   where
-    on : Next
-    on = upward rule k many (suc i) rest
+    each : rule i ≡ Passes → ((j : ℕ) → suc i ≤ j → j < suc i + many → rule j ≡ Passes) → (j : ℕ) → i ≤ j → j < i + suc many → Dec (j ≡ i) → rule j ≡ Passes
+    each e f j l h (yes z) = ap rule z ∙ e
+    each e f j l h (no n) = f j (omega (arith, add-one i)) (omega (arith, add-one i, add-one many))
 
-    by : (o : Outcome) → rule i ≡ o → Upward rule k many (suc i) rest on → Upward rule k (suc many) i rest (orElse k i o on)
-    by NoFlow e u = refutes i e refl
-    by (Changes c) e u = takes i c (omega (arith, add-one many)) e refl
-    by Passes e (refutes j f q) = refutes j f q
-    by Passes e (takes j c l f q) = takes j c (omega (arith, l, add-one i, add-one many)) f q
-    by Passes e (passes f q) = passes (λ j l h. each j l h (ℕ-discrete j i)) q
-      where
-        each : (j : ℕ) → i ≤ j → j < i + suc many → Dec (j ≡ i) → rule j ≡ Passes
-        each j l h (yes z) = ap rule z ∙ e
-        each j l h (no n) = f j (omega (arith, add-one i)) (omega (arith, add-one i, add-one many))
+    by : (o : Outcome) → rule i ≡ o → (rule i ≡ Passes → P (upward rule k many (suc i) rest)) → P (orElse k i o (upward rule k many (suc i) rest))
+    by NoFlow e on = r i e
+    by (Changes c) e on = t i c (omega (arith, add-one many)) e
+    by Passes e on = on e
 
 -- ---- the search
 
@@ -86,74 +77,56 @@ record From (net : Net) (k : ℕ) (rules : List Rule) (s : Step) : Type 0 where
   high : s .rule < k + length rules
   place : s .place ≤ 96
 
-record FromLaws (net : Net) (k : ℕ) (rules : List Rule) (n : Next) : Type 0 where
-  refuted : (a i : ℕ) → n ≡ Refuted a i → LP.NoFlow (programOf net)
-  taken : (s : Step) → n ≡ Takes s → From net k rules s
+abbrev FromNext : Net → ℕ → List Rule → Next → Type 0
+FromNext net k rules Stops = Unit {0}
+FromNext net k rules (Refuted a i) = LP.NoFlow (programOf net)
+FromNext net k rules (Takes s) = From net k rules s
 
-stops-laws : {net : Net} {k : ℕ} {rules : List Rule} {n : Next} → n ≡ Stops → FromLaws net k rules n
-stops-laws e = record { refuted = λ k i q. never cc; taken = λ s q. never cc }
-
-from-laws : (P : Net → Type 0) (h k : ℕ) (rules : List Rule) → Lawful P rules → (net : Net) → Legal net → P net → FromLaws net k rules (nextFrom h k rules net)
+from-laws : (P : Net → Type 0) (h k : ℕ) (rules : List Rule) → Lawful P rules → (net : Net) → Legal net → P net → FromNext net k rules (nextFrom h k rules net)
 unfolding nextFrom backFrom
-from-laws P zero k rules laws net g p = stops-laws refl
-from-laws P (suc h) k [] laws net g p = stops-laws refl
+from-laws P zero k rules laws net g p = tt
+from-laws P (suc h) k [] laws net g p = tt
 from-laws P (suc h) k (R ∷ rules) laws net g p =
-    by (upward-is (R .at net) k (R .last) 1 (nextFrom h (suc k) rules net)) (λ q. from-laws (λ net. P net × Passing R net) h (suc k) rules (laws .1) net g (p, q))
+    upward-each (FromNext net k (R ∷ rules)) (R .at net) k (R .last) 1 (nextFrom h (suc k) rules net) (laws .0 .no-flow net g p)
+    (λ j c l e. record {
+      right = subst (λ b. Right net c (λ pair. cond b (R .back (c .old) pair) (backFrom (suc k) rules k (c .old) pair))) (sym (eq-eqb k k refl)) (laws .0 .right net g p j e);
+      low = omega arith;
+      high = omega (arith, add-one (length rules));
+      place = omega (arith, l, laws .0 .few-places);
+    })
+    (λ f. later (nextFrom h (suc k) rules net) (from-laws (λ net. P net × Passing R net) h (suc k) rules (laws .1) net g (p, λ i l m. f i l (omega arith))))
   where
-    by : {n : Next} → Upward (R .at net) k (R .last) 1 (nextFrom h (suc k) rules net) n → (Passing R net → FromLaws net (suc k) rules (nextFrom h (suc k) rules net)) → FromLaws net k (R ∷ rules) n
-    by (refutes j e q) on = record { refuted = λ a b z. laws .0 .no-flow net g p j e; taken = λ s z. never (let f = sym q ∙ z in cc) }
-    by {n} (takes j c l e q) on = record { refuted = λ a b z. never (let f = sym q ∙ z in cc); taken = λ s z. subst (From net k (R ∷ rules)) (is s z) this }
-      where
-        is : (s : Step) → n ≡ Takes s → record { rule = k; place = j; change = c } ≡ s
-        is s z = let f : Takes (record { rule = k; place = j; change = c }) ≡ Takes s = sym q ∙ z in cc
-
-        this : From net k (R ∷ rules) (record { rule = k; place = j; change = c })
-        this =
-            record {
-              right = subst (λ b. Right net c (λ pair. cond b (R .back (c .old) pair) (backFrom (suc k) rules k (c .old) pair))) (sym (eq-eqb k k refl)) (laws .0 .right net g p j e);
-              low = omega arith;
-              high = omega (arith, add-one (length rules));
-              place = omega (arith, l, laws .0 .few-places);
-            }
-    by (passes f q) on = let next = on (λ i l m. f i l (omega arith)) in record { refuted = λ a b z. next .refuted a b (sym q ∙ z); taken = λ s z. later s (next .taken s (sym q ∙ z)) }
-      where
-        later : (s : Step) → From net (suc k) rules s → From net k (R ∷ rules) s
-        later s r =
-            record {
-              right =
-                  subst (λ b. Right net (s .change) (λ pair. cond b (R .back (s .change .old) pair) (backFrom (suc k) rules (s .rule) (s .change .old) pair)))
-                  (sym (ne-eqb (s .rule) k (λ z. omega (arith, r .low, add-one k)))) (r .right);
-              low = omega (arith, r .low, add-one k);
-              high = omega (arith, r .high, add-one k, add-one (length rules));
-              place = r .place;
-            }
+    later : (n : Next) → FromNext net (suc k) rules n → FromNext net k (R ∷ rules) n
+    later Stops r = tt
+    later (Refuted a i) r = r
+    later (Takes s) r =
+        record {
+          right =
+              subst (λ b. Right net (s .change) (λ pair. cond b (R .back (s .change .old) pair) (backFrom (suc k) rules (s .rule) (s .change .old) pair)))
+              (sym (ne-eqb (s .rule) k (λ z. omega (arith, r .low, add-one k)))) (r .right);
+          low = omega (arith, r .low, add-one k);
+          high = omega (arith, r .high, add-one k, add-one (length rules));
+          place = r .place;
+        }
 
 -- the next step of rules 1 to h, with the way back of the whole table
 pub next-laws : (rules : List Rule) → Lawful (λ net. Unit {0}) rules → length rules ≤ 96 → (h : ℕ) (net : Net) → Legal net → NextLaws net (backOf rules) (nextBy h rules net)
 next-laws rules laws few h net g =
-    let n = from-laws (λ net. Unit {0}) h 1 rules laws net g tt in
+    let n : (m : Next) → nextBy h rules net ≡ m → FromNext net 1 rules m = λ m e. subst (FromNext net 1 rules) e (from-laws (λ net. Unit {0}) h 1 rules laws net g tt) in
     record {
-      refuted = n .refuted;
-      taken = λ s e. n .taken s e .right;
-      small = λ s e. let f = n .taken s e in record { rule = omega (arith, f .high, few); place = omega (arith, f .place); old = old-small g (f .right .handed-on) };
+      refuted = λ k i. n (Refuted k i);
+      taken = λ s e. n (Takes s) e .right;
+      small = λ s e. let f = n (Takes s) e in record { rule = omega (arith, f .high, few); place = omega (arith, f .place); old = old-small g (f .right .handed-on) };
     }
 
 -- where the search finds nothing, no rule applies at any place
-abbrev pub NoneApplies : ℕ → List Rule → Net → Type 0
-NoneApplies zero rules net = Unit {0}
-NoneApplies (suc h) [] net = Unit {0}
-NoneApplies (suc h) (R ∷ rules) net = Passing R net × NoneApplies h rules net
-
 pub stops-none : (h k : ℕ) (rules : List Rule) (net : Net) → nextFrom h k rules net ≡ Stops → NoneApplies h rules net
 unfolding nextFrom
 stops-none zero k rules net e = tt
 stops-none (suc h) k [] net e = tt
-stops-none (suc h) k (R ∷ rules) net e = by (upward-is (R .at net) k (R .last) 1 (nextFrom h (suc k) rules net)) e (stops-none h (suc k) rules net)
-  where
-    by : {n : Next} → Upward (R .at net) k (R .last) 1 (nextFrom h (suc k) rules net) n → n ≡ Stops → (nextFrom h (suc k) rules net ≡ Stops → NoneApplies h rules net) → Passing R net × NoneApplies h rules net
-    by (refutes j f q) e on = never (let z = sym q ∙ e in cc)
-    by (takes j c l f q) e on = never (let z = sym q ∙ e in cc)
-    by (passes f q) e on = ((λ i l m. f i l (omega arith)), on (sym q ∙ e))
+stops-none (suc h) k (R ∷ rules) net e =
+    upward-each (λ n. n ≡ Stops → NoneApplies (suc h) (R ∷ rules) net) (R .at net) k (R .last) 1 (nextFrom h (suc k) rules net) (λ j f q. never cc) (λ j c l f q. never cc)
+    (λ f q. ((λ i l m. f i l (omega arith)), stops-none h (suc k) rules net q)) e
 
 -- ---- the run
 
@@ -198,6 +171,8 @@ module _ (next : Net → Next) (back : Step → Pair → Undone) (laws : (net : 
       by Stops e on = stay-laws Stops g (λ k i q. never cc)
       by (Refuted a b) e on = stay-laws (Refuted a b) g (λ k i q. laws net g .refuted a b e)
       by (Takes s) e on =
+          let step = laws net g .taken s e in
+          let rest = on (applied net (s .change .edit)) (step .legal) in
           record {
             legal = rest .legal;
             few = omega (arith, rest .few, step .fewer, add-one (length (runOf next many (applied net (s .change .edit)) .steps)));
@@ -205,20 +180,12 @@ module _ (next : Net → Next) (back : Step → Pair → Undone) (laws : (net : 
             put-back = put-back g (s .change) (step .legal) (step .handed-on) _ (rest .put-back);
             exact = λ p. step .exact (rest .exact p);
             sound = sound-then (step .sound) (rest .sound);
-            agrees = λ pair z {q} w. back-one pair z (undo-met (back s) (wayBack back (runOf next many (applied net (s .change .edit)) .steps) (at pair)) w);
+            agrees = λ pair z {q} w.
+                let u = undo-met (back s) (wayBack back (runOf next many (applied net (s .change .edit)) .steps) (at pair)) w in
+                let h = rest .agrees pair z (u .2) in
+                subst (λ q. Holds q (step .exact (rest .exact (exactPair pair)))) (u .4) (subst (λ x. Holds (restored (u .0) (u .1)) (step .exact x)) (h .exact) (step .agrees (u .0) (h .sized) (u .3)));
             flowless = λ k i q. sound-no-flow (step .sound) (rest .flowless k i q);
           }
-        where
-          step : Right net (s .change) (back s)
-          step = laws net g .taken s e
-
-          rest : RunLaws (applied net (s .change .edit)) back (runOf next many (applied net (s .change .edit)))
-          rest = on (applied net (s .change .edit)) (step .legal)
-
-          back-one : (pair : Pair) → Sized pair → {q : Pair} → (p : Pair) × (r : Restored) × (wayBack back (runOf next many (applied net (s .change .edit)) .steps) (at pair) ≡ at p) × (back s p ≡ Restores r) × (restored p r ≡ q) → Holds q (step .exact (rest .exact (exactPair pair)))
-          back-one pair z (p, r, e, f, q) =
-              let h = rest .agrees pair z e in
-              subst (λ q. Holds q (step .exact (rest .exact (exactPair pair)))) q (subst (λ x. Holds (restored p r) (step .exact x)) (h .exact) (step .agrees p (h .sized) f))
 
   -- "until none applies": with room for as many steps as there are nodes and arcs, no step is left
   pub run-done : (many : ℕ) (net : Net) → Legal net → leftOf net ≤ many → (s : Step) → runOf next many net .ends ≡ Takes s → ⊥
@@ -248,4 +215,4 @@ pub restored-solved : {net : Net} {back : Step → Pair → Undone} {run : Run} 
 restored-solved {net} r pair z h {q} e =
     let w = r .agrees pair z e in
     let s = subst (LP.Solved (programOf net)) (sym (w .exact)) (sound-solved (r .sound) (exactPair pair) h) in
-    (s, LP.weak-duality (programOf net) (exactPair q) s)
+    (s, Duality.weak-duality (programOf net) (exactPair q) s)

@@ -1,6 +1,7 @@
 -- A legal arc as it is seen from a node that it touches.
 use mathlib.Core.Path.{_≡_, refl, sym, _∙_}
-use mathlib.Core.Bool.{Bool, true, false, _||_}
+use mathlib.Core.Bool.{true, false}
+use mathlib.Core.Logic.{_⊎_, inl, inr, ⊎-elim}
 use Prim.Native.Nat.{ℕ}
 use lib.Dec.{eqb}
 use borrow.Author.Tests.{eqb-true, eqb-false, ne-eqb}
@@ -9,8 +10,9 @@ use Rattle.network.specs.declared.Net.{Net}
 use Rattle.network.specs.declared.Side.{Side}
 use Rattle.network.specs.Network.{isHere, isTouching, isRoot, farEnd, sideOf}
 use Rattle.network.specs.Legal.{LegalArc}
-use Rattle.fraction.specs.Worked.{Nonzero}
-use Rattle.fraction.specs.Laws.{never}
+use Rattle.fraction.specs.Exact.{isZero}
+use Rattle.fraction.proofs.Formulas.{Nonzero}
+use Rattle.step.proofs.Lines.{split}
 
 -- an arc from its from node, and from its to node
 abbrev pub fromSide : Arc → Side
@@ -20,22 +22,12 @@ abbrev pub toSide : Arc → Side
 toSide t = record { e = t .b; o = t .a; other = t .from }
 
 -- an arc that touches a node is seen from its from node, or from its to node, where that is another
-pub data Seen (t : Arc) (i : ℕ) : Type 0 where
-  at-from : t .from ≡ i → sideOf t i ≡ fromSide t → Seen t i
-  at-to : (t .from ≡ i → ⊥) → t .to ≡ i → sideOf t i ≡ toSide t → Seen t i
+abbrev pub Seen : Arc → ℕ → Type 0
+Seen t i = ((t .from ≡ i) × (sideOf t i ≡ fromSide t)) ⊎ ((t .from ≡ i → ⊥) × (t .to ≡ i) × (sideOf t i ≡ toSide t))
 
 pub seen : (t : Arc) (i : ℕ) → isTouching t i ≡ true → Seen t i
 unfolding isTouching sideOf
-seen t i e = by (eqb (t .from) i) refl (eqb (t .to) i) refl e
-  where
-    by : (s : Bool) → eqb (t .from) i ≡ s → (r : Bool) → eqb (t .to) i ≡ r → (s || r) ≡ true → Seen t i
-    by true a r b e = at-from (eqb-true _ _ a) (rw a)
-    by false a true b e = at-to (eqb-false _ _ a) (eqb-true _ _ b) (rw a)
-    by false a false b e = never cc
-
--- the multiplier at the node is not zero
-pub record Near (w : Side) : Type 0 where
-  pub e-nonzero : Nonzero (w .e)
+seen t i e = split (eqb (t .from) i) (λ a. inl (eqb-true _ _ a, rw a)) (λ a. inr (eqb-false _ _ a, eqb-true _ _ (rw a at e), rw a))
 
 -- an arc that is no root arc has another end, in use, and a multiplier there that is not zero
 pub record Far (net : Net) (i : ℕ) (w : Side) : Type 0 where
@@ -43,34 +35,32 @@ pub record Far (net : Net) (i : ℕ) (w : Side) : Type 0 where
   pub apart : w .other ≡ i → ⊥
   pub o-nonzero : Nonzero (w .o)
 
-module _ {net : Net} {t : Arc} (g : LegalArc net t) where
+-- a root arc has no other end, and the multiplier 0
+abbrev pub End : Net → ℕ → Side → Type 0
+End net i w = ((w .other ≡ 0) × (isZero (w .o) ≡ true)) ⊎ Far net i w
+
+module _ {net : Net} {t : Arc} (g : LegalArc net t) (i : ℕ) (touches : isTouching t i ≡ true) where
   a-nonzero : Nonzero (t .a)
   a-nonzero = record { proper = g .a-proper; nonzero = g .a-nonzero }
 
   b-nonzero : isRoot t ≡ false → Nonzero (t .b)
   b-nonzero n = record { proper = g .b-proper; nonzero = g .b-zero ∙ n }
 
-  pub near : (i : ℕ) → isTouching t i ≡ true → Near (sideOf t i)
+  -- the multiplier at the node is not zero
+  pub near : Nonzero (sideOf t i .e)
   unfolding isRoot
-  near i touches = by (seen t i touches)
-    where
-      by : Seen t i → Near (sideOf t i)
-      by (at-from a is) = rw is (record { e-nonzero = a-nonzero })
-      by (at-to a b is) = rw is (record { e-nonzero = b-nonzero (ne-eqb (t .from) (t .to) (λ z. a (z ∙ b))) })
+  near = ⊎-elim (λ w. rw (w .1) a-nonzero) (λ w. rw (w .2) (b-nonzero (ne-eqb (t .from) (t .to) (λ z. w .0 (z ∙ w .1))))) (seen t i touches)
 
-  pub far : (i : ℕ) → isTouching t i ≡ true → isRoot t ≡ false → Far net i (sideOf t i)
+  pub far : isRoot t ≡ false → Far net i (sideOf t i)
   unfolding isRoot farEnd
-  far i touches n = by (seen t i touches)
-    where
-      by : Seen t i → Far net i (sideOf t i)
-      by (at-from a is) = rw (is, n) (record { here = g .to-here; apart = λ z. eqb-false (t .from) (t .to) n (a ∙ sym z); o-nonzero = b-nonzero n })
-      by (at-to a b is) = rw is (record { here = g .from-here; apart = a; o-nonzero = a-nonzero })
+  far n =
+      ⊎-elim
+      (λ w. rw (w .1, n) (record { here = g .to-here; apart = λ z. eqb-false (t .from) (t .to) n (w .0 ∙ sym z); o-nonzero = b-nonzero n }))
+      (λ w. rw (w .2) (record { here = g .from-here; apart = w .0; o-nonzero = a-nonzero })) (seen t i touches)
 
--- a root arc has no other end
-pub no-far : (t : Arc) (i : ℕ) → isTouching t i ≡ true → isRoot t ≡ true → sideOf t i .other ≡ 0
-unfolding isRoot farEnd
-no-far t i touches n = by (seen t i touches)
-  where
-    by : Seen t i → sideOf t i .other ≡ 0
-    by (at-from a is) = rw (is, n)
-    by (at-to a b is) = absurd (a (eqb-true (t .from) (t .to) n ∙ b))
+  pub no-far : isRoot t ≡ true → (sideOf t i .other ≡ 0) × (isZero (sideOf t i .o) ≡ true)
+  unfolding isRoot farEnd
+  no-far n = ⊎-elim (λ w. rw (w .1, n) (refl, g .b-zero ∙ n)) (λ w. absurd (w .0 (eqb-true (t .from) (t .to) n ∙ w .1))) (seen t i touches)
+
+  pub end : End net i (sideOf t i)
+  end = split (isRoot t) (λ e. inl (no-far e)) (λ e. inr (far e))

@@ -1,6 +1,6 @@
 -- Numbers and figures of a step that fit words: those of a legal network do.
-use mathlib.Core.Path.{_≡_, refl}
-use mathlib.Core.Bool.{Bool, true, false}
+use mathlib.Core.Path.{_≡_}
+use mathlib.Core.Bool.{true}
 use mathlib.Core.Logic.{⊎-elim}
 use Prim.Native.Nat.{ℕ, _≤_}
 use native.Mathlib.Omega.{arith}
@@ -16,6 +16,7 @@ use Rattle.network.specs.Legal.{Bound, Legal}
 use Rattle.network.proofs.Kept.{here-number}
 use Rattle.step.specs.declared.Old.{Old}
 use Rattle.step.specs.declared.Step.{Step}
+use Rattle.step.proofs.Lines.{split}
 
 abbrev pub SmallFigure : Fraction → Type 0
 SmallFigure f = f .den ≤ most
@@ -60,21 +61,19 @@ bound-small {mark} {f} h b = ⊎-elim (λ (p : Proper f). proper-small p) (λ (e
 
 module _ {net : Net} (g : Legal net) where
   pub arc-small : (j : ℕ) → SmallArc (arcAt net j)
-  arc-small j = by (ltb (arcAt net j .from) 1) refl
-    where
-      by : (s : Bool) → ltb (arcAt net j .from) 1 ≡ s → SmallArc (arcAt net j)
-      by true e = rw (g .unused j (omega (arith, ltb-true (arcAt net j .from) 1 e))) (record { from = lit≤ tt; to = lit≤ tt; cost = lit≤ tt; lower = lit≤ tt; upper = lit≤ tt; a = lit≤ tt; b = lit≤ tt })
-      by false e =
-          let w = g .used j (ltb-false (arcAt net j .from) 1 e) in
-          record {
-            from = omega (arith, here-number g (arcAt net j .from) (w .from-here) .1);
-            to = omega (arith, here-number g (arcAt net j .to) (w .to-here) .1);
-            cost = proper-small (w .cost-proper);
-            lower = bound-small (lit≤ tt) (w .lower-bound);
-            upper = bound-small (lit≤ tt) (w .upper-bound);
-            a = proper-small (w .a-proper);
-            b = proper-small (w .b-proper);
-          }
+  arc-small j =
+      split (ltb (arcAt net j .from) 1)
+      (λ e. rw (g .unused j (omega (arith, ltb-true (arcAt net j .from) 1 e))) (record { from = lit≤ tt; to = lit≤ tt; cost = lit≤ tt; lower = lit≤ tt; upper = lit≤ tt; a = lit≤ tt; b = lit≤ tt }))
+      (λ e. let w = g .used j (ltb-false (arcAt net j .from) 1 e) in
+      record {
+        from = omega (arith, here-number g (arcAt net j .from) (w .from-here) .1);
+        to = omega (arith, here-number g (arcAt net j .to) (w .to-here) .1);
+        cost = proper-small (w .cost-proper);
+        lower = bound-small (lit≤ tt) (w .lower-bound);
+        upper = bound-small (lit≤ tt) (w .upper-bound);
+        a = proper-small (w .a-proper);
+        b = proper-small (w .b-proper);
+      })
 
   pub supply-small : (i : ℕ) → isHere net i ≡ true → SmallFigure (supplyAt net i)
   supply-small i here = proper-small (g .supply-proper i here)

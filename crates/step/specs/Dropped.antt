@@ -9,7 +9,6 @@ use Rattle.fraction.specs.Exact.{noFigure}
 use Rattle.fraction.specs.Formula.{_⊖_, _⊗_}
 use Rattle.network.specs.declared.Arc.{Arc}
 use Rattle.network.specs.declared.Net.{Net}
-use Rattle.network.specs.declared.SupplyUpdate.{SupplyUpdate}
 use Rattle.network.specs.declared.Edit.{Edit}
 use Rattle.network.specs.declared.pair.Pair.{Pair}
 use Rattle.network.specs.Network.{noArc, arcAt, supplyAt, farEnd, editOne}

@@ -16,7 +16,7 @@ use Rattle.network.specs.declared.Edit.{Edit}
 use Rattle.network.specs.declared.pair.Pair.{Pair}
 use Rattle.network.specs.Network.{noArc, noUpdate, noSupplyUpdate, arcAt, isHere, degreeOf, touchingAfter, isRoot, sideOf}
 use Rattle.network.specs.Pair.{priceAt, flowAt}
-use Rattle.optimality.specs.Figures.{keepsRule}
+use Rattle.slackness.specs.Slackness.{keepsRule}
 use Rattle.step.specs.declared.Old.{Old}
 use Rattle.step.specs.declared.Outcome.{Outcome}
 use Rattle.step.specs.declared.Outcome.the-variants.{Changes}

@@ -5,7 +5,7 @@ ghost use lib.Dec.{eqb};
 ghost use Rattle.fraction.specs.declared.Worked.the-variants.{Fits};
 ghost use Rattle.fraction.specs.Exact.{zeroFraction, noFigure};
 ghost use Rattle.fraction.specs.Formula.{_⊖_, _⊗_, _⊘_, ⊝_};
-ghost use Rattle.optimality.specs.Figures.{keepsRule};
+ghost use Rattle.slackness.specs.Slackness.{keepsRule};
 ghost use Rattle.step.specs.Back.{quoteAt};
 ghost use Rattle.network.specs.Network.{isRoot};
 ghost use Rattle.step.specs.Figure.{larger, smaller};
@@ -269,7 +269,7 @@ fn old_cost(c: Fraction, w: Side, p: Fraction, first: Fraction) -> Worked
 fn price_of(t: Arc, i: usize, p: Fraction, x: Fraction, first: Fraction, d: Fraction) -> Worked
     ensures { λ y. ⌜ y ≡ cond (keepsRule (t .lower) (t .upper) x d) (Fits first) (quoteAt t i p) ⌝ }
 {
-    if optimality::figures::keeps_rule(t.lower, t.upper, x, d) {
+    if slackness::keeps_rule(t.lower, t.upper, x, d) {
         return first.fit();
     }
     step::quote(t, i, p)

@@ -1,4 +1,4 @@
--- `bare_node::bare_node` meets its contract. Assumes nothing.
+-- `bare_node::bare_node` meets its contract.
 use Rattle.bare_node.specs.BareNode.{bare}
 use Rattle.step.specs.Outcome.{noFlowWhere}
 use borrow.Author.Needs.{needs}
@@ -14,16 +14,4 @@ unfolding bare noFlowWhere
 returns-2 c = rw (← c .before .before .before .before .before .before .before .before .is-zero .ensures, c .before .before .before .before .before .before .before .if1 .left, c .before .before .before .edit-one .ensures, c .before .before .before .before .no-supply-update2 .ensures, c .before .before .before .before .before .no-supply-update .ensures, c .before .before .before .before .before .before .no-update .ensures, c .old-one .ensures, c .before .no-update2 .ensures, c .before .before .no-figure .ensures)
 
 pub bare-node-spec : {M : Type 1} → statement M
-bare-node-spec =
-    tie.close
-    (tie.spec
-    (λ c κs. search needs)
-    returns
-    (λ c κs. search needs)
-    (λ c κs. search needs)
-    (λ c κs. search needs)
-    (λ c κs. search needs)
-    (λ c κs. search needs)
-    (λ c κs. search needs)
-    (λ c κs. search needs)
-    returns-2)
+bare-node-spec = tie.close (search (tie.spec, returns, returns-2, needs))

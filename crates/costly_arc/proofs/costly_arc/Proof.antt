@@ -22,15 +22,4 @@ returns-3 c =
     c .at-lower .ensures ∙ rw (c .before .before .before .before .before .before .before .before .before .before .arc-at .ensures) (sym is)
 
 pub costly-arc-spec : {M : Type 1} → statement M
-costly-arc-spec =
-    tie.close
-    (tie.spec
-    (λ c κs. search needs)
-    (λ c κs. search needs)
-    returns
-    (λ c κs. search needs)
-    (λ c κs. search needs)
-    (λ c κs. search needs)
-    returns-2
-    (λ c κs. search needs)
-    returns-3)
+costly-arc-spec = tie.close (search (tie.spec, returns, returns-2, returns-3, needs))

@@ -5,13 +5,6 @@ use borrow.Author.Tests.{le-ltb, lt-ltb}
 use Rattle.costly_arc.proofs.mark.Statement.{statement}
 use Rattle.costly_arc.proofs.mark.Tie as tie
 
-returns : tie.Need-returns
-unfolding marked
-returns c = rw (lt-ltb _ _ (c .if1 .taken))
-
-returns-2 : tie.Need-returns-2
-unfolding marked
-returns-2 c = rw (le-ltb _ _ (c .if1 .left))
-
 pub mark-spec : {M : Type 1} → statement M
-mark-spec = tie.close (tie.spec (λ c. search needs) (λ c. search needs) returns returns-2)
+unfolding marked
+mark-spec = tie.close (tie.spec (λ c. search needs) (λ c. search needs) (λ c. rw (lt-ltb _ _ (c .if1 .taken))) (λ c. rw (le-ltb _ _ (c .if1 .left))))

@@ -1,6 +1,5 @@
 -- `costly_arc::scan` meets its contract.
 use Prim.Native.Nat.{_-_}
-use Rattle.algebra.specs.Solver.{at}
 use Rattle.costly_arc.proofs.Going.{Going, going-all, going-covers, going-found, going-idle, going-none, going-past, going-vain}
 use Rattle.costly_arc.proofs.Passing.{passes-kept}
 use Rattle.costly_arc.specs.Seen.{Known}
@@ -11,26 +10,29 @@ use native.Mathlib.Omega.{arith}
 use Rattle.costly_arc.proofs.scan.Statement.{statement}
 use Rattle.costly_arc.proofs.scan.Tie as tie
 
-abbrev Inv-loop : tie.InvT-loop
-Inv-loop now net at supply known₀ j₀ known j = Known net now known₀ → Going net now known₀ known j
-
-abbrev μ-loop : tie.MeasureT-loop
-μ-loop now net at supply known₀ j₀ known j = 97 - j
-
-loop-holds : tie.Need-loop-holds Inv-loop μ-loop
-loop-holds c = λ k. going-none k
-
-returns : tie.Need-returns Inv-loop μ-loop
-returns c = λ k.
+pub scan-spec : {M : Type 1} → statement M
+scan-spec =
+    tie.close
+    (tie.spec
+    (λ now net at supply known₀ j₀ known j. Known net now known₀ → Going net now known₀ known j)
+    (λ now net at supply known₀ j₀ known j. 97 - j)
+    (λ c κs. search needs)
+    (λ c k. going-none k)
+    (λ c. search needs)
+    (λ c. search needs)
+    (λ c. search needs)
+    (λ c κs. search needs)
+    (λ c κs. search needs)
+    (λ c. search needs)
+    (λ c κs. search needs)
+    (λ c k.
     let h = c .before .before .before .before .before .before .before .before .before .before .before .before .before .loop .inv k in
     let pair = c .before .has-pair .ensures (h .known .vain _) (going-covers h (c .before .before .before .before .before .before .before .before .before .before .before .before .before .before .before .before .all-times .result .at) (c .before .before .before .before .before .before .before .before .before .before .before .before .before .before .before .before .all-times .ensures)) in
-    going-found h (omega (arith, c .before .before .before .before .before .before .before .before .before .before .before .before .loop-test .taken)) (c .before .before .before .before .before .before .before .before .before .before .before .before .before .before .before .before .all-times .result .at) _ (sym (c .before .before .before .before .before .before .before .before .is-due .ensures) ∙ c .before .before .before .before .before .before .before .if1 .taken) (sym pair ∙ c .if2 .taken) (c .before .before .before .before .before .before .at-lower .ensures) (c .before .before .before .before .change .given .1)
-
-element-write-known : tie.Need-element-write-known Inv-loop μ-loop
-element-write-known c = omega (arith, c .before .before .before .before .before .before .before .before .before .before .before .before .loop-test .taken)
-
-loop-again : tie.Need-loop-again Inv-loop μ-loop
-loop-again c = λ k.
+    going-found h (omega (arith, c .before .before .before .before .before .before .before .before .before .before .before .before .loop-test .taken)) (c .before .before .before .before .before .before .before .before .before .before .before .before .before .before .before .before .all-times .result .at) _ (sym (c .before .before .before .before .before .before .before .before .is-due .ensures) ∙ c .before .before .before .before .before .before .before .if1 .taken) (sym pair ∙ c .if2 .taken) (c .before .before .before .before .before .before .at-lower .ensures) (c .before .before .before .before .change .given .1))
+    (λ c. omega (arith, c .before .before .before .before .before .before .before .before .before .before .before .before .loop-test .taken))
+    (λ c. search needs)
+    (λ c. search needs)
+    (λ c k.
     let h = c .before .before .before .before .before .before .loop .inv k in
     ⊎-elim
     (λ w. going-vain h (omega arith) (sym (w .6 .ensures (h .known .vain _) (going-covers h (c .before .before .before .before .before .before .before .before .before .all-times .result .at) (c .before .before .before .before .before .before .before .before .before .all-times .ensures))) ∙ w .7 .left) (w .8))
@@ -38,29 +40,5 @@ loop-again c = λ k.
     (λ v. going-past h (omega arith) (passes-kept _ _ _ (v .1 .ensures) (v .2 .keys2)) (v .3))
     (λ v. going-idle h (omega arith) (c .before .before .before .before .before .before .before .before .before .all-times .result .at) (c .before .before .before .before .before .before .before .before .before .all-times .ensures) (sym (c .before .is-due .ensures) ∙ v .0 .left) (v .1))
     w)
-    (c .if1 .came)
-
-returns-2 : tie.Need-returns-2 Inv-loop μ-loop
-returns-2 c = λ k. going-all (c .before .loop .inv k) (omega (arith, c .loop-test .left))
-
-pub scan-spec : {M : Type 1} → statement M
-scan-spec =
-    tie.close
-    (tie.spec
-    Inv-loop
-    μ-loop
-    (λ c κs. search needs)
-    loop-holds
-    (λ c. search needs)
-    (λ c. search needs)
-    (λ c. search needs)
-    (λ c κs. search needs)
-    (λ c κs. search needs)
-    (λ c. search needs)
-    (λ c κs. search needs)
-    returns
-    element-write-known
-    (λ c. search needs)
-    (λ c. search needs)
-    loop-again
-    returns-2)
+    (c .if1 .came))
+    (λ c k. going-all (c .before .loop .inv k) (omega (arith, c .loop-test .left))))

@@ -5,70 +5,8 @@ use borrow.Author.Needs.{needs}
 use Rattle.crossing.proofs.crossing_back.Statement.{statement}
 use Rattle.crossing.proofs.crossing_back.Tie as tie
 
-returns : tie.Need-returns
-unfolding crossingBack figure
-returns c =
-    let s0 = c .before .before .before .before in
-    rw (← s0 .before .before .before .flow-at .ensures, ← s0 .before .before .flow-at2 .ensures, ← s0 .before .flow-at3 .ensures, ← s0 .flow-at4 .ensures, ← c .before .before .before .share .ensures, ← c .before .before .negated .ensures, c .enum-told .given .1)
-
-returns-2 : tie.Need-returns-2
-unfolding crossingBack figure
-returns-2 c =
-    let s1 = c .before .before .before .before in
-    let s0 = s1 .before .before .before .before .before in
-    rw (← s0 .before .before .before .flow-at .ensures, ← s0 .before .before .flow-at2 .ensures, ← s0 .before .flow-at3 .ensures, ← s0 .flow-at4 .ensures, ← s1 .before .before .before .before .share .ensures, ← s1 .before .before .before .negated .ensures, s1 .before .x .given .1, ← c .before .before .before .share2 .ensures, ← c .before .before .negated2 .ensures, c .enum-told2 .given .1)
-
-returns-3 : tie.Need-returns-3
-unfolding crossingBack figure
-returns-3 c =
-    let s2 = c .before .before .before in
-    let s1 = s2 .before .before .before .before .before in
-    let s0 = s1 .before .before .before .before .before in
-    rw (← s0 .before .before .before .flow-at .ensures, ← s0 .before .before .flow-at2 .ensures, ← s0 .before .flow-at3 .ensures, ← s0 .flow-at4 .ensures, ← s1 .before .before .before .before .share .ensures, ← s1 .before .before .before .negated .ensures, s1 .before .x .given .1, ← s2 .before .before .before .before .share2 .ensures, ← s2 .before .before .before .negated2 .ensures, s2 .before .y .given .1, ← c .before .before .share3 .ensures, c .enum-told3 .given .1)
-
-returns-4 : tie.Need-returns-4
-unfolding crossingBack figure
-returns-4 c =
-    let s3 = c .before .before .before in
-    let s2 = s3 .before .before .before .before in
-    let s1 = s2 .before .before .before .before .before in
-    let s0 = s1 .before .before .before .before .before in
-    rw (← s0 .before .before .before .flow-at .ensures, ← s0 .before .before .flow-at2 .ensures, ← s0 .before .flow-at3 .ensures, ← s0 .flow-at4 .ensures, ← s1 .before .before .before .before .share .ensures, ← s1 .before .before .before .negated .ensures, s1 .before .x .given .1, ← s2 .before .before .before .before .share2 .ensures, ← s2 .before .before .before .negated2 .ensures, s2 .before .y .given .1, ← s3 .before .before .before .share3 .ensures, s3 .before .z .given .1, ← c .before .before .share4 .ensures, c .enum-told4 .given .1)
-
-returns-5 : tie.Need-returns-5
-unfolding crossingBack figure
-returns-5 c =
-    let s4 = c .before .before .before in
-    let s3 = s4 .before .before .before .before in
-    let s2 = s3 .before .before .before .before in
-    let s1 = s2 .before .before .before .before .before in
-    let s0 = s1 .before .before .before .before .before in
-    rw (← s0 .before .before .before .flow-at .ensures, ← s0 .before .before .flow-at2 .ensures, ← s0 .before .flow-at3 .ensures, ← s0 .flow-at4 .ensures, ← s1 .before .before .before .before .share .ensures, ← s1 .before .before .before .negated .ensures, s1 .before .x .given .1, ← s2 .before .before .before .before .share2 .ensures, ← s2 .before .before .before .negated2 .ensures, s2 .before .y .given .1, ← s3 .before .before .before .share3 .ensures, s3 .before .z .given .1, ← s4 .before .before .before .share4 .ensures, s4 .before .w .given .1, ← c .before .before .quote .ensures, c .enum-told5 .given .1)
-
-returns-6 : tie.Need-returns-6
-unfolding crossingBack figure
-returns-6 c =
-    let s5 = c .before .before .before in
-    let s4 = s5 .before .before .before .before in
-    let s3 = s4 .before .before .before .before in
-    let s2 = s3 .before .before .before .before in
-    let s1 = s2 .before .before .before .before .before in
-    let s0 = s1 .before .before .before .before .before in
-    rw (← s0 .before .before .before .flow-at .ensures, ← s0 .before .before .flow-at2 .ensures, ← s0 .before .flow-at3 .ensures, ← s0 .flow-at4 .ensures, ← s1 .before .before .before .before .share .ensures, ← s1 .before .before .before .negated .ensures, s1 .before .x .given .1, ← s2 .before .before .before .before .share2 .ensures, ← s2 .before .before .before .negated2 .ensures, s2 .before .y .given .1, ← s3 .before .before .before .share3 .ensures, s3 .before .z .given .1, ← s4 .before .before .before .share4 .ensures, s4 .before .w .given .1, ← s5 .before .before .before .quote .ensures, s5 .before .p .given .1, ← c .before .before .quote2 .ensures, c .enum-told6 .given .1)
-
-returns-7 : tie.Need-returns-7
-unfolding crossingBack figure
-returns-7 c =
-    let s6 = c .before .before .before .before .before in
-    let s5 = s6 .before .before .before .before in
-    let s4 = s5 .before .before .before .before in
-    let s3 = s4 .before .before .before .before in
-    let s2 = s3 .before .before .before .before in
-    let s1 = s2 .before .before .before .before .before in
-    let s0 = s1 .before .before .before .before .before in
-    rw (← s0 .before .before .before .flow-at .ensures, ← s0 .before .before .flow-at2 .ensures, ← s0 .before .flow-at3 .ensures, ← s0 .flow-at4 .ensures, ← s1 .before .before .before .before .share .ensures, ← s1 .before .before .before .negated .ensures, s1 .before .x .given .1, ← s2 .before .before .before .before .share2 .ensures, ← s2 .before .before .before .negated2 .ensures, s2 .before .y .given .1, ← s3 .before .before .before .share3 .ensures, s3 .before .z .given .1, ← s4 .before .before .before .share4 .ensures, s4 .before .w .given .1, ← s5 .before .before .before .quote .ensures, s5 .before .p .given .1, ← s6 .before .before .before .quote2 .ensures, s6 .before .q .given .1, c .price .ensures, c .before .flow4 .ensures, c .before .before .flow3 .ensures, c .before .before .before .flow2 .ensures, c .before .before .before .before .flow .ensures)
-
 pub crossing-back-spec : {M : Type 1} → statement M
+unfolding crossingBack figure
 crossing-back-spec =
     tie.close
     (tie.spec
@@ -80,31 +18,59 @@ crossing-back-spec =
     (λ c κs. search needs)
     (λ c. search needs)
     (λ c. search needs)
-    returns
+    (λ c. let s0 = c .before .before .before .before in
+    rw (← s0 .before .before .before .flow-at .ensures, ← s0 .before .before .flow-at2 .ensures, ← s0 .before .flow-at3 .ensures, ← s0 .flow-at4 .ensures, ← c .before .before .before .share .ensures, ← c .before .before .negated .ensures, c .enum-told .given .1))
     (λ c κs. search needs)
     (λ c κs. search needs)
     (λ c. search needs)
     (λ c. search needs)
-    returns-2
+    (λ c. let s1 = c .before .before .before .before in
+    let s0 = s1 .before .before .before .before .before in
+    rw (← s0 .before .before .before .flow-at .ensures, ← s0 .before .before .flow-at2 .ensures, ← s0 .before .flow-at3 .ensures, ← s0 .flow-at4 .ensures, ← s1 .before .before .before .before .share .ensures, ← s1 .before .before .before .negated .ensures, s1 .before .x .given .1, ← c .before .before .before .share2 .ensures, ← c .before .before .negated2 .ensures, c .enum-told2 .given .1))
     (λ c κs. search needs)
     (λ c. search needs)
     (λ c. search needs)
-    returns-3
+    (λ c. let s2 = c .before .before .before in
+    let s1 = s2 .before .before .before .before .before in
+    let s0 = s1 .before .before .before .before .before in
+    rw (← s0 .before .before .before .flow-at .ensures, ← s0 .before .before .flow-at2 .ensures, ← s0 .before .flow-at3 .ensures, ← s0 .flow-at4 .ensures, ← s1 .before .before .before .before .share .ensures, ← s1 .before .before .before .negated .ensures, s1 .before .x .given .1, ← s2 .before .before .before .before .share2 .ensures, ← s2 .before .before .before .negated2 .ensures, s2 .before .y .given .1, ← c .before .before .share3 .ensures, c .enum-told3 .given .1))
     (λ c κs. search needs)
     (λ c. search needs)
     (λ c. search needs)
-    returns-4
+    (λ c. let s3 = c .before .before .before in
+    let s2 = s3 .before .before .before .before in
+    let s1 = s2 .before .before .before .before .before in
+    let s0 = s1 .before .before .before .before .before in
+    rw (← s0 .before .before .before .flow-at .ensures, ← s0 .before .before .flow-at2 .ensures, ← s0 .before .flow-at3 .ensures, ← s0 .flow-at4 .ensures, ← s1 .before .before .before .before .share .ensures, ← s1 .before .before .before .negated .ensures, s1 .before .x .given .1, ← s2 .before .before .before .before .share2 .ensures, ← s2 .before .before .before .negated2 .ensures, s2 .before .y .given .1, ← s3 .before .before .before .share3 .ensures, s3 .before .z .given .1, ← c .before .before .share4 .ensures, c .enum-told4 .given .1))
     (λ c κs. search needs)
     (λ c. search needs)
     (λ c. search needs)
-    returns-5
+    (λ c. let s4 = c .before .before .before in
+    let s3 = s4 .before .before .before .before in
+    let s2 = s3 .before .before .before .before in
+    let s1 = s2 .before .before .before .before .before in
+    let s0 = s1 .before .before .before .before .before in
+    rw (← s0 .before .before .before .flow-at .ensures, ← s0 .before .before .flow-at2 .ensures, ← s0 .before .flow-at3 .ensures, ← s0 .flow-at4 .ensures, ← s1 .before .before .before .before .share .ensures, ← s1 .before .before .before .negated .ensures, s1 .before .x .given .1, ← s2 .before .before .before .before .share2 .ensures, ← s2 .before .before .before .negated2 .ensures, s2 .before .y .given .1, ← s3 .before .before .before .share3 .ensures, s3 .before .z .given .1, ← s4 .before .before .before .share4 .ensures, s4 .before .w .given .1, ← c .before .before .quote .ensures, c .enum-told5 .given .1))
     (λ c κs. search needs)
     (λ c. search needs)
     (λ c. search needs)
-    returns-6
+    (λ c. let s5 = c .before .before .before in
+    let s4 = s5 .before .before .before .before in
+    let s3 = s4 .before .before .before .before in
+    let s2 = s3 .before .before .before .before in
+    let s1 = s2 .before .before .before .before .before in
+    let s0 = s1 .before .before .before .before .before in
+    rw (← s0 .before .before .before .flow-at .ensures, ← s0 .before .before .flow-at2 .ensures, ← s0 .before .flow-at3 .ensures, ← s0 .flow-at4 .ensures, ← s1 .before .before .before .before .share .ensures, ← s1 .before .before .before .negated .ensures, s1 .before .x .given .1, ← s2 .before .before .before .before .share2 .ensures, ← s2 .before .before .before .negated2 .ensures, s2 .before .y .given .1, ← s3 .before .before .before .share3 .ensures, s3 .before .z .given .1, ← s4 .before .before .before .share4 .ensures, s4 .before .w .given .1, ← s5 .before .before .before .quote .ensures, s5 .before .p .given .1, ← c .before .before .quote2 .ensures, c .enum-told6 .given .1))
     (λ c κs. search needs)
     (λ c κs. search needs)
     (λ c κs. search needs)
     (λ c κs. search needs)
     (λ c κs. search needs)
-    returns-7)
+    (λ c. let s6 = c .before .before .before .before .before in
+    let s5 = s6 .before .before .before .before in
+    let s4 = s5 .before .before .before .before in
+    let s3 = s4 .before .before .before .before in
+    let s2 = s3 .before .before .before .before in
+    let s1 = s2 .before .before .before .before .before in
+    let s0 = s1 .before .before .before .before .before in
+    rw (← s0 .before .before .before .flow-at .ensures, ← s0 .before .before .flow-at2 .ensures, ← s0 .before .flow-at3 .ensures, ← s0 .flow-at4 .ensures, ← s1 .before .before .before .before .share .ensures, ← s1 .before .before .before .negated .ensures, s1 .before .x .given .1, ← s2 .before .before .before .before .share2 .ensures, ← s2 .before .before .before .negated2 .ensures, s2 .before .y .given .1, ← s3 .before .before .before .share3 .ensures, s3 .before .z .given .1, ← s4 .before .before .before .share4 .ensures, s4 .before .w .given .1, ← s5 .before .before .before .quote .ensures, s5 .before .p .given .1, ← s6 .before .before .before .quote2 .ensures, s6 .before .q .given .1, c .price .ensures, c .before .flow4 .ensures, c .before .before .flow3 .ensures, c .before .before .before .flow2 .ensures, c .before .before .before .before .flow .ensures)))

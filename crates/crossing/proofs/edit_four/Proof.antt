@@ -7,12 +7,4 @@ returns : tie.Need-returns
 returns c = rw (c .put4 .ensures, c .before .put3 .ensures, c .before .before .put2 .ensures, c .before .before .before .put .ensures, c .before .before .before .before .no-supply-update .ensures)
 
 pub edit-four-spec : {M : Type 1} → statement M
-edit-four-spec =
-    tie.close
-    (tie.spec
-    (λ c κs. search needs)
-    (λ c κs. search needs)
-    (λ c κs. search needs)
-    (λ c κs. search needs)
-    (λ c κs. search needs)
-    returns)
+edit-four-spec = tie.close (search (tie.spec, returns, needs))

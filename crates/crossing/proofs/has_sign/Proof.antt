@@ -17,13 +17,4 @@ unfolding hasSignAt
 returns-3 c = rw (← c .before .touches .ensures, c .if1 .left)
 
 pub has-sign-spec : {M : Type 1} → statement M
-has-sign-spec =
-    tie.close
-    (tie.spec
-    (λ c κs. search needs)
-    (λ c κs. search needs)
-    (λ c κs. search needs)
-    returns
-    (λ c κs. search needs)
-    returns-2
-    returns-3)
+has-sign-spec = tie.close (search (tie.spec, returns, returns-2, returns-3, needs))

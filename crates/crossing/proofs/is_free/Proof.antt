@@ -17,12 +17,4 @@ unfolding isFree
 returns-3 c = rw (← c .before .before .before .is-root .ensures, c .before .before .if1 .left, ← c .before .is-zero .ensures, c .if2 .left)
 
 pub is-free-spec : {M : Type 1} → statement M
-is-free-spec =
-    tie.close
-    (tie.spec
-    (λ c κs. search needs)
-    returns
-    (λ c κs. search needs)
-    (λ c κs. search needs)
-    returns-2
-    returns-3)
+is-free-spec = tie.close (search (tie.spec, returns, returns-2, returns-3, needs))

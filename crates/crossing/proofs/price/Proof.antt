@@ -3,8 +3,5 @@ use borrow.Author.Needs.{needs}
 use Rattle.crossing.proofs.price.Statement.{statement}
 use Rattle.crossing.proofs.price.Tie as tie
 
-returns : tie.Need-returns
-returns c = cc
-
 pub price-spec : {M : Type 1} → statement M
-price-spec = tie.close (tie.spec (λ c κs. search needs) returns)
+price-spec = tie.close (tie.spec (λ c κs. search needs) (λ c. cc))

@@ -7,13 +7,4 @@ returns : tie.Need-returns
 returns c = rw (c .over .ensures, c .before .fit3 .ensures, c .before .before .plus .ensures, c .before .before .before .fit2 .ensures, c .before .before .before .before .fit .ensures, c .before .before .before .before .before .side-at .ensures)
 
 pub share-spec : {M : Type 1} → statement M
-share-spec =
-    tie.close
-    (tie.spec
-    (λ c κs. search needs)
-    (λ c κs. search needs)
-    (λ c κs. search needs)
-    (λ c κs. search needs)
-    (λ c κs. search needs)
-    (λ c κs. search needs)
-    returns)
+share-spec = tie.close (search (tie.spec, returns, needs))

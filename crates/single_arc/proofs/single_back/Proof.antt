@@ -1,23 +1,12 @@
--- `single_arc::single_back` meets its contract. Assumes nothing.
+-- `single_arc::single_back` meets its contract.
 use Rattle.single_arc.specs.SingleArc.{singleBack}
 use Rattle.step.specs.Back.{figure}
 use borrow.Author.Needs.{needs}
 use Rattle.single_arc.proofs.single_back.Statement.{statement}
 use Rattle.single_arc.proofs.single_back.Tie as tie
 
-returns : tie.Need-returns
-unfolding singleBack figure
-returns c = rw (← c .before .before .before .side-at .ensures, ← c .before .before .forced .ensures, c .enum-told .given .1)
-
-returns-2 : tie.Need-returns-2
-unfolding singleBack figure
-returns-2 c = rw (← c .before .before .before .before .before .before .before .before .side-at .ensures, ← c .before .before .before .before .before .before .before .forced .ensures, c .before .before .before .before .before .v .given .1, ← c .before .before .before .price-at .ensures, ← c .before .before .quote .ensures, c .enum-told2 .given .1)
-
-returns-3 : tie.Need-returns-3
-unfolding singleBack figure
-returns-3 c = rw (← c .before .before .before .before .before .before .before .before .before .before .side-at .ensures, ← c .before .before .before .before .before .before .before .before .before .forced .ensures, c .before .before .before .before .before .before .before .v .given .1, ← c .before .before .before .before .before .price-at .ensures, ← c .before .before .before .before .quote .ensures, c .before .before .p .given .1, c .flow-and-price .ensures)
-
 pub single-back-spec : {M : Type 1} → statement M
+unfolding singleBack figure
 single-back-spec =
     tie.close
     (tie.spec
@@ -25,11 +14,11 @@ single-back-spec =
     (λ c κs. search needs)
     (λ c. search needs)
     (λ c. search needs)
-    returns
+    (λ c. rw (← c .before .before .before .side-at .ensures, ← c .before .before .forced .ensures, c .enum-told .given .1))
     (λ c κs. search needs)
     (λ c κs. search needs)
     (λ c. search needs)
     (λ c. search needs)
-    returns-2
+    (λ c. rw (← c .before .before .before .before .before .before .before .before .side-at .ensures, ← c .before .before .before .before .before .before .before .forced .ensures, c .before .before .before .before .before .v .given .1, ← c .before .before .before .price-at .ensures, ← c .before .before .quote .ensures, c .enum-told2 .given .1))
     (λ c κs. search needs)
-    returns-3)
+    (λ c. rw (← c .before .before .before .before .before .before .before .before .before .before .side-at .ensures, ← c .before .before .before .before .before .before .before .before .before .forced .ensures, c .before .before .before .before .before .before .before .v .given .1, ← c .before .before .before .before .before .price-at .ensures, ← c .before .before .before .before .quote .ensures, c .before .before .p .given .1, c .flow-and-price .ensures)))

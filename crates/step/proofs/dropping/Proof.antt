@@ -3,8 +3,5 @@ use borrow.Author.Needs.{needs}
 use Rattle.step.proofs.dropping.Statement.{statement}
 use Rattle.step.proofs.dropping.Tie as tie
 
-returns : tie.Need-returns
-returns c = rw (c .edit-one .ensures, c .before .no-arc .ensures)
-
 pub dropping-spec : {M : Type 1} → statement M
-dropping-spec = tie.close (tie.spec (λ c κs. search needs) (λ c κs. search needs) returns)
+dropping-spec = tie.close (tie.spec (λ c κs. search needs) (λ c κs. search needs) (λ c. rw (c .edit-one .ensures, c .before .no-arc .ensures)))

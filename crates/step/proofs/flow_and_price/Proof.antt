@@ -3,8 +3,5 @@ use borrow.Author.Needs.{needs}
 use Rattle.step.proofs.flow_and_price.Statement.{statement}
 use Rattle.step.proofs.flow_and_price.Tie as tie
 
-returns : tie.Need-returns
-returns c = rw (c .no-flow .ensures)
-
 pub flow-and-price-spec : {M : Type 1} → statement M
-flow-and-price-spec = tie.close (tie.spec (λ c κs. search needs) returns)
+flow-and-price-spec = tie.close (tie.spec (λ c κs. search needs) (λ c. rw (c .no-flow .ensures)))

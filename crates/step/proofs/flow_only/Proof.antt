@@ -3,8 +3,5 @@ use borrow.Author.Needs.{needs}
 use Rattle.step.proofs.flow_only.Statement.{statement}
 use Rattle.step.proofs.flow_only.Tie as tie
 
-returns : tie.Need-returns
-returns c = rw (c .before .no-flow .ensures, c .no-figure .ensures)
-
 pub flow-only-spec : {M : Type 1} → statement M
-flow-only-spec = tie.close (tie.spec (λ c κs. search needs) (λ c κs. search needs) returns)
+flow-only-spec = tie.close (tie.spec (λ c κs. search needs) (λ c κs. search needs) (λ c. rw (c .before .no-flow .ensures, c .no-figure .ensures)))

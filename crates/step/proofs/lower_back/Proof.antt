@@ -4,9 +4,6 @@ use borrow.Author.Needs.{needs}
 use Rattle.step.proofs.lower_back.Statement.{statement}
 use Rattle.step.proofs.lower_back.Tie as tie
 
-returns : tie.Need-returns
-unfolding lowerBack
-returns c = λ pair. rw (c .flow-only .ensures)
-
 pub lower-back-spec : {M : Type 1} → statement M
-lower-back-spec = tie.close (tie.spec (λ c κs. search needs) returns)
+unfolding lowerBack
+lower-back-spec = tie.close (tie.spec (λ c κs. search needs) (λ c pair. rw (c .flow-only .ensures)))

@@ -3,8 +3,5 @@ use borrow.Author.Needs.{needs}
 use Rattle.step.proofs.no_flow.Statement.{statement}
 use Rattle.step.proofs.no_flow.Tie as tie
 
-returns : tie.Need-returns
-returns c = rw (c .no-figure .ensures)
-
 pub no-flow-spec : {M : Type 1} → statement M
-no-flow-spec = tie.close (tie.spec (λ c κs. search needs) returns)
+no-flow-spec = tie.close (tie.spec (λ c κs. search needs) (λ c. rw (c .no-figure .ensures)))

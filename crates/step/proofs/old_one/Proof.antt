@@ -3,8 +3,5 @@ use borrow.Author.Needs.{needs}
 use Rattle.step.proofs.old_one.Statement.{statement}
 use Rattle.step.proofs.old_one.Tie as tie
 
-returns : tie.Need-returns
-returns c = rw (c .old-two .ensures, c .before .no-update .ensures)
-
 pub old-one-spec : {M : Type 1} → statement M
-old-one-spec = tie.close (tie.spec (λ c κs. search needs) (λ c κs. search needs) returns)
+old-one-spec = tie.close (tie.spec (λ c κs. search needs) (λ c κs. search needs) (λ c. rw (c .old-two .ensures, c .before .no-update .ensures)))

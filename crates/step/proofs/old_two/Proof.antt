@@ -3,8 +3,5 @@ use borrow.Author.Needs.{needs}
 use Rattle.step.proofs.old_two.Statement.{statement}
 use Rattle.step.proofs.old_two.Tie as tie
 
-returns : tie.Need-returns
-returns c = rw (c .no-update .ensures)
-
 pub old-two-spec : {M : Type 1} → statement M
-old-two-spec = tie.close (tie.spec (λ c κs. search needs) returns)
+old-two-spec = tie.close (tie.spec (λ c κs. search needs) (λ c. rw (c .no-update .ensures)))

@@ -14,17 +14,4 @@ unfolding quoteAt
 returns-2 c = rw (← c .before .before .before .before .before .before .before .before .before .side-at .ensures, ne-eqb _ _ (c .before .before .before .before .before .if1 .left), c .over2 .ensures, c .before .minus .ensures, c .before .before .times .ensures, c .before .before .before .fit4 .ensures, c .before .before .before .before .fit3 .ensures, c .before .before .before .before .before .before .before .fit2 .ensures, c .before .before .before .before .before .before .before .before .fit .ensures)
 
 pub quote-spec : {M : Type 1} → statement M
-quote-spec =
-    tie.close
-    (tie.spec
-    (λ c κs. search needs)
-    (λ c κs. search needs)
-    (λ c κs. search needs)
-    (λ c κs. search needs)
-    returns
-    (λ c κs. search needs)
-    (λ c κs. search needs)
-    (λ c κs. search needs)
-    (λ c κs. search needs)
-    (λ c κs. search needs)
-    returns-2)
+quote-spec = tie.close (search (tie.spec, returns, returns-2, needs))

@@ -33,62 +33,25 @@ after-three c = let b = sym (c .before .is-number3 .ensures .0) in ⊎-elim (λ 
 after-four : (c : tie.Joined4) → c .if4 .pair ≡ withFlowOf (withFlowOf (withFlowOf (withFlowOf (c .before .before .before .before .before .before .before .before .before .before .before .before .before .before .before .before .args .t1) (c .before .before .before .before .before .before .before .before .before .before .before .before .before .before .before .before .args .r .one)) (c .before .before .before .before .before .before .before .before .before .before .before .before .before .before .before .before .args .r .two)) (c .before .before .before .before .before .before .before .before .before .before .before .before .before .before .before .before .args .r .three)) (c .before .before .before .before .before .before .before .before .before .before .before .before .before .before .before .before .args .r .four)
 after-four c = let b = sym (c .before .is-number4 .ensures .0) in ⊎-elim (λ w. w .1 ∙ flow-in _ _ (b ∙ w .0 .taken)) (λ w. w .1 ∙ flow-out _ _ (b ∙ w .0 .left)) (c .if4 .came) ∙ ap (λ (p : Pair). withFlowOf p (c .before .before .before .before .before .before .before .before .before .before .before .before .before .before .before .before .args .r .four)) (after-three (c .before .before .before .before))
 
-mul-x : tie.Need-mul-x
-mul-x c = let h = c .before .is-number .ensures .1 (c .if1 .taken) in search needs
-
-element-set-from-x : tie.Need-element-set-from-x
-element-set-from-x c = omega (arith, c .before .is-number .ensures .1 (c .if1 .taken))
-
-mul-x-2 : tie.Need-mul-x-2
-mul-x-2 c = let h = c .before .is-number2 .ensures .1 (c .if2 .taken) in search needs
-
-element-set-from-x-2 : tie.Need-element-set-from-x-2
-element-set-from-x-2 c = omega (arith, c .before .is-number2 .ensures .1 (c .if2 .taken))
-
-mul-x-3 : tie.Need-mul-x-3
-mul-x-3 c = let h = c .before .is-number3 .ensures .1 (c .if3 .taken) in search needs
-
-element-set-from-x-3 : tie.Need-element-set-from-x-3
-element-set-from-x-3 c = omega (arith, c .before .is-number3 .ensures .1 (c .if3 .taken))
-
-mul-x-4 : tie.Need-mul-x-4
-mul-x-4 c = let h = c .before .is-number4 .ensures .1 (c .if4 .taken) in search needs
-
-element-set-from-x-4 : tie.Need-element-set-from-x-4
-element-set-from-x-4 c = omega (arith, c .before .is-number4 .ensures .1 (c .if4 .taken))
-
-mul-x-5 : tie.Need-mul-x-5
-mul-x-5 c = let h = c .before .is-number5 .ensures .1 (c .if5 .taken) in search needs
-
-element-set-from-x-5 : tie.Need-element-set-from-x-5
-element-set-from-x-5 c = omega (arith, c .before .is-number5 .ensures .1 (c .if5 .taken))
-
-returns : tie.Need-returns
-unfolding restored withPrice
-returns c = rw (← after-four (c .before .before .before .before), sym (c .before .is-number5 .ensures .0) ∙ c .if5 .taken)
-
-returns-2 : tie.Need-returns-2
-unfolding restored withPrice
-returns-2 c = rw (← after-four (c .before .before .before .before), sym (c .before .is-number5 .ensures .0) ∙ c .if5 .left)
-
 pub restore-spec : {M : Type 1} → statement M
+unfolding restored withPrice
 restore-spec =
     tie.close
     (tie.spec
     (λ c κs. search needs)
-    mul-x
-    element-set-from-x
+    (λ c. let h = c .before .is-number .ensures .1 (c .if1 .taken) in search needs)
+    (λ c. omega (arith, c .before .is-number .ensures .1 (c .if1 .taken)))
     (λ c κs. search needs)
-    mul-x-2
-    element-set-from-x-2
+    (λ c. let h = c .before .is-number2 .ensures .1 (c .if2 .taken) in search needs)
+    (λ c. omega (arith, c .before .is-number2 .ensures .1 (c .if2 .taken)))
     (λ c κs. search needs)
-    mul-x-3
-    element-set-from-x-3
+    (λ c. let h = c .before .is-number3 .ensures .1 (c .if3 .taken) in search needs)
+    (λ c. omega (arith, c .before .is-number3 .ensures .1 (c .if3 .taken)))
     (λ c κs. search needs)
-    mul-x-4
-    element-set-from-x-4
+    (λ c. let h = c .before .is-number4 .ensures .1 (c .if4 .taken) in search needs)
+    (λ c. omega (arith, c .before .is-number4 .ensures .1 (c .if4 .taken)))
     (λ c κs. search needs)
-    mul-x-5
-    element-set-from-x-5
-    returns
-    returns-2)
+    (λ c. let h = c .before .is-number5 .ensures .1 (c .if5 .taken) in search needs)
+    (λ c. omega (arith, c .before .is-number5 .ensures .1 (c .if5 .taken)))
+    (λ c. rw (← after-four (c .before .before .before .before), sym (c .before .is-number5 .ensures .0) ∙ c .if5 .taken))
+    (λ c. rw (← after-four (c .before .before .before .before), sym (c .before .is-number5 .ensures .0) ∙ c .if5 .left)))

@@ -14,15 +14,4 @@ unfolding supplyLess
 returns-2 c = rw (ne-eqb _ _ (c .before .before .before .before .before .if1 .left), c .minus .ensures, c .before .times .ensures, c .before .before .fit4 .ensures, c .before .before .before .fit3 .ensures, c .before .before .before .before .fit2 .ensures)
 
 pub supply-less-spec : {M : Type 1} → statement M
-supply-less-spec =
-    tie.close
-    (tie.spec
-    (λ c κs. search needs)
-    (λ c κs. search needs)
-    returns
-    (λ c κs. search needs)
-    (λ c κs. search needs)
-    (λ c κs. search needs)
-    (λ c κs. search needs)
-    (λ c κs. search needs)
-    returns-2)
+supply-less-spec = tie.close (search (tie.spec, returns, returns-2, needs))

@@ -1,4 +1,4 @@
--- `two_arcs::keep` meets its contract. Assumes nothing.
+-- `two_arcs::keep` meets its contract.
 use Rattle.step.specs.Outcome.{onlyWhere}
 use Rattle.two_arcs.specs.TwoArcs.{kept}
 use borrow.Author.Needs.{needs}
@@ -15,13 +15,4 @@ unfolding kept onlyWhere
 returns-2 c = rw (← c .before .before .before .before .before .before .before .side-at .ensures, ← c .before .before .before .before .before .before .side-at2 .ensures, ne-eqb _ _ (c .before .before .before .if1 .left), ← c .before .before .supply-of .ensures, ← c .before .supply-of2 .ensures) (c .merge .ensures)
 
 pub keep-spec : {M : Type 1} → statement M
-keep-spec =
-    tie.close
-    (tie.spec
-    (λ c κs. search needs)
-    (λ c κs. search needs)
-    returns
-    (λ c κs. search needs)
-    (λ c κs. search needs)
-    (λ c κs. search needs)
-    returns-2)
+keep-spec = tie.close (search (tie.spec, returns, returns-2, needs))

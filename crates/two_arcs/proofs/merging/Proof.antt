@@ -1,4 +1,4 @@
--- `two_arcs::merging` meets its contract. Assumes nothing.
+-- `two_arcs::merging` meets its contract.
 use borrow.Author.Needs.{needs}
 use Rattle.two_arcs.proofs.merging.Statement.{statement}
 use Rattle.two_arcs.proofs.merging.Tie as tie

@@ -1,4 +1,4 @@
--- `two_arcs::two_arcs` meets its contract. Assumes nothing.
+-- `two_arcs::two_arcs` meets its contract.
 use borrow.Author.Needs.{needs}
 use Rattle.two_arcs.proofs.two_arcs.Statement.{statement}
 use Rattle.two_arcs.proofs.two_arcs.Tie as tie

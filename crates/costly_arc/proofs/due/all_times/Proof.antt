@@ -1,8 +1,6 @@
 -- `costly_arc::due::all_times` meets its contract.
 use Prim.Native.Nat.{_-_}
-use Rattle.algebra.specs.Solver.{at}
 use Rattle.costly_arc.proofs.Times.{Timed, timed-all, timed-more, timed-none, timed-skip}
-use Rattle.step.proofs.Sides.{seen}
 use borrow.Author.Needs.{needs}
 use mathlib.Core.Logic.{⊎-elim}
 use mathlib.Core.Path.{_∙_, sym}
@@ -10,28 +8,13 @@ use native.Mathlib.Omega.{arith}
 use Rattle.costly_arc.proofs.due.all_times.Statement.{statement}
 use Rattle.costly_arc.proofs.due.all_times.Tie as tie
 
-abbrev Inv-loop : tie.InvT-loop
-Inv-loop net seen at₀ k₀ at k = Timed net (seen .put) at k
-
-abbrev μ-loop : tie.MeasureT-loop
-μ-loop net seen at₀ k₀ at k = 97 - k
-
-loop-holds : tie.Need-loop-holds Inv-loop μ-loop
-loop-holds c = timed-none _ _
-
-loop-again : tie.Need-loop-again Inv-loop μ-loop
-loop-again c = ⊎-elim (λ w. timed-more (c .before .before .before .before .loop .inv) (omega arith) (w .3 .ensures) (w .5 ∙ w .4 .ensures)) (λ w. timed-skip (c .before .before .before .before .loop .inv) (omega arith) (sym (c .before .is-open-root .ensures) ∙ w .0 .left) (w .1)) (c .if1 .came)
-
-returns : tie.Need-returns Inv-loop μ-loop
-returns c = timed-all (c .before .loop .inv) (omega arith)
-
 pub all-times-spec : {M : Type 1} → statement M
 all-times-spec =
     tie.close
     (tie.spec
-    Inv-loop
-    μ-loop
-    loop-holds
+    (λ net seen at₀ k₀ at k. Timed net (seen .put) at k)
+    (λ net seen at₀ k₀ at k. 97 - k)
+    (λ c. timed-none _ _)
     (λ c. search needs)
     (λ c. search needs)
     (λ c κs. search needs)
@@ -40,5 +23,5 @@ all-times-spec =
     (λ c κs. search needs)
     (λ c. search needs)
     (λ c. search needs)
-    loop-again
-    returns)
+    (λ c. ⊎-elim (λ w. timed-more (c .before .before .before .before .loop .inv) (omega arith) (w .3 .ensures) (w .5 ∙ w .4 .ensures)) (λ w. timed-skip (c .before .before .before .before .loop .inv) (omega arith) (sym (c .before .is-open-root .ensures) ∙ w .0 .left) (w .1)) (c .if1 .came))
+    (λ c. timed-all (c .before .loop .inv) (omega arith)))

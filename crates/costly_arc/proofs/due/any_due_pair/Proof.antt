@@ -3,45 +3,26 @@ use Prim.Native.Nat.{_-_}
 use Rattle.costly_arc.proofs.Pairs.{none-from}
 use Rattle.costly_arc.specs.internal.Due.{isDueFrom}
 use Rattle.loops.proofs.Laws.{Missed, missed-all, missed-found, missed-more, missed-none}
-use Rattle.step.proofs.Sides.{seen}
 use borrow.Author.Needs.{needs}
 use mathlib.Core.Logic.{⊎-elim}
 use native.Mathlib.Omega.{arith}
 use Rattle.costly_arc.proofs.due.any_due_pair.Statement.{statement}
 use Rattle.costly_arc.proofs.due.any_due_pair.Tie as tie
 
-abbrev Inv-loop : tie.InvT-loop
-Inv-loop w to c seen from k₀ k = Missed (isDueFrom seen w (from .at) (to .at) c) 97 k
-
-abbrev μ-loop : tie.MeasureT-loop
-μ-loop w to c seen from k₀ k = 97 - k
-
-loop-holds : tie.Need-loop-holds Inv-loop μ-loop
-loop-holds c = missed-none _ _
-
-returns : tie.Need-returns Inv-loop μ-loop
-returns c = missed-found (c .before .before .before .before .before .before .before .before .loop .inv) (omega arith) (rw (← c .before .before .bar .ensures, ← c .before .any-due-under .ensures, c .if2 .taken))
-
-loop-again : tie.Need-loop-again Inv-loop μ-loop
-loop-again c = missed-more (c .before .before .before .before .loop .inv) (omega arith) (⊎-elim (λ w. rw (← w .2 .ensures, ← w .3 .ensures, w .4 .left)) (λ w. none-from (c .before .before .before .before .before .args .t1) _ _ (c .before .before .before .before .before .args .to .at) (c .before .before .before .before .before .args .c) (w .left)) (c .if1 .came))
-
-returns-2 : tie.Need-returns-2 Inv-loop μ-loop
-returns-2 c = missed-all (c .before .loop .inv) (omega arith)
-
 pub any-due-pair-spec : {M : Type 1} → statement M
 any-due-pair-spec =
     tie.close
     (tie.spec
-    Inv-loop
-    μ-loop
-    loop-holds
+    (λ w to c seen from k₀ k. Missed (isDueFrom seen w (from .at) (to .at) c) 97 k)
+    (λ w to c seen from k₀ k. 97 - k)
+    (λ c. missed-none _ _)
     (λ c. search needs)
     (λ c. search needs)
     (λ c. search needs)
     (λ c κs. search needs)
     (λ c κs. search needs)
-    returns
+    (λ c. missed-found (c .before .before .before .before .before .before .before .before .loop .inv) (omega arith) (rw (← c .before .before .bar .ensures, ← c .before .any-due-under .ensures, c .if2 .taken)))
     (λ c. search needs)
     (λ c. search needs)
-    loop-again
-    returns-2)
+    (λ c. missed-more (c .before .before .before .before .loop .inv) (omega arith) (⊎-elim (λ w. rw (← w .2 .ensures, ← w .3 .ensures, w .4 .left)) (λ w. none-from (c .before .before .before .before .before .args .t1) _ _ (c .before .before .before .before .before .args .to .at) (c .before .before .before .before .before .args .c) (w .left)) (c .if1 .came)))
+    (λ c. missed-all (c .before .loop .inv) (omega arith)))

@@ -26,14 +26,4 @@ unfolding isDue
 returns-3 c = rw (← c .before .before .before .before .before .before .before .before .is-candidate .ensures, met (c .before .before .before .before .before .before .before .before .is-candidate .result) (c .before .before .before .before .before .before .before .if1 .left), ← c .before .before .before .before .before .before .is-fresh .ensures, met (c .before .before .before .before .before .before .is-fresh .result) (c .before .before .before .before .before .if2 .left), ← c .before .before .before .before .is-fresh2 .ensures, met (c .before .before .before .before .is-fresh2 .result) (c .before .before .before .if3 .left), ← c .before .before .is-fresh3 .ensures, c .before .if4 .left) (c .is-fresh4 .ensures)
 
 pub is-due-spec : {M : Type 1} → statement M
-is-due-spec =
-    tie.close
-    (tie.spec
-    (λ c κs. search needs)
-    (λ c κs. search needs)
-    (λ c κs. search needs)
-    returns
-    (λ c κs. search needs)
-    (λ c κs. search needs)
-    returns-2
-    returns-3)
+is-due-spec = tie.close (search (tie.spec, returns, returns-2, returns-3, needs))

@@ -18,18 +18,4 @@ returns-2 c =
     (c .before .if1 .came)
 
 pub way-spec : {M : Type 1} → statement M
-way-spec =
-    tie.close
-    (tie.spec
-    (λ c κs. search needs)
-    (λ c κs. search needs)
-    (λ c κs. search needs)
-    (λ c κs. search needs)
-    (λ c κs. search needs)
-    (λ c κs. search needs)
-    (λ c κs. search needs)
-    (λ c κs. search needs)
-    (λ c κs. search needs)
-    returns
-    (λ c κs. search needs)
-    returns-2)
+way-spec = tie.close (search (tie.spec, returns, returns-2, needs))
