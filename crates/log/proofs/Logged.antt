@@ -15,7 +15,7 @@ use borrow.Author.Tests.{le-leb, lt-ltb}
 use Rattle.fraction.specs.declared.Fraction.{Fraction}
 use Rattle.fraction.specs.Exact.{most, noFigure, fromWords, denWord}
 use Rattle.network.specs.declared.ArcUpdate.{ArcUpdate}
-use Rattle.network.specs.Output.{wordOf, wholeOf}
+use Rattle.fraction.specs.Words.{wordOf, wholeOf}
 use Rattle.step.specs.declared.Old.{Old}
 use Rattle.step.specs.declared.Step.{Step}
 use Rattle.step.proofs.Each.{All}

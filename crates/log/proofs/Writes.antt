@@ -7,7 +7,7 @@ use native.Mathlib.Omega.{arith}
 use lib.IntN.{ℤ}
 use lib.ListN.{length}
 use Rattle.fraction.specs.declared.Fraction.{Fraction}
-use Rattle.network.specs.Output.{wholeOf}
+use Rattle.fraction.specs.Words.{wholeOf}
 use Rattle.step.specs.declared.Old.{Old}
 use Rattle.log.specs.Log.{updateFigures, numberFigures, figuresOf, withFigure, withFigures}
 

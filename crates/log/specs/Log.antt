@@ -9,8 +9,8 @@ use lib.ListN.{set}
 use Rattle.fraction.specs.declared.Fraction.{Fraction}
 use Rattle.fraction.specs.Exact.{fromWords, denWord}
 use Rattle.network.specs.declared.ArcUpdate.{ArcUpdate}
-use Rattle.network.specs.Record.{word, endOf}
-use Rattle.network.specs.Output.{wholeOf}
+use Rattle.fraction.specs.Words.{word, naturalOf}
+use Rattle.fraction.specs.Words.{wholeOf}
 use Rattle.step.specs.declared.Numbers.{Numbers}
 use Rattle.step.specs.declared.Old.{Old}
 use Rattle.step.specs.declared.Step.{Step}
@@ -59,7 +59,7 @@ unfoldable pub figureIn : List ℤ → ℕ → Fraction
 figureIn zs at = fromWords (word zs at) (word zs (at + 1))
 
 abbrev pub numberIn : List ℤ → ℕ → ℕ
-numberIn zs at = endOf (figureIn zs at .num)
+numberIn zs at = naturalOf (figureIn zs at .num)
 
 unfoldable pub updateIn : List ℤ → ℕ → ArcUpdate
 updateIn zs at =

@@ -1,8 +1,8 @@
 // The log: the steps of a run in the lent words, 80 words a step.
 ghost use mathlib.Core.Path.{_≡_};
 ghost use Prim.Native.Nat.{_≤_};
-ghost use Rattle.network.specs.Record.{word};
-ghost use Rattle.network.specs.Output.{wholeOf};
+ghost use Rattle.fraction.specs.Words.{word};
+ghost use Rattle.fraction.specs.Words.{wholeOf};
 ghost use Rattle.log.specs.Log.{updateFigures, numberFigures, withFigure, withFigures, figuresOf, withStep, startOf, figureIn, numberIn, updateIn, numbersIn, ruleIn, placeIn, oldIn};
 use fraction::Fraction;
 use network::Arc;
@@ -26,7 +26,7 @@ fn put_number(words: &mut [i32], at: usize, k: usize)
     requires { ⌜ at ≤ 20000 ⌝ }
     ensures { λ _. ⌜ now (words .exit) ≡ withFigure (now (words .entry)) at (wholeOf k) ⌝ }
 {
-    loops::put(words, at, network::output::word_of(k));
+    loops::put(words, at, fraction::words::word_of(k));
     loops::put(words, at + 1, 1);
 }
 
@@ -105,7 +105,7 @@ fn number_in(words: &[i32], at: usize) -> usize
     requires { ⌜ at ≤ 20000 ⌝ }
     ensures { λ x. ⌜ x ≡ numberIn (now (words .entry)) at ⌝ }
 {
-    network::record::end_of(figure_in(words, at))
+    fraction::words::natural_of(figure_in(words, at))
 }
 
 fn update_in(words: &[i32], at: usize) -> ArcUpdate

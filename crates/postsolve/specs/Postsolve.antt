@@ -4,32 +4,14 @@ use mathlib.Core.Bool.{cond}
 use mathlib.Core.List.{List}
 use Prim.Native.Nat.{ℕ, zero, suc}
 use lib.IntN.{ℤ}
-use Rattle.loops.specs.Loops.{build}
-use Rattle.fraction.specs.declared.Fraction.{Fraction}
-use Rattle.fraction.specs.Exact.{noFigure}
 use Rattle.network.specs.declared.Arc.{Arc}
-use Rattle.network.specs.declared.Net.{Net}
-use Rattle.network.specs.declared.pair.Pair.{Pair}
-use Rattle.network.specs.Network.{isHere}
 use Rattle.network.specs.ArcList.{replacedBy}
-use Rattle.network.specs.Output.{isUsed, rankOf, arcRank}
-use Rattle.network.specs.Pair.{priceAt, flowAt}
 use Rattle.step.specs.Back.{oldArcsOf}
 use Rattle.step.specs.Run.{Way, wide, at}
 use Rattle.log.specs.Log.{oldIn}
 use Rattle.postsolve.specs.declared.Back.{Back}
 
 -- ---- at the original numbers
-
--- prices of the nodes in use, flows of the arcs in use
-abbrev pub spreadPrice : Net → Pair → ℕ → Fraction
-spreadPrice net pair i = cond (isHere net i) (priceAt pair (rankOf net i)) noFigure
-
-abbrev pub spreadFlow : Net → Pair → ℕ → Fraction
-spreadFlow net pair j = cond (isUsed net j) (flowAt pair (arcRank net j)) noFigure
-
-unfoldable pub spreadOf : Net → Pair → Pair
-spreadOf net pair = record { price = build 33 (spreadPrice net pair); flow = build 97 (spreadFlow net pair) }
 
 -- ---- the steps undone
 

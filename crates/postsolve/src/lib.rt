@@ -4,12 +4,11 @@
 ghost use mathlib.Core.Path.{_≡_};
 ghost use mathlib.Core.List.{List};
 ghost use lib.ListN.{length};
-ghost use Rattle.loops.specs.Loops.{build};
 ghost use Rattle.step.specs.declared.Step.{Step};
 ghost use Rattle.step.specs.Run.{backFrom, backOf, at, undo, wayBack};
 ghost use Rattle.rules.specs.Table.{rules};
 ghost use Rattle.log.specs.Log.{Holds};
-ghost use Rattle.postsolve.specs.Postsolve.{spreadPrice, spreadFlow, spreadOf, wayOf, arcsTurn, arcsBack};
+ghost use Rattle.postsolve.specs.Postsolve.{wayOf, arcsTurn, arcsBack};
 ghost use Rattle.postsolve.specs.internal.Turn.{backTurn, oldEdit};
 use network::Arc;
 use network::Edit;
@@ -25,56 +24,6 @@ pub struct Back {
 }
 
 // ---- at the original numbers
-
-// The prices, at the original numbers of the nodes in use.
-fn spread_prices(net: Net, pair: Pair) -> Pair
-    ensures { λ r. ⌜ r .price ≡ build 33 (spreadPrice net pair) ⌝ }
-{
-    let mut at = network::pair::no_pair();
-    let mut d: usize = 0;
-    for i in 0..33 {
-        let mut f = network::no_figure();
-        if net.here[i] {
-            d += 1;
-            if d < 33 {
-                f = pair.price[d];
-            }
-        }
-        at.price[i] = f;
-    }
-    at
-}
-
-// The flows, at the original numbers of the arcs in use.
-fn spread_flows(net: Net, pair: Pair) -> Pair
-    ensures { λ r. ⌜ r .flow ≡ build 97 (spreadFlow net pair) ⌝ }
-{
-    let mut at = network::pair::no_pair();
-    let mut d: usize = 0;
-    for j in 0..97 {
-        let mut f = network::no_figure();
-        let t = net.arcs[j];
-        if 1 <= t.from {
-            d += 1;
-            if d < 97 {
-                f = pair.flow[d];
-            }
-        }
-        at.flow[j] = f;
-    }
-    at
-}
-
-// A pair of the reduced network at the original numbers.
-pub fn spread(net: Net, pair: Pair) -> Pair
-    ensures { λ r. ⌜ r ≡ spreadOf net pair ⌝ }
-{
-    let p = spread_prices(net, pair);
-    let f = spread_flows(net, pair);
-    let price = p.price;
-    let flow = f.flow;
-    Pair { price, flow }
-}
 
 // ---- the steps undone
 

@@ -14,7 +14,8 @@ use Rattle.step.specs.declared.Next.the-variants.{Stops, Refuted, Takes}
 use Rattle.step.specs.Run.{backOf, at, wayBack}
 use Rattle.step.proofs.Fewer.{left-within, legal-left}
 use Rattle.step.proofs.Figures.{Sized}
-use Rattle.step.proofs.RunLaws.{Lawful, NoneApplies, NextLaws, RunLaws, next-laws, stops-none, run-laws, run-done, run-ends, restored-solved}
+use Rattle.step.specs.Applies.{NoneApplies}
+use Rattle.step.proofs.RunLaws.{Lawful, NextLaws, RunLaws, next-laws, stops-none, run-laws, run-done, run-ends, restored-solved}
 use Rattle.closed_arc.proofs.Laws as ClosedArc
 use Rattle.bare_node.proofs.Laws as BareNode
 use Rattle.single_arc.proofs.Laws as SingleArc

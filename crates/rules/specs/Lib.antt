@@ -1,1 +1,3 @@
 pub mod Table
+pub mod Found
+pub mod Tried

@@ -1,6 +1,5 @@
 -- The rules in the order in which they are tried (01, "The six reductions").
 use mathlib.Core.List.{List, [], _∷_}
-use Prim.Native.Nat.{ℕ}
 use Rattle.network.specs.declared.Net.{Net}
 use Rattle.step.specs.declared.Next.{Next}
 use Rattle.step.specs.Run.{Rule, nextBy, Run, runOf}

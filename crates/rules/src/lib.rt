@@ -1,10 +1,13 @@
-// The table of the rules, in code: the way back of each, by its number.
+// The table of the rules, in code: the step and the way back of each, by its number.
 ghost use mathlib.Core.Path.{_≡_};
 ghost use Rattle.step.specs.Run.{backFrom};
 ghost use Rattle.rules.specs.Table.{rules};
 use network::pair::Pair;
 use step::Old;
 use step::Undone;
+
+pub mod found;
+pub mod tried;
 
 // What the way back over a step of a rule restores.
 pub fn undo(rule: usize, old: Old, pair: Pair) -> Undone

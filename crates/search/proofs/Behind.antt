@@ -16,10 +16,10 @@ use Rattle.network.specs.declared.ArcUpdate.{ArcUpdate}
 use Rattle.network.specs.declared.Edit.{Edit}
 use Rattle.network.specs.declared.Net.{Net}
 use Rattle.network.specs.declared.Nodes.{Nodes}
-use Rattle.network.specs.declared.record.Asked.the-variants.{Go}
 use Rattle.network.specs.Network.{updatesOf}
-use Rattle.network.specs.Record.{figures, arcIn, sizesOf}
-use Rattle.network.specs.ArcList.{netIn, noArcs, replaced, replacedBy, replacedAll, loadTurn, loaded}
+use Rattle.records.specs.Network.{figures, nOf, mOf, sizesRight, arcIn, loadTurn, loaded}
+use Rattle.records.proofs.Questions.{sizes-are}
+use Rattle.network.specs.ArcList.{netIn, noArcs, replaced, replacedBy, replacedAll}
 use Rattle.network.proofs.Lists.{arcs-are}
 use Rattle.step.specs.declared.Change.{Change}
 use Rattle.step.specs.Back.{oldArcsOf}
@@ -71,13 +71,13 @@ replaced-behind xs edit = by (updatesOf edit) xs
     by [] xs h = refl
     by (u ∷ us) xs h = by us (replaced xs (u .number) (u .arc)) (h .1) ∙ one-behind xs (u .number) (u .arc) (h .0)
 
-pub loaded-behind : (words : List ℤ) (n m : ℕ) → sizesOf words ≡ Go n m → m ≤ 96 → (xs : List Arc) → drop 96 (loaded words xs) ≡ drop 96 xs
+pub loaded-behind : (words : List ℤ) → sizesRight words ≡ true → (xs : List Arc) → drop 96 (loaded words xs) ≡ drop 96 xs
 unfolding loaded upto
-loaded-behind words n m e l xs = rw e (by m l)
+loaded-behind words e xs = rw e (by (mOf words) (sizes-are words e .few-arcs))
   where
-    by : (m′ : ℕ) → m′ ≤ 96 → drop 96 (upto (loadTurn words n (figures n m)) m′ xs) ≡ drop 96 xs
+    by : (m : ℕ) → m ≤ 96 → drop 96 (upto (loadTurn words (nOf words) (figures (nOf words) (mOf words))) m xs) ≡ drop 96 xs
     by zero l = refl
-    by (suc k) l = one-behind _ (k + 1) (arcIn words n (figures n m) k) (omega (arith, l, add-one k)) ∙ by k (omega (arith, l, add-one k))
+    by (suc k) l = one-behind _ (k + 1) (arcIn words (nOf words) (figures (nOf words) (mOf words)) k) (omega (arith, l, add-one k)) ∙ by k (omega (arith, l, add-one k))
 
 pub drop-none : (n k : ℕ) → drop n (noArcs k) ≡ noArcs (k - n)
 drop-none zero k = let e : k - 0 ≡ k = omega arith in rw e

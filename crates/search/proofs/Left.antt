@@ -11,7 +11,7 @@ use Rattle.network.specs.declared.Nodes.{Nodes}
 use Rattle.network.specs.Network.{noArc}
 use Rattle.network.specs.ArcList.{arcsIn, nodesOf, joined, netIn, noArcs}
 use Rattle.network.specs.Legal.{Legal}
-use Rattle.network.specs.Record.{readOf}
+use Rattle.records.specs.Network.{readOf}
 use Rattle.network.proofs.Lists.{arcs-are}
 use Rattle.rules.specs.Table.{reduced}
 use Rattle.rules.proofs.Whole.{whole}

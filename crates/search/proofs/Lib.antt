@@ -1,5 +1,5 @@
 pub mod Lent
-pub mod Tests
+pub mod AtNode
 pub mod Scans
 pub mod Questions
 pub mod Behind

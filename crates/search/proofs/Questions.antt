@@ -1,36 +1,30 @@
 -- Where no question is answered by no: there is room, and the record holds a legal network.
-use mathlib.Core.Path.{_≡_, refl, subst⁻¹}
-use mathlib.Core.Bool.{Bool, true, false, cond, _&&_}
+use mathlib.Core.Path.{_≡_}
+use mathlib.Core.Bool.{_&&_}
 use mathlib.Core.List.{List}
 use Prim.Native.Nat.{ℕ, _≤_}
-use native.Mathlib.Omega.{arith}
 use lib.Dec.{leb}
 use lib.IntN.{ℤ}
 use borrow.Author.Tests.{leb-true}
-use Rattle.network.specs.declared.record.Asked.{Asked}
-use Rattle.network.specs.declared.record.Asked.the-variants.{Go, No}
+use Rattle.fraction.proofs.Laws.{and-both}
 use Rattle.network.specs.Legal.{Legal}
-use Rattle.network.specs.Record.{askedOf, readOf}
-use Rattle.network.proofs.Legal.{read-legal, read-is}
-use Rattle.network.proofs.Questions.{asked-no}
-use Rattle.search.specs.Search.{askedNumber, refusalOf}
+use Rattle.records.specs.Questions.{firstNo}
+use Rattle.records.specs.Network.{questions, readOf}
+use Rattle.records.proofs.Legal.{read-legal}
+use Rattle.records.proofs.Questions.{none-no}
+use Rattle.search.specs.Search.{refusalOf}
 
 pub record AllYes (network : List ℤ) (log arcs : ℕ) : Type 0 where
   pub room : 10240 ≤ log
   pub wide : 96 ≤ arcs
-  pub n : ℕ
-  pub m : ℕ
-  pub go : askedOf network ≡ Go n m
+  pub asked : firstNo (questions network) ≡ 0
 
 pub all-yes : (network : List ℤ) (log arcs : ℕ) → refusalOf network log arcs ≡ 0 → AllYes network log arcs
 unfolding refusalOf
-all-yes network log arcs q = by (leb 10240 log) refl (leb 96 arcs) refl (askedOf network) refl q
-  where
-    by : (a : Bool) → leb 10240 log ≡ a → (b : Bool) → leb 96 arcs ≡ b → (x : Asked) → askedOf network ≡ x → cond (a && b) (askedNumber x) 1 ≡ 0 → AllYes network log arcs
-    by false d b f x e z = absurd (omega (arith, z))
-    by true d false f x e z = absurd (omega (arith, z))
-    by true d true f (No k) e z = absurd (omega (arith, z, asked-no network k e))
-    by true d true f (Go n m) e z = record { room = leb-true 10240 log d; wide = leb-true 96 arcs f; n = n; m = m; go = e }
+all-yes network log arcs q =
+    let a = none-no 0 (leb 10240 log && leb 96 arcs) q in
+    let b = and-both (leb 10240 log) _ (a .0) in
+    record { room = leb-true _ _ (b .0); wide = leb-true _ _ (b .1); asked = a .1 }
 
 pub legal-read : {network : List ℤ} {log arcs : ℕ} → AllYes network log arcs → Legal (readOf network)
-legal-read {network} a = subst⁻¹ Legal (read-is network (a .n) (a .m) (a .go)) (read-legal network (a .n) (a .m) (a .go))
+legal-read {network} a = read-legal network (a .asked)

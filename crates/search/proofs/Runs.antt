@@ -10,17 +10,18 @@ use native.Mathlib.Numerals.{add-one}
 use native.Mathlib.Omega.{arith}
 use lib.IntN.{ℤ}
 use lib.ListN.{length, drop, length-replicate}
-use Rattle.fraction.specs.Laws.{never}
+use Rattle.fraction.proofs.Laws.{never}
 use Rattle.network.specs.declared.Arc.{Arc}
 use Rattle.network.specs.declared.Net.{Net}
 use Rattle.network.specs.declared.Nodes.{Nodes}
 use Rattle.network.specs.declared.Edit.{Edit}
 use Rattle.network.specs.Network.{noArc, noEdit, applied}
-use Rattle.network.specs.ArcList.{arcsIn, nodesOf, joined, netIn, noArcs, replaced, replacedAll, loaded}
-use Rattle.network.specs.Record.{readOf}
+use Rattle.network.specs.ArcList.{arcsIn, nodesOf, joined, netIn, noArcs, replaced, replacedAll}
+use Rattle.records.specs.Network.{loaded, readOf}
 use Rattle.network.specs.Legal.{Legal}
-use Rattle.network.proofs.Lists.{changed-net, length-replaced-all, length-loaded, loaded-net}
-use Rattle.network.proofs.Questions.{sizes-go, asked-go}
+use Rattle.network.proofs.Lists.{changed-net, length-replaced-all}
+use Rattle.records.proofs.Loaded.{length-loaded, loaded-net}
+use Rattle.records.proofs.Questions.{all-yes as answered}
 use Rattle.step.specs.declared.Step.{Step}
 use Rattle.step.specs.declared.Next.{Next}
 use Rattle.step.specs.declared.Next.the-variants.{Stops, Refuted, Takes}
@@ -36,13 +37,13 @@ use Rattle.log.specs.Log.{withStep, logged}
 use Rattle.log.proofs.Logged.{logged-long}
 use Rattle.search.proofs.Questions.{AllYes, all-yes, legal-read}
 use Rattle.search.proofs.Behind.{within, replaced-behind, loaded-behind, drop-none, list-of}
-use Rattle.search.specs.declared.scan.Found.{Found}
-use Rattle.search.specs.declared.scan.Looked.{Looked}
+use Rattle.rules.specs.declared.found.Found.{Found}
+use Rattle.rules.specs.declared.tried.Looked.{Looked}
 use Rattle.search.specs.declared.Progress.{Progress}
 use Rattle.search.specs.declared.Ran.{Ran}
-use Rattle.search.specs.internal.Scan.{foundOf}
+use Rattle.rules.specs.Found.{foundOf}
 use Rattle.search.specs.Search.{refusalOf, refusedBy, endsOf, listOf, Searched}
-use Rattle.search.specs.internal.Progress.{editOf, noted, moved, begun, endOf, ranOf, Ready, Turned, Finished}
+use Rattle.search.specs.internal.Progress.{editOf, noted, moved, endedBy, begun, endOf, ranOf, Ready, Turned, Finished}
 
 -- the next step, on a legal network, is right
 right : {net : Net} → Legal net → (s : Step) → nextOf net ≡ Takes s → Right net (s .change) (backOf rules s)
@@ -68,16 +69,22 @@ step-found Stops e q r = never (let u = rw e at q in cc)
 step-found (Refuted k i) e q r = never (let u = rw e at r in cc)
 step-found (Takes s) e q r = rw e
 
-pub edit-is : {f : Found} (n : Next) → f ≡ foundOf n → f .step .change .edit ≡ editOf n
+edit-is : {f : Found} (n : Next) → f ≡ foundOf n → f .step .change .edit ≡ editOf n
 edit-is Stops e = rw e
 edit-is (Refuted k i) e = rw e
 edit-is (Takes s) e = rw e
+
+-- no step
+pub ended-is : (at : Progress) (net : Net) (x : Looked) {r : Progress} (n : Next) → x .found ≡ foundOf n → ((s : Step) → n ≡ Takes s → ⊥) → r ≡ endedBy at x → r ≡ moved at net (x .seen) n
+ended-is at net x Stops e d q = q ∙ rw e
+ended-is at net x (Refuted k i) e d q = q ∙ rw e
+ended-is at net x (Takes s) e d q = absurd (d s refl)
 
 -- one turn
 pub turned : {at r : Progress} {log log′ : List ℤ} {arcs arcs′ : List Arc} (x : Looked) (edit : Edit) (time : ℕ) → time ≡ at .steps + 1
     → (x .found ≡ foundOf (nextOf (netIn (at .nodes) arcs))) × Known (netIn (at .nodes) arcs) time (x .seen)
     → ((xs : List Arc) (n : Next) → x .found ≡ foundOf n → r ≡ moved at (joined (at .nodes) xs) (x .seen) n)
-    → ((n : Next) → x .found ≡ foundOf n → edit ≡ editOf n)
+    → edit ≡ x .found .step .change .edit
     → ((n : Next) → x .found ≡ foundOf n → log′ ≡ noted log (at .steps) n)
     → arcs′ ≡ replacedAll arcs edit → Turned at log arcs r log′ arcs′
 turned {at} {arcs = arcs} x edit time q h r e l a =
@@ -86,7 +93,7 @@ turned {at} {arcs = arcs} x edit time q h r e l a =
       known = rw q at (h .1);
       is = r (arcsIn arcs) (nextOf (netIn (at .nodes) arcs)) (h .0);
       log-is = l (nextOf (netIn (at .nodes) arcs)) (h .0);
-      arcs-are = a ∙ ap (replacedAll arcs) (e (nextOf (netIn (at .nodes) arcs)) (h .0));
+      arcs-are = a ∙ ap (replacedAll arcs) (e ∙ edit-is (nextOf (netIn (at .nodes) arcs)) (h .0));
     }
 
 length-step : (zs : List ℤ) (k : ℕ) (s : Step) → length (withStep zs k s) ≡ length zs
@@ -278,9 +285,7 @@ module _ (network : List ℤ) (log : ℕ) (arcs : ℕ) (q : refusalOf network lo
     long = ap length list-is ∙ length-loaded network (noArcs arcs) ∙ length-replicate arcs noArc
 
     zeros-behind : drop 96 list ≡ noArcs (arcs - 96)
-    zeros-behind =
-        let g = asked-go network (a .n) (a .m) (a .go) .0 in
-        ap (drop 96) list-is ∙ loaded-behind network (a .n) (a .m) g (sizes-go network (a .n) (a .m) g .few-arcs) (noArcs arcs) ∙ drop-none 96 arcs
+    zeros-behind = ap (drop 96) list-is ∙ loaded-behind network (answered network (a .asked) .0) (noArcs arcs) ∙ drop-none 96 arcs
 
     pub begins : Ready (netIn nodes list) nothingSeen 0 × (96 ≤ length list)
     begins = (

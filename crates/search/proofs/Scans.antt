@@ -7,7 +7,7 @@ use native.Mathlib.Nat.{eq-or-lt-of-le}
 use native.Mathlib.Omega.{arith}
 use lib.Dec.{eqb, ltb}
 use borrow.Author.Tests.{eqb-true, eqb-false, ltb-true, ltb-false}
-use Rattle.fraction.specs.Laws.{never}
+use Rattle.fraction.proofs.Laws.{never}
 use Rattle.network.specs.declared.Arc.{Arc}
 use Rattle.network.specs.declared.Net.{Net}
 use Rattle.network.specs.Network.{arcAt}
@@ -26,8 +26,8 @@ use Rattle.costly_arc.proofs.Passing.{no-open-root, unused-root}
 use Rattle.two_arcs.specs.TwoArcs.{twoArcs}
 use Rattle.crossing.specs.Crossing.{crossing}
 use Rattle.rules.specs.Table.{nextOf}
-use Rattle.search.specs.declared.scan.Found.{Found}
-use Rattle.search.specs.internal.Scan.{foundOf}
+use Rattle.rules.specs.declared.found.Found.{Found}
+use Rattle.rules.specs.Found.{foundOf}
 
 -- ---- one rule; x is the answer at place i, as the code has it
 

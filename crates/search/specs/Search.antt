@@ -1,18 +1,17 @@
 -- A run, from a network's record to what is left of it: the steps in the log, the arcs in the lent list.
 use mathlib.Core.Path.{_≡_}
-use mathlib.Core.Bool.{cond, _&&_}
-use mathlib.Core.List.{List, _++_}
+use mathlib.Core.Bool.{_&&_}
+use mathlib.Core.List.{List, _∷_, _++_}
 use Prim.Native.Nat.{ℕ, _-_, _≤_}
 use lib.Dec.{leb}
 use lib.IntN.{ℤ}
 use lib.ListN.{length, drop}
 use Rattle.network.specs.declared.Arc.{Arc}
 use Rattle.network.specs.declared.Net.{Net}
-use Rattle.network.specs.declared.record.Asked.{Asked}
-use Rattle.network.specs.declared.record.Asked.the-variants.{Go, No}
 use Rattle.network.specs.Network.{emptyNet}
 use Rattle.network.specs.ArcList.{noArcs, nodesOf}
-use Rattle.network.specs.Record.{askedOf, readOf}
+use Rattle.records.specs.Questions.{_asks_, firstNo}
+use Rattle.records.specs.Network.{questions, readOf}
 use Rattle.step.specs.declared.Next.{Next}
 use Rattle.step.specs.declared.Next.the-variants as Next
 use Rattle.rules.specs.Table.{reduced}
@@ -21,13 +20,9 @@ use Rattle.search.specs.declared.Ends.{Ends}
 use Rattle.search.specs.declared.Ends.the-variants.{Stops, NoFlow}
 use Rattle.search.specs.declared.Ran.{Ran}
 
--- the question that is answered by no, and 0 where none is: 1 is room for the log's words and for the arcs, 2 to 5 are those of the record
-abbrev pub askedNumber : Asked → ℕ
-askedNumber (No q) = q
-askedNumber (Go n m) = 0
-
+-- room for the log's words and for the arcs, and the questions of the record
 unfoldable pub refusalOf : List ℤ → ℕ → ℕ → ℕ
-refusalOf xs log arcs = cond (leb 10240 log && leb 96 arcs) (askedNumber (askedOf xs)) 1
+refusalOf xs log arcs = firstNo (1 asks (leb 10240 log && leb 96 arcs) ∷ questions xs)
 
 abbrev pub refusedBy : ℕ → Ran
 refusedBy q = record { refused = q; nodes = nodesOf (emptyNet 0 0); steps = 0; ends = Stops }

@@ -8,17 +8,17 @@ ghost use lib.ListN.{length};
 ghost use Rattle.network.specs.declared.Arc.{Arc};
 ghost use Rattle.network.specs.ArcList.{joined, netIn};
 ghost use Rattle.step.specs.declared.Next.{Next};
+ghost use Rattle.step.specs.declared.Next.the-variants.{Takes};
 ghost use Rattle.search.specs.Search.{refusalOf, refusedBy, Searched};
-ghost use Rattle.search.specs.internal.Scan.{foundOf};
-ghost use Rattle.search.specs.internal.Progress.{begun, editOf, noted, moved, endOf, ranOf, Ready, Turned, Finished};
+ghost use Rattle.search.specs.internal.Progress.{begun, noted, moved, endedBy, endOf, ranOf, Ready, Turned, Finished};
+ghost use Rattle.rules.specs.Found.{foundOf};
 ghost use Rattle.rules.specs.Table.{reduced};
 ghost use Rattle.costly_arc.specs.Seen.{nothingSeen};
-use crate::scan::Looked;
 use costly_arc::Seen;
 use network::Arc;
 use network::Edit;
 use network::Nodes;
-use network::record::Asked;
+use rules::tried::Looked;
 
 mod scan;
 
@@ -73,26 +73,56 @@ fn time(at: Progress) -> u8
 
 // What is to be put into the list.
 fn edit_of(x: Looked) -> Edit
-    ensures { λ r. ⌜ ((n : Next) → x .found ≡ foundOf n → r ≡ editOf n) ⌝ }
+    ensures { λ r. ⌜ r ≡ x .found .step .change .edit ⌝ }
 {
-    let found = x.found;
-    let step = found.step;
-    let change = step.change;
-    change.edit
+    x.found.step.change.edit
 }
 
 // A step taken is written into the log.
 fn note(log: &mut [i32], k: usize, x: Looked)
     ensures { λ _. ⌜ ((n : Next) → x .found ≡ foundOf n → now (log .exit) ≡ noted (now (log .entry)) k n) ⌝ }
 {
-    let found = x.found;
-    if !found.found {
+    if !x.found.found {
         return;
     }
-    if found.refuted {
+    if x.found.refuted {
         return;
     }
-    log::store(log, k, found.step);
+    log::store(log, k, x.found.step);
+}
+
+// The run after no step.
+fn ended(at: Progress, x: Looked) -> Progress
+    ensures { λ r. ⌜ r ≡ endedBy at x ⌝ }
+{
+    let nodes = at.nodes;
+    let seen = x.seen;
+    Progress {
+        nodes,
+        steps: at.steps,
+        seen,
+        active: false,
+        refuted: x.found.refuted,
+        rule: x.found.step.rule,
+        place: x.found.step.place,
+    }
+}
+
+// The run after a step.
+fn onward(at: Progress, x: Looked) -> Progress
+    requires { ⌜ at .steps ≤ 128 ⌝ }
+    ensures { λ r. ⌜ ((xs : List Arc) → r ≡ moved at (joined (at .nodes) xs) (x .seen) (Takes (x .found .step))) ⌝ }
+{
+    let edit = edit_of(x);
+    Progress {
+        nodes: network::settle(at.nodes, edit),
+        steps: at.steps + 1,
+        seen: costly_arc::mark_all(x.seen, edit, time(at)),
+        active: true,
+        refuted: false,
+        rule: 0,
+        place: 0,
+    }
 }
 
 // The run after what was found.
@@ -100,43 +130,13 @@ fn advance(at: Progress, x: Looked) -> Progress
     requires { ⌜ at .steps ≤ 128 ⌝ }
     ensures { λ r. ⌜ ((xs : List Arc) (n : Next) → x .found ≡ foundOf n → r ≡ moved at (joined (at .nodes) xs) (x .seen) n) ⌝ }
 {
-    let found = x.found;
-    let step = found.step;
-    let change = step.change;
-    let nodes = at.nodes;
-    let seen = x.seen;
-    if !found.found {
-        return Progress {
-            nodes,
-            steps: at.steps,
-            seen,
-            active: false,
-            refuted: false,
-            rule: 0,
-            place: 0,
-        };
+    if !x.found.found {
+        return ended(at, x);
     }
-    if found.refuted {
-        return Progress {
-            nodes,
-            steps: at.steps,
-            seen,
-            active: false,
-            refuted: true,
-            rule: step.rule,
-            place: step.place,
-        };
+    if x.found.refuted {
+        return ended(at, x);
     }
-    let now = time(at);
-    Progress {
-        nodes: network::settle(nodes, change.edit),
-        steps: at.steps + 1,
-        seen: costly_arc::mark_all(seen, change.edit, now),
-        active: true,
-        refuted: false,
-        rule: 0,
-        place: 0,
-    }
+    onward(at, x)
 }
 
 // One turn of a run: the next step taken in the list and written into the log, or the end.
@@ -172,10 +172,7 @@ fn question(network: &[i32], log: usize, arcs: usize) -> usize
     if arcs < 96 {
         return 1;
     }
-    match network::record::ask(network) {
-        Asked::No(q) => q,
-        Asked::Go(_, _) => 0,
-    }
+    records::net::ask(network)
 }
 
 // A question is answered by no.
@@ -225,7 +222,7 @@ pub fn run(network: &[i32], log: &mut [i32], arcs: &mut [Arc]) -> Ran
         return refuse(q);
     }
     network::list::clear(arcs);
-    network::list::load(arcs, network);
-    let nodes = network::record::read_beside(network);
+    records::net::load(arcs, network);
+    let nodes = records::net::read_beside(network);
     conclude(run_on(nodes, log, arcs))
 }

@@ -15,12 +15,7 @@ returns-2 c = rw (le-leb _ _ (c .before .if1 .left), lt-leb _ _ (c .if2 .taken))
 
 returns-3 : tie.Need-returns-3
 unfolding refusalOf
-returns-3 c = rw (le-leb _ _ (c .before .before .before .before .before .if1 .left), le-leb _ _ (c .before .before .before .before .if2 .left), ← c .before .before .before .ask .ensures, c .before .q .given .1)
-
-returns-4 : tie.Need-returns-4
-unfolding refusalOf
-returns-4 c = rw (le-leb _ _ (c .before .before .before .before .if1 .left), le-leb _ _ (c .before .before .before .if2 .left), ← c .before .before .ask .ensures, c .enum-told .given .1)
+returns-3 c = rw (le-leb _ _ (c .before .before .if1 .left), le-leb _ _ (c .before .if2 .left)) (c .ask .ensures)
 
 pub question-spec : {M : Type 1} → statement M
-question-spec =
-    tie.close (tie.spec returns returns-2 (λ c κs. search needs) (λ c. search needs) (λ c. search needs) returns-3 returns-4)
+question-spec = tie.close (tie.spec returns returns-2 (λ c κs. search needs) returns-3)

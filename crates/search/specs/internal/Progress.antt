@@ -18,6 +18,7 @@ use Rattle.step.specs.declared.Next.the-variants.{Stops, Refuted, Takes}
 use Rattle.step.specs.Run.{Run, runOf}
 use Rattle.costly_arc.specs.declared.Seen.{Seen}
 use Rattle.costly_arc.specs.Seen.{Known, nothingSeen, markedAll}
+use Rattle.rules.specs.declared.tried.Looked.{Looked}
 use Rattle.rules.specs.Table.{nextOf}
 use Rattle.log.specs.Log.{withStep, logged}
 use Rattle.search.specs.declared.Ends.{Ends}
@@ -46,6 +47,10 @@ moved at net seen Stops = record { nodes = at .nodes; steps = at .steps; seen = 
 moved at net seen (Refuted k i) = record { nodes = at .nodes; steps = at .steps; seen = seen; active = false; refuted = true; rule = k; place = i }
 moved at net seen (Takes s) =
     record { nodes = nodesOf (applied net (s .change .edit)); steps = at .steps + 1; seen = markedAll seen (s .change .edit) (at .steps + 1); active = true; refuted = false; rule = 0; place = 0 }
+
+-- the same where what was found is no step
+abbrev pub endedBy : Progress → Looked → Progress
+endedBy at x = record { nodes = at .nodes; steps = at .steps; seen = x .seen; active = false; refuted = x .found .refuted; rule = x .found .step .rule; place = x .found .step .place }
 
 abbrev pub begun : Nodes → Progress
 begun nodes = record { nodes = nodes; steps = 0; seen = nothingSeen; active = true; refuted = false; rule = 0; place = 0 }

@@ -288,10 +288,10 @@ abbrev b15 : Syntax.Body
 b15 = Syntax.assign (Syntax.place 15 L.[]) (Syntax.aggregate (L._∷_ (Syntax.copy (Syntax.place 14 L.[])) (L._∷_ (Syntax.copy (Syntax.place 3 (L._∷_ (Syntax.field 1) L.[]))) L.[])))
 
 abbrev b16 : Syntax.Body
-b16 = Syntax.call "network::list::load" (L._∷_ (Syntax.copy (Syntax.place 15 L.[])) (L._∷_ (Syntax.copy (Syntax.place 1 L.[])) L.[])) (Syntax.place 11 L.[])
+b16 = Syntax.call "records::net::load" (L._∷_ (Syntax.copy (Syntax.place 15 L.[])) (L._∷_ (Syntax.copy (Syntax.place 1 L.[])) L.[])) (Syntax.place 11 L.[])
 
 abbrev b17 : Syntax.Body
-b17 = Syntax.call "network::record::read_beside" (L._∷_ (Syntax.copy (Syntax.place 1 L.[])) L.[]) (Syntax.place 5 L.[])
+b17 = Syntax.call "records::net::read_beside" (L._∷_ (Syntax.copy (Syntax.place 1 L.[])) L.[]) (Syntax.place 5 L.[])
 
 abbrev b18 : Syntax.Body
 b18 = Syntax.assign (Syntax.place 17 L.[]) (Syntax.addrOf (Syntax.place 2 (L._∷_ (Syntax.field 0) (L._∷_ (Syntax.deref (Syntax.tyInt Syntax.w32)) L.[]))))
@@ -717,7 +717,7 @@ module _ (claims· : Claims) where
   module _ (Pre· : (κs : Lifetimes.Lfts 3) → FnKinds.Dens κs ps → Type 0) (Post· : (κs : Lifetimes.Lfts 3) → (a : FnKinds.Dens κs ps) → FnKinds.Plain 3 ps r κs) where
     module _ (M : Type 1) where
       abbrev pub Closed : Type 2
-      Closed = (𝓤 : URA.URA M) (H : Wp.Heap 𝓤) (A : Atoms.Atoms 𝓤) (W : Kit.Given 𝓤 H A) (𝓣 : Wp.Tables 𝓤 H) (known0 : Plain.Known 𝓤 H A W 𝓣 1 ps·0 r·0 (claims· .0) (claims· .1) "network::list::count") (known1 : Plain.Known 𝓤 H A W 𝓣 1 ps·1 r·1 (claims· .2) (claims· .3) "search::question") (known2 : Plain.Known 𝓤 H A W 𝓣 0 ps·2 r·2 (claims· .4) (claims· .5) "search::refuse") (known3 : Plain.Known 𝓤 H A W 𝓣 1 ps·3 r·3 (claims· .6) (claims· .7) "network::list::clear") (known4 : Plain.Known 𝓤 H A W 𝓣 2 ps·4 r·4 (claims· .8) (claims· .9) "network::list::load") (known5 : Plain.Known 𝓤 H A W 𝓣 1 ps·5 r·5 (claims· .10) (claims· .11) "network::record::read_beside") (known6 : Plain.Known 𝓤 H A W 𝓣 2 ps·6 r·6 (claims· .12) (claims· .13) "search::run_on") (known7 : Plain.Known 𝓤 H A W 𝓣 0 ps·7 r·7 (claims· .14) (claims· .15) "search::conclude") → Statement.Triple 𝓤 (Wp.WpFn 𝓤 H (𝓣 .C) (𝓣 .Λ) (Function.fnOf 3 ps r xs m hs body)) (Function.plainOf 𝓤 H A 3 ps r Pre· Post·)
+      Closed = (𝓤 : URA.URA M) (H : Wp.Heap 𝓤) (A : Atoms.Atoms 𝓤) (W : Kit.Given 𝓤 H A) (𝓣 : Wp.Tables 𝓤 H) (known0 : Plain.Known 𝓤 H A W 𝓣 1 ps·0 r·0 (claims· .0) (claims· .1) "network::list::count") (known1 : Plain.Known 𝓤 H A W 𝓣 1 ps·1 r·1 (claims· .2) (claims· .3) "search::question") (known2 : Plain.Known 𝓤 H A W 𝓣 0 ps·2 r·2 (claims· .4) (claims· .5) "search::refuse") (known3 : Plain.Known 𝓤 H A W 𝓣 1 ps·3 r·3 (claims· .6) (claims· .7) "network::list::clear") (known4 : Plain.Known 𝓤 H A W 𝓣 2 ps·4 r·4 (claims· .8) (claims· .9) "records::net::load") (known5 : Plain.Known 𝓤 H A W 𝓣 1 ps·5 r·5 (claims· .10) (claims· .11) "records::net::read_beside") (known6 : Plain.Known 𝓤 H A W 𝓣 2 ps·6 r·6 (claims· .12) (claims· .13) "search::run_on") (known7 : Plain.Known 𝓤 H A W 𝓣 0 ps·7 r·7 (claims· .14) (claims· .15) "search::conclude") → Statement.Triple 𝓤 (Wp.WpFn 𝓤 H (𝓣 .C) (𝓣 .Λ) (Function.fnOf 3 ps r xs m hs body)) (Function.plainOf 𝓤 H A 3 ps r Pre· Post·)
 
     module _ where
       abbrev at0 : Typed.TF T18 O1
@@ -893,7 +893,7 @@ module _ (claims· : Claims) where
 
       module _ {M : Type 1} (𝓤 : URA.URA M) (H : Wp.Heap 𝓤) (A : Atoms.Atoms 𝓤) (W : Kit.Given 𝓤 H A) (𝓣 : Wp.Tables 𝓤 H) where
         abbrev Knowns : Type 1
-        Knowns = Plain.Known 𝓤 H A W 𝓣 1 ps·0 r·0 (claims· .0) (claims· .1) "network::list::count" × Plain.Known 𝓤 H A W 𝓣 1 ps·1 r·1 (claims· .2) (claims· .3) "search::question" × Plain.Known 𝓤 H A W 𝓣 0 ps·2 r·2 (claims· .4) (claims· .5) "search::refuse" × Plain.Known 𝓤 H A W 𝓣 1 ps·3 r·3 (claims· .6) (claims· .7) "network::list::clear" × Plain.Known 𝓤 H A W 𝓣 2 ps·4 r·4 (claims· .8) (claims· .9) "network::list::load" × Plain.Known 𝓤 H A W 𝓣 1 ps·5 r·5 (claims· .10) (claims· .11) "network::record::read_beside" × Plain.Known 𝓤 H A W 𝓣 2 ps·6 r·6 (claims· .12) (claims· .13) "search::run_on" × Plain.Known 𝓤 H A W 𝓣 0 ps·7 r·7 (claims· .14) (claims· .15) "search::conclude"
+        Knowns = Plain.Known 𝓤 H A W 𝓣 1 ps·0 r·0 (claims· .0) (claims· .1) "network::list::count" × Plain.Known 𝓤 H A W 𝓣 1 ps·1 r·1 (claims· .2) (claims· .3) "search::question" × Plain.Known 𝓤 H A W 𝓣 0 ps·2 r·2 (claims· .4) (claims· .5) "search::refuse" × Plain.Known 𝓤 H A W 𝓣 1 ps·3 r·3 (claims· .6) (claims· .7) "network::list::clear" × Plain.Known 𝓤 H A W 𝓣 2 ps·4 r·4 (claims· .8) (claims· .9) "records::net::load" × Plain.Known 𝓤 H A W 𝓣 1 ps·5 r·5 (claims· .10) (claims· .11) "records::net::read_beside" × Plain.Known 𝓤 H A W 𝓣 2 ps·6 r·6 (claims· .12) (claims· .13) "search::run_on" × Plain.Known 𝓤 H A W 𝓣 0 ps·7 r·7 (claims· .14) (claims· .15) "search::conclude"
 
       module _ (κs : Lifetimes.Lfts 3) (qs : Lifetimes.Shares 3) where
         abbrev g4 : L.List Row.Entry
@@ -1192,7 +1192,7 @@ module _ (claims· : Claims) where
           d24 = Typed.g-pre 𝓤 H A W 𝓣 E G36 G37 b30 Δ0 (λ Ψ. Ψ) at23 (Lifetime.g-begin 𝓤 H A W E G36 6 (tt, (tt, (tt, (tt, (tt, (tt, (tt, (tt, (tt, (tt, (tt, (tt, (tt, (tt, (tt, (tt, (tt, (tt, (tt, (tt, (tt, tt)))))))))))))))))))))) d23
 
           d25 : Typed.Typed 𝓤 H A 𝓣 E G35 b31 Δ0 at25
-          d25 = Typed.s-seq 𝓤 H A W 𝓣 E G35 G36 b17 b30 Δ0 (Typed.both s33) at24 (Plain.t-call-plain 𝓤 H A W 𝓣 1 ps·5 r·5 (claims· .10) (claims· .11) "network::record::read_beside" (known .5) E (λ pos β. β) G35 (record { pos = 1; ty = Syntax.tyRef (Syntax.named 0) Syntax.imm (Syntax.tyInt Syntax.w32); ref = λ x. x }, tt) 5 (L._∷_ 0 L.[]) (Call.sub-id 𝓤 H A W (G35 .slots)) (ShrSlice.spares-sslice 𝓤 H A W (Signed.SInt Syntax.w32) q26 0, Shared.reads-sslice 𝓤 H A W (Signed.SInt Syntax.w32) q26 0, Path.refl, tt) (TReads.room-gone 𝓤 H A q1) (tt, tt) Path.refl) d24
+          d25 = Typed.s-seq 𝓤 H A W 𝓣 E G35 G36 b17 b30 Δ0 (Typed.both s33) at24 (Plain.t-call-plain 𝓤 H A W 𝓣 1 ps·5 r·5 (claims· .10) (claims· .11) "records::net::read_beside" (known .5) E (λ pos β. β) G35 (record { pos = 1; ty = Syntax.tyRef (Syntax.named 0) Syntax.imm (Syntax.tyInt Syntax.w32); ref = λ x. x }, tt) 5 (L._∷_ 0 L.[]) (Call.sub-id 𝓤 H A W (G35 .slots)) (ShrSlice.spares-sslice 𝓤 H A W (Signed.SInt Syntax.w32) q26 0, Shared.reads-sslice 𝓤 H A W (Signed.SInt Syntax.w32) q26 0, Path.refl, tt) (TReads.room-gone 𝓤 H A q1) (tt, tt) Path.refl) d24
 
           d26 : Typed.Typed 𝓤 H A 𝓣 E G34 b31 Δ0 at26
           d26 = Typed.g-pre 𝓤 H A W 𝓣 E G34 G35 b31 Δ0 (λ Ψ. Ψ) at25 (Lifetime.g-forget 𝓤 H A W E G34 5 Row.dead Path.refl) d25
@@ -1207,7 +1207,7 @@ module _ (claims· : Claims) where
           d29 = Typed.g-pre 𝓤 H A W 𝓣 E G31 G32 b31 Δ0 (Typed.pass T31 T32 s29) at28 (Scalar.g-room 𝓤 H A W E G31 11 Syntax.tyUnit (Scalar.room-sc 𝓤 H A W Row.sUnit)) d28
 
           d30 : Typed.Typed 𝓤 H A 𝓣 E G30 b32 Δ0 at30
-          d30 = Typed.s-seq 𝓤 H A W 𝓣 E G30 G31 b16 b31 Δ0 (Typed.both s28) at29 (Plain.t-call-plain 𝓤 H A W 𝓣 2 ps·4 r·4 (claims· .8) (claims· .9) "network::list::load" (known .4) E (λ pos β. β) G30 (record { pos = 15; ty = Syntax.tyRef Syntax.erased Syntax.mut Rec.named; ref = λ x. x }, (record { pos = 1; ty = Syntax.tyRef (Syntax.named 0) Syntax.imm (Syntax.tyInt Syntax.w32); ref = λ x. x }, tt)) 11 (L._∷_ 5 (L._∷_ 0 L.[])) (Call.sub-id 𝓤 H A W (G30 .slots)) (TReads.as-is 𝓤 H A (Mut.mslice Rec.row q33 5), Mut.reads-mslice 𝓤 H A W Rec.row q33 5, Path.refl, (ShrSlice.spares-sslice 𝓤 H A W (Signed.SInt Syntax.w32) q26 0, Shared.reads-sslice 𝓤 H A W (Signed.SInt Syntax.w32) q26 0, Path.refl, tt)) (TReads.room-gone 𝓤 H A Syntax.tyUnit) (tt, (tt, tt)) Path.refl) d29
+          d30 = Typed.s-seq 𝓤 H A W 𝓣 E G30 G31 b16 b31 Δ0 (Typed.both s28) at29 (Plain.t-call-plain 𝓤 H A W 𝓣 2 ps·4 r·4 (claims· .8) (claims· .9) "records::net::load" (known .4) E (λ pos β. β) G30 (record { pos = 15; ty = Syntax.tyRef Syntax.erased Syntax.mut Rec.named; ref = λ x. x }, (record { pos = 1; ty = Syntax.tyRef (Syntax.named 0) Syntax.imm (Syntax.tyInt Syntax.w32); ref = λ x. x }, tt)) 11 (L._∷_ 5 (L._∷_ 0 L.[])) (Call.sub-id 𝓤 H A W (G30 .slots)) (TReads.as-is 𝓤 H A (Mut.mslice Rec.row q33 5), Mut.reads-mslice 𝓤 H A W Rec.row q33 5, Path.refl, (ShrSlice.spares-sslice 𝓤 H A W (Signed.SInt Syntax.w32) q26 0, Shared.reads-sslice 𝓤 H A W (Signed.SInt Syntax.w32) q26 0, Path.refl, tt)) (TReads.room-gone 𝓤 H A Syntax.tyUnit) (tt, (tt, tt)) Path.refl) d29
 
           d31 : Typed.Typed 𝓤 H A 𝓣 E G29 b33 Δ0 at31
           d31 = Typed.s-seq 𝓤 H A W 𝓣 E G29 G30 b15 b32 Δ0 (Typed.ask s27) at30 (Relend.t-sl-aggregate 𝓤 H A W E Rec.row 𝓣 (Relend.asMut Rec.row) G29 14 15 5 q33 q33 (λ x. x) (Scalar.oFld 3 (L._∷_ (Syntax.field 1) L.[]) (Syntax.tyInt Syntax.w64) 8 λ v. Shared.lenV (v .0)) (TReads.as-is 𝓤 H A (Relend.msptr Rec.row q33 5)) (TReads.room-gone 𝓤 H A q11) (Relend.reads-owed-len 𝓤 H A W Rec.row q31 2 5 (Row.lease (κs .1 .1 .0) (qs .1 .1 .0)) 8 Path.refl, Path.refl) Path.refl Path.refl λ b o k. tt) d30
@@ -1675,6 +1675,6 @@ module _ (claims· : Claims) where
           pub asked : (a : FnKinds.Dens κs ps) → (good : FnKinds.GoodsP κs ps a) → (pre : Pre· κs a) → (bs : L.List Nat.ℕ) → Φ (Any.wantQ 3 ps r xs m κs qs a (Post· κs a)) (Function.init 3 ps r xs m κs qs a)
           asked = λ a good pre bs. laid record { κs = κs; args = record { network = a .0; log = a .1 .0; arcs = a .1 .1 .0 }; good = good; pre = pre }
 
-        module _ {M : Type 1} (𝓤 : URA.URA M) (H : Wp.Heap 𝓤) (A : Atoms.Atoms 𝓤) (W : Kit.Given 𝓤 H A) (𝓣 : Wp.Tables 𝓤 H) (known0 : Plain.Known 𝓤 H A W 𝓣 1 ps·0 r·0 (claims· .0) (claims· .1) "network::list::count") (known1 : Plain.Known 𝓤 H A W 𝓣 1 ps·1 r·1 (claims· .2) (claims· .3) "search::question") (known2 : Plain.Known 𝓤 H A W 𝓣 0 ps·2 r·2 (claims· .4) (claims· .5) "search::refuse") (known3 : Plain.Known 𝓤 H A W 𝓣 1 ps·3 r·3 (claims· .6) (claims· .7) "network::list::clear") (known4 : Plain.Known 𝓤 H A W 𝓣 2 ps·4 r·4 (claims· .8) (claims· .9) "network::list::load") (known5 : Plain.Known 𝓤 H A W 𝓣 1 ps·5 r·5 (claims· .10) (claims· .11) "network::record::read_beside") (known6 : Plain.Known 𝓤 H A W 𝓣 2 ps·6 r·6 (claims· .12) (claims· .13) "search::run_on") (known7 : Plain.Known 𝓤 H A W 𝓣 0 ps·7 r·7 (claims· .14) (claims· .15) "search::conclude") where
+        module _ {M : Type 1} (𝓤 : URA.URA M) (H : Wp.Heap 𝓤) (A : Atoms.Atoms 𝓤) (W : Kit.Given 𝓤 H A) (𝓣 : Wp.Tables 𝓤 H) (known0 : Plain.Known 𝓤 H A W 𝓣 1 ps·0 r·0 (claims· .0) (claims· .1) "network::list::count") (known1 : Plain.Known 𝓤 H A W 𝓣 1 ps·1 r·1 (claims· .2) (claims· .3) "search::question") (known2 : Plain.Known 𝓤 H A W 𝓣 0 ps·2 r·2 (claims· .4) (claims· .5) "search::refuse") (known3 : Plain.Known 𝓤 H A W 𝓣 1 ps·3 r·3 (claims· .6) (claims· .7) "network::list::clear") (known4 : Plain.Known 𝓤 H A W 𝓣 2 ps·4 r·4 (claims· .8) (claims· .9) "records::net::load") (known5 : Plain.Known 𝓤 H A W 𝓣 1 ps·5 r·5 (claims· .10) (claims· .11) "records::net::read_beside") (known6 : Plain.Known 𝓤 H A W 𝓣 2 ps·6 r·6 (claims· .12) (claims· .13) "search::run_on") (known7 : Plain.Known 𝓤 H A W 𝓣 0 ps·7 r·7 (claims· .14) (claims· .15) "search::conclude") where
           pub spec : Statement.Triple 𝓤 (Wp.WpFn 𝓤 H (𝓣 .C) (𝓣 .Λ) (Function.fnOf 3 ps r xs m hs body)) (Function.plainOf 𝓤 H A 3 ps r Pre· Post·)
           spec = Plain.t-fn-plain 𝓤 H A W 𝓣 3 ps r xs m hs body (λ κs qs bs. Φ) (λ κs qs bs bd. typed κs qs 𝓤 H A W 𝓣 (known0, known1, known2, known3, known4, known5, known6, known7) bs bd) Pre· Post· asked

@@ -3,8 +3,8 @@ use Rattle.costly_arc.proofs.Seen as costly-arc-proofs-Seen·
 use Rattle.costly_arc.proofs.Seen.Laws as costly-arc-proofs-Seen-Laws·
 use Rattle.network.proofs.Nodes as network-proofs-Nodes·
 use Rattle.network.proofs.Nodes.Laws as network-proofs-Nodes-Laws·
-use Rattle.search.proofs.scan.Looked as scan-Looked·
-use Rattle.search.proofs.scan.Looked.Laws as scan-Looked-Laws·
+use Rattle.rules.proofs.tried.Looked as rules-proofs-tried-Looked·
+use Rattle.rules.proofs.tried.Looked.Laws as rules-proofs-tried-Looked-Laws·
 use borrow.Fn.Kinds as FnKinds
 use borrow.Kind.ShrSlice
 use borrow.Kind.Value
@@ -22,4 +22,4 @@ abbrev pub ps : L.List (FnKinds.PK 1)
 ps = L._∷_ (Value.pVal record { ty = Declared.row network-proofs-Nodes·.the-type; one = Path.refl; val = StructLaws.val network-proofs-Nodes·.the-type network-proofs-Nodes-Laws·.the-laws; tells = StructLaws.tells network-proofs-Nodes·.the-type network-proofs-Nodes-Laws·.the-laws; still = StructLaws.still network-proofs-Nodes·.the-type network-proofs-Nodes-Laws·.the-copy Exit.yes; row = Rows.whole (Declared.row network-proofs-Nodes·.the-type); rd = λ x. x; mk = λ x. x } λ M 𝓤 H A W. record { copies = StructLaws.copy network-proofs-Nodes·.the-type network-proofs-Nodes-Laws·.the-copy 𝓤 H A W; lawful = StructLaws.lawful network-proofs-Nodes·.the-type network-proofs-Nodes-Laws·.the-laws 𝓤 H A W; makes = StructLaws.makes network-proofs-Nodes·.the-type network-proofs-Nodes-Laws·.the-plain 𝓤 H A; in-mem = Local.mem-whole 𝓤 H A W (Declared.row network-proofs-Nodes·.the-type); of-mem = Local.whole-mem 𝓤 H A W (Declared.row network-proofs-Nodes·.the-type) }) (L._∷_ (ShrSlice.pShrS Rec.row 0 tt) (L._∷_ (Value.pVal record { ty = Declared.row costly-arc-proofs-Seen·.the-type; one = Path.refl; val = StructLaws.val costly-arc-proofs-Seen·.the-type costly-arc-proofs-Seen-Laws·.the-laws; tells = StructLaws.tells costly-arc-proofs-Seen·.the-type costly-arc-proofs-Seen-Laws·.the-laws; still = StructLaws.still costly-arc-proofs-Seen·.the-type costly-arc-proofs-Seen-Laws·.the-copy Exit.yes; row = Rows.whole (Declared.row costly-arc-proofs-Seen·.the-type); rd = λ x. x; mk = λ x. x } λ M 𝓤 H A W. record { copies = StructLaws.copy costly-arc-proofs-Seen·.the-type costly-arc-proofs-Seen-Laws·.the-copy 𝓤 H A W; lawful = StructLaws.lawful costly-arc-proofs-Seen·.the-type costly-arc-proofs-Seen-Laws·.the-laws 𝓤 H A W; makes = StructLaws.makes costly-arc-proofs-Seen·.the-type costly-arc-proofs-Seen-Laws·.the-plain 𝓤 H A; in-mem = Local.mem-whole 𝓤 H A W (Declared.row costly-arc-proofs-Seen·.the-type); of-mem = Local.whole-mem 𝓤 H A W (Declared.row costly-arc-proofs-Seen·.the-type) }) (L._∷_ (FnKinds.pNum Syntax.w8) L.[])))
 
 abbrev pub r : FnKinds.RK 1
-r = Value.rVal record { ty = Declared.row scan-Looked·.the-type; one = Path.refl; val = StructLaws.val scan-Looked·.the-type scan-Looked-Laws·.the-laws; tells = StructLaws.tells scan-Looked·.the-type scan-Looked-Laws·.the-laws; still = StructLaws.still scan-Looked·.the-type scan-Looked-Laws·.the-copy Exit.yes; row = Rows.whole (Declared.row scan-Looked·.the-type); rd = λ x. x; mk = λ x. x } λ M 𝓤 H A W. record { copies = StructLaws.copy scan-Looked·.the-type scan-Looked-Laws·.the-copy 𝓤 H A W; lawful = StructLaws.lawful scan-Looked·.the-type scan-Looked-Laws·.the-laws 𝓤 H A W; makes = StructLaws.makes scan-Looked·.the-type scan-Looked-Laws·.the-plain 𝓤 H A; in-mem = Local.mem-whole 𝓤 H A W (Declared.row scan-Looked·.the-type); of-mem = Local.whole-mem 𝓤 H A W (Declared.row scan-Looked·.the-type) }
+r = Value.rVal record { ty = Declared.row rules-proofs-tried-Looked·.the-type; one = Path.refl; val = StructLaws.val rules-proofs-tried-Looked·.the-type rules-proofs-tried-Looked-Laws·.the-laws; tells = StructLaws.tells rules-proofs-tried-Looked·.the-type rules-proofs-tried-Looked-Laws·.the-laws; still = StructLaws.still rules-proofs-tried-Looked·.the-type rules-proofs-tried-Looked-Laws·.the-copy Exit.yes; row = Rows.whole (Declared.row rules-proofs-tried-Looked·.the-type); rd = λ x. x; mk = λ x. x } λ M 𝓤 H A W. record { copies = StructLaws.copy rules-proofs-tried-Looked·.the-type rules-proofs-tried-Looked-Laws·.the-copy 𝓤 H A W; lawful = StructLaws.lawful rules-proofs-tried-Looked·.the-type rules-proofs-tried-Looked-Laws·.the-laws 𝓤 H A W; makes = StructLaws.makes rules-proofs-tried-Looked·.the-type rules-proofs-tried-Looked-Laws·.the-plain 𝓤 H A; in-mem = Local.mem-whole 𝓤 H A W (Declared.row rules-proofs-tried-Looked·.the-type); of-mem = Local.whole-mem 𝓤 H A W (Declared.row rules-proofs-tried-Looked·.the-type) }

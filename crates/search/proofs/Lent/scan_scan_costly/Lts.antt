@@ -4,10 +4,10 @@ use Rattle.costly_arc.proofs.Seen as costly-arc-proofs-Seen·
 use Rattle.costly_arc.proofs.Seen.Laws as costly-arc-proofs-Seen-Laws·
 use Rattle.network.proofs.Nodes as network-proofs-Nodes·
 use Rattle.network.proofs.Nodes.Laws as network-proofs-Nodes-Laws·
-use Rattle.search.proofs.scan.Found as scan-Found·
-use Rattle.search.proofs.scan.Found.Laws as scan-Found-Laws·
-use Rattle.search.proofs.scan.Looked as scan-Looked·
-use Rattle.search.proofs.scan.Looked.Laws as scan-Looked-Laws·
+use Rattle.rules.proofs.found.Found as rules-proofs-found-Found·
+use Rattle.rules.proofs.found.Found.Laws as rules-proofs-found-Found-Laws·
+use Rattle.rules.proofs.tried.Looked as rules-proofs-tried-Looked·
+use Rattle.rules.proofs.tried.Looked.Laws as rules-proofs-tried-Looked-Laws·
 use borrow.Author.Called
 use borrow.Author.Tests
 use borrow.Fn.Any
@@ -84,28 +84,28 @@ abbrev pub q16 : Row.Entry
 q16 = (5, Rows.any-gone (Syntax.tyInt Syntax.w64))
 
 abbrev pub q15 : Row.Entry
-q15 = (8, Rows.whole (Declared.row scan-Found·.the-type))
+q15 = (7, Rows.any-gone q21)
 
-abbrev pub q14 : Row.Entry
-q14 = (7, Rows.any-gone q21)
+abbrev pub q14 : Syntax.Ty
+q14 = Syntax.tyRef (Syntax.named 0) Syntax.imm Rec.named
 
 abbrev pub q13 : Row.Entry
-q13 = (0, Rows.whole (Declared.row scan-Looked·.the-type))
+q13 = (1, Rows.whole (Declared.row network-proofs-Nodes·.the-type))
 
-abbrev pub q12 : Syntax.Ty
-q12 = Syntax.tyRef (Syntax.named 0) Syntax.imm Rec.named
+abbrev pub q12 : Row.Entry
+q12 = (3, Rows.whole (Declared.row costly-arc-proofs-Seen·.the-type))
 
 abbrev pub q11 : Row.Entry
-q11 = (1, Rows.whole (Declared.row network-proofs-Nodes·.the-type))
+q11 = (8, Rows.whole (Declared.row rules-proofs-found-Found·.the-type))
 
 abbrev pub q10 : Row.Entry
-q10 = (3, Rows.whole (Declared.row costly-arc-proofs-Seen·.the-type))
+q10 = (0, Rows.whole (Declared.row rules-proofs-tried-Looked·.the-type))
 
 abbrev pub q9 : Row.Entry
-q9 = (0, Rows.whole (Declared.row (Apart.apartT scan-Looked·.the-type)))
+q9 = (2, Rows.sslice Rec.row q14 0)
 
 abbrev pub q8 : Row.Entry
-q8 = (2, Rows.sslice Rec.row q12 0)
+q8 = (0, Rows.whole (Declared.row (Apart.apartT rules-proofs-tried-Looked·.the-type)))
 
 abbrev pub q7 : Syntax.Ty
 q7 = Syntax.tyStruct (L._∷_ 110 (L._∷_ 101 (L._∷_ 116 (L._∷_ 119 (L._∷_ 111 (L._∷_ 114 (L._∷_ 107 (L._∷_ 58 (L._∷_ 58 (L._∷_ 65 (L._∷_ 114 (L._∷_ 99 (L._∷_ 85 (L._∷_ 112 (L._∷_ 100 (L._∷_ 97 (L._∷_ 116 (L._∷_ 101 L.[])))))))))))))))))) (Syntax.tcons (Syntax.tyInt Syntax.w64) (Syntax.tcons Rec.by-value Syntax.tnil))
@@ -135,10 +135,10 @@ abbrev pub ps : L.List (FnKinds.PK 1)
 ps = L._∷_ (Value.pVal record { ty = Declared.row network-proofs-Nodes·.the-type; one = Path.refl; val = StructLaws.val network-proofs-Nodes·.the-type network-proofs-Nodes-Laws·.the-laws; tells = StructLaws.tells network-proofs-Nodes·.the-type network-proofs-Nodes-Laws·.the-laws; still = StructLaws.still network-proofs-Nodes·.the-type network-proofs-Nodes-Laws·.the-copy Exit.yes; row = Rows.whole (Declared.row network-proofs-Nodes·.the-type); rd = λ x. x; mk = λ x. x } λ M 𝓤 H A W. record { copies = StructLaws.copy network-proofs-Nodes·.the-type network-proofs-Nodes-Laws·.the-copy 𝓤 H A W; lawful = StructLaws.lawful network-proofs-Nodes·.the-type network-proofs-Nodes-Laws·.the-laws 𝓤 H A W; makes = StructLaws.makes network-proofs-Nodes·.the-type network-proofs-Nodes-Laws·.the-plain 𝓤 H A; in-mem = Local.mem-whole 𝓤 H A W (Declared.row network-proofs-Nodes·.the-type); of-mem = Local.whole-mem 𝓤 H A W (Declared.row network-proofs-Nodes·.the-type) }) (L._∷_ (ShrSlice.pShrS Rec.row 0 tt) (L._∷_ (Value.pVal record { ty = Declared.row costly-arc-proofs-Seen·.the-type; one = Path.refl; val = StructLaws.val costly-arc-proofs-Seen·.the-type costly-arc-proofs-Seen-Laws·.the-laws; tells = StructLaws.tells costly-arc-proofs-Seen·.the-type costly-arc-proofs-Seen-Laws·.the-laws; still = StructLaws.still costly-arc-proofs-Seen·.the-type costly-arc-proofs-Seen-Laws·.the-copy Exit.yes; row = Rows.whole (Declared.row costly-arc-proofs-Seen·.the-type); rd = λ x. x; mk = λ x. x } λ M 𝓤 H A W. record { copies = StructLaws.copy costly-arc-proofs-Seen·.the-type costly-arc-proofs-Seen-Laws·.the-copy 𝓤 H A W; lawful = StructLaws.lawful costly-arc-proofs-Seen·.the-type costly-arc-proofs-Seen-Laws·.the-laws 𝓤 H A W; makes = StructLaws.makes costly-arc-proofs-Seen·.the-type costly-arc-proofs-Seen-Laws·.the-plain 𝓤 H A; in-mem = Local.mem-whole 𝓤 H A W (Declared.row costly-arc-proofs-Seen·.the-type); of-mem = Local.whole-mem 𝓤 H A W (Declared.row costly-arc-proofs-Seen·.the-type) }) (L._∷_ (Num.pNum Syntax.w8) L.[])))
 
 abbrev pub r : FnKinds.RK 1
-r = Value.rVal record { ty = Declared.row scan-Looked·.the-type; one = Path.refl; val = StructLaws.val scan-Looked·.the-type scan-Looked-Laws·.the-laws; tells = StructLaws.tells scan-Looked·.the-type scan-Looked-Laws·.the-laws; still = StructLaws.still scan-Looked·.the-type scan-Looked-Laws·.the-copy Exit.yes; row = Rows.whole (Declared.row scan-Looked·.the-type); rd = λ x. x; mk = λ x. x } λ M 𝓤 H A W. record { copies = StructLaws.copy scan-Looked·.the-type scan-Looked-Laws·.the-copy 𝓤 H A W; lawful = StructLaws.lawful scan-Looked·.the-type scan-Looked-Laws·.the-laws 𝓤 H A W; makes = StructLaws.makes scan-Looked·.the-type scan-Looked-Laws·.the-plain 𝓤 H A; in-mem = Local.mem-whole 𝓤 H A W (Declared.row scan-Looked·.the-type); of-mem = Local.whole-mem 𝓤 H A W (Declared.row scan-Looked·.the-type) }
+r = Value.rVal record { ty = Declared.row rules-proofs-tried-Looked·.the-type; one = Path.refl; val = StructLaws.val rules-proofs-tried-Looked·.the-type rules-proofs-tried-Looked-Laws·.the-laws; tells = StructLaws.tells rules-proofs-tried-Looked·.the-type rules-proofs-tried-Looked-Laws·.the-laws; still = StructLaws.still rules-proofs-tried-Looked·.the-type rules-proofs-tried-Looked-Laws·.the-copy Exit.yes; row = Rows.whole (Declared.row rules-proofs-tried-Looked·.the-type); rd = λ x. x; mk = λ x. x } λ M 𝓤 H A W. record { copies = StructLaws.copy rules-proofs-tried-Looked·.the-type rules-proofs-tried-Looked-Laws·.the-copy 𝓤 H A W; lawful = StructLaws.lawful rules-proofs-tried-Looked·.the-type rules-proofs-tried-Looked-Laws·.the-laws 𝓤 H A W; makes = StructLaws.makes rules-proofs-tried-Looked·.the-type rules-proofs-tried-Looked-Laws·.the-plain 𝓤 H A; in-mem = Local.mem-whole 𝓤 H A W (Declared.row rules-proofs-tried-Looked·.the-type); of-mem = Local.whole-mem 𝓤 H A W (Declared.row rules-proofs-tried-Looked·.the-type) }
 
 abbrev pub xs : L.List Syntax.Ty
-xs = L._∷_ (Syntax.tyInt Syntax.w64) (L._∷_ Rec.by-value (L._∷_ q21 (L._∷_ (Syntax.tyStruct (L._∷_ 115 (L._∷_ 101 (L._∷_ 97 (L._∷_ 114 (L._∷_ 99 (L._∷_ 104 (L._∷_ 58 (L._∷_ 58 (L._∷_ 115 (L._∷_ 99 (L._∷_ 97 (L._∷_ 110 (L._∷_ 58 (L._∷_ 58 (L._∷_ 70 (L._∷_ 111 (L._∷_ 117 (L._∷_ 110 (L._∷_ 100 L.[]))))))))))))))))))) (Syntax.tcons Syntax.tyBool (Syntax.tcons Syntax.tyBool (Syntax.tcons (Syntax.tyStruct (L._∷_ 115 (L._∷_ 116 (L._∷_ 101 (L._∷_ 112 (L._∷_ 58 (L._∷_ 58 (L._∷_ 83 (L._∷_ 116 (L._∷_ 101 (L._∷_ 112 L.[])))))))))) (Syntax.tcons (Syntax.tyInt Syntax.w64) (Syntax.tcons (Syntax.tyInt Syntax.w64) (Syntax.tcons (Syntax.tyStruct (L._∷_ 115 (L._∷_ 116 (L._∷_ 101 (L._∷_ 112 (L._∷_ 58 (L._∷_ 58 (L._∷_ 67 (L._∷_ 104 (L._∷_ 97 (L._∷_ 110 (L._∷_ 103 (L._∷_ 101 L.[])))))))))))) (Syntax.tcons (Syntax.tyStruct (L._∷_ 110 (L._∷_ 101 (L._∷_ 116 (L._∷_ 119 (L._∷_ 111 (L._∷_ 114 (L._∷_ 107 (L._∷_ 58 (L._∷_ 58 (L._∷_ 69 (L._∷_ 100 (L._∷_ 105 (L._∷_ 116 L.[]))))))))))))) (Syntax.tcons q7 (Syntax.tcons q7 (Syntax.tcons q7 (Syntax.tcons q7 (Syntax.tcons q2 (Syntax.tcons q2 (Syntax.tcons (Syntax.tyInt Syntax.w64) Syntax.tnil)))))))) (Syntax.tcons (Syntax.tyStruct (L._∷_ 115 (L._∷_ 116 (L._∷_ 101 (L._∷_ 112 (L._∷_ 58 (L._∷_ 58 (L._∷_ 79 (L._∷_ 108 (L._∷_ 100 L.[]))))))))) (Syntax.tcons (Syntax.tyInt Syntax.w64) (Syntax.tcons q6 (Syntax.tcons q7 (Syntax.tcons q7 (Syntax.tcons q7 (Syntax.tcons q7 (Syntax.tcons q4 Syntax.tnil)))))))) Syntax.tnil))) Syntax.tnil)))) Syntax.tnil)))) (L._∷_ Syntax.tyBool (L._∷_ Syntax.tyBool L.[])))))
+xs = L._∷_ (Syntax.tyInt Syntax.w64) (L._∷_ Rec.by-value (L._∷_ q21 (L._∷_ (Syntax.tyStruct (L._∷_ 114 (L._∷_ 117 (L._∷_ 108 (L._∷_ 101 (L._∷_ 115 (L._∷_ 58 (L._∷_ 58 (L._∷_ 102 (L._∷_ 111 (L._∷_ 117 (L._∷_ 110 (L._∷_ 100 (L._∷_ 58 (L._∷_ 58 (L._∷_ 70 (L._∷_ 111 (L._∷_ 117 (L._∷_ 110 (L._∷_ 100 L.[]))))))))))))))))))) (Syntax.tcons Syntax.tyBool (Syntax.tcons Syntax.tyBool (Syntax.tcons (Syntax.tyStruct (L._∷_ 115 (L._∷_ 116 (L._∷_ 101 (L._∷_ 112 (L._∷_ 58 (L._∷_ 58 (L._∷_ 83 (L._∷_ 116 (L._∷_ 101 (L._∷_ 112 L.[])))))))))) (Syntax.tcons (Syntax.tyInt Syntax.w64) (Syntax.tcons (Syntax.tyInt Syntax.w64) (Syntax.tcons (Syntax.tyStruct (L._∷_ 115 (L._∷_ 116 (L._∷_ 101 (L._∷_ 112 (L._∷_ 58 (L._∷_ 58 (L._∷_ 67 (L._∷_ 104 (L._∷_ 97 (L._∷_ 110 (L._∷_ 103 (L._∷_ 101 L.[])))))))))))) (Syntax.tcons (Syntax.tyStruct (L._∷_ 110 (L._∷_ 101 (L._∷_ 116 (L._∷_ 119 (L._∷_ 111 (L._∷_ 114 (L._∷_ 107 (L._∷_ 58 (L._∷_ 58 (L._∷_ 69 (L._∷_ 100 (L._∷_ 105 (L._∷_ 116 L.[]))))))))))))) (Syntax.tcons q7 (Syntax.tcons q7 (Syntax.tcons q7 (Syntax.tcons q7 (Syntax.tcons q2 (Syntax.tcons q2 (Syntax.tcons (Syntax.tyInt Syntax.w64) Syntax.tnil)))))))) (Syntax.tcons (Syntax.tyStruct (L._∷_ 115 (L._∷_ 116 (L._∷_ 101 (L._∷_ 112 (L._∷_ 58 (L._∷_ 58 (L._∷_ 79 (L._∷_ 108 (L._∷_ 100 L.[]))))))))) (Syntax.tcons (Syntax.tyInt Syntax.w64) (Syntax.tcons q6 (Syntax.tcons q7 (Syntax.tcons q7 (Syntax.tcons q7 (Syntax.tcons q7 (Syntax.tcons q4 Syntax.tnil)))))))) Syntax.tnil))) Syntax.tnil)))) Syntax.tnil)))) (L._∷_ Syntax.tyBool (L._∷_ Syntax.tyBool L.[])))))
 
 abbrev pub m : Nat.ℕ
 m = 0
@@ -165,13 +165,13 @@ abbrev pub ps·3 : L.List (FnKinds.PK 0)
 ps·3 = L._∷_ (Value.pVal record { ty = Declared.row network-proofs-Nodes·.the-type; one = Path.refl; val = StructLaws.val network-proofs-Nodes·.the-type network-proofs-Nodes-Laws·.the-laws; tells = StructLaws.tells network-proofs-Nodes·.the-type network-proofs-Nodes-Laws·.the-laws; still = StructLaws.still network-proofs-Nodes·.the-type network-proofs-Nodes-Laws·.the-copy Exit.yes; row = Rows.whole (Declared.row network-proofs-Nodes·.the-type); rd = λ x. x; mk = λ x. x } λ M 𝓤 H A W. record { copies = StructLaws.copy network-proofs-Nodes·.the-type network-proofs-Nodes-Laws·.the-copy 𝓤 H A W; lawful = StructLaws.lawful network-proofs-Nodes·.the-type network-proofs-Nodes-Laws·.the-laws 𝓤 H A W; makes = StructLaws.makes network-proofs-Nodes·.the-type network-proofs-Nodes-Laws·.the-plain 𝓤 H A; in-mem = Local.mem-whole 𝓤 H A W (Declared.row network-proofs-Nodes·.the-type); of-mem = Local.whole-mem 𝓤 H A W (Declared.row network-proofs-Nodes·.the-type) }) (L._∷_ (KArray.pArr Rec.elem Rec.elem-laws 97) (L._∷_ (Value.pVal record { ty = Declared.row costly-arc-proofs-Seen·.the-type; one = Path.refl; val = StructLaws.val costly-arc-proofs-Seen·.the-type costly-arc-proofs-Seen-Laws·.the-laws; tells = StructLaws.tells costly-arc-proofs-Seen·.the-type costly-arc-proofs-Seen-Laws·.the-laws; still = StructLaws.still costly-arc-proofs-Seen·.the-type costly-arc-proofs-Seen-Laws·.the-copy Exit.yes; row = Rows.whole (Declared.row costly-arc-proofs-Seen·.the-type); rd = λ x. x; mk = λ x. x } λ M 𝓤 H A W. record { copies = StructLaws.copy costly-arc-proofs-Seen·.the-type costly-arc-proofs-Seen-Laws·.the-copy 𝓤 H A W; lawful = StructLaws.lawful costly-arc-proofs-Seen·.the-type costly-arc-proofs-Seen-Laws·.the-laws 𝓤 H A W; makes = StructLaws.makes costly-arc-proofs-Seen·.the-type costly-arc-proofs-Seen-Laws·.the-plain 𝓤 H A; in-mem = Local.mem-whole 𝓤 H A W (Declared.row costly-arc-proofs-Seen·.the-type); of-mem = Local.whole-mem 𝓤 H A W (Declared.row costly-arc-proofs-Seen·.the-type) }) (L._∷_ (Num.pNum Syntax.w8) L.[])))
 
 abbrev pub r·3 : FnKinds.RK 0
-r·3 = Value.rVal record { ty = Declared.row scan-Looked·.the-type; one = Path.refl; val = StructLaws.val scan-Looked·.the-type scan-Looked-Laws·.the-laws; tells = StructLaws.tells scan-Looked·.the-type scan-Looked-Laws·.the-laws; still = StructLaws.still scan-Looked·.the-type scan-Looked-Laws·.the-copy Exit.yes; row = Rows.whole (Declared.row scan-Looked·.the-type); rd = λ x. x; mk = λ x. x } λ M 𝓤 H A W. record { copies = StructLaws.copy scan-Looked·.the-type scan-Looked-Laws·.the-copy 𝓤 H A W; lawful = StructLaws.lawful scan-Looked·.the-type scan-Looked-Laws·.the-laws 𝓤 H A W; makes = StructLaws.makes scan-Looked·.the-type scan-Looked-Laws·.the-plain 𝓤 H A; in-mem = Local.mem-whole 𝓤 H A W (Declared.row scan-Looked·.the-type); of-mem = Local.whole-mem 𝓤 H A W (Declared.row scan-Looked·.the-type) }
+r·3 = Value.rVal record { ty = Declared.row rules-proofs-tried-Looked·.the-type; one = Path.refl; val = StructLaws.val rules-proofs-tried-Looked·.the-type rules-proofs-tried-Looked-Laws·.the-laws; tells = StructLaws.tells rules-proofs-tried-Looked·.the-type rules-proofs-tried-Looked-Laws·.the-laws; still = StructLaws.still rules-proofs-tried-Looked·.the-type rules-proofs-tried-Looked-Laws·.the-copy Exit.yes; row = Rows.whole (Declared.row rules-proofs-tried-Looked·.the-type); rd = λ x. x; mk = λ x. x } λ M 𝓤 H A W. record { copies = StructLaws.copy rules-proofs-tried-Looked·.the-type rules-proofs-tried-Looked-Laws·.the-copy 𝓤 H A W; lawful = StructLaws.lawful rules-proofs-tried-Looked·.the-type rules-proofs-tried-Looked-Laws·.the-laws 𝓤 H A W; makes = StructLaws.makes rules-proofs-tried-Looked·.the-type rules-proofs-tried-Looked-Laws·.the-plain 𝓤 H A; in-mem = Local.mem-whole 𝓤 H A W (Declared.row rules-proofs-tried-Looked·.the-type); of-mem = Local.whole-mem 𝓤 H A W (Declared.row rules-proofs-tried-Looked·.the-type) }
 
 abbrev pub ps·4 : L.List (FnKinds.PK 0)
 ps·4 = L.[]
 
 abbrev pub r·4 : FnKinds.RK 0
-r·4 = Value.rVal record { ty = Declared.row scan-Found·.the-type; one = Path.refl; val = StructLaws.val scan-Found·.the-type scan-Found-Laws·.the-laws; tells = StructLaws.tells scan-Found·.the-type scan-Found-Laws·.the-laws; still = StructLaws.still scan-Found·.the-type scan-Found-Laws·.the-copy Exit.yes; row = Rows.whole (Declared.row scan-Found·.the-type); rd = λ x. x; mk = λ x. x } λ M 𝓤 H A W. record { copies = StructLaws.copy scan-Found·.the-type scan-Found-Laws·.the-copy 𝓤 H A W; lawful = StructLaws.lawful scan-Found·.the-type scan-Found-Laws·.the-laws 𝓤 H A W; makes = StructLaws.makes scan-Found·.the-type scan-Found-Laws·.the-plain 𝓤 H A; in-mem = Local.mem-whole 𝓤 H A W (Declared.row scan-Found·.the-type); of-mem = Local.whole-mem 𝓤 H A W (Declared.row scan-Found·.the-type) }
+r·4 = Value.rVal record { ty = Declared.row rules-proofs-found-Found·.the-type; one = Path.refl; val = StructLaws.val rules-proofs-found-Found·.the-type rules-proofs-found-Found-Laws·.the-laws; tells = StructLaws.tells rules-proofs-found-Found·.the-type rules-proofs-found-Found-Laws·.the-laws; still = StructLaws.still rules-proofs-found-Found·.the-type rules-proofs-found-Found-Laws·.the-copy Exit.yes; row = Rows.whole (Declared.row rules-proofs-found-Found·.the-type); rd = λ x. x; mk = λ x. x } λ M 𝓤 H A W. record { copies = StructLaws.copy rules-proofs-found-Found·.the-type rules-proofs-found-Found-Laws·.the-copy 𝓤 H A W; lawful = StructLaws.lawful rules-proofs-found-Found·.the-type rules-proofs-found-Found-Laws·.the-laws 𝓤 H A W; makes = StructLaws.makes rules-proofs-found-Found·.the-type rules-proofs-found-Found-Laws·.the-plain 𝓤 H A; in-mem = Local.mem-whole 𝓤 H A W (Declared.row rules-proofs-found-Found·.the-type); of-mem = Local.whole-mem 𝓤 H A W (Declared.row rules-proofs-found-Found·.the-type) }
 
 abbrev pub hs : L.List Syntax.Home
 hs = L._∷_ Syntax.valueLocal (L._∷_ Syntax.valueLocal (L._∷_ Syntax.valueLocal (L._∷_ Syntax.valueLocal (L._∷_ Syntax.valueLocal (L._∷_ Syntax.valueLocal (L._∷_ Syntax.valueLocal (L._∷_ Syntax.valueLocal (L._∷_ Syntax.valueLocal (L._∷_ Syntax.valueLocal (L._∷_ Syntax.valueLocal L.[]))))))))))
@@ -195,13 +195,13 @@ abbrev b5 : Syntax.Body
 b5 = Syntax.call "network::list::read" (L._∷_ (Syntax.copy (Syntax.place 2 L.[])) (L._∷_ (Syntax.copy (Syntax.place 5 L.[])) L.[])) (Syntax.place 6 L.[])
 
 abbrev b6 : Syntax.Body
-b6 = Syntax.call "search::scan::is_root" (L._∷_ (Syntax.copy (Syntax.place 6 L.[])) L.[]) (Syntax.place 10 L.[])
+b6 = Syntax.call "rules::tried::is_root" (L._∷_ (Syntax.copy (Syntax.place 6 L.[])) L.[]) (Syntax.place 10 L.[])
 
 abbrev b7 : Syntax.Body
 b7 = Syntax.call "network::list::view" (L._∷_ (Syntax.copy (Syntax.place 2 L.[])) L.[]) (Syntax.place 7 L.[])
 
 abbrev b8 : Syntax.Body
-b8 = Syntax.call "search::scan::at_costly" (L._∷_ (Syntax.copy (Syntax.place 1 L.[])) (L._∷_ (Syntax.copy (Syntax.place 7 L.[])) (L._∷_ (Syntax.copy (Syntax.place 3 L.[])) (L._∷_ (Syntax.copy (Syntax.place 4 L.[])) L.[])))) (Syntax.place 0 L.[])
+b8 = Syntax.call "rules::tried::at_costly" (L._∷_ (Syntax.copy (Syntax.place 1 L.[])) (L._∷_ (Syntax.copy (Syntax.place 7 L.[])) (L._∷_ (Syntax.copy (Syntax.place 3 L.[])) (L._∷_ (Syntax.copy (Syntax.place 4 L.[])) L.[])))) (Syntax.place 0 L.[])
 
 abbrev b9 : Syntax.Body
 b9 = Syntax.return
@@ -243,7 +243,7 @@ abbrev b21 : Syntax.Body
 b21 = Syntax.block b20
 
 abbrev b22 : Syntax.Body
-b22 = Syntax.call "search::scan::nothing" L.[] (Syntax.place 8 L.[])
+b22 = Syntax.call "rules::found::nothing" L.[] (Syntax.place 8 L.[])
 
 abbrev b23 : Syntax.Body
 b23 = Syntax.assign (Syntax.place 0 L.[]) (Syntax.aggregate (L._∷_ (Syntax.copy (Syntax.place 8 L.[])) (L._∷_ (Syntax.copy (Syntax.place 3 L.[])) L.[])))
@@ -270,67 +270,67 @@ abbrev pub Claims : Type 1
 Claims = FnKinds.In 1 ps·0 × FnKinds.Out 1 ps·0 r·0 × FnKinds.In 0 ps·1 × FnKinds.Out 0 ps·1 r·1 × FnKinds.In 1 ps·2 × FnKinds.Out 1 ps·2 r·2 × FnKinds.In 0 ps·3 × FnKinds.Out 0 ps·3 r·3 × FnKinds.In 0 ps·4 × FnKinds.Out 0 ps·4 r·4
 
 abbrev pub t0 : L.List Row.Entry
-t0 = L._∷_ (0, Rows.any-gone (Syntax.tyStruct (L._∷_ 115 (L._∷_ 101 (L._∷_ 97 (L._∷_ 114 (L._∷_ 99 (L._∷_ 104 (L._∷_ 58 (L._∷_ 58 (L._∷_ 115 (L._∷_ 99 (L._∷_ 97 (L._∷_ 110 (L._∷_ 58 (L._∷_ 58 (L._∷_ 76 (L._∷_ 111 (L._∷_ 111 (L._∷_ 107 (L._∷_ 101 (L._∷_ 100 L.[])))))))))))))))))))) (Syntax.tcons (Syntax.tyStruct (L._∷_ 115 (L._∷_ 101 (L._∷_ 97 (L._∷_ 114 (L._∷_ 99 (L._∷_ 104 (L._∷_ 58 (L._∷_ 58 (L._∷_ 115 (L._∷_ 99 (L._∷_ 97 (L._∷_ 110 (L._∷_ 58 (L._∷_ 58 (L._∷_ 70 (L._∷_ 111 (L._∷_ 117 (L._∷_ 110 (L._∷_ 100 L.[]))))))))))))))))))) (Syntax.tcons Syntax.tyBool (Syntax.tcons Syntax.tyBool (Syntax.tcons (Syntax.tyStruct (L._∷_ 115 (L._∷_ 116 (L._∷_ 101 (L._∷_ 112 (L._∷_ 58 (L._∷_ 58 (L._∷_ 83 (L._∷_ 116 (L._∷_ 101 (L._∷_ 112 L.[])))))))))) (Syntax.tcons (Syntax.tyInt Syntax.w64) (Syntax.tcons (Syntax.tyInt Syntax.w64) (Syntax.tcons (Syntax.tyStruct (L._∷_ 115 (L._∷_ 116 (L._∷_ 101 (L._∷_ 112 (L._∷_ 58 (L._∷_ 58 (L._∷_ 67 (L._∷_ 104 (L._∷_ 97 (L._∷_ 110 (L._∷_ 103 (L._∷_ 101 L.[])))))))))))) (Syntax.tcons (Syntax.tyStruct (L._∷_ 110 (L._∷_ 101 (L._∷_ 116 (L._∷_ 119 (L._∷_ 111 (L._∷_ 114 (L._∷_ 107 (L._∷_ 58 (L._∷_ 58 (L._∷_ 69 (L._∷_ 100 (L._∷_ 105 (L._∷_ 116 L.[]))))))))))))) (Syntax.tcons q7 (Syntax.tcons q7 (Syntax.tcons q7 (Syntax.tcons q7 (Syntax.tcons q2 (Syntax.tcons q2 (Syntax.tcons (Syntax.tyInt Syntax.w64) Syntax.tnil)))))))) (Syntax.tcons (Syntax.tyStruct (L._∷_ 115 (L._∷_ 116 (L._∷_ 101 (L._∷_ 112 (L._∷_ 58 (L._∷_ 58 (L._∷_ 79 (L._∷_ 108 (L._∷_ 100 L.[]))))))))) (Syntax.tcons (Syntax.tyInt Syntax.w64) (Syntax.tcons q6 (Syntax.tcons q7 (Syntax.tcons q7 (Syntax.tcons q7 (Syntax.tcons q7 (Syntax.tcons q4 Syntax.tnil)))))))) Syntax.tnil))) Syntax.tnil)))) Syntax.tnil)))) (Syntax.tcons q5 Syntax.tnil)))) (L._∷_ q11 (L._∷_ q8 (L._∷_ q10 (L._∷_ q18 (L._∷_ q16 (L._∷_ q23 (L._∷_ q14 (L._∷_ (8, Rows.any-gone (Syntax.tyStruct (L._∷_ 115 (L._∷_ 101 (L._∷_ 97 (L._∷_ 114 (L._∷_ 99 (L._∷_ 104 (L._∷_ 58 (L._∷_ 58 (L._∷_ 115 (L._∷_ 99 (L._∷_ 97 (L._∷_ 110 (L._∷_ 58 (L._∷_ 58 (L._∷_ 70 (L._∷_ 111 (L._∷_ 117 (L._∷_ 110 (L._∷_ 100 L.[]))))))))))))))))))) (Syntax.tcons Syntax.tyBool (Syntax.tcons Syntax.tyBool (Syntax.tcons (Syntax.tyStruct (L._∷_ 115 (L._∷_ 116 (L._∷_ 101 (L._∷_ 112 (L._∷_ 58 (L._∷_ 58 (L._∷_ 83 (L._∷_ 116 (L._∷_ 101 (L._∷_ 112 L.[])))))))))) (Syntax.tcons (Syntax.tyInt Syntax.w64) (Syntax.tcons (Syntax.tyInt Syntax.w64) (Syntax.tcons (Syntax.tyStruct (L._∷_ 115 (L._∷_ 116 (L._∷_ 101 (L._∷_ 112 (L._∷_ 58 (L._∷_ 58 (L._∷_ 67 (L._∷_ 104 (L._∷_ 97 (L._∷_ 110 (L._∷_ 103 (L._∷_ 101 L.[])))))))))))) (Syntax.tcons (Syntax.tyStruct (L._∷_ 110 (L._∷_ 101 (L._∷_ 116 (L._∷_ 119 (L._∷_ 111 (L._∷_ 114 (L._∷_ 107 (L._∷_ 58 (L._∷_ 58 (L._∷_ 69 (L._∷_ 100 (L._∷_ 105 (L._∷_ 116 L.[]))))))))))))) (Syntax.tcons q7 (Syntax.tcons q7 (Syntax.tcons q7 (Syntax.tcons q7 (Syntax.tcons q2 (Syntax.tcons q2 (Syntax.tcons (Syntax.tyInt Syntax.w64) Syntax.tnil)))))))) (Syntax.tcons (Syntax.tyStruct (L._∷_ 115 (L._∷_ 116 (L._∷_ 101 (L._∷_ 112 (L._∷_ 58 (L._∷_ 58 (L._∷_ 79 (L._∷_ 108 (L._∷_ 100 L.[]))))))))) (Syntax.tcons (Syntax.tyInt Syntax.w64) (Syntax.tcons q6 (Syntax.tcons q7 (Syntax.tcons q7 (Syntax.tcons q7 (Syntax.tcons q7 (Syntax.tcons q4 Syntax.tnil)))))))) Syntax.tnil))) Syntax.tnil)))) Syntax.tnil))))) (L._∷_ q22 (L._∷_ q20 L.[]))))))))))
+t0 = L._∷_ (0, Rows.any-gone (Syntax.tyStruct (L._∷_ 114 (L._∷_ 117 (L._∷_ 108 (L._∷_ 101 (L._∷_ 115 (L._∷_ 58 (L._∷_ 58 (L._∷_ 116 (L._∷_ 114 (L._∷_ 105 (L._∷_ 101 (L._∷_ 100 (L._∷_ 58 (L._∷_ 58 (L._∷_ 76 (L._∷_ 111 (L._∷_ 111 (L._∷_ 107 (L._∷_ 101 (L._∷_ 100 L.[])))))))))))))))))))) (Syntax.tcons (Syntax.tyStruct (L._∷_ 114 (L._∷_ 117 (L._∷_ 108 (L._∷_ 101 (L._∷_ 115 (L._∷_ 58 (L._∷_ 58 (L._∷_ 102 (L._∷_ 111 (L._∷_ 117 (L._∷_ 110 (L._∷_ 100 (L._∷_ 58 (L._∷_ 58 (L._∷_ 70 (L._∷_ 111 (L._∷_ 117 (L._∷_ 110 (L._∷_ 100 L.[]))))))))))))))))))) (Syntax.tcons Syntax.tyBool (Syntax.tcons Syntax.tyBool (Syntax.tcons (Syntax.tyStruct (L._∷_ 115 (L._∷_ 116 (L._∷_ 101 (L._∷_ 112 (L._∷_ 58 (L._∷_ 58 (L._∷_ 83 (L._∷_ 116 (L._∷_ 101 (L._∷_ 112 L.[])))))))))) (Syntax.tcons (Syntax.tyInt Syntax.w64) (Syntax.tcons (Syntax.tyInt Syntax.w64) (Syntax.tcons (Syntax.tyStruct (L._∷_ 115 (L._∷_ 116 (L._∷_ 101 (L._∷_ 112 (L._∷_ 58 (L._∷_ 58 (L._∷_ 67 (L._∷_ 104 (L._∷_ 97 (L._∷_ 110 (L._∷_ 103 (L._∷_ 101 L.[])))))))))))) (Syntax.tcons (Syntax.tyStruct (L._∷_ 110 (L._∷_ 101 (L._∷_ 116 (L._∷_ 119 (L._∷_ 111 (L._∷_ 114 (L._∷_ 107 (L._∷_ 58 (L._∷_ 58 (L._∷_ 69 (L._∷_ 100 (L._∷_ 105 (L._∷_ 116 L.[]))))))))))))) (Syntax.tcons q7 (Syntax.tcons q7 (Syntax.tcons q7 (Syntax.tcons q7 (Syntax.tcons q2 (Syntax.tcons q2 (Syntax.tcons (Syntax.tyInt Syntax.w64) Syntax.tnil)))))))) (Syntax.tcons (Syntax.tyStruct (L._∷_ 115 (L._∷_ 116 (L._∷_ 101 (L._∷_ 112 (L._∷_ 58 (L._∷_ 58 (L._∷_ 79 (L._∷_ 108 (L._∷_ 100 L.[]))))))))) (Syntax.tcons (Syntax.tyInt Syntax.w64) (Syntax.tcons q6 (Syntax.tcons q7 (Syntax.tcons q7 (Syntax.tcons q7 (Syntax.tcons q7 (Syntax.tcons q4 Syntax.tnil)))))))) Syntax.tnil))) Syntax.tnil)))) Syntax.tnil)))) (Syntax.tcons q5 Syntax.tnil)))) (L._∷_ q13 (L._∷_ q9 (L._∷_ q12 (L._∷_ q18 (L._∷_ q16 (L._∷_ q23 (L._∷_ q15 (L._∷_ (8, Rows.any-gone (Syntax.tyStruct (L._∷_ 114 (L._∷_ 117 (L._∷_ 108 (L._∷_ 101 (L._∷_ 115 (L._∷_ 58 (L._∷_ 58 (L._∷_ 102 (L._∷_ 111 (L._∷_ 117 (L._∷_ 110 (L._∷_ 100 (L._∷_ 58 (L._∷_ 58 (L._∷_ 70 (L._∷_ 111 (L._∷_ 117 (L._∷_ 110 (L._∷_ 100 L.[]))))))))))))))))))) (Syntax.tcons Syntax.tyBool (Syntax.tcons Syntax.tyBool (Syntax.tcons (Syntax.tyStruct (L._∷_ 115 (L._∷_ 116 (L._∷_ 101 (L._∷_ 112 (L._∷_ 58 (L._∷_ 58 (L._∷_ 83 (L._∷_ 116 (L._∷_ 101 (L._∷_ 112 L.[])))))))))) (Syntax.tcons (Syntax.tyInt Syntax.w64) (Syntax.tcons (Syntax.tyInt Syntax.w64) (Syntax.tcons (Syntax.tyStruct (L._∷_ 115 (L._∷_ 116 (L._∷_ 101 (L._∷_ 112 (L._∷_ 58 (L._∷_ 58 (L._∷_ 67 (L._∷_ 104 (L._∷_ 97 (L._∷_ 110 (L._∷_ 103 (L._∷_ 101 L.[])))))))))))) (Syntax.tcons (Syntax.tyStruct (L._∷_ 110 (L._∷_ 101 (L._∷_ 116 (L._∷_ 119 (L._∷_ 111 (L._∷_ 114 (L._∷_ 107 (L._∷_ 58 (L._∷_ 58 (L._∷_ 69 (L._∷_ 100 (L._∷_ 105 (L._∷_ 116 L.[]))))))))))))) (Syntax.tcons q7 (Syntax.tcons q7 (Syntax.tcons q7 (Syntax.tcons q7 (Syntax.tcons q2 (Syntax.tcons q2 (Syntax.tcons (Syntax.tyInt Syntax.w64) Syntax.tnil)))))))) (Syntax.tcons (Syntax.tyStruct (L._∷_ 115 (L._∷_ 116 (L._∷_ 101 (L._∷_ 112 (L._∷_ 58 (L._∷_ 58 (L._∷_ 79 (L._∷_ 108 (L._∷_ 100 L.[]))))))))) (Syntax.tcons (Syntax.tyInt Syntax.w64) (Syntax.tcons q6 (Syntax.tcons q7 (Syntax.tcons q7 (Syntax.tcons q7 (Syntax.tcons q7 (Syntax.tcons q4 Syntax.tnil)))))))) Syntax.tnil))) Syntax.tnil)))) Syntax.tnil))))) (L._∷_ q22 (L._∷_ q20 L.[]))))))))))
 
 abbrev pub t1 : L.List Row.Entry
-t1 = L._∷_ q13 (L._∷_ q0 (L._∷_ q8 (L._∷_ q3 (L._∷_ (4, Rows.any-gone (Syntax.tyInt Syntax.w8)) (L._∷_ q16 (L._∷_ q23 (L._∷_ q14 (L._∷_ (8, Rows.any-gone (Syntax.tyStruct (L._∷_ 115 (L._∷_ 101 (L._∷_ 97 (L._∷_ 114 (L._∷_ 99 (L._∷_ 104 (L._∷_ 58 (L._∷_ 58 (L._∷_ 115 (L._∷_ 99 (L._∷_ 97 (L._∷_ 110 (L._∷_ 58 (L._∷_ 58 (L._∷_ 70 (L._∷_ 111 (L._∷_ 117 (L._∷_ 110 (L._∷_ 100 L.[]))))))))))))))))))) (Syntax.tcons Syntax.tyBool (Syntax.tcons Syntax.tyBool (Syntax.tcons (Syntax.tyStruct (L._∷_ 115 (L._∷_ 116 (L._∷_ 101 (L._∷_ 112 (L._∷_ 58 (L._∷_ 58 (L._∷_ 83 (L._∷_ 116 (L._∷_ 101 (L._∷_ 112 L.[])))))))))) (Syntax.tcons (Syntax.tyInt Syntax.w64) (Syntax.tcons (Syntax.tyInt Syntax.w64) (Syntax.tcons (Syntax.tyStruct (L._∷_ 115 (L._∷_ 116 (L._∷_ 101 (L._∷_ 112 (L._∷_ 58 (L._∷_ 58 (L._∷_ 67 (L._∷_ 104 (L._∷_ 97 (L._∷_ 110 (L._∷_ 103 (L._∷_ 101 L.[])))))))))))) (Syntax.tcons (Syntax.tyStruct (L._∷_ 110 (L._∷_ 101 (L._∷_ 116 (L._∷_ 119 (L._∷_ 111 (L._∷_ 114 (L._∷_ 107 (L._∷_ 58 (L._∷_ 58 (L._∷_ 69 (L._∷_ 100 (L._∷_ 105 (L._∷_ 116 L.[]))))))))))))) (Syntax.tcons q7 (Syntax.tcons q7 (Syntax.tcons q7 (Syntax.tcons q7 (Syntax.tcons q2 (Syntax.tcons q2 (Syntax.tcons (Syntax.tyInt Syntax.w64) Syntax.tnil)))))))) (Syntax.tcons (Syntax.tyStruct (L._∷_ 115 (L._∷_ 116 (L._∷_ 101 (L._∷_ 112 (L._∷_ 58 (L._∷_ 58 (L._∷_ 79 (L._∷_ 108 (L._∷_ 100 L.[]))))))))) (Syntax.tcons (Syntax.tyInt Syntax.w64) (Syntax.tcons q6 (Syntax.tcons q7 (Syntax.tcons q7 (Syntax.tcons q7 (Syntax.tcons q7 (Syntax.tcons q4 Syntax.tnil)))))))) Syntax.tnil))) Syntax.tnil)))) Syntax.tnil))))) (L._∷_ q22 (L._∷_ q20 L.[]))))))))))
+t1 = L._∷_ q10 (L._∷_ q0 (L._∷_ q9 (L._∷_ q3 (L._∷_ (4, Rows.any-gone (Syntax.tyInt Syntax.w8)) (L._∷_ q16 (L._∷_ q23 (L._∷_ q15 (L._∷_ (8, Rows.any-gone (Syntax.tyStruct (L._∷_ 114 (L._∷_ 117 (L._∷_ 108 (L._∷_ 101 (L._∷_ 115 (L._∷_ 58 (L._∷_ 58 (L._∷_ 102 (L._∷_ 111 (L._∷_ 117 (L._∷_ 110 (L._∷_ 100 (L._∷_ 58 (L._∷_ 58 (L._∷_ 70 (L._∷_ 111 (L._∷_ 117 (L._∷_ 110 (L._∷_ 100 L.[]))))))))))))))))))) (Syntax.tcons Syntax.tyBool (Syntax.tcons Syntax.tyBool (Syntax.tcons (Syntax.tyStruct (L._∷_ 115 (L._∷_ 116 (L._∷_ 101 (L._∷_ 112 (L._∷_ 58 (L._∷_ 58 (L._∷_ 83 (L._∷_ 116 (L._∷_ 101 (L._∷_ 112 L.[])))))))))) (Syntax.tcons (Syntax.tyInt Syntax.w64) (Syntax.tcons (Syntax.tyInt Syntax.w64) (Syntax.tcons (Syntax.tyStruct (L._∷_ 115 (L._∷_ 116 (L._∷_ 101 (L._∷_ 112 (L._∷_ 58 (L._∷_ 58 (L._∷_ 67 (L._∷_ 104 (L._∷_ 97 (L._∷_ 110 (L._∷_ 103 (L._∷_ 101 L.[])))))))))))) (Syntax.tcons (Syntax.tyStruct (L._∷_ 110 (L._∷_ 101 (L._∷_ 116 (L._∷_ 119 (L._∷_ 111 (L._∷_ 114 (L._∷_ 107 (L._∷_ 58 (L._∷_ 58 (L._∷_ 69 (L._∷_ 100 (L._∷_ 105 (L._∷_ 116 L.[]))))))))))))) (Syntax.tcons q7 (Syntax.tcons q7 (Syntax.tcons q7 (Syntax.tcons q7 (Syntax.tcons q2 (Syntax.tcons q2 (Syntax.tcons (Syntax.tyInt Syntax.w64) Syntax.tnil)))))))) (Syntax.tcons (Syntax.tyStruct (L._∷_ 115 (L._∷_ 116 (L._∷_ 101 (L._∷_ 112 (L._∷_ 58 (L._∷_ 58 (L._∷_ 79 (L._∷_ 108 (L._∷_ 100 L.[]))))))))) (Syntax.tcons (Syntax.tyInt Syntax.w64) (Syntax.tcons q6 (Syntax.tcons q7 (Syntax.tcons q7 (Syntax.tcons q7 (Syntax.tcons q7 (Syntax.tcons q4 Syntax.tnil)))))))) Syntax.tnil))) Syntax.tnil)))) Syntax.tnil))))) (L._∷_ q22 (L._∷_ q20 L.[]))))))))))
 
 abbrev pub t2 : L.List Row.Entry
-t2 = L._∷_ (0, Rows.any-gone (Syntax.tyStruct (L._∷_ 115 (L._∷_ 101 (L._∷_ 97 (L._∷_ 114 (L._∷_ 99 (L._∷_ 104 (L._∷_ 58 (L._∷_ 58 (L._∷_ 115 (L._∷_ 99 (L._∷_ 97 (L._∷_ 110 (L._∷_ 58 (L._∷_ 58 (L._∷_ 76 (L._∷_ 111 (L._∷_ 111 (L._∷_ 107 (L._∷_ 101 (L._∷_ 100 L.[])))))))))))))))))))) (Syntax.tcons (Syntax.tyStruct (L._∷_ 115 (L._∷_ 101 (L._∷_ 97 (L._∷_ 114 (L._∷_ 99 (L._∷_ 104 (L._∷_ 58 (L._∷_ 58 (L._∷_ 115 (L._∷_ 99 (L._∷_ 97 (L._∷_ 110 (L._∷_ 58 (L._∷_ 58 (L._∷_ 70 (L._∷_ 111 (L._∷_ 117 (L._∷_ 110 (L._∷_ 100 L.[]))))))))))))))))))) (Syntax.tcons Syntax.tyBool (Syntax.tcons Syntax.tyBool (Syntax.tcons (Syntax.tyStruct (L._∷_ 115 (L._∷_ 116 (L._∷_ 101 (L._∷_ 112 (L._∷_ 58 (L._∷_ 58 (L._∷_ 83 (L._∷_ 116 (L._∷_ 101 (L._∷_ 112 L.[])))))))))) (Syntax.tcons (Syntax.tyInt Syntax.w64) (Syntax.tcons (Syntax.tyInt Syntax.w64) (Syntax.tcons (Syntax.tyStruct (L._∷_ 115 (L._∷_ 116 (L._∷_ 101 (L._∷_ 112 (L._∷_ 58 (L._∷_ 58 (L._∷_ 67 (L._∷_ 104 (L._∷_ 97 (L._∷_ 110 (L._∷_ 103 (L._∷_ 101 L.[])))))))))))) (Syntax.tcons (Syntax.tyStruct (L._∷_ 110 (L._∷_ 101 (L._∷_ 116 (L._∷_ 119 (L._∷_ 111 (L._∷_ 114 (L._∷_ 107 (L._∷_ 58 (L._∷_ 58 (L._∷_ 69 (L._∷_ 100 (L._∷_ 105 (L._∷_ 116 L.[]))))))))))))) (Syntax.tcons q7 (Syntax.tcons q7 (Syntax.tcons q7 (Syntax.tcons q7 (Syntax.tcons q2 (Syntax.tcons q2 (Syntax.tcons (Syntax.tyInt Syntax.w64) Syntax.tnil)))))))) (Syntax.tcons (Syntax.tyStruct (L._∷_ 115 (L._∷_ 116 (L._∷_ 101 (L._∷_ 112 (L._∷_ 58 (L._∷_ 58 (L._∷_ 79 (L._∷_ 108 (L._∷_ 100 L.[]))))))))) (Syntax.tcons (Syntax.tyInt Syntax.w64) (Syntax.tcons q6 (Syntax.tcons q7 (Syntax.tcons q7 (Syntax.tcons q7 (Syntax.tcons q7 (Syntax.tcons q4 Syntax.tnil)))))))) Syntax.tnil))) Syntax.tnil)))) Syntax.tnil)))) (Syntax.tcons q5 Syntax.tnil)))) (L._∷_ q11 (L._∷_ q8 (L._∷_ q10 (L._∷_ q18 (L._∷_ q17 (L._∷_ q23 (L._∷_ q14 (L._∷_ (8, Rows.any-gone (Syntax.tyStruct (L._∷_ 115 (L._∷_ 101 (L._∷_ 97 (L._∷_ 114 (L._∷_ 99 (L._∷_ 104 (L._∷_ 58 (L._∷_ 58 (L._∷_ 115 (L._∷_ 99 (L._∷_ 97 (L._∷_ 110 (L._∷_ 58 (L._∷_ 58 (L._∷_ 70 (L._∷_ 111 (L._∷_ 117 (L._∷_ 110 (L._∷_ 100 L.[]))))))))))))))))))) (Syntax.tcons Syntax.tyBool (Syntax.tcons Syntax.tyBool (Syntax.tcons (Syntax.tyStruct (L._∷_ 115 (L._∷_ 116 (L._∷_ 101 (L._∷_ 112 (L._∷_ 58 (L._∷_ 58 (L._∷_ 83 (L._∷_ 116 (L._∷_ 101 (L._∷_ 112 L.[])))))))))) (Syntax.tcons (Syntax.tyInt Syntax.w64) (Syntax.tcons (Syntax.tyInt Syntax.w64) (Syntax.tcons (Syntax.tyStruct (L._∷_ 115 (L._∷_ 116 (L._∷_ 101 (L._∷_ 112 (L._∷_ 58 (L._∷_ 58 (L._∷_ 67 (L._∷_ 104 (L._∷_ 97 (L._∷_ 110 (L._∷_ 103 (L._∷_ 101 L.[])))))))))))) (Syntax.tcons (Syntax.tyStruct (L._∷_ 110 (L._∷_ 101 (L._∷_ 116 (L._∷_ 119 (L._∷_ 111 (L._∷_ 114 (L._∷_ 107 (L._∷_ 58 (L._∷_ 58 (L._∷_ 69 (L._∷_ 100 (L._∷_ 105 (L._∷_ 116 L.[]))))))))))))) (Syntax.tcons q7 (Syntax.tcons q7 (Syntax.tcons q7 (Syntax.tcons q7 (Syntax.tcons q2 (Syntax.tcons q2 (Syntax.tcons (Syntax.tyInt Syntax.w64) Syntax.tnil)))))))) (Syntax.tcons (Syntax.tyStruct (L._∷_ 115 (L._∷_ 116 (L._∷_ 101 (L._∷_ 112 (L._∷_ 58 (L._∷_ 58 (L._∷_ 79 (L._∷_ 108 (L._∷_ 100 L.[]))))))))) (Syntax.tcons (Syntax.tyInt Syntax.w64) (Syntax.tcons q6 (Syntax.tcons q7 (Syntax.tcons q7 (Syntax.tcons q7 (Syntax.tcons q7 (Syntax.tcons q4 Syntax.tnil)))))))) Syntax.tnil))) Syntax.tnil)))) Syntax.tnil))))) (L._∷_ q22 (L._∷_ q20 L.[]))))))))))
+t2 = L._∷_ (0, Rows.any-gone (Syntax.tyStruct (L._∷_ 114 (L._∷_ 117 (L._∷_ 108 (L._∷_ 101 (L._∷_ 115 (L._∷_ 58 (L._∷_ 58 (L._∷_ 116 (L._∷_ 114 (L._∷_ 105 (L._∷_ 101 (L._∷_ 100 (L._∷_ 58 (L._∷_ 58 (L._∷_ 76 (L._∷_ 111 (L._∷_ 111 (L._∷_ 107 (L._∷_ 101 (L._∷_ 100 L.[])))))))))))))))))))) (Syntax.tcons (Syntax.tyStruct (L._∷_ 114 (L._∷_ 117 (L._∷_ 108 (L._∷_ 101 (L._∷_ 115 (L._∷_ 58 (L._∷_ 58 (L._∷_ 102 (L._∷_ 111 (L._∷_ 117 (L._∷_ 110 (L._∷_ 100 (L._∷_ 58 (L._∷_ 58 (L._∷_ 70 (L._∷_ 111 (L._∷_ 117 (L._∷_ 110 (L._∷_ 100 L.[]))))))))))))))))))) (Syntax.tcons Syntax.tyBool (Syntax.tcons Syntax.tyBool (Syntax.tcons (Syntax.tyStruct (L._∷_ 115 (L._∷_ 116 (L._∷_ 101 (L._∷_ 112 (L._∷_ 58 (L._∷_ 58 (L._∷_ 83 (L._∷_ 116 (L._∷_ 101 (L._∷_ 112 L.[])))))))))) (Syntax.tcons (Syntax.tyInt Syntax.w64) (Syntax.tcons (Syntax.tyInt Syntax.w64) (Syntax.tcons (Syntax.tyStruct (L._∷_ 115 (L._∷_ 116 (L._∷_ 101 (L._∷_ 112 (L._∷_ 58 (L._∷_ 58 (L._∷_ 67 (L._∷_ 104 (L._∷_ 97 (L._∷_ 110 (L._∷_ 103 (L._∷_ 101 L.[])))))))))))) (Syntax.tcons (Syntax.tyStruct (L._∷_ 110 (L._∷_ 101 (L._∷_ 116 (L._∷_ 119 (L._∷_ 111 (L._∷_ 114 (L._∷_ 107 (L._∷_ 58 (L._∷_ 58 (L._∷_ 69 (L._∷_ 100 (L._∷_ 105 (L._∷_ 116 L.[]))))))))))))) (Syntax.tcons q7 (Syntax.tcons q7 (Syntax.tcons q7 (Syntax.tcons q7 (Syntax.tcons q2 (Syntax.tcons q2 (Syntax.tcons (Syntax.tyInt Syntax.w64) Syntax.tnil)))))))) (Syntax.tcons (Syntax.tyStruct (L._∷_ 115 (L._∷_ 116 (L._∷_ 101 (L._∷_ 112 (L._∷_ 58 (L._∷_ 58 (L._∷_ 79 (L._∷_ 108 (L._∷_ 100 L.[]))))))))) (Syntax.tcons (Syntax.tyInt Syntax.w64) (Syntax.tcons q6 (Syntax.tcons q7 (Syntax.tcons q7 (Syntax.tcons q7 (Syntax.tcons q7 (Syntax.tcons q4 Syntax.tnil)))))))) Syntax.tnil))) Syntax.tnil)))) Syntax.tnil)))) (Syntax.tcons q5 Syntax.tnil)))) (L._∷_ q13 (L._∷_ q9 (L._∷_ q12 (L._∷_ q18 (L._∷_ q17 (L._∷_ q23 (L._∷_ q15 (L._∷_ (8, Rows.any-gone (Syntax.tyStruct (L._∷_ 114 (L._∷_ 117 (L._∷_ 108 (L._∷_ 101 (L._∷_ 115 (L._∷_ 58 (L._∷_ 58 (L._∷_ 102 (L._∷_ 111 (L._∷_ 117 (L._∷_ 110 (L._∷_ 100 (L._∷_ 58 (L._∷_ 58 (L._∷_ 70 (L._∷_ 111 (L._∷_ 117 (L._∷_ 110 (L._∷_ 100 L.[]))))))))))))))))))) (Syntax.tcons Syntax.tyBool (Syntax.tcons Syntax.tyBool (Syntax.tcons (Syntax.tyStruct (L._∷_ 115 (L._∷_ 116 (L._∷_ 101 (L._∷_ 112 (L._∷_ 58 (L._∷_ 58 (L._∷_ 83 (L._∷_ 116 (L._∷_ 101 (L._∷_ 112 L.[])))))))))) (Syntax.tcons (Syntax.tyInt Syntax.w64) (Syntax.tcons (Syntax.tyInt Syntax.w64) (Syntax.tcons (Syntax.tyStruct (L._∷_ 115 (L._∷_ 116 (L._∷_ 101 (L._∷_ 112 (L._∷_ 58 (L._∷_ 58 (L._∷_ 67 (L._∷_ 104 (L._∷_ 97 (L._∷_ 110 (L._∷_ 103 (L._∷_ 101 L.[])))))))))))) (Syntax.tcons (Syntax.tyStruct (L._∷_ 110 (L._∷_ 101 (L._∷_ 116 (L._∷_ 119 (L._∷_ 111 (L._∷_ 114 (L._∷_ 107 (L._∷_ 58 (L._∷_ 58 (L._∷_ 69 (L._∷_ 100 (L._∷_ 105 (L._∷_ 116 L.[]))))))))))))) (Syntax.tcons q7 (Syntax.tcons q7 (Syntax.tcons q7 (Syntax.tcons q7 (Syntax.tcons q2 (Syntax.tcons q2 (Syntax.tcons (Syntax.tyInt Syntax.w64) Syntax.tnil)))))))) (Syntax.tcons (Syntax.tyStruct (L._∷_ 115 (L._∷_ 116 (L._∷_ 101 (L._∷_ 112 (L._∷_ 58 (L._∷_ 58 (L._∷_ 79 (L._∷_ 108 (L._∷_ 100 L.[]))))))))) (Syntax.tcons (Syntax.tyInt Syntax.w64) (Syntax.tcons q6 (Syntax.tcons q7 (Syntax.tcons q7 (Syntax.tcons q7 (Syntax.tcons q7 (Syntax.tcons q4 Syntax.tnil)))))))) Syntax.tnil))) Syntax.tnil)))) Syntax.tnil))))) (L._∷_ q22 (L._∷_ q20 L.[]))))))))))
 
 abbrev pub t3 : L.List Row.Entry
-t3 = L._∷_ (0, Rows.any-gone (Syntax.tyStruct (L._∷_ 115 (L._∷_ 101 (L._∷_ 97 (L._∷_ 114 (L._∷_ 99 (L._∷_ 104 (L._∷_ 58 (L._∷_ 58 (L._∷_ 115 (L._∷_ 99 (L._∷_ 97 (L._∷_ 110 (L._∷_ 58 (L._∷_ 58 (L._∷_ 76 (L._∷_ 111 (L._∷_ 111 (L._∷_ 107 (L._∷_ 101 (L._∷_ 100 L.[])))))))))))))))))))) (Syntax.tcons (Syntax.tyStruct (L._∷_ 115 (L._∷_ 101 (L._∷_ 97 (L._∷_ 114 (L._∷_ 99 (L._∷_ 104 (L._∷_ 58 (L._∷_ 58 (L._∷_ 115 (L._∷_ 99 (L._∷_ 97 (L._∷_ 110 (L._∷_ 58 (L._∷_ 58 (L._∷_ 70 (L._∷_ 111 (L._∷_ 117 (L._∷_ 110 (L._∷_ 100 L.[]))))))))))))))))))) (Syntax.tcons Syntax.tyBool (Syntax.tcons Syntax.tyBool (Syntax.tcons (Syntax.tyStruct (L._∷_ 115 (L._∷_ 116 (L._∷_ 101 (L._∷_ 112 (L._∷_ 58 (L._∷_ 58 (L._∷_ 83 (L._∷_ 116 (L._∷_ 101 (L._∷_ 112 L.[])))))))))) (Syntax.tcons (Syntax.tyInt Syntax.w64) (Syntax.tcons (Syntax.tyInt Syntax.w64) (Syntax.tcons (Syntax.tyStruct (L._∷_ 115 (L._∷_ 116 (L._∷_ 101 (L._∷_ 112 (L._∷_ 58 (L._∷_ 58 (L._∷_ 67 (L._∷_ 104 (L._∷_ 97 (L._∷_ 110 (L._∷_ 103 (L._∷_ 101 L.[])))))))))))) (Syntax.tcons (Syntax.tyStruct (L._∷_ 110 (L._∷_ 101 (L._∷_ 116 (L._∷_ 119 (L._∷_ 111 (L._∷_ 114 (L._∷_ 107 (L._∷_ 58 (L._∷_ 58 (L._∷_ 69 (L._∷_ 100 (L._∷_ 105 (L._∷_ 116 L.[]))))))))))))) (Syntax.tcons q7 (Syntax.tcons q7 (Syntax.tcons q7 (Syntax.tcons q7 (Syntax.tcons q2 (Syntax.tcons q2 (Syntax.tcons (Syntax.tyInt Syntax.w64) Syntax.tnil)))))))) (Syntax.tcons (Syntax.tyStruct (L._∷_ 115 (L._∷_ 116 (L._∷_ 101 (L._∷_ 112 (L._∷_ 58 (L._∷_ 58 (L._∷_ 79 (L._∷_ 108 (L._∷_ 100 L.[]))))))))) (Syntax.tcons (Syntax.tyInt Syntax.w64) (Syntax.tcons q6 (Syntax.tcons q7 (Syntax.tcons q7 (Syntax.tcons q7 (Syntax.tcons q7 (Syntax.tcons q4 Syntax.tnil)))))))) Syntax.tnil))) Syntax.tnil)))) Syntax.tnil)))) (Syntax.tcons q5 Syntax.tnil)))) (L._∷_ q0 (L._∷_ q8 (L._∷_ q10 (L._∷_ q18 (L._∷_ q17 (L._∷_ q23 (L._∷_ q14 (L._∷_ (8, Rows.any-gone (Syntax.tyStruct (L._∷_ 115 (L._∷_ 101 (L._∷_ 97 (L._∷_ 114 (L._∷_ 99 (L._∷_ 104 (L._∷_ 58 (L._∷_ 58 (L._∷_ 115 (L._∷_ 99 (L._∷_ 97 (L._∷_ 110 (L._∷_ 58 (L._∷_ 58 (L._∷_ 70 (L._∷_ 111 (L._∷_ 117 (L._∷_ 110 (L._∷_ 100 L.[]))))))))))))))))))) (Syntax.tcons Syntax.tyBool (Syntax.tcons Syntax.tyBool (Syntax.tcons (Syntax.tyStruct (L._∷_ 115 (L._∷_ 116 (L._∷_ 101 (L._∷_ 112 (L._∷_ 58 (L._∷_ 58 (L._∷_ 83 (L._∷_ 116 (L._∷_ 101 (L._∷_ 112 L.[])))))))))) (Syntax.tcons (Syntax.tyInt Syntax.w64) (Syntax.tcons (Syntax.tyInt Syntax.w64) (Syntax.tcons (Syntax.tyStruct (L._∷_ 115 (L._∷_ 116 (L._∷_ 101 (L._∷_ 112 (L._∷_ 58 (L._∷_ 58 (L._∷_ 67 (L._∷_ 104 (L._∷_ 97 (L._∷_ 110 (L._∷_ 103 (L._∷_ 101 L.[])))))))))))) (Syntax.tcons (Syntax.tyStruct (L._∷_ 110 (L._∷_ 101 (L._∷_ 116 (L._∷_ 119 (L._∷_ 111 (L._∷_ 114 (L._∷_ 107 (L._∷_ 58 (L._∷_ 58 (L._∷_ 69 (L._∷_ 100 (L._∷_ 105 (L._∷_ 116 L.[]))))))))))))) (Syntax.tcons q7 (Syntax.tcons q7 (Syntax.tcons q7 (Syntax.tcons q7 (Syntax.tcons q2 (Syntax.tcons q2 (Syntax.tcons (Syntax.tyInt Syntax.w64) Syntax.tnil)))))))) (Syntax.tcons (Syntax.tyStruct (L._∷_ 115 (L._∷_ 116 (L._∷_ 101 (L._∷_ 112 (L._∷_ 58 (L._∷_ 58 (L._∷_ 79 (L._∷_ 108 (L._∷_ 100 L.[]))))))))) (Syntax.tcons (Syntax.tyInt Syntax.w64) (Syntax.tcons q6 (Syntax.tcons q7 (Syntax.tcons q7 (Syntax.tcons q7 (Syntax.tcons q7 (Syntax.tcons q4 Syntax.tnil)))))))) Syntax.tnil))) Syntax.tnil)))) Syntax.tnil))))) (L._∷_ q22 (L._∷_ q20 L.[]))))))))))
+t3 = L._∷_ (0, Rows.any-gone (Syntax.tyStruct (L._∷_ 114 (L._∷_ 117 (L._∷_ 108 (L._∷_ 101 (L._∷_ 115 (L._∷_ 58 (L._∷_ 58 (L._∷_ 116 (L._∷_ 114 (L._∷_ 105 (L._∷_ 101 (L._∷_ 100 (L._∷_ 58 (L._∷_ 58 (L._∷_ 76 (L._∷_ 111 (L._∷_ 111 (L._∷_ 107 (L._∷_ 101 (L._∷_ 100 L.[])))))))))))))))))))) (Syntax.tcons (Syntax.tyStruct (L._∷_ 114 (L._∷_ 117 (L._∷_ 108 (L._∷_ 101 (L._∷_ 115 (L._∷_ 58 (L._∷_ 58 (L._∷_ 102 (L._∷_ 111 (L._∷_ 117 (L._∷_ 110 (L._∷_ 100 (L._∷_ 58 (L._∷_ 58 (L._∷_ 70 (L._∷_ 111 (L._∷_ 117 (L._∷_ 110 (L._∷_ 100 L.[]))))))))))))))))))) (Syntax.tcons Syntax.tyBool (Syntax.tcons Syntax.tyBool (Syntax.tcons (Syntax.tyStruct (L._∷_ 115 (L._∷_ 116 (L._∷_ 101 (L._∷_ 112 (L._∷_ 58 (L._∷_ 58 (L._∷_ 83 (L._∷_ 116 (L._∷_ 101 (L._∷_ 112 L.[])))))))))) (Syntax.tcons (Syntax.tyInt Syntax.w64) (Syntax.tcons (Syntax.tyInt Syntax.w64) (Syntax.tcons (Syntax.tyStruct (L._∷_ 115 (L._∷_ 116 (L._∷_ 101 (L._∷_ 112 (L._∷_ 58 (L._∷_ 58 (L._∷_ 67 (L._∷_ 104 (L._∷_ 97 (L._∷_ 110 (L._∷_ 103 (L._∷_ 101 L.[])))))))))))) (Syntax.tcons (Syntax.tyStruct (L._∷_ 110 (L._∷_ 101 (L._∷_ 116 (L._∷_ 119 (L._∷_ 111 (L._∷_ 114 (L._∷_ 107 (L._∷_ 58 (L._∷_ 58 (L._∷_ 69 (L._∷_ 100 (L._∷_ 105 (L._∷_ 116 L.[]))))))))))))) (Syntax.tcons q7 (Syntax.tcons q7 (Syntax.tcons q7 (Syntax.tcons q7 (Syntax.tcons q2 (Syntax.tcons q2 (Syntax.tcons (Syntax.tyInt Syntax.w64) Syntax.tnil)))))))) (Syntax.tcons (Syntax.tyStruct (L._∷_ 115 (L._∷_ 116 (L._∷_ 101 (L._∷_ 112 (L._∷_ 58 (L._∷_ 58 (L._∷_ 79 (L._∷_ 108 (L._∷_ 100 L.[]))))))))) (Syntax.tcons (Syntax.tyInt Syntax.w64) (Syntax.tcons q6 (Syntax.tcons q7 (Syntax.tcons q7 (Syntax.tcons q7 (Syntax.tcons q7 (Syntax.tcons q4 Syntax.tnil)))))))) Syntax.tnil))) Syntax.tnil)))) Syntax.tnil)))) (Syntax.tcons q5 Syntax.tnil)))) (L._∷_ q0 (L._∷_ q9 (L._∷_ q12 (L._∷_ q18 (L._∷_ q17 (L._∷_ q23 (L._∷_ q15 (L._∷_ (8, Rows.any-gone (Syntax.tyStruct (L._∷_ 114 (L._∷_ 117 (L._∷_ 108 (L._∷_ 101 (L._∷_ 115 (L._∷_ 58 (L._∷_ 58 (L._∷_ 102 (L._∷_ 111 (L._∷_ 117 (L._∷_ 110 (L._∷_ 100 (L._∷_ 58 (L._∷_ 58 (L._∷_ 70 (L._∷_ 111 (L._∷_ 117 (L._∷_ 110 (L._∷_ 100 L.[]))))))))))))))))))) (Syntax.tcons Syntax.tyBool (Syntax.tcons Syntax.tyBool (Syntax.tcons (Syntax.tyStruct (L._∷_ 115 (L._∷_ 116 (L._∷_ 101 (L._∷_ 112 (L._∷_ 58 (L._∷_ 58 (L._∷_ 83 (L._∷_ 116 (L._∷_ 101 (L._∷_ 112 L.[])))))))))) (Syntax.tcons (Syntax.tyInt Syntax.w64) (Syntax.tcons (Syntax.tyInt Syntax.w64) (Syntax.tcons (Syntax.tyStruct (L._∷_ 115 (L._∷_ 116 (L._∷_ 101 (L._∷_ 112 (L._∷_ 58 (L._∷_ 58 (L._∷_ 67 (L._∷_ 104 (L._∷_ 97 (L._∷_ 110 (L._∷_ 103 (L._∷_ 101 L.[])))))))))))) (Syntax.tcons (Syntax.tyStruct (L._∷_ 110 (L._∷_ 101 (L._∷_ 116 (L._∷_ 119 (L._∷_ 111 (L._∷_ 114 (L._∷_ 107 (L._∷_ 58 (L._∷_ 58 (L._∷_ 69 (L._∷_ 100 (L._∷_ 105 (L._∷_ 116 L.[]))))))))))))) (Syntax.tcons q7 (Syntax.tcons q7 (Syntax.tcons q7 (Syntax.tcons q7 (Syntax.tcons q2 (Syntax.tcons q2 (Syntax.tcons (Syntax.tyInt Syntax.w64) Syntax.tnil)))))))) (Syntax.tcons (Syntax.tyStruct (L._∷_ 115 (L._∷_ 116 (L._∷_ 101 (L._∷_ 112 (L._∷_ 58 (L._∷_ 58 (L._∷_ 79 (L._∷_ 108 (L._∷_ 100 L.[]))))))))) (Syntax.tcons (Syntax.tyInt Syntax.w64) (Syntax.tcons q6 (Syntax.tcons q7 (Syntax.tcons q7 (Syntax.tcons q7 (Syntax.tcons q7 (Syntax.tcons q4 Syntax.tnil)))))))) Syntax.tnil))) Syntax.tnil)))) Syntax.tnil))))) (L._∷_ q22 (L._∷_ q20 L.[]))))))))))
 
 abbrev pub t4 : L.List Row.Entry
-t4 = L._∷_ (0, Rows.any-gone (Syntax.tyStruct (L._∷_ 115 (L._∷_ 101 (L._∷_ 97 (L._∷_ 114 (L._∷_ 99 (L._∷_ 104 (L._∷_ 58 (L._∷_ 58 (L._∷_ 115 (L._∷_ 99 (L._∷_ 97 (L._∷_ 110 (L._∷_ 58 (L._∷_ 58 (L._∷_ 76 (L._∷_ 111 (L._∷_ 111 (L._∷_ 107 (L._∷_ 101 (L._∷_ 100 L.[])))))))))))))))))))) (Syntax.tcons (Syntax.tyStruct (L._∷_ 115 (L._∷_ 101 (L._∷_ 97 (L._∷_ 114 (L._∷_ 99 (L._∷_ 104 (L._∷_ 58 (L._∷_ 58 (L._∷_ 115 (L._∷_ 99 (L._∷_ 97 (L._∷_ 110 (L._∷_ 58 (L._∷_ 58 (L._∷_ 70 (L._∷_ 111 (L._∷_ 117 (L._∷_ 110 (L._∷_ 100 L.[]))))))))))))))))))) (Syntax.tcons Syntax.tyBool (Syntax.tcons Syntax.tyBool (Syntax.tcons (Syntax.tyStruct (L._∷_ 115 (L._∷_ 116 (L._∷_ 101 (L._∷_ 112 (L._∷_ 58 (L._∷_ 58 (L._∷_ 83 (L._∷_ 116 (L._∷_ 101 (L._∷_ 112 L.[])))))))))) (Syntax.tcons (Syntax.tyInt Syntax.w64) (Syntax.tcons (Syntax.tyInt Syntax.w64) (Syntax.tcons (Syntax.tyStruct (L._∷_ 115 (L._∷_ 116 (L._∷_ 101 (L._∷_ 112 (L._∷_ 58 (L._∷_ 58 (L._∷_ 67 (L._∷_ 104 (L._∷_ 97 (L._∷_ 110 (L._∷_ 103 (L._∷_ 101 L.[])))))))))))) (Syntax.tcons (Syntax.tyStruct (L._∷_ 110 (L._∷_ 101 (L._∷_ 116 (L._∷_ 119 (L._∷_ 111 (L._∷_ 114 (L._∷_ 107 (L._∷_ 58 (L._∷_ 58 (L._∷_ 69 (L._∷_ 100 (L._∷_ 105 (L._∷_ 116 L.[]))))))))))))) (Syntax.tcons q7 (Syntax.tcons q7 (Syntax.tcons q7 (Syntax.tcons q7 (Syntax.tcons q2 (Syntax.tcons q2 (Syntax.tcons (Syntax.tyInt Syntax.w64) Syntax.tnil)))))))) (Syntax.tcons (Syntax.tyStruct (L._∷_ 115 (L._∷_ 116 (L._∷_ 101 (L._∷_ 112 (L._∷_ 58 (L._∷_ 58 (L._∷_ 79 (L._∷_ 108 (L._∷_ 100 L.[]))))))))) (Syntax.tcons (Syntax.tyInt Syntax.w64) (Syntax.tcons q6 (Syntax.tcons q7 (Syntax.tcons q7 (Syntax.tcons q7 (Syntax.tcons q7 (Syntax.tcons q4 Syntax.tnil)))))))) Syntax.tnil))) Syntax.tnil)))) Syntax.tnil)))) (Syntax.tcons q5 Syntax.tnil)))) (L._∷_ q11 (L._∷_ q8 (L._∷_ q10 (L._∷_ q18 (L._∷_ q17 (L._∷_ q23 (L._∷_ q14 (L._∷_ (8, Rows.any-gone (Syntax.tyStruct (L._∷_ 115 (L._∷_ 101 (L._∷_ 97 (L._∷_ 114 (L._∷_ 99 (L._∷_ 104 (L._∷_ 58 (L._∷_ 58 (L._∷_ 115 (L._∷_ 99 (L._∷_ 97 (L._∷_ 110 (L._∷_ 58 (L._∷_ 58 (L._∷_ 70 (L._∷_ 111 (L._∷_ 117 (L._∷_ 110 (L._∷_ 100 L.[]))))))))))))))))))) (Syntax.tcons Syntax.tyBool (Syntax.tcons Syntax.tyBool (Syntax.tcons (Syntax.tyStruct (L._∷_ 115 (L._∷_ 116 (L._∷_ 101 (L._∷_ 112 (L._∷_ 58 (L._∷_ 58 (L._∷_ 83 (L._∷_ 116 (L._∷_ 101 (L._∷_ 112 L.[])))))))))) (Syntax.tcons (Syntax.tyInt Syntax.w64) (Syntax.tcons (Syntax.tyInt Syntax.w64) (Syntax.tcons (Syntax.tyStruct (L._∷_ 115 (L._∷_ 116 (L._∷_ 101 (L._∷_ 112 (L._∷_ 58 (L._∷_ 58 (L._∷_ 67 (L._∷_ 104 (L._∷_ 97 (L._∷_ 110 (L._∷_ 103 (L._∷_ 101 L.[])))))))))))) (Syntax.tcons (Syntax.tyStruct (L._∷_ 110 (L._∷_ 101 (L._∷_ 116 (L._∷_ 119 (L._∷_ 111 (L._∷_ 114 (L._∷_ 107 (L._∷_ 58 (L._∷_ 58 (L._∷_ 69 (L._∷_ 100 (L._∷_ 105 (L._∷_ 116 L.[]))))))))))))) (Syntax.tcons q7 (Syntax.tcons q7 (Syntax.tcons q7 (Syntax.tcons q7 (Syntax.tcons q2 (Syntax.tcons q2 (Syntax.tcons (Syntax.tyInt Syntax.w64) Syntax.tnil)))))))) (Syntax.tcons (Syntax.tyStruct (L._∷_ 115 (L._∷_ 116 (L._∷_ 101 (L._∷_ 112 (L._∷_ 58 (L._∷_ 58 (L._∷_ 79 (L._∷_ 108 (L._∷_ 100 L.[]))))))))) (Syntax.tcons (Syntax.tyInt Syntax.w64) (Syntax.tcons q6 (Syntax.tcons q7 (Syntax.tcons q7 (Syntax.tcons q7 (Syntax.tcons q7 (Syntax.tcons q4 Syntax.tnil)))))))) Syntax.tnil))) Syntax.tnil)))) Syntax.tnil))))) (L._∷_ (9, Rows.sc-here Row.sBool) (L._∷_ q20 L.[]))))))))))
+t4 = L._∷_ (0, Rows.any-gone (Syntax.tyStruct (L._∷_ 114 (L._∷_ 117 (L._∷_ 108 (L._∷_ 101 (L._∷_ 115 (L._∷_ 58 (L._∷_ 58 (L._∷_ 116 (L._∷_ 114 (L._∷_ 105 (L._∷_ 101 (L._∷_ 100 (L._∷_ 58 (L._∷_ 58 (L._∷_ 76 (L._∷_ 111 (L._∷_ 111 (L._∷_ 107 (L._∷_ 101 (L._∷_ 100 L.[])))))))))))))))))))) (Syntax.tcons (Syntax.tyStruct (L._∷_ 114 (L._∷_ 117 (L._∷_ 108 (L._∷_ 101 (L._∷_ 115 (L._∷_ 58 (L._∷_ 58 (L._∷_ 102 (L._∷_ 111 (L._∷_ 117 (L._∷_ 110 (L._∷_ 100 (L._∷_ 58 (L._∷_ 58 (L._∷_ 70 (L._∷_ 111 (L._∷_ 117 (L._∷_ 110 (L._∷_ 100 L.[]))))))))))))))))))) (Syntax.tcons Syntax.tyBool (Syntax.tcons Syntax.tyBool (Syntax.tcons (Syntax.tyStruct (L._∷_ 115 (L._∷_ 116 (L._∷_ 101 (L._∷_ 112 (L._∷_ 58 (L._∷_ 58 (L._∷_ 83 (L._∷_ 116 (L._∷_ 101 (L._∷_ 112 L.[])))))))))) (Syntax.tcons (Syntax.tyInt Syntax.w64) (Syntax.tcons (Syntax.tyInt Syntax.w64) (Syntax.tcons (Syntax.tyStruct (L._∷_ 115 (L._∷_ 116 (L._∷_ 101 (L._∷_ 112 (L._∷_ 58 (L._∷_ 58 (L._∷_ 67 (L._∷_ 104 (L._∷_ 97 (L._∷_ 110 (L._∷_ 103 (L._∷_ 101 L.[])))))))))))) (Syntax.tcons (Syntax.tyStruct (L._∷_ 110 (L._∷_ 101 (L._∷_ 116 (L._∷_ 119 (L._∷_ 111 (L._∷_ 114 (L._∷_ 107 (L._∷_ 58 (L._∷_ 58 (L._∷_ 69 (L._∷_ 100 (L._∷_ 105 (L._∷_ 116 L.[]))))))))))))) (Syntax.tcons q7 (Syntax.tcons q7 (Syntax.tcons q7 (Syntax.tcons q7 (Syntax.tcons q2 (Syntax.tcons q2 (Syntax.tcons (Syntax.tyInt Syntax.w64) Syntax.tnil)))))))) (Syntax.tcons (Syntax.tyStruct (L._∷_ 115 (L._∷_ 116 (L._∷_ 101 (L._∷_ 112 (L._∷_ 58 (L._∷_ 58 (L._∷_ 79 (L._∷_ 108 (L._∷_ 100 L.[]))))))))) (Syntax.tcons (Syntax.tyInt Syntax.w64) (Syntax.tcons q6 (Syntax.tcons q7 (Syntax.tcons q7 (Syntax.tcons q7 (Syntax.tcons q7 (Syntax.tcons q4 Syntax.tnil)))))))) Syntax.tnil))) Syntax.tnil)))) Syntax.tnil)))) (Syntax.tcons q5 Syntax.tnil)))) (L._∷_ q13 (L._∷_ q9 (L._∷_ q12 (L._∷_ q18 (L._∷_ q17 (L._∷_ q23 (L._∷_ q15 (L._∷_ (8, Rows.any-gone (Syntax.tyStruct (L._∷_ 114 (L._∷_ 117 (L._∷_ 108 (L._∷_ 101 (L._∷_ 115 (L._∷_ 58 (L._∷_ 58 (L._∷_ 102 (L._∷_ 111 (L._∷_ 117 (L._∷_ 110 (L._∷_ 100 (L._∷_ 58 (L._∷_ 58 (L._∷_ 70 (L._∷_ 111 (L._∷_ 117 (L._∷_ 110 (L._∷_ 100 L.[]))))))))))))))))))) (Syntax.tcons Syntax.tyBool (Syntax.tcons Syntax.tyBool (Syntax.tcons (Syntax.tyStruct (L._∷_ 115 (L._∷_ 116 (L._∷_ 101 (L._∷_ 112 (L._∷_ 58 (L._∷_ 58 (L._∷_ 83 (L._∷_ 116 (L._∷_ 101 (L._∷_ 112 L.[])))))))))) (Syntax.tcons (Syntax.tyInt Syntax.w64) (Syntax.tcons (Syntax.tyInt Syntax.w64) (Syntax.tcons (Syntax.tyStruct (L._∷_ 115 (L._∷_ 116 (L._∷_ 101 (L._∷_ 112 (L._∷_ 58 (L._∷_ 58 (L._∷_ 67 (L._∷_ 104 (L._∷_ 97 (L._∷_ 110 (L._∷_ 103 (L._∷_ 101 L.[])))))))))))) (Syntax.tcons (Syntax.tyStruct (L._∷_ 110 (L._∷_ 101 (L._∷_ 116 (L._∷_ 119 (L._∷_ 111 (L._∷_ 114 (L._∷_ 107 (L._∷_ 58 (L._∷_ 58 (L._∷_ 69 (L._∷_ 100 (L._∷_ 105 (L._∷_ 116 L.[]))))))))))))) (Syntax.tcons q7 (Syntax.tcons q7 (Syntax.tcons q7 (Syntax.tcons q7 (Syntax.tcons q2 (Syntax.tcons q2 (Syntax.tcons (Syntax.tyInt Syntax.w64) Syntax.tnil)))))))) (Syntax.tcons (Syntax.tyStruct (L._∷_ 115 (L._∷_ 116 (L._∷_ 101 (L._∷_ 112 (L._∷_ 58 (L._∷_ 58 (L._∷_ 79 (L._∷_ 108 (L._∷_ 100 L.[]))))))))) (Syntax.tcons (Syntax.tyInt Syntax.w64) (Syntax.tcons q6 (Syntax.tcons q7 (Syntax.tcons q7 (Syntax.tcons q7 (Syntax.tcons q7 (Syntax.tcons q4 Syntax.tnil)))))))) Syntax.tnil))) Syntax.tnil)))) Syntax.tnil))))) (L._∷_ (9, Rows.sc-here Row.sBool) (L._∷_ q20 L.[]))))))))))
 
 abbrev pub t5 : L.List Row.Entry
-t5 = L._∷_ (0, Rows.any-gone (Syntax.tyStruct (L._∷_ 115 (L._∷_ 101 (L._∷_ 97 (L._∷_ 114 (L._∷_ 99 (L._∷_ 104 (L._∷_ 58 (L._∷_ 58 (L._∷_ 115 (L._∷_ 99 (L._∷_ 97 (L._∷_ 110 (L._∷_ 58 (L._∷_ 58 (L._∷_ 76 (L._∷_ 111 (L._∷_ 111 (L._∷_ 107 (L._∷_ 101 (L._∷_ 100 L.[])))))))))))))))))))) (Syntax.tcons (Syntax.tyStruct (L._∷_ 115 (L._∷_ 101 (L._∷_ 97 (L._∷_ 114 (L._∷_ 99 (L._∷_ 104 (L._∷_ 58 (L._∷_ 58 (L._∷_ 115 (L._∷_ 99 (L._∷_ 97 (L._∷_ 110 (L._∷_ 58 (L._∷_ 58 (L._∷_ 70 (L._∷_ 111 (L._∷_ 117 (L._∷_ 110 (L._∷_ 100 L.[]))))))))))))))))))) (Syntax.tcons Syntax.tyBool (Syntax.tcons Syntax.tyBool (Syntax.tcons (Syntax.tyStruct (L._∷_ 115 (L._∷_ 116 (L._∷_ 101 (L._∷_ 112 (L._∷_ 58 (L._∷_ 58 (L._∷_ 83 (L._∷_ 116 (L._∷_ 101 (L._∷_ 112 L.[])))))))))) (Syntax.tcons (Syntax.tyInt Syntax.w64) (Syntax.tcons (Syntax.tyInt Syntax.w64) (Syntax.tcons (Syntax.tyStruct (L._∷_ 115 (L._∷_ 116 (L._∷_ 101 (L._∷_ 112 (L._∷_ 58 (L._∷_ 58 (L._∷_ 67 (L._∷_ 104 (L._∷_ 97 (L._∷_ 110 (L._∷_ 103 (L._∷_ 101 L.[])))))))))))) (Syntax.tcons (Syntax.tyStruct (L._∷_ 110 (L._∷_ 101 (L._∷_ 116 (L._∷_ 119 (L._∷_ 111 (L._∷_ 114 (L._∷_ 107 (L._∷_ 58 (L._∷_ 58 (L._∷_ 69 (L._∷_ 100 (L._∷_ 105 (L._∷_ 116 L.[]))))))))))))) (Syntax.tcons q7 (Syntax.tcons q7 (Syntax.tcons q7 (Syntax.tcons q7 (Syntax.tcons q2 (Syntax.tcons q2 (Syntax.tcons (Syntax.tyInt Syntax.w64) Syntax.tnil)))))))) (Syntax.tcons (Syntax.tyStruct (L._∷_ 115 (L._∷_ 116 (L._∷_ 101 (L._∷_ 112 (L._∷_ 58 (L._∷_ 58 (L._∷_ 79 (L._∷_ 108 (L._∷_ 100 L.[]))))))))) (Syntax.tcons (Syntax.tyInt Syntax.w64) (Syntax.tcons q6 (Syntax.tcons q7 (Syntax.tcons q7 (Syntax.tcons q7 (Syntax.tcons q7 (Syntax.tcons q4 Syntax.tnil)))))))) Syntax.tnil))) Syntax.tnil)))) Syntax.tnil)))) (Syntax.tcons q5 Syntax.tnil)))) (L._∷_ q0 (L._∷_ q8 (L._∷_ q10 (L._∷_ q18 (L._∷_ q17 (L._∷_ q23 (L._∷_ q14 (L._∷_ (8, Rows.any-gone (Syntax.tyStruct (L._∷_ 115 (L._∷_ 101 (L._∷_ 97 (L._∷_ 114 (L._∷_ 99 (L._∷_ 104 (L._∷_ 58 (L._∷_ 58 (L._∷_ 115 (L._∷_ 99 (L._∷_ 97 (L._∷_ 110 (L._∷_ 58 (L._∷_ 58 (L._∷_ 70 (L._∷_ 111 (L._∷_ 117 (L._∷_ 110 (L._∷_ 100 L.[]))))))))))))))))))) (Syntax.tcons Syntax.tyBool (Syntax.tcons Syntax.tyBool (Syntax.tcons (Syntax.tyStruct (L._∷_ 115 (L._∷_ 116 (L._∷_ 101 (L._∷_ 112 (L._∷_ 58 (L._∷_ 58 (L._∷_ 83 (L._∷_ 116 (L._∷_ 101 (L._∷_ 112 L.[])))))))))) (Syntax.tcons (Syntax.tyInt Syntax.w64) (Syntax.tcons (Syntax.tyInt Syntax.w64) (Syntax.tcons (Syntax.tyStruct (L._∷_ 115 (L._∷_ 116 (L._∷_ 101 (L._∷_ 112 (L._∷_ 58 (L._∷_ 58 (L._∷_ 67 (L._∷_ 104 (L._∷_ 97 (L._∷_ 110 (L._∷_ 103 (L._∷_ 101 L.[])))))))))))) (Syntax.tcons (Syntax.tyStruct (L._∷_ 110 (L._∷_ 101 (L._∷_ 116 (L._∷_ 119 (L._∷_ 111 (L._∷_ 114 (L._∷_ 107 (L._∷_ 58 (L._∷_ 58 (L._∷_ 69 (L._∷_ 100 (L._∷_ 105 (L._∷_ 116 L.[]))))))))))))) (Syntax.tcons q7 (Syntax.tcons q7 (Syntax.tcons q7 (Syntax.tcons q7 (Syntax.tcons q2 (Syntax.tcons q2 (Syntax.tcons (Syntax.tyInt Syntax.w64) Syntax.tnil)))))))) (Syntax.tcons (Syntax.tyStruct (L._∷_ 115 (L._∷_ 116 (L._∷_ 101 (L._∷_ 112 (L._∷_ 58 (L._∷_ 58 (L._∷_ 79 (L._∷_ 108 (L._∷_ 100 L.[]))))))))) (Syntax.tcons (Syntax.tyInt Syntax.w64) (Syntax.tcons q6 (Syntax.tcons q7 (Syntax.tcons q7 (Syntax.tcons q7 (Syntax.tcons q7 (Syntax.tcons q4 Syntax.tnil)))))))) Syntax.tnil))) Syntax.tnil)))) Syntax.tnil))))) (L._∷_ (9, Rows.sc-here Row.sBool) (L._∷_ q20 L.[]))))))))))
+t5 = L._∷_ (0, Rows.any-gone (Syntax.tyStruct (L._∷_ 114 (L._∷_ 117 (L._∷_ 108 (L._∷_ 101 (L._∷_ 115 (L._∷_ 58 (L._∷_ 58 (L._∷_ 116 (L._∷_ 114 (L._∷_ 105 (L._∷_ 101 (L._∷_ 100 (L._∷_ 58 (L._∷_ 58 (L._∷_ 76 (L._∷_ 111 (L._∷_ 111 (L._∷_ 107 (L._∷_ 101 (L._∷_ 100 L.[])))))))))))))))))))) (Syntax.tcons (Syntax.tyStruct (L._∷_ 114 (L._∷_ 117 (L._∷_ 108 (L._∷_ 101 (L._∷_ 115 (L._∷_ 58 (L._∷_ 58 (L._∷_ 102 (L._∷_ 111 (L._∷_ 117 (L._∷_ 110 (L._∷_ 100 (L._∷_ 58 (L._∷_ 58 (L._∷_ 70 (L._∷_ 111 (L._∷_ 117 (L._∷_ 110 (L._∷_ 100 L.[]))))))))))))))))))) (Syntax.tcons Syntax.tyBool (Syntax.tcons Syntax.tyBool (Syntax.tcons (Syntax.tyStruct (L._∷_ 115 (L._∷_ 116 (L._∷_ 101 (L._∷_ 112 (L._∷_ 58 (L._∷_ 58 (L._∷_ 83 (L._∷_ 116 (L._∷_ 101 (L._∷_ 112 L.[])))))))))) (Syntax.tcons (Syntax.tyInt Syntax.w64) (Syntax.tcons (Syntax.tyInt Syntax.w64) (Syntax.tcons (Syntax.tyStruct (L._∷_ 115 (L._∷_ 116 (L._∷_ 101 (L._∷_ 112 (L._∷_ 58 (L._∷_ 58 (L._∷_ 67 (L._∷_ 104 (L._∷_ 97 (L._∷_ 110 (L._∷_ 103 (L._∷_ 101 L.[])))))))))))) (Syntax.tcons (Syntax.tyStruct (L._∷_ 110 (L._∷_ 101 (L._∷_ 116 (L._∷_ 119 (L._∷_ 111 (L._∷_ 114 (L._∷_ 107 (L._∷_ 58 (L._∷_ 58 (L._∷_ 69 (L._∷_ 100 (L._∷_ 105 (L._∷_ 116 L.[]))))))))))))) (Syntax.tcons q7 (Syntax.tcons q7 (Syntax.tcons q7 (Syntax.tcons q7 (Syntax.tcons q2 (Syntax.tcons q2 (Syntax.tcons (Syntax.tyInt Syntax.w64) Syntax.tnil)))))))) (Syntax.tcons (Syntax.tyStruct (L._∷_ 115 (L._∷_ 116 (L._∷_ 101 (L._∷_ 112 (L._∷_ 58 (L._∷_ 58 (L._∷_ 79 (L._∷_ 108 (L._∷_ 100 L.[]))))))))) (Syntax.tcons (Syntax.tyInt Syntax.w64) (Syntax.tcons q6 (Syntax.tcons q7 (Syntax.tcons q7 (Syntax.tcons q7 (Syntax.tcons q7 (Syntax.tcons q4 Syntax.tnil)))))))) Syntax.tnil))) Syntax.tnil)))) Syntax.tnil)))) (Syntax.tcons q5 Syntax.tnil)))) (L._∷_ q0 (L._∷_ q9 (L._∷_ q12 (L._∷_ q18 (L._∷_ q17 (L._∷_ q23 (L._∷_ q15 (L._∷_ (8, Rows.any-gone (Syntax.tyStruct (L._∷_ 114 (L._∷_ 117 (L._∷_ 108 (L._∷_ 101 (L._∷_ 115 (L._∷_ 58 (L._∷_ 58 (L._∷_ 102 (L._∷_ 111 (L._∷_ 117 (L._∷_ 110 (L._∷_ 100 (L._∷_ 58 (L._∷_ 58 (L._∷_ 70 (L._∷_ 111 (L._∷_ 117 (L._∷_ 110 (L._∷_ 100 L.[]))))))))))))))))))) (Syntax.tcons Syntax.tyBool (Syntax.tcons Syntax.tyBool (Syntax.tcons (Syntax.tyStruct (L._∷_ 115 (L._∷_ 116 (L._∷_ 101 (L._∷_ 112 (L._∷_ 58 (L._∷_ 58 (L._∷_ 83 (L._∷_ 116 (L._∷_ 101 (L._∷_ 112 L.[])))))))))) (Syntax.tcons (Syntax.tyInt Syntax.w64) (Syntax.tcons (Syntax.tyInt Syntax.w64) (Syntax.tcons (Syntax.tyStruct (L._∷_ 115 (L._∷_ 116 (L._∷_ 101 (L._∷_ 112 (L._∷_ 58 (L._∷_ 58 (L._∷_ 67 (L._∷_ 104 (L._∷_ 97 (L._∷_ 110 (L._∷_ 103 (L._∷_ 101 L.[])))))))))))) (Syntax.tcons (Syntax.tyStruct (L._∷_ 110 (L._∷_ 101 (L._∷_ 116 (L._∷_ 119 (L._∷_ 111 (L._∷_ 114 (L._∷_ 107 (L._∷_ 58 (L._∷_ 58 (L._∷_ 69 (L._∷_ 100 (L._∷_ 105 (L._∷_ 116 L.[]))))))))))))) (Syntax.tcons q7 (Syntax.tcons q7 (Syntax.tcons q7 (Syntax.tcons q7 (Syntax.tcons q2 (Syntax.tcons q2 (Syntax.tcons (Syntax.tyInt Syntax.w64) Syntax.tnil)))))))) (Syntax.tcons (Syntax.tyStruct (L._∷_ 115 (L._∷_ 116 (L._∷_ 101 (L._∷_ 112 (L._∷_ 58 (L._∷_ 58 (L._∷_ 79 (L._∷_ 108 (L._∷_ 100 L.[]))))))))) (Syntax.tcons (Syntax.tyInt Syntax.w64) (Syntax.tcons q6 (Syntax.tcons q7 (Syntax.tcons q7 (Syntax.tcons q7 (Syntax.tcons q7 (Syntax.tcons q4 Syntax.tnil)))))))) Syntax.tnil))) Syntax.tnil)))) Syntax.tnil))))) (L._∷_ (9, Rows.sc-here Row.sBool) (L._∷_ q20 L.[]))))))))))
 
 abbrev pub t6 : L.List Row.Entry
-t6 = L._∷_ (0, Rows.any-gone (Syntax.tyStruct (L._∷_ 115 (L._∷_ 101 (L._∷_ 97 (L._∷_ 114 (L._∷_ 99 (L._∷_ 104 (L._∷_ 58 (L._∷_ 58 (L._∷_ 115 (L._∷_ 99 (L._∷_ 97 (L._∷_ 110 (L._∷_ 58 (L._∷_ 58 (L._∷_ 76 (L._∷_ 111 (L._∷_ 111 (L._∷_ 107 (L._∷_ 101 (L._∷_ 100 L.[])))))))))))))))))))) (Syntax.tcons (Syntax.tyStruct (L._∷_ 115 (L._∷_ 101 (L._∷_ 97 (L._∷_ 114 (L._∷_ 99 (L._∷_ 104 (L._∷_ 58 (L._∷_ 58 (L._∷_ 115 (L._∷_ 99 (L._∷_ 97 (L._∷_ 110 (L._∷_ 58 (L._∷_ 58 (L._∷_ 70 (L._∷_ 111 (L._∷_ 117 (L._∷_ 110 (L._∷_ 100 L.[]))))))))))))))))))) (Syntax.tcons Syntax.tyBool (Syntax.tcons Syntax.tyBool (Syntax.tcons (Syntax.tyStruct (L._∷_ 115 (L._∷_ 116 (L._∷_ 101 (L._∷_ 112 (L._∷_ 58 (L._∷_ 58 (L._∷_ 83 (L._∷_ 116 (L._∷_ 101 (L._∷_ 112 L.[])))))))))) (Syntax.tcons (Syntax.tyInt Syntax.w64) (Syntax.tcons (Syntax.tyInt Syntax.w64) (Syntax.tcons (Syntax.tyStruct (L._∷_ 115 (L._∷_ 116 (L._∷_ 101 (L._∷_ 112 (L._∷_ 58 (L._∷_ 58 (L._∷_ 67 (L._∷_ 104 (L._∷_ 97 (L._∷_ 110 (L._∷_ 103 (L._∷_ 101 L.[])))))))))))) (Syntax.tcons (Syntax.tyStruct (L._∷_ 110 (L._∷_ 101 (L._∷_ 116 (L._∷_ 119 (L._∷_ 111 (L._∷_ 114 (L._∷_ 107 (L._∷_ 58 (L._∷_ 58 (L._∷_ 69 (L._∷_ 100 (L._∷_ 105 (L._∷_ 116 L.[]))))))))))))) (Syntax.tcons q7 (Syntax.tcons q7 (Syntax.tcons q7 (Syntax.tcons q7 (Syntax.tcons q2 (Syntax.tcons q2 (Syntax.tcons (Syntax.tyInt Syntax.w64) Syntax.tnil)))))))) (Syntax.tcons (Syntax.tyStruct (L._∷_ 115 (L._∷_ 116 (L._∷_ 101 (L._∷_ 112 (L._∷_ 58 (L._∷_ 58 (L._∷_ 79 (L._∷_ 108 (L._∷_ 100 L.[]))))))))) (Syntax.tcons (Syntax.tyInt Syntax.w64) (Syntax.tcons q6 (Syntax.tcons q7 (Syntax.tcons q7 (Syntax.tcons q7 (Syntax.tcons q7 (Syntax.tcons q4 Syntax.tnil)))))))) Syntax.tnil))) Syntax.tnil)))) Syntax.tnil)))) (Syntax.tcons q5 Syntax.tnil)))) (L._∷_ q11 (L._∷_ q8 (L._∷_ q10 (L._∷_ q18 (L._∷_ q17 (L._∷_ (6, Rec.here) (L._∷_ q14 (L._∷_ (8, Rows.any-gone (Syntax.tyStruct (L._∷_ 115 (L._∷_ 101 (L._∷_ 97 (L._∷_ 114 (L._∷_ 99 (L._∷_ 104 (L._∷_ 58 (L._∷_ 58 (L._∷_ 115 (L._∷_ 99 (L._∷_ 97 (L._∷_ 110 (L._∷_ 58 (L._∷_ 58 (L._∷_ 70 (L._∷_ 111 (L._∷_ 117 (L._∷_ 110 (L._∷_ 100 L.[]))))))))))))))))))) (Syntax.tcons Syntax.tyBool (Syntax.tcons Syntax.tyBool (Syntax.tcons (Syntax.tyStruct (L._∷_ 115 (L._∷_ 116 (L._∷_ 101 (L._∷_ 112 (L._∷_ 58 (L._∷_ 58 (L._∷_ 83 (L._∷_ 116 (L._∷_ 101 (L._∷_ 112 L.[])))))))))) (Syntax.tcons (Syntax.tyInt Syntax.w64) (Syntax.tcons (Syntax.tyInt Syntax.w64) (Syntax.tcons (Syntax.tyStruct (L._∷_ 115 (L._∷_ 116 (L._∷_ 101 (L._∷_ 112 (L._∷_ 58 (L._∷_ 58 (L._∷_ 67 (L._∷_ 104 (L._∷_ 97 (L._∷_ 110 (L._∷_ 103 (L._∷_ 101 L.[])))))))))))) (Syntax.tcons (Syntax.tyStruct (L._∷_ 110 (L._∷_ 101 (L._∷_ 116 (L._∷_ 119 (L._∷_ 111 (L._∷_ 114 (L._∷_ 107 (L._∷_ 58 (L._∷_ 58 (L._∷_ 69 (L._∷_ 100 (L._∷_ 105 (L._∷_ 116 L.[]))))))))))))) (Syntax.tcons q7 (Syntax.tcons q7 (Syntax.tcons q7 (Syntax.tcons q7 (Syntax.tcons q2 (Syntax.tcons q2 (Syntax.tcons (Syntax.tyInt Syntax.w64) Syntax.tnil)))))))) (Syntax.tcons (Syntax.tyStruct (L._∷_ 115 (L._∷_ 116 (L._∷_ 101 (L._∷_ 112 (L._∷_ 58 (L._∷_ 58 (L._∷_ 79 (L._∷_ 108 (L._∷_ 100 L.[]))))))))) (Syntax.tcons (Syntax.tyInt Syntax.w64) (Syntax.tcons q6 (Syntax.tcons q7 (Syntax.tcons q7 (Syntax.tcons q7 (Syntax.tcons q7 (Syntax.tcons q4 Syntax.tnil)))))))) Syntax.tnil))) Syntax.tnil)))) Syntax.tnil))))) (L._∷_ q22 (L._∷_ q20 L.[]))))))))))
+t6 = L._∷_ (0, Rows.any-gone (Syntax.tyStruct (L._∷_ 114 (L._∷_ 117 (L._∷_ 108 (L._∷_ 101 (L._∷_ 115 (L._∷_ 58 (L._∷_ 58 (L._∷_ 116 (L._∷_ 114 (L._∷_ 105 (L._∷_ 101 (L._∷_ 100 (L._∷_ 58 (L._∷_ 58 (L._∷_ 76 (L._∷_ 111 (L._∷_ 111 (L._∷_ 107 (L._∷_ 101 (L._∷_ 100 L.[])))))))))))))))))))) (Syntax.tcons (Syntax.tyStruct (L._∷_ 114 (L._∷_ 117 (L._∷_ 108 (L._∷_ 101 (L._∷_ 115 (L._∷_ 58 (L._∷_ 58 (L._∷_ 102 (L._∷_ 111 (L._∷_ 117 (L._∷_ 110 (L._∷_ 100 (L._∷_ 58 (L._∷_ 58 (L._∷_ 70 (L._∷_ 111 (L._∷_ 117 (L._∷_ 110 (L._∷_ 100 L.[]))))))))))))))))))) (Syntax.tcons Syntax.tyBool (Syntax.tcons Syntax.tyBool (Syntax.tcons (Syntax.tyStruct (L._∷_ 115 (L._∷_ 116 (L._∷_ 101 (L._∷_ 112 (L._∷_ 58 (L._∷_ 58 (L._∷_ 83 (L._∷_ 116 (L._∷_ 101 (L._∷_ 112 L.[])))))))))) (Syntax.tcons (Syntax.tyInt Syntax.w64) (Syntax.tcons (Syntax.tyInt Syntax.w64) (Syntax.tcons (Syntax.tyStruct (L._∷_ 115 (L._∷_ 116 (L._∷_ 101 (L._∷_ 112 (L._∷_ 58 (L._∷_ 58 (L._∷_ 67 (L._∷_ 104 (L._∷_ 97 (L._∷_ 110 (L._∷_ 103 (L._∷_ 101 L.[])))))))))))) (Syntax.tcons (Syntax.tyStruct (L._∷_ 110 (L._∷_ 101 (L._∷_ 116 (L._∷_ 119 (L._∷_ 111 (L._∷_ 114 (L._∷_ 107 (L._∷_ 58 (L._∷_ 58 (L._∷_ 69 (L._∷_ 100 (L._∷_ 105 (L._∷_ 116 L.[]))))))))))))) (Syntax.tcons q7 (Syntax.tcons q7 (Syntax.tcons q7 (Syntax.tcons q7 (Syntax.tcons q2 (Syntax.tcons q2 (Syntax.tcons (Syntax.tyInt Syntax.w64) Syntax.tnil)))))))) (Syntax.tcons (Syntax.tyStruct (L._∷_ 115 (L._∷_ 116 (L._∷_ 101 (L._∷_ 112 (L._∷_ 58 (L._∷_ 58 (L._∷_ 79 (L._∷_ 108 (L._∷_ 100 L.[]))))))))) (Syntax.tcons (Syntax.tyInt Syntax.w64) (Syntax.tcons q6 (Syntax.tcons q7 (Syntax.tcons q7 (Syntax.tcons q7 (Syntax.tcons q7 (Syntax.tcons q4 Syntax.tnil)))))))) Syntax.tnil))) Syntax.tnil)))) Syntax.tnil)))) (Syntax.tcons q5 Syntax.tnil)))) (L._∷_ q13 (L._∷_ q9 (L._∷_ q12 (L._∷_ q18 (L._∷_ q17 (L._∷_ (6, Rec.here) (L._∷_ q15 (L._∷_ (8, Rows.any-gone (Syntax.tyStruct (L._∷_ 114 (L._∷_ 117 (L._∷_ 108 (L._∷_ 101 (L._∷_ 115 (L._∷_ 58 (L._∷_ 58 (L._∷_ 102 (L._∷_ 111 (L._∷_ 117 (L._∷_ 110 (L._∷_ 100 (L._∷_ 58 (L._∷_ 58 (L._∷_ 70 (L._∷_ 111 (L._∷_ 117 (L._∷_ 110 (L._∷_ 100 L.[]))))))))))))))))))) (Syntax.tcons Syntax.tyBool (Syntax.tcons Syntax.tyBool (Syntax.tcons (Syntax.tyStruct (L._∷_ 115 (L._∷_ 116 (L._∷_ 101 (L._∷_ 112 (L._∷_ 58 (L._∷_ 58 (L._∷_ 83 (L._∷_ 116 (L._∷_ 101 (L._∷_ 112 L.[])))))))))) (Syntax.tcons (Syntax.tyInt Syntax.w64) (Syntax.tcons (Syntax.tyInt Syntax.w64) (Syntax.tcons (Syntax.tyStruct (L._∷_ 115 (L._∷_ 116 (L._∷_ 101 (L._∷_ 112 (L._∷_ 58 (L._∷_ 58 (L._∷_ 67 (L._∷_ 104 (L._∷_ 97 (L._∷_ 110 (L._∷_ 103 (L._∷_ 101 L.[])))))))))))) (Syntax.tcons (Syntax.tyStruct (L._∷_ 110 (L._∷_ 101 (L._∷_ 116 (L._∷_ 119 (L._∷_ 111 (L._∷_ 114 (L._∷_ 107 (L._∷_ 58 (L._∷_ 58 (L._∷_ 69 (L._∷_ 100 (L._∷_ 105 (L._∷_ 116 L.[]))))))))))))) (Syntax.tcons q7 (Syntax.tcons q7 (Syntax.tcons q7 (Syntax.tcons q7 (Syntax.tcons q2 (Syntax.tcons q2 (Syntax.tcons (Syntax.tyInt Syntax.w64) Syntax.tnil)))))))) (Syntax.tcons (Syntax.tyStruct (L._∷_ 115 (L._∷_ 116 (L._∷_ 101 (L._∷_ 112 (L._∷_ 58 (L._∷_ 58 (L._∷_ 79 (L._∷_ 108 (L._∷_ 100 L.[]))))))))) (Syntax.tcons (Syntax.tyInt Syntax.w64) (Syntax.tcons q6 (Syntax.tcons q7 (Syntax.tcons q7 (Syntax.tcons q7 (Syntax.tcons q7 (Syntax.tcons q4 Syntax.tnil)))))))) Syntax.tnil))) Syntax.tnil)))) Syntax.tnil))))) (L._∷_ q22 (L._∷_ q20 L.[]))))))))))
 
 abbrev pub t7 : L.List Row.Entry
-t7 = L._∷_ (0, Rows.any-gone (Syntax.tyStruct (L._∷_ 115 (L._∷_ 101 (L._∷_ 97 (L._∷_ 114 (L._∷_ 99 (L._∷_ 104 (L._∷_ 58 (L._∷_ 58 (L._∷_ 115 (L._∷_ 99 (L._∷_ 97 (L._∷_ 110 (L._∷_ 58 (L._∷_ 58 (L._∷_ 76 (L._∷_ 111 (L._∷_ 111 (L._∷_ 107 (L._∷_ 101 (L._∷_ 100 L.[])))))))))))))))))))) (Syntax.tcons (Syntax.tyStruct (L._∷_ 115 (L._∷_ 101 (L._∷_ 97 (L._∷_ 114 (L._∷_ 99 (L._∷_ 104 (L._∷_ 58 (L._∷_ 58 (L._∷_ 115 (L._∷_ 99 (L._∷_ 97 (L._∷_ 110 (L._∷_ 58 (L._∷_ 58 (L._∷_ 70 (L._∷_ 111 (L._∷_ 117 (L._∷_ 110 (L._∷_ 100 L.[]))))))))))))))))))) (Syntax.tcons Syntax.tyBool (Syntax.tcons Syntax.tyBool (Syntax.tcons (Syntax.tyStruct (L._∷_ 115 (L._∷_ 116 (L._∷_ 101 (L._∷_ 112 (L._∷_ 58 (L._∷_ 58 (L._∷_ 83 (L._∷_ 116 (L._∷_ 101 (L._∷_ 112 L.[])))))))))) (Syntax.tcons (Syntax.tyInt Syntax.w64) (Syntax.tcons (Syntax.tyInt Syntax.w64) (Syntax.tcons (Syntax.tyStruct (L._∷_ 115 (L._∷_ 116 (L._∷_ 101 (L._∷_ 112 (L._∷_ 58 (L._∷_ 58 (L._∷_ 67 (L._∷_ 104 (L._∷_ 97 (L._∷_ 110 (L._∷_ 103 (L._∷_ 101 L.[])))))))))))) (Syntax.tcons (Syntax.tyStruct (L._∷_ 110 (L._∷_ 101 (L._∷_ 116 (L._∷_ 119 (L._∷_ 111 (L._∷_ 114 (L._∷_ 107 (L._∷_ 58 (L._∷_ 58 (L._∷_ 69 (L._∷_ 100 (L._∷_ 105 (L._∷_ 116 L.[]))))))))))))) (Syntax.tcons q7 (Syntax.tcons q7 (Syntax.tcons q7 (Syntax.tcons q7 (Syntax.tcons q2 (Syntax.tcons q2 (Syntax.tcons (Syntax.tyInt Syntax.w64) Syntax.tnil)))))))) (Syntax.tcons (Syntax.tyStruct (L._∷_ 115 (L._∷_ 116 (L._∷_ 101 (L._∷_ 112 (L._∷_ 58 (L._∷_ 58 (L._∷_ 79 (L._∷_ 108 (L._∷_ 100 L.[]))))))))) (Syntax.tcons (Syntax.tyInt Syntax.w64) (Syntax.tcons q6 (Syntax.tcons q7 (Syntax.tcons q7 (Syntax.tcons q7 (Syntax.tcons q7 (Syntax.tcons q4 Syntax.tnil)))))))) Syntax.tnil))) Syntax.tnil)))) Syntax.tnil)))) (Syntax.tcons q5 Syntax.tnil)))) (L._∷_ q11 (L._∷_ q8 (L._∷_ q10 (L._∷_ q18 (L._∷_ q17 (L._∷_ (6, Rec.here) (L._∷_ q14 (L._∷_ (8, Rows.any-gone (Syntax.tyStruct (L._∷_ 115 (L._∷_ 101 (L._∷_ 97 (L._∷_ 114 (L._∷_ 99 (L._∷_ 104 (L._∷_ 58 (L._∷_ 58 (L._∷_ 115 (L._∷_ 99 (L._∷_ 97 (L._∷_ 110 (L._∷_ 58 (L._∷_ 58 (L._∷_ 70 (L._∷_ 111 (L._∷_ 117 (L._∷_ 110 (L._∷_ 100 L.[]))))))))))))))))))) (Syntax.tcons Syntax.tyBool (Syntax.tcons Syntax.tyBool (Syntax.tcons (Syntax.tyStruct (L._∷_ 115 (L._∷_ 116 (L._∷_ 101 (L._∷_ 112 (L._∷_ 58 (L._∷_ 58 (L._∷_ 83 (L._∷_ 116 (L._∷_ 101 (L._∷_ 112 L.[])))))))))) (Syntax.tcons (Syntax.tyInt Syntax.w64) (Syntax.tcons (Syntax.tyInt Syntax.w64) (Syntax.tcons (Syntax.tyStruct (L._∷_ 115 (L._∷_ 116 (L._∷_ 101 (L._∷_ 112 (L._∷_ 58 (L._∷_ 58 (L._∷_ 67 (L._∷_ 104 (L._∷_ 97 (L._∷_ 110 (L._∷_ 103 (L._∷_ 101 L.[])))))))))))) (Syntax.tcons (Syntax.tyStruct (L._∷_ 110 (L._∷_ 101 (L._∷_ 116 (L._∷_ 119 (L._∷_ 111 (L._∷_ 114 (L._∷_ 107 (L._∷_ 58 (L._∷_ 58 (L._∷_ 69 (L._∷_ 100 (L._∷_ 105 (L._∷_ 116 L.[]))))))))))))) (Syntax.tcons q7 (Syntax.tcons q7 (Syntax.tcons q7 (Syntax.tcons q7 (Syntax.tcons q2 (Syntax.tcons q2 (Syntax.tcons (Syntax.tyInt Syntax.w64) Syntax.tnil)))))))) (Syntax.tcons (Syntax.tyStruct (L._∷_ 115 (L._∷_ 116 (L._∷_ 101 (L._∷_ 112 (L._∷_ 58 (L._∷_ 58 (L._∷_ 79 (L._∷_ 108 (L._∷_ 100 L.[]))))))))) (Syntax.tcons (Syntax.tyInt Syntax.w64) (Syntax.tcons q6 (Syntax.tcons q7 (Syntax.tcons q7 (Syntax.tcons q7 (Syntax.tcons q7 (Syntax.tcons q4 Syntax.tnil)))))))) Syntax.tnil))) Syntax.tnil)))) Syntax.tnil))))) (L._∷_ q22 (L._∷_ (10, Rows.sc-here Row.sBool) L.[]))))))))))
+t7 = L._∷_ (0, Rows.any-gone (Syntax.tyStruct (L._∷_ 114 (L._∷_ 117 (L._∷_ 108 (L._∷_ 101 (L._∷_ 115 (L._∷_ 58 (L._∷_ 58 (L._∷_ 116 (L._∷_ 114 (L._∷_ 105 (L._∷_ 101 (L._∷_ 100 (L._∷_ 58 (L._∷_ 58 (L._∷_ 76 (L._∷_ 111 (L._∷_ 111 (L._∷_ 107 (L._∷_ 101 (L._∷_ 100 L.[])))))))))))))))))))) (Syntax.tcons (Syntax.tyStruct (L._∷_ 114 (L._∷_ 117 (L._∷_ 108 (L._∷_ 101 (L._∷_ 115 (L._∷_ 58 (L._∷_ 58 (L._∷_ 102 (L._∷_ 111 (L._∷_ 117 (L._∷_ 110 (L._∷_ 100 (L._∷_ 58 (L._∷_ 58 (L._∷_ 70 (L._∷_ 111 (L._∷_ 117 (L._∷_ 110 (L._∷_ 100 L.[]))))))))))))))))))) (Syntax.tcons Syntax.tyBool (Syntax.tcons Syntax.tyBool (Syntax.tcons (Syntax.tyStruct (L._∷_ 115 (L._∷_ 116 (L._∷_ 101 (L._∷_ 112 (L._∷_ 58 (L._∷_ 58 (L._∷_ 83 (L._∷_ 116 (L._∷_ 101 (L._∷_ 112 L.[])))))))))) (Syntax.tcons (Syntax.tyInt Syntax.w64) (Syntax.tcons (Syntax.tyInt Syntax.w64) (Syntax.tcons (Syntax.tyStruct (L._∷_ 115 (L._∷_ 116 (L._∷_ 101 (L._∷_ 112 (L._∷_ 58 (L._∷_ 58 (L._∷_ 67 (L._∷_ 104 (L._∷_ 97 (L._∷_ 110 (L._∷_ 103 (L._∷_ 101 L.[])))))))))))) (Syntax.tcons (Syntax.tyStruct (L._∷_ 110 (L._∷_ 101 (L._∷_ 116 (L._∷_ 119 (L._∷_ 111 (L._∷_ 114 (L._∷_ 107 (L._∷_ 58 (L._∷_ 58 (L._∷_ 69 (L._∷_ 100 (L._∷_ 105 (L._∷_ 116 L.[]))))))))))))) (Syntax.tcons q7 (Syntax.tcons q7 (Syntax.tcons q7 (Syntax.tcons q7 (Syntax.tcons q2 (Syntax.tcons q2 (Syntax.tcons (Syntax.tyInt Syntax.w64) Syntax.tnil)))))))) (Syntax.tcons (Syntax.tyStruct (L._∷_ 115 (L._∷_ 116 (L._∷_ 101 (L._∷_ 112 (L._∷_ 58 (L._∷_ 58 (L._∷_ 79 (L._∷_ 108 (L._∷_ 100 L.[]))))))))) (Syntax.tcons (Syntax.tyInt Syntax.w64) (Syntax.tcons q6 (Syntax.tcons q7 (Syntax.tcons q7 (Syntax.tcons q7 (Syntax.tcons q7 (Syntax.tcons q4 Syntax.tnil)))))))) Syntax.tnil))) Syntax.tnil)))) Syntax.tnil)))) (Syntax.tcons q5 Syntax.tnil)))) (L._∷_ q13 (L._∷_ q9 (L._∷_ q12 (L._∷_ q18 (L._∷_ q17 (L._∷_ (6, Rec.here) (L._∷_ q15 (L._∷_ (8, Rows.any-gone (Syntax.tyStruct (L._∷_ 114 (L._∷_ 117 (L._∷_ 108 (L._∷_ 101 (L._∷_ 115 (L._∷_ 58 (L._∷_ 58 (L._∷_ 102 (L._∷_ 111 (L._∷_ 117 (L._∷_ 110 (L._∷_ 100 (L._∷_ 58 (L._∷_ 58 (L._∷_ 70 (L._∷_ 111 (L._∷_ 117 (L._∷_ 110 (L._∷_ 100 L.[]))))))))))))))))))) (Syntax.tcons Syntax.tyBool (Syntax.tcons Syntax.tyBool (Syntax.tcons (Syntax.tyStruct (L._∷_ 115 (L._∷_ 116 (L._∷_ 101 (L._∷_ 112 (L._∷_ 58 (L._∷_ 58 (L._∷_ 83 (L._∷_ 116 (L._∷_ 101 (L._∷_ 112 L.[])))))))))) (Syntax.tcons (Syntax.tyInt Syntax.w64) (Syntax.tcons (Syntax.tyInt Syntax.w64) (Syntax.tcons (Syntax.tyStruct (L._∷_ 115 (L._∷_ 116 (L._∷_ 101 (L._∷_ 112 (L._∷_ 58 (L._∷_ 58 (L._∷_ 67 (L._∷_ 104 (L._∷_ 97 (L._∷_ 110 (L._∷_ 103 (L._∷_ 101 L.[])))))))))))) (Syntax.tcons (Syntax.tyStruct (L._∷_ 110 (L._∷_ 101 (L._∷_ 116 (L._∷_ 119 (L._∷_ 111 (L._∷_ 114 (L._∷_ 107 (L._∷_ 58 (L._∷_ 58 (L._∷_ 69 (L._∷_ 100 (L._∷_ 105 (L._∷_ 116 L.[]))))))))))))) (Syntax.tcons q7 (Syntax.tcons q7 (Syntax.tcons q7 (Syntax.tcons q7 (Syntax.tcons q2 (Syntax.tcons q2 (Syntax.tcons (Syntax.tyInt Syntax.w64) Syntax.tnil)))))))) (Syntax.tcons (Syntax.tyStruct (L._∷_ 115 (L._∷_ 116 (L._∷_ 101 (L._∷_ 112 (L._∷_ 58 (L._∷_ 58 (L._∷_ 79 (L._∷_ 108 (L._∷_ 100 L.[]))))))))) (Syntax.tcons (Syntax.tyInt Syntax.w64) (Syntax.tcons q6 (Syntax.tcons q7 (Syntax.tcons q7 (Syntax.tcons q7 (Syntax.tcons q7 (Syntax.tcons q4 Syntax.tnil)))))))) Syntax.tnil))) Syntax.tnil)))) Syntax.tnil))))) (L._∷_ q22 (L._∷_ (10, Rows.sc-here Row.sBool) L.[]))))))))))
 
 abbrev pub t8 : L.List Row.Entry
-t8 = L._∷_ (0, Rows.any-gone (Syntax.tyStruct (L._∷_ 115 (L._∷_ 101 (L._∷_ 97 (L._∷_ 114 (L._∷_ 99 (L._∷_ 104 (L._∷_ 58 (L._∷_ 58 (L._∷_ 115 (L._∷_ 99 (L._∷_ 97 (L._∷_ 110 (L._∷_ 58 (L._∷_ 58 (L._∷_ 76 (L._∷_ 111 (L._∷_ 111 (L._∷_ 107 (L._∷_ 101 (L._∷_ 100 L.[])))))))))))))))))))) (Syntax.tcons (Syntax.tyStruct (L._∷_ 115 (L._∷_ 101 (L._∷_ 97 (L._∷_ 114 (L._∷_ 99 (L._∷_ 104 (L._∷_ 58 (L._∷_ 58 (L._∷_ 115 (L._∷_ 99 (L._∷_ 97 (L._∷_ 110 (L._∷_ 58 (L._∷_ 58 (L._∷_ 70 (L._∷_ 111 (L._∷_ 117 (L._∷_ 110 (L._∷_ 100 L.[]))))))))))))))))))) (Syntax.tcons Syntax.tyBool (Syntax.tcons Syntax.tyBool (Syntax.tcons (Syntax.tyStruct (L._∷_ 115 (L._∷_ 116 (L._∷_ 101 (L._∷_ 112 (L._∷_ 58 (L._∷_ 58 (L._∷_ 83 (L._∷_ 116 (L._∷_ 101 (L._∷_ 112 L.[])))))))))) (Syntax.tcons (Syntax.tyInt Syntax.w64) (Syntax.tcons (Syntax.tyInt Syntax.w64) (Syntax.tcons (Syntax.tyStruct (L._∷_ 115 (L._∷_ 116 (L._∷_ 101 (L._∷_ 112 (L._∷_ 58 (L._∷_ 58 (L._∷_ 67 (L._∷_ 104 (L._∷_ 97 (L._∷_ 110 (L._∷_ 103 (L._∷_ 101 L.[])))))))))))) (Syntax.tcons (Syntax.tyStruct (L._∷_ 110 (L._∷_ 101 (L._∷_ 116 (L._∷_ 119 (L._∷_ 111 (L._∷_ 114 (L._∷_ 107 (L._∷_ 58 (L._∷_ 58 (L._∷_ 69 (L._∷_ 100 (L._∷_ 105 (L._∷_ 116 L.[]))))))))))))) (Syntax.tcons q7 (Syntax.tcons q7 (Syntax.tcons q7 (Syntax.tcons q7 (Syntax.tcons q2 (Syntax.tcons q2 (Syntax.tcons (Syntax.tyInt Syntax.w64) Syntax.tnil)))))))) (Syntax.tcons (Syntax.tyStruct (L._∷_ 115 (L._∷_ 116 (L._∷_ 101 (L._∷_ 112 (L._∷_ 58 (L._∷_ 58 (L._∷_ 79 (L._∷_ 108 (L._∷_ 100 L.[]))))))))) (Syntax.tcons (Syntax.tyInt Syntax.w64) (Syntax.tcons q6 (Syntax.tcons q7 (Syntax.tcons q7 (Syntax.tcons q7 (Syntax.tcons q7 (Syntax.tcons q4 Syntax.tnil)))))))) Syntax.tnil))) Syntax.tnil)))) Syntax.tnil)))) (Syntax.tcons q5 Syntax.tnil)))) (L._∷_ q11 (L._∷_ q8 (L._∷_ q10 (L._∷_ q18 (L._∷_ q17 (L._∷_ q23 (L._∷_ q14 (L._∷_ (8, Rows.any-gone (Syntax.tyStruct (L._∷_ 115 (L._∷_ 101 (L._∷_ 97 (L._∷_ 114 (L._∷_ 99 (L._∷_ 104 (L._∷_ 58 (L._∷_ 58 (L._∷_ 115 (L._∷_ 99 (L._∷_ 97 (L._∷_ 110 (L._∷_ 58 (L._∷_ 58 (L._∷_ 70 (L._∷_ 111 (L._∷_ 117 (L._∷_ 110 (L._∷_ 100 L.[]))))))))))))))))))) (Syntax.tcons Syntax.tyBool (Syntax.tcons Syntax.tyBool (Syntax.tcons (Syntax.tyStruct (L._∷_ 115 (L._∷_ 116 (L._∷_ 101 (L._∷_ 112 (L._∷_ 58 (L._∷_ 58 (L._∷_ 83 (L._∷_ 116 (L._∷_ 101 (L._∷_ 112 L.[])))))))))) (Syntax.tcons (Syntax.tyInt Syntax.w64) (Syntax.tcons (Syntax.tyInt Syntax.w64) (Syntax.tcons (Syntax.tyStruct (L._∷_ 115 (L._∷_ 116 (L._∷_ 101 (L._∷_ 112 (L._∷_ 58 (L._∷_ 58 (L._∷_ 67 (L._∷_ 104 (L._∷_ 97 (L._∷_ 110 (L._∷_ 103 (L._∷_ 101 L.[])))))))))))) (Syntax.tcons (Syntax.tyStruct (L._∷_ 110 (L._∷_ 101 (L._∷_ 116 (L._∷_ 119 (L._∷_ 111 (L._∷_ 114 (L._∷_ 107 (L._∷_ 58 (L._∷_ 58 (L._∷_ 69 (L._∷_ 100 (L._∷_ 105 (L._∷_ 116 L.[]))))))))))))) (Syntax.tcons q7 (Syntax.tcons q7 (Syntax.tcons q7 (Syntax.tcons q7 (Syntax.tcons q2 (Syntax.tcons q2 (Syntax.tcons (Syntax.tyInt Syntax.w64) Syntax.tnil)))))))) (Syntax.tcons (Syntax.tyStruct (L._∷_ 115 (L._∷_ 116 (L._∷_ 101 (L._∷_ 112 (L._∷_ 58 (L._∷_ 58 (L._∷_ 79 (L._∷_ 108 (L._∷_ 100 L.[]))))))))) (Syntax.tcons (Syntax.tyInt Syntax.w64) (Syntax.tcons q6 (Syntax.tcons q7 (Syntax.tcons q7 (Syntax.tcons q7 (Syntax.tcons q7 (Syntax.tcons q4 Syntax.tnil)))))))) Syntax.tnil))) Syntax.tnil)))) Syntax.tnil))))) (L._∷_ q22 (L._∷_ (10, Rows.sc-here Row.sBool) L.[]))))))))))
+t8 = L._∷_ (0, Rows.any-gone (Syntax.tyStruct (L._∷_ 114 (L._∷_ 117 (L._∷_ 108 (L._∷_ 101 (L._∷_ 115 (L._∷_ 58 (L._∷_ 58 (L._∷_ 116 (L._∷_ 114 (L._∷_ 105 (L._∷_ 101 (L._∷_ 100 (L._∷_ 58 (L._∷_ 58 (L._∷_ 76 (L._∷_ 111 (L._∷_ 111 (L._∷_ 107 (L._∷_ 101 (L._∷_ 100 L.[])))))))))))))))))))) (Syntax.tcons (Syntax.tyStruct (L._∷_ 114 (L._∷_ 117 (L._∷_ 108 (L._∷_ 101 (L._∷_ 115 (L._∷_ 58 (L._∷_ 58 (L._∷_ 102 (L._∷_ 111 (L._∷_ 117 (L._∷_ 110 (L._∷_ 100 (L._∷_ 58 (L._∷_ 58 (L._∷_ 70 (L._∷_ 111 (L._∷_ 117 (L._∷_ 110 (L._∷_ 100 L.[]))))))))))))))))))) (Syntax.tcons Syntax.tyBool (Syntax.tcons Syntax.tyBool (Syntax.tcons (Syntax.tyStruct (L._∷_ 115 (L._∷_ 116 (L._∷_ 101 (L._∷_ 112 (L._∷_ 58 (L._∷_ 58 (L._∷_ 83 (L._∷_ 116 (L._∷_ 101 (L._∷_ 112 L.[])))))))))) (Syntax.tcons (Syntax.tyInt Syntax.w64) (Syntax.tcons (Syntax.tyInt Syntax.w64) (Syntax.tcons (Syntax.tyStruct (L._∷_ 115 (L._∷_ 116 (L._∷_ 101 (L._∷_ 112 (L._∷_ 58 (L._∷_ 58 (L._∷_ 67 (L._∷_ 104 (L._∷_ 97 (L._∷_ 110 (L._∷_ 103 (L._∷_ 101 L.[])))))))))))) (Syntax.tcons (Syntax.tyStruct (L._∷_ 110 (L._∷_ 101 (L._∷_ 116 (L._∷_ 119 (L._∷_ 111 (L._∷_ 114 (L._∷_ 107 (L._∷_ 58 (L._∷_ 58 (L._∷_ 69 (L._∷_ 100 (L._∷_ 105 (L._∷_ 116 L.[]))))))))))))) (Syntax.tcons q7 (Syntax.tcons q7 (Syntax.tcons q7 (Syntax.tcons q7 (Syntax.tcons q2 (Syntax.tcons q2 (Syntax.tcons (Syntax.tyInt Syntax.w64) Syntax.tnil)))))))) (Syntax.tcons (Syntax.tyStruct (L._∷_ 115 (L._∷_ 116 (L._∷_ 101 (L._∷_ 112 (L._∷_ 58 (L._∷_ 58 (L._∷_ 79 (L._∷_ 108 (L._∷_ 100 L.[]))))))))) (Syntax.tcons (Syntax.tyInt Syntax.w64) (Syntax.tcons q6 (Syntax.tcons q7 (Syntax.tcons q7 (Syntax.tcons q7 (Syntax.tcons q7 (Syntax.tcons q4 Syntax.tnil)))))))) Syntax.tnil))) Syntax.tnil)))) Syntax.tnil)))) (Syntax.tcons q5 Syntax.tnil)))) (L._∷_ q13 (L._∷_ q9 (L._∷_ q12 (L._∷_ q18 (L._∷_ q17 (L._∷_ q23 (L._∷_ q15 (L._∷_ (8, Rows.any-gone (Syntax.tyStruct (L._∷_ 114 (L._∷_ 117 (L._∷_ 108 (L._∷_ 101 (L._∷_ 115 (L._∷_ 58 (L._∷_ 58 (L._∷_ 102 (L._∷_ 111 (L._∷_ 117 (L._∷_ 110 (L._∷_ 100 (L._∷_ 58 (L._∷_ 58 (L._∷_ 70 (L._∷_ 111 (L._∷_ 117 (L._∷_ 110 (L._∷_ 100 L.[]))))))))))))))))))) (Syntax.tcons Syntax.tyBool (Syntax.tcons Syntax.tyBool (Syntax.tcons (Syntax.tyStruct (L._∷_ 115 (L._∷_ 116 (L._∷_ 101 (L._∷_ 112 (L._∷_ 58 (L._∷_ 58 (L._∷_ 83 (L._∷_ 116 (L._∷_ 101 (L._∷_ 112 L.[])))))))))) (Syntax.tcons (Syntax.tyInt Syntax.w64) (Syntax.tcons (Syntax.tyInt Syntax.w64) (Syntax.tcons (Syntax.tyStruct (L._∷_ 115 (L._∷_ 116 (L._∷_ 101 (L._∷_ 112 (L._∷_ 58 (L._∷_ 58 (L._∷_ 67 (L._∷_ 104 (L._∷_ 97 (L._∷_ 110 (L._∷_ 103 (L._∷_ 101 L.[])))))))))))) (Syntax.tcons (Syntax.tyStruct (L._∷_ 110 (L._∷_ 101 (L._∷_ 116 (L._∷_ 119 (L._∷_ 111 (L._∷_ 114 (L._∷_ 107 (L._∷_ 58 (L._∷_ 58 (L._∷_ 69 (L._∷_ 100 (L._∷_ 105 (L._∷_ 116 L.[]))))))))))))) (Syntax.tcons q7 (Syntax.tcons q7 (Syntax.tcons q7 (Syntax.tcons q7 (Syntax.tcons q2 (Syntax.tcons q2 (Syntax.tcons (Syntax.tyInt Syntax.w64) Syntax.tnil)))))))) (Syntax.tcons (Syntax.tyStruct (L._∷_ 115 (L._∷_ 116 (L._∷_ 101 (L._∷_ 112 (L._∷_ 58 (L._∷_ 58 (L._∷_ 79 (L._∷_ 108 (L._∷_ 100 L.[]))))))))) (Syntax.tcons (Syntax.tyInt Syntax.w64) (Syntax.tcons q6 (Syntax.tcons q7 (Syntax.tcons q7 (Syntax.tcons q7 (Syntax.tcons q7 (Syntax.tcons q4 Syntax.tnil)))))))) Syntax.tnil))) Syntax.tnil)))) Syntax.tnil))))) (L._∷_ q22 (L._∷_ (10, Rows.sc-here Row.sBool) L.[]))))))))))
 
 abbrev pub t9 : L.List Row.Entry
-t9 = L._∷_ (0, Rows.any-gone (Syntax.tyStruct (L._∷_ 115 (L._∷_ 101 (L._∷_ 97 (L._∷_ 114 (L._∷_ 99 (L._∷_ 104 (L._∷_ 58 (L._∷_ 58 (L._∷_ 115 (L._∷_ 99 (L._∷_ 97 (L._∷_ 110 (L._∷_ 58 (L._∷_ 58 (L._∷_ 76 (L._∷_ 111 (L._∷_ 111 (L._∷_ 107 (L._∷_ 101 (L._∷_ 100 L.[])))))))))))))))))))) (Syntax.tcons (Syntax.tyStruct (L._∷_ 115 (L._∷_ 101 (L._∷_ 97 (L._∷_ 114 (L._∷_ 99 (L._∷_ 104 (L._∷_ 58 (L._∷_ 58 (L._∷_ 115 (L._∷_ 99 (L._∷_ 97 (L._∷_ 110 (L._∷_ 58 (L._∷_ 58 (L._∷_ 70 (L._∷_ 111 (L._∷_ 117 (L._∷_ 110 (L._∷_ 100 L.[]))))))))))))))))))) (Syntax.tcons Syntax.tyBool (Syntax.tcons Syntax.tyBool (Syntax.tcons (Syntax.tyStruct (L._∷_ 115 (L._∷_ 116 (L._∷_ 101 (L._∷_ 112 (L._∷_ 58 (L._∷_ 58 (L._∷_ 83 (L._∷_ 116 (L._∷_ 101 (L._∷_ 112 L.[])))))))))) (Syntax.tcons (Syntax.tyInt Syntax.w64) (Syntax.tcons (Syntax.tyInt Syntax.w64) (Syntax.tcons (Syntax.tyStruct (L._∷_ 115 (L._∷_ 116 (L._∷_ 101 (L._∷_ 112 (L._∷_ 58 (L._∷_ 58 (L._∷_ 67 (L._∷_ 104 (L._∷_ 97 (L._∷_ 110 (L._∷_ 103 (L._∷_ 101 L.[])))))))))))) (Syntax.tcons (Syntax.tyStruct (L._∷_ 110 (L._∷_ 101 (L._∷_ 116 (L._∷_ 119 (L._∷_ 111 (L._∷_ 114 (L._∷_ 107 (L._∷_ 58 (L._∷_ 58 (L._∷_ 69 (L._∷_ 100 (L._∷_ 105 (L._∷_ 116 L.[]))))))))))))) (Syntax.tcons q7 (Syntax.tcons q7 (Syntax.tcons q7 (Syntax.tcons q7 (Syntax.tcons q2 (Syntax.tcons q2 (Syntax.tcons (Syntax.tyInt Syntax.w64) Syntax.tnil)))))))) (Syntax.tcons (Syntax.tyStruct (L._∷_ 115 (L._∷_ 116 (L._∷_ 101 (L._∷_ 112 (L._∷_ 58 (L._∷_ 58 (L._∷_ 79 (L._∷_ 108 (L._∷_ 100 L.[]))))))))) (Syntax.tcons (Syntax.tyInt Syntax.w64) (Syntax.tcons q6 (Syntax.tcons q7 (Syntax.tcons q7 (Syntax.tcons q7 (Syntax.tcons q7 (Syntax.tcons q4 Syntax.tnil)))))))) Syntax.tnil))) Syntax.tnil)))) Syntax.tnil)))) (Syntax.tcons q5 Syntax.tnil)))) (L._∷_ q11 (L._∷_ q8 (L._∷_ q10 (L._∷_ q18 (L._∷_ q17 (L._∷_ q23 (L._∷_ (7, ARows.arrF Rec.row 97 0) (L._∷_ (8, Rows.any-gone (Syntax.tyStruct (L._∷_ 115 (L._∷_ 101 (L._∷_ 97 (L._∷_ 114 (L._∷_ 99 (L._∷_ 104 (L._∷_ 58 (L._∷_ 58 (L._∷_ 115 (L._∷_ 99 (L._∷_ 97 (L._∷_ 110 (L._∷_ 58 (L._∷_ 58 (L._∷_ 70 (L._∷_ 111 (L._∷_ 117 (L._∷_ 110 (L._∷_ 100 L.[]))))))))))))))))))) (Syntax.tcons Syntax.tyBool (Syntax.tcons Syntax.tyBool (Syntax.tcons (Syntax.tyStruct (L._∷_ 115 (L._∷_ 116 (L._∷_ 101 (L._∷_ 112 (L._∷_ 58 (L._∷_ 58 (L._∷_ 83 (L._∷_ 116 (L._∷_ 101 (L._∷_ 112 L.[])))))))))) (Syntax.tcons (Syntax.tyInt Syntax.w64) (Syntax.tcons (Syntax.tyInt Syntax.w64) (Syntax.tcons (Syntax.tyStruct (L._∷_ 115 (L._∷_ 116 (L._∷_ 101 (L._∷_ 112 (L._∷_ 58 (L._∷_ 58 (L._∷_ 67 (L._∷_ 104 (L._∷_ 97 (L._∷_ 110 (L._∷_ 103 (L._∷_ 101 L.[])))))))))))) (Syntax.tcons (Syntax.tyStruct (L._∷_ 110 (L._∷_ 101 (L._∷_ 116 (L._∷_ 119 (L._∷_ 111 (L._∷_ 114 (L._∷_ 107 (L._∷_ 58 (L._∷_ 58 (L._∷_ 69 (L._∷_ 100 (L._∷_ 105 (L._∷_ 116 L.[]))))))))))))) (Syntax.tcons q7 (Syntax.tcons q7 (Syntax.tcons q7 (Syntax.tcons q7 (Syntax.tcons q2 (Syntax.tcons q2 (Syntax.tcons (Syntax.tyInt Syntax.w64) Syntax.tnil)))))))) (Syntax.tcons (Syntax.tyStruct (L._∷_ 115 (L._∷_ 116 (L._∷_ 101 (L._∷_ 112 (L._∷_ 58 (L._∷_ 58 (L._∷_ 79 (L._∷_ 108 (L._∷_ 100 L.[]))))))))) (Syntax.tcons (Syntax.tyInt Syntax.w64) (Syntax.tcons q6 (Syntax.tcons q7 (Syntax.tcons q7 (Syntax.tcons q7 (Syntax.tcons q7 (Syntax.tcons q4 Syntax.tnil)))))))) Syntax.tnil))) Syntax.tnil)))) Syntax.tnil))))) (L._∷_ q22 (L._∷_ q20 L.[]))))))))))
+t9 = L._∷_ (0, Rows.any-gone (Syntax.tyStruct (L._∷_ 114 (L._∷_ 117 (L._∷_ 108 (L._∷_ 101 (L._∷_ 115 (L._∷_ 58 (L._∷_ 58 (L._∷_ 116 (L._∷_ 114 (L._∷_ 105 (L._∷_ 101 (L._∷_ 100 (L._∷_ 58 (L._∷_ 58 (L._∷_ 76 (L._∷_ 111 (L._∷_ 111 (L._∷_ 107 (L._∷_ 101 (L._∷_ 100 L.[])))))))))))))))))))) (Syntax.tcons (Syntax.tyStruct (L._∷_ 114 (L._∷_ 117 (L._∷_ 108 (L._∷_ 101 (L._∷_ 115 (L._∷_ 58 (L._∷_ 58 (L._∷_ 102 (L._∷_ 111 (L._∷_ 117 (L._∷_ 110 (L._∷_ 100 (L._∷_ 58 (L._∷_ 58 (L._∷_ 70 (L._∷_ 111 (L._∷_ 117 (L._∷_ 110 (L._∷_ 100 L.[]))))))))))))))))))) (Syntax.tcons Syntax.tyBool (Syntax.tcons Syntax.tyBool (Syntax.tcons (Syntax.tyStruct (L._∷_ 115 (L._∷_ 116 (L._∷_ 101 (L._∷_ 112 (L._∷_ 58 (L._∷_ 58 (L._∷_ 83 (L._∷_ 116 (L._∷_ 101 (L._∷_ 112 L.[])))))))))) (Syntax.tcons (Syntax.tyInt Syntax.w64) (Syntax.tcons (Syntax.tyInt Syntax.w64) (Syntax.tcons (Syntax.tyStruct (L._∷_ 115 (L._∷_ 116 (L._∷_ 101 (L._∷_ 112 (L._∷_ 58 (L._∷_ 58 (L._∷_ 67 (L._∷_ 104 (L._∷_ 97 (L._∷_ 110 (L._∷_ 103 (L._∷_ 101 L.[])))))))))))) (Syntax.tcons (Syntax.tyStruct (L._∷_ 110 (L._∷_ 101 (L._∷_ 116 (L._∷_ 119 (L._∷_ 111 (L._∷_ 114 (L._∷_ 107 (L._∷_ 58 (L._∷_ 58 (L._∷_ 69 (L._∷_ 100 (L._∷_ 105 (L._∷_ 116 L.[]))))))))))))) (Syntax.tcons q7 (Syntax.tcons q7 (Syntax.tcons q7 (Syntax.tcons q7 (Syntax.tcons q2 (Syntax.tcons q2 (Syntax.tcons (Syntax.tyInt Syntax.w64) Syntax.tnil)))))))) (Syntax.tcons (Syntax.tyStruct (L._∷_ 115 (L._∷_ 116 (L._∷_ 101 (L._∷_ 112 (L._∷_ 58 (L._∷_ 58 (L._∷_ 79 (L._∷_ 108 (L._∷_ 100 L.[]))))))))) (Syntax.tcons (Syntax.tyInt Syntax.w64) (Syntax.tcons q6 (Syntax.tcons q7 (Syntax.tcons q7 (Syntax.tcons q7 (Syntax.tcons q7 (Syntax.tcons q4 Syntax.tnil)))))))) Syntax.tnil))) Syntax.tnil)))) Syntax.tnil)))) (Syntax.tcons q5 Syntax.tnil)))) (L._∷_ q13 (L._∷_ q9 (L._∷_ q12 (L._∷_ q18 (L._∷_ q17 (L._∷_ q23 (L._∷_ (7, ARows.arrF Rec.row 97 0) (L._∷_ (8, Rows.any-gone (Syntax.tyStruct (L._∷_ 114 (L._∷_ 117 (L._∷_ 108 (L._∷_ 101 (L._∷_ 115 (L._∷_ 58 (L._∷_ 58 (L._∷_ 102 (L._∷_ 111 (L._∷_ 117 (L._∷_ 110 (L._∷_ 100 (L._∷_ 58 (L._∷_ 58 (L._∷_ 70 (L._∷_ 111 (L._∷_ 117 (L._∷_ 110 (L._∷_ 100 L.[]))))))))))))))))))) (Syntax.tcons Syntax.tyBool (Syntax.tcons Syntax.tyBool (Syntax.tcons (Syntax.tyStruct (L._∷_ 115 (L._∷_ 116 (L._∷_ 101 (L._∷_ 112 (L._∷_ 58 (L._∷_ 58 (L._∷_ 83 (L._∷_ 116 (L._∷_ 101 (L._∷_ 112 L.[])))))))))) (Syntax.tcons (Syntax.tyInt Syntax.w64) (Syntax.tcons (Syntax.tyInt Syntax.w64) (Syntax.tcons (Syntax.tyStruct (L._∷_ 115 (L._∷_ 116 (L._∷_ 101 (L._∷_ 112 (L._∷_ 58 (L._∷_ 58 (L._∷_ 67 (L._∷_ 104 (L._∷_ 97 (L._∷_ 110 (L._∷_ 103 (L._∷_ 101 L.[])))))))))))) (Syntax.tcons (Syntax.tyStruct (L._∷_ 110 (L._∷_ 101 (L._∷_ 116 (L._∷_ 119 (L._∷_ 111 (L._∷_ 114 (L._∷_ 107 (L._∷_ 58 (L._∷_ 58 (L._∷_ 69 (L._∷_ 100 (L._∷_ 105 (L._∷_ 116 L.[]))))))))))))) (Syntax.tcons q7 (Syntax.tcons q7 (Syntax.tcons q7 (Syntax.tcons q7 (Syntax.tcons q2 (Syntax.tcons q2 (Syntax.tcons (Syntax.tyInt Syntax.w64) Syntax.tnil)))))))) (Syntax.tcons (Syntax.tyStruct (L._∷_ 115 (L._∷_ 116 (L._∷_ 101 (L._∷_ 112 (L._∷_ 58 (L._∷_ 58 (L._∷_ 79 (L._∷_ 108 (L._∷_ 100 L.[]))))))))) (Syntax.tcons (Syntax.tyInt Syntax.w64) (Syntax.tcons q6 (Syntax.tcons q7 (Syntax.tcons q7 (Syntax.tcons q7 (Syntax.tcons q7 (Syntax.tcons q4 Syntax.tnil)))))))) Syntax.tnil))) Syntax.tnil)))) Syntax.tnil))))) (L._∷_ q22 (L._∷_ q20 L.[]))))))))))
 
 abbrev pub t10 : L.List Row.Entry
-t10 = L._∷_ q13 (L._∷_ q11 (L._∷_ q8 (L._∷_ q10 (L._∷_ q18 (L._∷_ q17 (L._∷_ q23 (L._∷_ (7, ARows.arrF Rec.row 97 0) (L._∷_ (8, Rows.any-gone (Syntax.tyStruct (L._∷_ 115 (L._∷_ 101 (L._∷_ 97 (L._∷_ 114 (L._∷_ 99 (L._∷_ 104 (L._∷_ 58 (L._∷_ 58 (L._∷_ 115 (L._∷_ 99 (L._∷_ 97 (L._∷_ 110 (L._∷_ 58 (L._∷_ 58 (L._∷_ 70 (L._∷_ 111 (L._∷_ 117 (L._∷_ 110 (L._∷_ 100 L.[]))))))))))))))))))) (Syntax.tcons Syntax.tyBool (Syntax.tcons Syntax.tyBool (Syntax.tcons (Syntax.tyStruct (L._∷_ 115 (L._∷_ 116 (L._∷_ 101 (L._∷_ 112 (L._∷_ 58 (L._∷_ 58 (L._∷_ 83 (L._∷_ 116 (L._∷_ 101 (L._∷_ 112 L.[])))))))))) (Syntax.tcons (Syntax.tyInt Syntax.w64) (Syntax.tcons (Syntax.tyInt Syntax.w64) (Syntax.tcons (Syntax.tyStruct (L._∷_ 115 (L._∷_ 116 (L._∷_ 101 (L._∷_ 112 (L._∷_ 58 (L._∷_ 58 (L._∷_ 67 (L._∷_ 104 (L._∷_ 97 (L._∷_ 110 (L._∷_ 103 (L._∷_ 101 L.[])))))))))))) (Syntax.tcons (Syntax.tyStruct (L._∷_ 110 (L._∷_ 101 (L._∷_ 116 (L._∷_ 119 (L._∷_ 111 (L._∷_ 114 (L._∷_ 107 (L._∷_ 58 (L._∷_ 58 (L._∷_ 69 (L._∷_ 100 (L._∷_ 105 (L._∷_ 116 L.[]))))))))))))) (Syntax.tcons q7 (Syntax.tcons q7 (Syntax.tcons q7 (Syntax.tcons q7 (Syntax.tcons q2 (Syntax.tcons q2 (Syntax.tcons (Syntax.tyInt Syntax.w64) Syntax.tnil)))))))) (Syntax.tcons (Syntax.tyStruct (L._∷_ 115 (L._∷_ 116 (L._∷_ 101 (L._∷_ 112 (L._∷_ 58 (L._∷_ 58 (L._∷_ 79 (L._∷_ 108 (L._∷_ 100 L.[]))))))))) (Syntax.tcons (Syntax.tyInt Syntax.w64) (Syntax.tcons q6 (Syntax.tcons q7 (Syntax.tcons q7 (Syntax.tcons q7 (Syntax.tcons q7 (Syntax.tcons q4 Syntax.tnil)))))))) Syntax.tnil))) Syntax.tnil)))) Syntax.tnil))))) (L._∷_ q22 (L._∷_ q20 L.[]))))))))))
+t10 = L._∷_ q10 (L._∷_ q13 (L._∷_ q9 (L._∷_ q12 (L._∷_ q18 (L._∷_ q17 (L._∷_ q23 (L._∷_ (7, ARows.arrF Rec.row 97 0) (L._∷_ (8, Rows.any-gone (Syntax.tyStruct (L._∷_ 114 (L._∷_ 117 (L._∷_ 108 (L._∷_ 101 (L._∷_ 115 (L._∷_ 58 (L._∷_ 58 (L._∷_ 102 (L._∷_ 111 (L._∷_ 117 (L._∷_ 110 (L._∷_ 100 (L._∷_ 58 (L._∷_ 58 (L._∷_ 70 (L._∷_ 111 (L._∷_ 117 (L._∷_ 110 (L._∷_ 100 L.[]))))))))))))))))))) (Syntax.tcons Syntax.tyBool (Syntax.tcons Syntax.tyBool (Syntax.tcons (Syntax.tyStruct (L._∷_ 115 (L._∷_ 116 (L._∷_ 101 (L._∷_ 112 (L._∷_ 58 (L._∷_ 58 (L._∷_ 83 (L._∷_ 116 (L._∷_ 101 (L._∷_ 112 L.[])))))))))) (Syntax.tcons (Syntax.tyInt Syntax.w64) (Syntax.tcons (Syntax.tyInt Syntax.w64) (Syntax.tcons (Syntax.tyStruct (L._∷_ 115 (L._∷_ 116 (L._∷_ 101 (L._∷_ 112 (L._∷_ 58 (L._∷_ 58 (L._∷_ 67 (L._∷_ 104 (L._∷_ 97 (L._∷_ 110 (L._∷_ 103 (L._∷_ 101 L.[])))))))))))) (Syntax.tcons (Syntax.tyStruct (L._∷_ 110 (L._∷_ 101 (L._∷_ 116 (L._∷_ 119 (L._∷_ 111 (L._∷_ 114 (L._∷_ 107 (L._∷_ 58 (L._∷_ 58 (L._∷_ 69 (L._∷_ 100 (L._∷_ 105 (L._∷_ 116 L.[]))))))))))))) (Syntax.tcons q7 (Syntax.tcons q7 (Syntax.tcons q7 (Syntax.tcons q7 (Syntax.tcons q2 (Syntax.tcons q2 (Syntax.tcons (Syntax.tyInt Syntax.w64) Syntax.tnil)))))))) (Syntax.tcons (Syntax.tyStruct (L._∷_ 115 (L._∷_ 116 (L._∷_ 101 (L._∷_ 112 (L._∷_ 58 (L._∷_ 58 (L._∷_ 79 (L._∷_ 108 (L._∷_ 100 L.[]))))))))) (Syntax.tcons (Syntax.tyInt Syntax.w64) (Syntax.tcons q6 (Syntax.tcons q7 (Syntax.tcons q7 (Syntax.tcons q7 (Syntax.tcons q7 (Syntax.tcons q4 Syntax.tnil)))))))) Syntax.tnil))) Syntax.tnil)))) Syntax.tnil))))) (L._∷_ q22 (L._∷_ q20 L.[]))))))))))
 
 abbrev pub t11 : L.List Row.Entry
-t11 = L._∷_ q13 (L._∷_ q0 (L._∷_ q8 (L._∷_ q10 (L._∷_ q18 (L._∷_ q17 (L._∷_ q23 (L._∷_ (7, ARows.arrF Rec.row 97 0) (L._∷_ (8, Rows.any-gone (Syntax.tyStruct (L._∷_ 115 (L._∷_ 101 (L._∷_ 97 (L._∷_ 114 (L._∷_ 99 (L._∷_ 104 (L._∷_ 58 (L._∷_ 58 (L._∷_ 115 (L._∷_ 99 (L._∷_ 97 (L._∷_ 110 (L._∷_ 58 (L._∷_ 58 (L._∷_ 70 (L._∷_ 111 (L._∷_ 117 (L._∷_ 110 (L._∷_ 100 L.[]))))))))))))))))))) (Syntax.tcons Syntax.tyBool (Syntax.tcons Syntax.tyBool (Syntax.tcons (Syntax.tyStruct (L._∷_ 115 (L._∷_ 116 (L._∷_ 101 (L._∷_ 112 (L._∷_ 58 (L._∷_ 58 (L._∷_ 83 (L._∷_ 116 (L._∷_ 101 (L._∷_ 112 L.[])))))))))) (Syntax.tcons (Syntax.tyInt Syntax.w64) (Syntax.tcons (Syntax.tyInt Syntax.w64) (Syntax.tcons (Syntax.tyStruct (L._∷_ 115 (L._∷_ 116 (L._∷_ 101 (L._∷_ 112 (L._∷_ 58 (L._∷_ 58 (L._∷_ 67 (L._∷_ 104 (L._∷_ 97 (L._∷_ 110 (L._∷_ 103 (L._∷_ 101 L.[])))))))))))) (Syntax.tcons (Syntax.tyStruct (L._∷_ 110 (L._∷_ 101 (L._∷_ 116 (L._∷_ 119 (L._∷_ 111 (L._∷_ 114 (L._∷_ 107 (L._∷_ 58 (L._∷_ 58 (L._∷_ 69 (L._∷_ 100 (L._∷_ 105 (L._∷_ 116 L.[]))))))))))))) (Syntax.tcons q7 (Syntax.tcons q7 (Syntax.tcons q7 (Syntax.tcons q7 (Syntax.tcons q2 (Syntax.tcons q2 (Syntax.tcons (Syntax.tyInt Syntax.w64) Syntax.tnil)))))))) (Syntax.tcons (Syntax.tyStruct (L._∷_ 115 (L._∷_ 116 (L._∷_ 101 (L._∷_ 112 (L._∷_ 58 (L._∷_ 58 (L._∷_ 79 (L._∷_ 108 (L._∷_ 100 L.[]))))))))) (Syntax.tcons (Syntax.tyInt Syntax.w64) (Syntax.tcons q6 (Syntax.tcons q7 (Syntax.tcons q7 (Syntax.tcons q7 (Syntax.tcons q7 (Syntax.tcons q4 Syntax.tnil)))))))) Syntax.tnil))) Syntax.tnil)))) Syntax.tnil))))) (L._∷_ q22 (L._∷_ q20 L.[]))))))))))
+t11 = L._∷_ q10 (L._∷_ q0 (L._∷_ q9 (L._∷_ q12 (L._∷_ q18 (L._∷_ q17 (L._∷_ q23 (L._∷_ (7, ARows.arrF Rec.row 97 0) (L._∷_ (8, Rows.any-gone (Syntax.tyStruct (L._∷_ 114 (L._∷_ 117 (L._∷_ 108 (L._∷_ 101 (L._∷_ 115 (L._∷_ 58 (L._∷_ 58 (L._∷_ 102 (L._∷_ 111 (L._∷_ 117 (L._∷_ 110 (L._∷_ 100 (L._∷_ 58 (L._∷_ 58 (L._∷_ 70 (L._∷_ 111 (L._∷_ 117 (L._∷_ 110 (L._∷_ 100 L.[]))))))))))))))))))) (Syntax.tcons Syntax.tyBool (Syntax.tcons Syntax.tyBool (Syntax.tcons (Syntax.tyStruct (L._∷_ 115 (L._∷_ 116 (L._∷_ 101 (L._∷_ 112 (L._∷_ 58 (L._∷_ 58 (L._∷_ 83 (L._∷_ 116 (L._∷_ 101 (L._∷_ 112 L.[])))))))))) (Syntax.tcons (Syntax.tyInt Syntax.w64) (Syntax.tcons (Syntax.tyInt Syntax.w64) (Syntax.tcons (Syntax.tyStruct (L._∷_ 115 (L._∷_ 116 (L._∷_ 101 (L._∷_ 112 (L._∷_ 58 (L._∷_ 58 (L._∷_ 67 (L._∷_ 104 (L._∷_ 97 (L._∷_ 110 (L._∷_ 103 (L._∷_ 101 L.[])))))))))))) (Syntax.tcons (Syntax.tyStruct (L._∷_ 110 (L._∷_ 101 (L._∷_ 116 (L._∷_ 119 (L._∷_ 111 (L._∷_ 114 (L._∷_ 107 (L._∷_ 58 (L._∷_ 58 (L._∷_ 69 (L._∷_ 100 (L._∷_ 105 (L._∷_ 116 L.[]))))))))))))) (Syntax.tcons q7 (Syntax.tcons q7 (Syntax.tcons q7 (Syntax.tcons q7 (Syntax.tcons q2 (Syntax.tcons q2 (Syntax.tcons (Syntax.tyInt Syntax.w64) Syntax.tnil)))))))) (Syntax.tcons (Syntax.tyStruct (L._∷_ 115 (L._∷_ 116 (L._∷_ 101 (L._∷_ 112 (L._∷_ 58 (L._∷_ 58 (L._∷_ 79 (L._∷_ 108 (L._∷_ 100 L.[]))))))))) (Syntax.tcons (Syntax.tyInt Syntax.w64) (Syntax.tcons q6 (Syntax.tcons q7 (Syntax.tcons q7 (Syntax.tcons q7 (Syntax.tcons q7 (Syntax.tcons q4 Syntax.tnil)))))))) Syntax.tnil))) Syntax.tnil)))) Syntax.tnil))))) (L._∷_ q22 (L._∷_ q20 L.[]))))))))))
 
 abbrev pub t12 : L.List Row.Entry
-t12 = L._∷_ q13 (L._∷_ q0 (L._∷_ q8 (L._∷_ q3 (L._∷_ q18 (L._∷_ q17 (L._∷_ q23 (L._∷_ (7, ARows.arrF Rec.row 97 0) (L._∷_ (8, Rows.any-gone (Syntax.tyStruct (L._∷_ 115 (L._∷_ 101 (L._∷_ 97 (L._∷_ 114 (L._∷_ 99 (L._∷_ 104 (L._∷_ 58 (L._∷_ 58 (L._∷_ 115 (L._∷_ 99 (L._∷_ 97 (L._∷_ 110 (L._∷_ 58 (L._∷_ 58 (L._∷_ 70 (L._∷_ 111 (L._∷_ 117 (L._∷_ 110 (L._∷_ 100 L.[]))))))))))))))))))) (Syntax.tcons Syntax.tyBool (Syntax.tcons Syntax.tyBool (Syntax.tcons (Syntax.tyStruct (L._∷_ 115 (L._∷_ 116 (L._∷_ 101 (L._∷_ 112 (L._∷_ 58 (L._∷_ 58 (L._∷_ 83 (L._∷_ 116 (L._∷_ 101 (L._∷_ 112 L.[])))))))))) (Syntax.tcons (Syntax.tyInt Syntax.w64) (Syntax.tcons (Syntax.tyInt Syntax.w64) (Syntax.tcons (Syntax.tyStruct (L._∷_ 115 (L._∷_ 116 (L._∷_ 101 (L._∷_ 112 (L._∷_ 58 (L._∷_ 58 (L._∷_ 67 (L._∷_ 104 (L._∷_ 97 (L._∷_ 110 (L._∷_ 103 (L._∷_ 101 L.[])))))))))))) (Syntax.tcons (Syntax.tyStruct (L._∷_ 110 (L._∷_ 101 (L._∷_ 116 (L._∷_ 119 (L._∷_ 111 (L._∷_ 114 (L._∷_ 107 (L._∷_ 58 (L._∷_ 58 (L._∷_ 69 (L._∷_ 100 (L._∷_ 105 (L._∷_ 116 L.[]))))))))))))) (Syntax.tcons q7 (Syntax.tcons q7 (Syntax.tcons q7 (Syntax.tcons q7 (Syntax.tcons q2 (Syntax.tcons q2 (Syntax.tcons (Syntax.tyInt Syntax.w64) Syntax.tnil)))))))) (Syntax.tcons (Syntax.tyStruct (L._∷_ 115 (L._∷_ 116 (L._∷_ 101 (L._∷_ 112 (L._∷_ 58 (L._∷_ 58 (L._∷_ 79 (L._∷_ 108 (L._∷_ 100 L.[]))))))))) (Syntax.tcons (Syntax.tyInt Syntax.w64) (Syntax.tcons q6 (Syntax.tcons q7 (Syntax.tcons q7 (Syntax.tcons q7 (Syntax.tcons q7 (Syntax.tcons q4 Syntax.tnil)))))))) Syntax.tnil))) Syntax.tnil)))) Syntax.tnil))))) (L._∷_ q22 (L._∷_ q20 L.[]))))))))))
+t12 = L._∷_ q10 (L._∷_ q0 (L._∷_ q9 (L._∷_ q3 (L._∷_ q18 (L._∷_ q17 (L._∷_ q23 (L._∷_ (7, ARows.arrF Rec.row 97 0) (L._∷_ (8, Rows.any-gone (Syntax.tyStruct (L._∷_ 114 (L._∷_ 117 (L._∷_ 108 (L._∷_ 101 (L._∷_ 115 (L._∷_ 58 (L._∷_ 58 (L._∷_ 102 (L._∷_ 111 (L._∷_ 117 (L._∷_ 110 (L._∷_ 100 (L._∷_ 58 (L._∷_ 58 (L._∷_ 70 (L._∷_ 111 (L._∷_ 117 (L._∷_ 110 (L._∷_ 100 L.[]))))))))))))))))))) (Syntax.tcons Syntax.tyBool (Syntax.tcons Syntax.tyBool (Syntax.tcons (Syntax.tyStruct (L._∷_ 115 (L._∷_ 116 (L._∷_ 101 (L._∷_ 112 (L._∷_ 58 (L._∷_ 58 (L._∷_ 83 (L._∷_ 116 (L._∷_ 101 (L._∷_ 112 L.[])))))))))) (Syntax.tcons (Syntax.tyInt Syntax.w64) (Syntax.tcons (Syntax.tyInt Syntax.w64) (Syntax.tcons (Syntax.tyStruct (L._∷_ 115 (L._∷_ 116 (L._∷_ 101 (L._∷_ 112 (L._∷_ 58 (L._∷_ 58 (L._∷_ 67 (L._∷_ 104 (L._∷_ 97 (L._∷_ 110 (L._∷_ 103 (L._∷_ 101 L.[])))))))))))) (Syntax.tcons (Syntax.tyStruct (L._∷_ 110 (L._∷_ 101 (L._∷_ 116 (L._∷_ 119 (L._∷_ 111 (L._∷_ 114 (L._∷_ 107 (L._∷_ 58 (L._∷_ 58 (L._∷_ 69 (L._∷_ 100 (L._∷_ 105 (L._∷_ 116 L.[]))))))))))))) (Syntax.tcons q7 (Syntax.tcons q7 (Syntax.tcons q7 (Syntax.tcons q7 (Syntax.tcons q2 (Syntax.tcons q2 (Syntax.tcons (Syntax.tyInt Syntax.w64) Syntax.tnil)))))))) (Syntax.tcons (Syntax.tyStruct (L._∷_ 115 (L._∷_ 116 (L._∷_ 101 (L._∷_ 112 (L._∷_ 58 (L._∷_ 58 (L._∷_ 79 (L._∷_ 108 (L._∷_ 100 L.[]))))))))) (Syntax.tcons (Syntax.tyInt Syntax.w64) (Syntax.tcons q6 (Syntax.tcons q7 (Syntax.tcons q7 (Syntax.tcons q7 (Syntax.tcons q7 (Syntax.tcons q4 Syntax.tnil)))))))) Syntax.tnil))) Syntax.tnil)))) Syntax.tnil))))) (L._∷_ q22 (L._∷_ q20 L.[]))))))))))
 
 abbrev pub t13 : L.List Row.Entry
-t13 = L._∷_ q13 (L._∷_ q0 (L._∷_ q8 (L._∷_ q3 (L._∷_ q18 (L._∷_ q17 (L._∷_ q23 (L._∷_ q14 (L._∷_ (8, Rows.any-gone (Syntax.tyStruct (L._∷_ 115 (L._∷_ 101 (L._∷_ 97 (L._∷_ 114 (L._∷_ 99 (L._∷_ 104 (L._∷_ 58 (L._∷_ 58 (L._∷_ 115 (L._∷_ 99 (L._∷_ 97 (L._∷_ 110 (L._∷_ 58 (L._∷_ 58 (L._∷_ 70 (L._∷_ 111 (L._∷_ 117 (L._∷_ 110 (L._∷_ 100 L.[]))))))))))))))))))) (Syntax.tcons Syntax.tyBool (Syntax.tcons Syntax.tyBool (Syntax.tcons (Syntax.tyStruct (L._∷_ 115 (L._∷_ 116 (L._∷_ 101 (L._∷_ 112 (L._∷_ 58 (L._∷_ 58 (L._∷_ 83 (L._∷_ 116 (L._∷_ 101 (L._∷_ 112 L.[])))))))))) (Syntax.tcons (Syntax.tyInt Syntax.w64) (Syntax.tcons (Syntax.tyInt Syntax.w64) (Syntax.tcons (Syntax.tyStruct (L._∷_ 115 (L._∷_ 116 (L._∷_ 101 (L._∷_ 112 (L._∷_ 58 (L._∷_ 58 (L._∷_ 67 (L._∷_ 104 (L._∷_ 97 (L._∷_ 110 (L._∷_ 103 (L._∷_ 101 L.[])))))))))))) (Syntax.tcons (Syntax.tyStruct (L._∷_ 110 (L._∷_ 101 (L._∷_ 116 (L._∷_ 119 (L._∷_ 111 (L._∷_ 114 (L._∷_ 107 (L._∷_ 58 (L._∷_ 58 (L._∷_ 69 (L._∷_ 100 (L._∷_ 105 (L._∷_ 116 L.[]))))))))))))) (Syntax.tcons q7 (Syntax.tcons q7 (Syntax.tcons q7 (Syntax.tcons q7 (Syntax.tcons q2 (Syntax.tcons q2 (Syntax.tcons (Syntax.tyInt Syntax.w64) Syntax.tnil)))))))) (Syntax.tcons (Syntax.tyStruct (L._∷_ 115 (L._∷_ 116 (L._∷_ 101 (L._∷_ 112 (L._∷_ 58 (L._∷_ 58 (L._∷_ 79 (L._∷_ 108 (L._∷_ 100 L.[]))))))))) (Syntax.tcons (Syntax.tyInt Syntax.w64) (Syntax.tcons q6 (Syntax.tcons q7 (Syntax.tcons q7 (Syntax.tcons q7 (Syntax.tcons q7 (Syntax.tcons q4 Syntax.tnil)))))))) Syntax.tnil))) Syntax.tnil)))) Syntax.tnil))))) (L._∷_ q22 (L._∷_ q20 L.[]))))))))))
+t13 = L._∷_ q10 (L._∷_ q0 (L._∷_ q9 (L._∷_ q3 (L._∷_ q18 (L._∷_ q17 (L._∷_ q23 (L._∷_ q15 (L._∷_ (8, Rows.any-gone (Syntax.tyStruct (L._∷_ 114 (L._∷_ 117 (L._∷_ 108 (L._∷_ 101 (L._∷_ 115 (L._∷_ 58 (L._∷_ 58 (L._∷_ 102 (L._∷_ 111 (L._∷_ 117 (L._∷_ 110 (L._∷_ 100 (L._∷_ 58 (L._∷_ 58 (L._∷_ 70 (L._∷_ 111 (L._∷_ 117 (L._∷_ 110 (L._∷_ 100 L.[]))))))))))))))))))) (Syntax.tcons Syntax.tyBool (Syntax.tcons Syntax.tyBool (Syntax.tcons (Syntax.tyStruct (L._∷_ 115 (L._∷_ 116 (L._∷_ 101 (L._∷_ 112 (L._∷_ 58 (L._∷_ 58 (L._∷_ 83 (L._∷_ 116 (L._∷_ 101 (L._∷_ 112 L.[])))))))))) (Syntax.tcons (Syntax.tyInt Syntax.w64) (Syntax.tcons (Syntax.tyInt Syntax.w64) (Syntax.tcons (Syntax.tyStruct (L._∷_ 115 (L._∷_ 116 (L._∷_ 101 (L._∷_ 112 (L._∷_ 58 (L._∷_ 58 (L._∷_ 67 (L._∷_ 104 (L._∷_ 97 (L._∷_ 110 (L._∷_ 103 (L._∷_ 101 L.[])))))))))))) (Syntax.tcons (Syntax.tyStruct (L._∷_ 110 (L._∷_ 101 (L._∷_ 116 (L._∷_ 119 (L._∷_ 111 (L._∷_ 114 (L._∷_ 107 (L._∷_ 58 (L._∷_ 58 (L._∷_ 69 (L._∷_ 100 (L._∷_ 105 (L._∷_ 116 L.[]))))))))))))) (Syntax.tcons q7 (Syntax.tcons q7 (Syntax.tcons q7 (Syntax.tcons q7 (Syntax.tcons q2 (Syntax.tcons q2 (Syntax.tcons (Syntax.tyInt Syntax.w64) Syntax.tnil)))))))) (Syntax.tcons (Syntax.tyStruct (L._∷_ 115 (L._∷_ 116 (L._∷_ 101 (L._∷_ 112 (L._∷_ 58 (L._∷_ 58 (L._∷_ 79 (L._∷_ 108 (L._∷_ 100 L.[]))))))))) (Syntax.tcons (Syntax.tyInt Syntax.w64) (Syntax.tcons q6 (Syntax.tcons q7 (Syntax.tcons q7 (Syntax.tcons q7 (Syntax.tcons q7 (Syntax.tcons q4 Syntax.tnil)))))))) Syntax.tnil))) Syntax.tnil)))) Syntax.tnil))))) (L._∷_ q22 (L._∷_ q20 L.[]))))))))))
 
 abbrev pub t14 : L.List Row.Entry
-t14 = L._∷_ q13 (L._∷_ q0 (L._∷_ q8 (L._∷_ q3 (L._∷_ (4, Rows.any-gone (Syntax.tyInt Syntax.w8)) (L._∷_ q17 (L._∷_ q23 (L._∷_ q14 (L._∷_ (8, Rows.any-gone (Syntax.tyStruct (L._∷_ 115 (L._∷_ 101 (L._∷_ 97 (L._∷_ 114 (L._∷_ 99 (L._∷_ 104 (L._∷_ 58 (L._∷_ 58 (L._∷_ 115 (L._∷_ 99 (L._∷_ 97 (L._∷_ 110 (L._∷_ 58 (L._∷_ 58 (L._∷_ 70 (L._∷_ 111 (L._∷_ 117 (L._∷_ 110 (L._∷_ 100 L.[]))))))))))))))))))) (Syntax.tcons Syntax.tyBool (Syntax.tcons Syntax.tyBool (Syntax.tcons (Syntax.tyStruct (L._∷_ 115 (L._∷_ 116 (L._∷_ 101 (L._∷_ 112 (L._∷_ 58 (L._∷_ 58 (L._∷_ 83 (L._∷_ 116 (L._∷_ 101 (L._∷_ 112 L.[])))))))))) (Syntax.tcons (Syntax.tyInt Syntax.w64) (Syntax.tcons (Syntax.tyInt Syntax.w64) (Syntax.tcons (Syntax.tyStruct (L._∷_ 115 (L._∷_ 116 (L._∷_ 101 (L._∷_ 112 (L._∷_ 58 (L._∷_ 58 (L._∷_ 67 (L._∷_ 104 (L._∷_ 97 (L._∷_ 110 (L._∷_ 103 (L._∷_ 101 L.[])))))))))))) (Syntax.tcons (Syntax.tyStruct (L._∷_ 110 (L._∷_ 101 (L._∷_ 116 (L._∷_ 119 (L._∷_ 111 (L._∷_ 114 (L._∷_ 107 (L._∷_ 58 (L._∷_ 58 (L._∷_ 69 (L._∷_ 100 (L._∷_ 105 (L._∷_ 116 L.[]))))))))))))) (Syntax.tcons q7 (Syntax.tcons q7 (Syntax.tcons q7 (Syntax.tcons q7 (Syntax.tcons q2 (Syntax.tcons q2 (Syntax.tcons (Syntax.tyInt Syntax.w64) Syntax.tnil)))))))) (Syntax.tcons (Syntax.tyStruct (L._∷_ 115 (L._∷_ 116 (L._∷_ 101 (L._∷_ 112 (L._∷_ 58 (L._∷_ 58 (L._∷_ 79 (L._∷_ 108 (L._∷_ 100 L.[]))))))))) (Syntax.tcons (Syntax.tyInt Syntax.w64) (Syntax.tcons q6 (Syntax.tcons q7 (Syntax.tcons q7 (Syntax.tcons q7 (Syntax.tcons q7 (Syntax.tcons q4 Syntax.tnil)))))))) Syntax.tnil))) Syntax.tnil)))) Syntax.tnil))))) (L._∷_ q22 (L._∷_ q20 L.[]))))))))))
+t14 = L._∷_ q10 (L._∷_ q0 (L._∷_ q9 (L._∷_ q3 (L._∷_ (4, Rows.any-gone (Syntax.tyInt Syntax.w8)) (L._∷_ q17 (L._∷_ q23 (L._∷_ q15 (L._∷_ (8, Rows.any-gone (Syntax.tyStruct (L._∷_ 114 (L._∷_ 117 (L._∷_ 108 (L._∷_ 101 (L._∷_ 115 (L._∷_ 58 (L._∷_ 58 (L._∷_ 102 (L._∷_ 111 (L._∷_ 117 (L._∷_ 110 (L._∷_ 100 (L._∷_ 58 (L._∷_ 58 (L._∷_ 70 (L._∷_ 111 (L._∷_ 117 (L._∷_ 110 (L._∷_ 100 L.[]))))))))))))))))))) (Syntax.tcons Syntax.tyBool (Syntax.tcons Syntax.tyBool (Syntax.tcons (Syntax.tyStruct (L._∷_ 115 (L._∷_ 116 (L._∷_ 101 (L._∷_ 112 (L._∷_ 58 (L._∷_ 58 (L._∷_ 83 (L._∷_ 116 (L._∷_ 101 (L._∷_ 112 L.[])))))))))) (Syntax.tcons (Syntax.tyInt Syntax.w64) (Syntax.tcons (Syntax.tyInt Syntax.w64) (Syntax.tcons (Syntax.tyStruct (L._∷_ 115 (L._∷_ 116 (L._∷_ 101 (L._∷_ 112 (L._∷_ 58 (L._∷_ 58 (L._∷_ 67 (L._∷_ 104 (L._∷_ 97 (L._∷_ 110 (L._∷_ 103 (L._∷_ 101 L.[])))))))))))) (Syntax.tcons (Syntax.tyStruct (L._∷_ 110 (L._∷_ 101 (L._∷_ 116 (L._∷_ 119 (L._∷_ 111 (L._∷_ 114 (L._∷_ 107 (L._∷_ 58 (L._∷_ 58 (L._∷_ 69 (L._∷_ 100 (L._∷_ 105 (L._∷_ 116 L.[]))))))))))))) (Syntax.tcons q7 (Syntax.tcons q7 (Syntax.tcons q7 (Syntax.tcons q7 (Syntax.tcons q2 (Syntax.tcons q2 (Syntax.tcons (Syntax.tyInt Syntax.w64) Syntax.tnil)))))))) (Syntax.tcons (Syntax.tyStruct (L._∷_ 115 (L._∷_ 116 (L._∷_ 101 (L._∷_ 112 (L._∷_ 58 (L._∷_ 58 (L._∷_ 79 (L._∷_ 108 (L._∷_ 100 L.[]))))))))) (Syntax.tcons (Syntax.tyInt Syntax.w64) (Syntax.tcons q6 (Syntax.tcons q7 (Syntax.tcons q7 (Syntax.tcons q7 (Syntax.tcons q7 (Syntax.tcons q4 Syntax.tnil)))))))) Syntax.tnil))) Syntax.tnil)))) Syntax.tnil))))) (L._∷_ q22 (L._∷_ q20 L.[]))))))))))
 
 abbrev pub t15 : L.List Row.Entry
-t15 = L._∷_ (0, Rows.any-gone (Syntax.tyStruct (L._∷_ 115 (L._∷_ 101 (L._∷_ 97 (L._∷_ 114 (L._∷_ 99 (L._∷_ 104 (L._∷_ 58 (L._∷_ 58 (L._∷_ 115 (L._∷_ 99 (L._∷_ 97 (L._∷_ 110 (L._∷_ 58 (L._∷_ 58 (L._∷_ 76 (L._∷_ 111 (L._∷_ 111 (L._∷_ 107 (L._∷_ 101 (L._∷_ 100 L.[])))))))))))))))))))) (Syntax.tcons (Syntax.tyStruct (L._∷_ 115 (L._∷_ 101 (L._∷_ 97 (L._∷_ 114 (L._∷_ 99 (L._∷_ 104 (L._∷_ 58 (L._∷_ 58 (L._∷_ 115 (L._∷_ 99 (L._∷_ 97 (L._∷_ 110 (L._∷_ 58 (L._∷_ 58 (L._∷_ 70 (L._∷_ 111 (L._∷_ 117 (L._∷_ 110 (L._∷_ 100 L.[]))))))))))))))))))) (Syntax.tcons Syntax.tyBool (Syntax.tcons Syntax.tyBool (Syntax.tcons (Syntax.tyStruct (L._∷_ 115 (L._∷_ 116 (L._∷_ 101 (L._∷_ 112 (L._∷_ 58 (L._∷_ 58 (L._∷_ 83 (L._∷_ 116 (L._∷_ 101 (L._∷_ 112 L.[])))))))))) (Syntax.tcons (Syntax.tyInt Syntax.w64) (Syntax.tcons (Syntax.tyInt Syntax.w64) (Syntax.tcons (Syntax.tyStruct (L._∷_ 115 (L._∷_ 116 (L._∷_ 101 (L._∷_ 112 (L._∷_ 58 (L._∷_ 58 (L._∷_ 67 (L._∷_ 104 (L._∷_ 97 (L._∷_ 110 (L._∷_ 103 (L._∷_ 101 L.[])))))))))))) (Syntax.tcons (Syntax.tyStruct (L._∷_ 110 (L._∷_ 101 (L._∷_ 116 (L._∷_ 119 (L._∷_ 111 (L._∷_ 114 (L._∷_ 107 (L._∷_ 58 (L._∷_ 58 (L._∷_ 69 (L._∷_ 100 (L._∷_ 105 (L._∷_ 116 L.[]))))))))))))) (Syntax.tcons q7 (Syntax.tcons q7 (Syntax.tcons q7 (Syntax.tcons q7 (Syntax.tcons q2 (Syntax.tcons q2 (Syntax.tcons (Syntax.tyInt Syntax.w64) Syntax.tnil)))))))) (Syntax.tcons (Syntax.tyStruct (L._∷_ 115 (L._∷_ 116 (L._∷_ 101 (L._∷_ 112 (L._∷_ 58 (L._∷_ 58 (L._∷_ 79 (L._∷_ 108 (L._∷_ 100 L.[]))))))))) (Syntax.tcons (Syntax.tyInt Syntax.w64) (Syntax.tcons q6 (Syntax.tcons q7 (Syntax.tcons q7 (Syntax.tcons q7 (Syntax.tcons q7 (Syntax.tcons q4 Syntax.tnil)))))))) Syntax.tnil))) Syntax.tnil)))) Syntax.tnil)))) (Syntax.tcons q5 Syntax.tnil)))) (L._∷_ q0 (L._∷_ q8 (L._∷_ q10 (L._∷_ q18 (L._∷_ q17 (L._∷_ q23 (L._∷_ q14 (L._∷_ q15 (L._∷_ q22 (L._∷_ q20 L.[]))))))))))
+t15 = L._∷_ (0, Rows.any-gone (Syntax.tyStruct (L._∷_ 114 (L._∷_ 117 (L._∷_ 108 (L._∷_ 101 (L._∷_ 115 (L._∷_ 58 (L._∷_ 58 (L._∷_ 116 (L._∷_ 114 (L._∷_ 105 (L._∷_ 101 (L._∷_ 100 (L._∷_ 58 (L._∷_ 58 (L._∷_ 76 (L._∷_ 111 (L._∷_ 111 (L._∷_ 107 (L._∷_ 101 (L._∷_ 100 L.[])))))))))))))))))))) (Syntax.tcons (Syntax.tyStruct (L._∷_ 114 (L._∷_ 117 (L._∷_ 108 (L._∷_ 101 (L._∷_ 115 (L._∷_ 58 (L._∷_ 58 (L._∷_ 102 (L._∷_ 111 (L._∷_ 117 (L._∷_ 110 (L._∷_ 100 (L._∷_ 58 (L._∷_ 58 (L._∷_ 70 (L._∷_ 111 (L._∷_ 117 (L._∷_ 110 (L._∷_ 100 L.[]))))))))))))))))))) (Syntax.tcons Syntax.tyBool (Syntax.tcons Syntax.tyBool (Syntax.tcons (Syntax.tyStruct (L._∷_ 115 (L._∷_ 116 (L._∷_ 101 (L._∷_ 112 (L._∷_ 58 (L._∷_ 58 (L._∷_ 83 (L._∷_ 116 (L._∷_ 101 (L._∷_ 112 L.[])))))))))) (Syntax.tcons (Syntax.tyInt Syntax.w64) (Syntax.tcons (Syntax.tyInt Syntax.w64) (Syntax.tcons (Syntax.tyStruct (L._∷_ 115 (L._∷_ 116 (L._∷_ 101 (L._∷_ 112 (L._∷_ 58 (L._∷_ 58 (L._∷_ 67 (L._∷_ 104 (L._∷_ 97 (L._∷_ 110 (L._∷_ 103 (L._∷_ 101 L.[])))))))))))) (Syntax.tcons (Syntax.tyStruct (L._∷_ 110 (L._∷_ 101 (L._∷_ 116 (L._∷_ 119 (L._∷_ 111 (L._∷_ 114 (L._∷_ 107 (L._∷_ 58 (L._∷_ 58 (L._∷_ 69 (L._∷_ 100 (L._∷_ 105 (L._∷_ 116 L.[]))))))))))))) (Syntax.tcons q7 (Syntax.tcons q7 (Syntax.tcons q7 (Syntax.tcons q7 (Syntax.tcons q2 (Syntax.tcons q2 (Syntax.tcons (Syntax.tyInt Syntax.w64) Syntax.tnil)))))))) (Syntax.tcons (Syntax.tyStruct (L._∷_ 115 (L._∷_ 116 (L._∷_ 101 (L._∷_ 112 (L._∷_ 58 (L._∷_ 58 (L._∷_ 79 (L._∷_ 108 (L._∷_ 100 L.[]))))))))) (Syntax.tcons (Syntax.tyInt Syntax.w64) (Syntax.tcons q6 (Syntax.tcons q7 (Syntax.tcons q7 (Syntax.tcons q7 (Syntax.tcons q7 (Syntax.tcons q4 Syntax.tnil)))))))) Syntax.tnil))) Syntax.tnil)))) Syntax.tnil)))) (Syntax.tcons q5 Syntax.tnil)))) (L._∷_ q0 (L._∷_ q9 (L._∷_ q12 (L._∷_ q18 (L._∷_ q17 (L._∷_ q23 (L._∷_ q15 (L._∷_ q11 (L._∷_ q22 (L._∷_ q20 L.[]))))))))))
 
 abbrev pub t16 : L.List Row.Entry
-t16 = L._∷_ q9 (L._∷_ q0 (L._∷_ q8 (L._∷_ q10 (L._∷_ q18 (L._∷_ q17 (L._∷_ q23 (L._∷_ q14 (L._∷_ q15 (L._∷_ q22 (L._∷_ q20 L.[]))))))))))
+t16 = L._∷_ q8 (L._∷_ q0 (L._∷_ q9 (L._∷_ q12 (L._∷_ q18 (L._∷_ q17 (L._∷_ q23 (L._∷_ q15 (L._∷_ q11 (L._∷_ q22 (L._∷_ q20 L.[]))))))))))
 
 abbrev pub t17 : L.List Row.Entry
-t17 = L._∷_ q9 (L._∷_ q0 (L._∷_ q8 (L._∷_ q3 (L._∷_ q18 (L._∷_ q17 (L._∷_ q23 (L._∷_ q14 (L._∷_ q15 (L._∷_ q22 (L._∷_ q20 L.[]))))))))))
+t17 = L._∷_ q8 (L._∷_ q0 (L._∷_ q9 (L._∷_ q3 (L._∷_ q18 (L._∷_ q17 (L._∷_ q23 (L._∷_ q15 (L._∷_ q11 (L._∷_ q22 (L._∷_ q20 L.[]))))))))))
 
 abbrev pub t18 : L.List Row.Entry
-t18 = L._∷_ q9 (L._∷_ q0 (L._∷_ q8 (L._∷_ q3 (L._∷_ q18 (L._∷_ q16 (L._∷_ q23 (L._∷_ q14 (L._∷_ q15 (L._∷_ q22 (L._∷_ q20 L.[]))))))))))
+t18 = L._∷_ q8 (L._∷_ q0 (L._∷_ q9 (L._∷_ q3 (L._∷_ q18 (L._∷_ q16 (L._∷_ q23 (L._∷_ q15 (L._∷_ q11 (L._∷_ q22 (L._∷_ q20 L.[]))))))))))
 
 abbrev pub t19 : L.List Row.Entry
-t19 = L._∷_ q9 (L._∷_ q0 (L._∷_ q8 (L._∷_ q3 (L._∷_ q18 (L._∷_ q16 (L._∷_ q23 (L._∷_ q14 (L._∷_ (8, Rows.any-gone (Syntax.tyStruct (L._∷_ 115 (L._∷_ 101 (L._∷_ 97 (L._∷_ 114 (L._∷_ 99 (L._∷_ 104 (L._∷_ 58 (L._∷_ 58 (L._∷_ 115 (L._∷_ 99 (L._∷_ 97 (L._∷_ 110 (L._∷_ 58 (L._∷_ 58 (L._∷_ 70 (L._∷_ 111 (L._∷_ 117 (L._∷_ 110 (L._∷_ 100 L.[]))))))))))))))))))) (Syntax.tcons Syntax.tyBool (Syntax.tcons Syntax.tyBool (Syntax.tcons (Syntax.tyStruct (L._∷_ 115 (L._∷_ 116 (L._∷_ 101 (L._∷_ 112 (L._∷_ 58 (L._∷_ 58 (L._∷_ 83 (L._∷_ 116 (L._∷_ 101 (L._∷_ 112 L.[])))))))))) (Syntax.tcons (Syntax.tyInt Syntax.w64) (Syntax.tcons (Syntax.tyInt Syntax.w64) (Syntax.tcons (Syntax.tyStruct (L._∷_ 115 (L._∷_ 116 (L._∷_ 101 (L._∷_ 112 (L._∷_ 58 (L._∷_ 58 (L._∷_ 67 (L._∷_ 104 (L._∷_ 97 (L._∷_ 110 (L._∷_ 103 (L._∷_ 101 L.[])))))))))))) (Syntax.tcons (Syntax.tyStruct (L._∷_ 110 (L._∷_ 101 (L._∷_ 116 (L._∷_ 119 (L._∷_ 111 (L._∷_ 114 (L._∷_ 107 (L._∷_ 58 (L._∷_ 58 (L._∷_ 69 (L._∷_ 100 (L._∷_ 105 (L._∷_ 116 L.[]))))))))))))) (Syntax.tcons q7 (Syntax.tcons q7 (Syntax.tcons q7 (Syntax.tcons q7 (Syntax.tcons q2 (Syntax.tcons q2 (Syntax.tcons (Syntax.tyInt Syntax.w64) Syntax.tnil)))))))) (Syntax.tcons (Syntax.tyStruct (L._∷_ 115 (L._∷_ 116 (L._∷_ 101 (L._∷_ 112 (L._∷_ 58 (L._∷_ 58 (L._∷_ 79 (L._∷_ 108 (L._∷_ 100 L.[]))))))))) (Syntax.tcons (Syntax.tyInt Syntax.w64) (Syntax.tcons q6 (Syntax.tcons q7 (Syntax.tcons q7 (Syntax.tcons q7 (Syntax.tcons q7 (Syntax.tcons q4 Syntax.tnil)))))))) Syntax.tnil))) Syntax.tnil)))) Syntax.tnil))))) (L._∷_ q22 (L._∷_ q20 L.[]))))))))))
+t19 = L._∷_ q8 (L._∷_ q0 (L._∷_ q9 (L._∷_ q3 (L._∷_ q18 (L._∷_ q16 (L._∷_ q23 (L._∷_ q15 (L._∷_ (8, Rows.any-gone (Syntax.tyStruct (L._∷_ 114 (L._∷_ 117 (L._∷_ 108 (L._∷_ 101 (L._∷_ 115 (L._∷_ 58 (L._∷_ 58 (L._∷_ 102 (L._∷_ 111 (L._∷_ 117 (L._∷_ 110 (L._∷_ 100 (L._∷_ 58 (L._∷_ 58 (L._∷_ 70 (L._∷_ 111 (L._∷_ 117 (L._∷_ 110 (L._∷_ 100 L.[]))))))))))))))))))) (Syntax.tcons Syntax.tyBool (Syntax.tcons Syntax.tyBool (Syntax.tcons (Syntax.tyStruct (L._∷_ 115 (L._∷_ 116 (L._∷_ 101 (L._∷_ 112 (L._∷_ 58 (L._∷_ 58 (L._∷_ 83 (L._∷_ 116 (L._∷_ 101 (L._∷_ 112 L.[])))))))))) (Syntax.tcons (Syntax.tyInt Syntax.w64) (Syntax.tcons (Syntax.tyInt Syntax.w64) (Syntax.tcons (Syntax.tyStruct (L._∷_ 115 (L._∷_ 116 (L._∷_ 101 (L._∷_ 112 (L._∷_ 58 (L._∷_ 58 (L._∷_ 67 (L._∷_ 104 (L._∷_ 97 (L._∷_ 110 (L._∷_ 103 (L._∷_ 101 L.[])))))))))))) (Syntax.tcons (Syntax.tyStruct (L._∷_ 110 (L._∷_ 101 (L._∷_ 116 (L._∷_ 119 (L._∷_ 111 (L._∷_ 114 (L._∷_ 107 (L._∷_ 58 (L._∷_ 58 (L._∷_ 69 (L._∷_ 100 (L._∷_ 105 (L._∷_ 116 L.[]))))))))))))) (Syntax.tcons q7 (Syntax.tcons q7 (Syntax.tcons q7 (Syntax.tcons q7 (Syntax.tcons q2 (Syntax.tcons q2 (Syntax.tcons (Syntax.tyInt Syntax.w64) Syntax.tnil)))))))) (Syntax.tcons (Syntax.tyStruct (L._∷_ 115 (L._∷_ 116 (L._∷_ 101 (L._∷_ 112 (L._∷_ 58 (L._∷_ 58 (L._∷_ 79 (L._∷_ 108 (L._∷_ 100 L.[]))))))))) (Syntax.tcons (Syntax.tyInt Syntax.w64) (Syntax.tcons q6 (Syntax.tcons q7 (Syntax.tcons q7 (Syntax.tcons q7 (Syntax.tcons q7 (Syntax.tcons q4 Syntax.tnil)))))))) Syntax.tnil))) Syntax.tnil)))) Syntax.tnil))))) (L._∷_ q22 (L._∷_ q20 L.[]))))))))))
 
 abbrev pub t20 : L.List Row.Entry
-t20 = L._∷_ q9 (L._∷_ q0 (L._∷_ q8 (L._∷_ q3 (L._∷_ (4, Rows.any-gone (Syntax.tyInt Syntax.w8)) (L._∷_ q16 (L._∷_ q23 (L._∷_ q14 (L._∷_ (8, Rows.any-gone (Syntax.tyStruct (L._∷_ 115 (L._∷_ 101 (L._∷_ 97 (L._∷_ 114 (L._∷_ 99 (L._∷_ 104 (L._∷_ 58 (L._∷_ 58 (L._∷_ 115 (L._∷_ 99 (L._∷_ 97 (L._∷_ 110 (L._∷_ 58 (L._∷_ 58 (L._∷_ 70 (L._∷_ 111 (L._∷_ 117 (L._∷_ 110 (L._∷_ 100 L.[]))))))))))))))))))) (Syntax.tcons Syntax.tyBool (Syntax.tcons Syntax.tyBool (Syntax.tcons (Syntax.tyStruct (L._∷_ 115 (L._∷_ 116 (L._∷_ 101 (L._∷_ 112 (L._∷_ 58 (L._∷_ 58 (L._∷_ 83 (L._∷_ 116 (L._∷_ 101 (L._∷_ 112 L.[])))))))))) (Syntax.tcons (Syntax.tyInt Syntax.w64) (Syntax.tcons (Syntax.tyInt Syntax.w64) (Syntax.tcons (Syntax.tyStruct (L._∷_ 115 (L._∷_ 116 (L._∷_ 101 (L._∷_ 112 (L._∷_ 58 (L._∷_ 58 (L._∷_ 67 (L._∷_ 104 (L._∷_ 97 (L._∷_ 110 (L._∷_ 103 (L._∷_ 101 L.[])))))))))))) (Syntax.tcons (Syntax.tyStruct (L._∷_ 110 (L._∷_ 101 (L._∷_ 116 (L._∷_ 119 (L._∷_ 111 (L._∷_ 114 (L._∷_ 107 (L._∷_ 58 (L._∷_ 58 (L._∷_ 69 (L._∷_ 100 (L._∷_ 105 (L._∷_ 116 L.[]))))))))))))) (Syntax.tcons q7 (Syntax.tcons q7 (Syntax.tcons q7 (Syntax.tcons q7 (Syntax.tcons q2 (Syntax.tcons q2 (Syntax.tcons (Syntax.tyInt Syntax.w64) Syntax.tnil)))))))) (Syntax.tcons (Syntax.tyStruct (L._∷_ 115 (L._∷_ 116 (L._∷_ 101 (L._∷_ 112 (L._∷_ 58 (L._∷_ 58 (L._∷_ 79 (L._∷_ 108 (L._∷_ 100 L.[]))))))))) (Syntax.tcons (Syntax.tyInt Syntax.w64) (Syntax.tcons q6 (Syntax.tcons q7 (Syntax.tcons q7 (Syntax.tcons q7 (Syntax.tcons q7 (Syntax.tcons q4 Syntax.tnil)))))))) Syntax.tnil))) Syntax.tnil)))) Syntax.tnil))))) (L._∷_ q22 (L._∷_ q20 L.[]))))))))))
+t20 = L._∷_ q8 (L._∷_ q0 (L._∷_ q9 (L._∷_ q3 (L._∷_ (4, Rows.any-gone (Syntax.tyInt Syntax.w8)) (L._∷_ q16 (L._∷_ q23 (L._∷_ q15 (L._∷_ (8, Rows.any-gone (Syntax.tyStruct (L._∷_ 114 (L._∷_ 117 (L._∷_ 108 (L._∷_ 101 (L._∷_ 115 (L._∷_ 58 (L._∷_ 58 (L._∷_ 102 (L._∷_ 111 (L._∷_ 117 (L._∷_ 110 (L._∷_ 100 (L._∷_ 58 (L._∷_ 58 (L._∷_ 70 (L._∷_ 111 (L._∷_ 117 (L._∷_ 110 (L._∷_ 100 L.[]))))))))))))))))))) (Syntax.tcons Syntax.tyBool (Syntax.tcons Syntax.tyBool (Syntax.tcons (Syntax.tyStruct (L._∷_ 115 (L._∷_ 116 (L._∷_ 101 (L._∷_ 112 (L._∷_ 58 (L._∷_ 58 (L._∷_ 83 (L._∷_ 116 (L._∷_ 101 (L._∷_ 112 L.[])))))))))) (Syntax.tcons (Syntax.tyInt Syntax.w64) (Syntax.tcons (Syntax.tyInt Syntax.w64) (Syntax.tcons (Syntax.tyStruct (L._∷_ 115 (L._∷_ 116 (L._∷_ 101 (L._∷_ 112 (L._∷_ 58 (L._∷_ 58 (L._∷_ 67 (L._∷_ 104 (L._∷_ 97 (L._∷_ 110 (L._∷_ 103 (L._∷_ 101 L.[])))))))))))) (Syntax.tcons (Syntax.tyStruct (L._∷_ 110 (L._∷_ 101 (L._∷_ 116 (L._∷_ 119 (L._∷_ 111 (L._∷_ 114 (L._∷_ 107 (L._∷_ 58 (L._∷_ 58 (L._∷_ 69 (L._∷_ 100 (L._∷_ 105 (L._∷_ 116 L.[]))))))))))))) (Syntax.tcons q7 (Syntax.tcons q7 (Syntax.tcons q7 (Syntax.tcons q7 (Syntax.tcons q2 (Syntax.tcons q2 (Syntax.tcons (Syntax.tyInt Syntax.w64) Syntax.tnil)))))))) (Syntax.tcons (Syntax.tyStruct (L._∷_ 115 (L._∷_ 116 (L._∷_ 101 (L._∷_ 112 (L._∷_ 58 (L._∷_ 58 (L._∷_ 79 (L._∷_ 108 (L._∷_ 100 L.[]))))))))) (Syntax.tcons (Syntax.tyInt Syntax.w64) (Syntax.tcons q6 (Syntax.tcons q7 (Syntax.tcons q7 (Syntax.tcons q7 (Syntax.tcons q7 (Syntax.tcons q4 Syntax.tnil)))))))) Syntax.tnil))) Syntax.tnil)))) Syntax.tnil))))) (L._∷_ q22 (L._∷_ q20 L.[]))))))))))
 
 abbrev pub T0 : Row.Cx
 T0 = record { locals = t0; slots = L.[] }
@@ -484,7 +484,7 @@ module _ (claims· : Claims) where
   s10 = Call.callB ps·2 r·2 (claims· .4) (claims· .5) T14 (record { pos = 2; ty = Syntax.tyRef (Syntax.named 0) Syntax.imm Rec.named; ref = λ x. x }, tt) 7 (L._∷_ 0 L.[]) q21
 
   abbrev s11 : Typed.Both T15 T16
-  s11 = Call.callB ps·3 r·3 (claims· .6) (claims· .7) T15 (record { pos = 1; st = L.[]; d = 0; at = λ x. x }, (record { pos = 7; st = L.[]; d = 0; at = λ x. x }, (record { pos = 3; st = L.[]; d = 0; at = λ x. x }, (Num.vAt 4 λ x. x, tt)))) 0 L.[] (Syntax.tyStruct (L._∷_ 115 (L._∷_ 101 (L._∷_ 97 (L._∷_ 114 (L._∷_ 99 (L._∷_ 104 (L._∷_ 58 (L._∷_ 58 (L._∷_ 115 (L._∷_ 99 (L._∷_ 97 (L._∷_ 110 (L._∷_ 58 (L._∷_ 58 (L._∷_ 76 (L._∷_ 111 (L._∷_ 111 (L._∷_ 107 (L._∷_ 101 (L._∷_ 100 L.[])))))))))))))))))))) (Syntax.tcons (Syntax.tyStruct (L._∷_ 115 (L._∷_ 101 (L._∷_ 97 (L._∷_ 114 (L._∷_ 99 (L._∷_ 104 (L._∷_ 58 (L._∷_ 58 (L._∷_ 115 (L._∷_ 99 (L._∷_ 97 (L._∷_ 110 (L._∷_ 58 (L._∷_ 58 (L._∷_ 70 (L._∷_ 111 (L._∷_ 117 (L._∷_ 110 (L._∷_ 100 L.[]))))))))))))))))))) (Syntax.tcons Syntax.tyBool (Syntax.tcons Syntax.tyBool (Syntax.tcons (Syntax.tyStruct (L._∷_ 115 (L._∷_ 116 (L._∷_ 101 (L._∷_ 112 (L._∷_ 58 (L._∷_ 58 (L._∷_ 83 (L._∷_ 116 (L._∷_ 101 (L._∷_ 112 L.[])))))))))) (Syntax.tcons (Syntax.tyInt Syntax.w64) (Syntax.tcons (Syntax.tyInt Syntax.w64) (Syntax.tcons (Syntax.tyStruct (L._∷_ 115 (L._∷_ 116 (L._∷_ 101 (L._∷_ 112 (L._∷_ 58 (L._∷_ 58 (L._∷_ 67 (L._∷_ 104 (L._∷_ 97 (L._∷_ 110 (L._∷_ 103 (L._∷_ 101 L.[])))))))))))) (Syntax.tcons (Syntax.tyStruct (L._∷_ 110 (L._∷_ 101 (L._∷_ 116 (L._∷_ 119 (L._∷_ 111 (L._∷_ 114 (L._∷_ 107 (L._∷_ 58 (L._∷_ 58 (L._∷_ 69 (L._∷_ 100 (L._∷_ 105 (L._∷_ 116 L.[]))))))))))))) (Syntax.tcons q7 (Syntax.tcons q7 (Syntax.tcons q7 (Syntax.tcons q7 (Syntax.tcons q2 (Syntax.tcons q2 (Syntax.tcons (Syntax.tyInt Syntax.w64) Syntax.tnil)))))))) (Syntax.tcons (Syntax.tyStruct (L._∷_ 115 (L._∷_ 116 (L._∷_ 101 (L._∷_ 112 (L._∷_ 58 (L._∷_ 58 (L._∷_ 79 (L._∷_ 108 (L._∷_ 100 L.[]))))))))) (Syntax.tcons (Syntax.tyInt Syntax.w64) (Syntax.tcons q6 (Syntax.tcons q7 (Syntax.tcons q7 (Syntax.tcons q7 (Syntax.tcons q7 (Syntax.tcons q4 Syntax.tnil)))))))) Syntax.tnil))) Syntax.tnil)))) Syntax.tnil)))) (Syntax.tcons q5 Syntax.tnil)))
+  s11 = Call.callB ps·3 r·3 (claims· .6) (claims· .7) T15 (record { pos = 1; st = L.[]; d = 0; at = λ x. x }, (record { pos = 7; st = L.[]; d = 0; at = λ x. x }, (record { pos = 3; st = L.[]; d = 0; at = λ x. x }, (Num.vAt 4 λ x. x, tt)))) 0 L.[] (Syntax.tyStruct (L._∷_ 114 (L._∷_ 117 (L._∷_ 108 (L._∷_ 101 (L._∷_ 115 (L._∷_ 58 (L._∷_ 58 (L._∷_ 116 (L._∷_ 114 (L._∷_ 105 (L._∷_ 101 (L._∷_ 100 (L._∷_ 58 (L._∷_ 58 (L._∷_ 76 (L._∷_ 111 (L._∷_ 111 (L._∷_ 107 (L._∷_ 101 (L._∷_ 100 L.[])))))))))))))))))))) (Syntax.tcons (Syntax.tyStruct (L._∷_ 114 (L._∷_ 117 (L._∷_ 108 (L._∷_ 101 (L._∷_ 115 (L._∷_ 58 (L._∷_ 58 (L._∷_ 102 (L._∷_ 111 (L._∷_ 117 (L._∷_ 110 (L._∷_ 100 (L._∷_ 58 (L._∷_ 58 (L._∷_ 70 (L._∷_ 111 (L._∷_ 117 (L._∷_ 110 (L._∷_ 100 L.[]))))))))))))))))))) (Syntax.tcons Syntax.tyBool (Syntax.tcons Syntax.tyBool (Syntax.tcons (Syntax.tyStruct (L._∷_ 115 (L._∷_ 116 (L._∷_ 101 (L._∷_ 112 (L._∷_ 58 (L._∷_ 58 (L._∷_ 83 (L._∷_ 116 (L._∷_ 101 (L._∷_ 112 L.[])))))))))) (Syntax.tcons (Syntax.tyInt Syntax.w64) (Syntax.tcons (Syntax.tyInt Syntax.w64) (Syntax.tcons (Syntax.tyStruct (L._∷_ 115 (L._∷_ 116 (L._∷_ 101 (L._∷_ 112 (L._∷_ 58 (L._∷_ 58 (L._∷_ 67 (L._∷_ 104 (L._∷_ 97 (L._∷_ 110 (L._∷_ 103 (L._∷_ 101 L.[])))))))))))) (Syntax.tcons (Syntax.tyStruct (L._∷_ 110 (L._∷_ 101 (L._∷_ 116 (L._∷_ 119 (L._∷_ 111 (L._∷_ 114 (L._∷_ 107 (L._∷_ 58 (L._∷_ 58 (L._∷_ 69 (L._∷_ 100 (L._∷_ 105 (L._∷_ 116 L.[]))))))))))))) (Syntax.tcons q7 (Syntax.tcons q7 (Syntax.tcons q7 (Syntax.tcons q7 (Syntax.tcons q2 (Syntax.tcons q2 (Syntax.tcons (Syntax.tyInt Syntax.w64) Syntax.tnil)))))))) (Syntax.tcons (Syntax.tyStruct (L._∷_ 115 (L._∷_ 116 (L._∷_ 101 (L._∷_ 112 (L._∷_ 58 (L._∷_ 58 (L._∷_ 79 (L._∷_ 108 (L._∷_ 100 L.[]))))))))) (Syntax.tcons (Syntax.tyInt Syntax.w64) (Syntax.tcons q6 (Syntax.tcons q7 (Syntax.tcons q7 (Syntax.tcons q7 (Syntax.tcons q7 (Syntax.tcons q4 Syntax.tnil)))))))) Syntax.tnil))) Syntax.tnil)))) Syntax.tnil)))) (Syntax.tcons q5 Syntax.tnil)))
 
   abbrev s12 : Typed.Mo T16 → Typed.Mo T17
   s12 = Scalar.n-room T16 1 q1
@@ -508,10 +508,10 @@ module _ (claims· : Claims) where
   s18 = Scalar.k-op2 T12 (Syntax.add Syntax.unsigned) (Scalar.oAt 5 (Syntax.tyInt Syntax.w64) (Row.valS (Row.sInt Syntax.w64))) (Scalar.oInt Syntax.w64 1) 5 q19 (Row.sInt Syntax.w64 .of)
 
   abbrev s19 : Typed.Both T3 T24
-  s19 = Call.callB ps·4 r·4 (claims· .8) (claims· .9) T3 tt 8 L.[] (Syntax.tyStruct (L._∷_ 115 (L._∷_ 101 (L._∷_ 97 (L._∷_ 114 (L._∷_ 99 (L._∷_ 104 (L._∷_ 58 (L._∷_ 58 (L._∷_ 115 (L._∷_ 99 (L._∷_ 97 (L._∷_ 110 (L._∷_ 58 (L._∷_ 58 (L._∷_ 70 (L._∷_ 111 (L._∷_ 117 (L._∷_ 110 (L._∷_ 100 L.[]))))))))))))))))))) (Syntax.tcons Syntax.tyBool (Syntax.tcons Syntax.tyBool (Syntax.tcons (Syntax.tyStruct (L._∷_ 115 (L._∷_ 116 (L._∷_ 101 (L._∷_ 112 (L._∷_ 58 (L._∷_ 58 (L._∷_ 83 (L._∷_ 116 (L._∷_ 101 (L._∷_ 112 L.[])))))))))) (Syntax.tcons (Syntax.tyInt Syntax.w64) (Syntax.tcons (Syntax.tyInt Syntax.w64) (Syntax.tcons (Syntax.tyStruct (L._∷_ 115 (L._∷_ 116 (L._∷_ 101 (L._∷_ 112 (L._∷_ 58 (L._∷_ 58 (L._∷_ 67 (L._∷_ 104 (L._∷_ 97 (L._∷_ 110 (L._∷_ 103 (L._∷_ 101 L.[])))))))))))) (Syntax.tcons (Syntax.tyStruct (L._∷_ 110 (L._∷_ 101 (L._∷_ 116 (L._∷_ 119 (L._∷_ 111 (L._∷_ 114 (L._∷_ 107 (L._∷_ 58 (L._∷_ 58 (L._∷_ 69 (L._∷_ 100 (L._∷_ 105 (L._∷_ 116 L.[]))))))))))))) (Syntax.tcons q7 (Syntax.tcons q7 (Syntax.tcons q7 (Syntax.tcons q7 (Syntax.tcons q2 (Syntax.tcons q2 (Syntax.tcons (Syntax.tyInt Syntax.w64) Syntax.tnil)))))))) (Syntax.tcons (Syntax.tyStruct (L._∷_ 115 (L._∷_ 116 (L._∷_ 101 (L._∷_ 112 (L._∷_ 58 (L._∷_ 58 (L._∷_ 79 (L._∷_ 108 (L._∷_ 100 L.[]))))))))) (Syntax.tcons (Syntax.tyInt Syntax.w64) (Syntax.tcons q6 (Syntax.tcons q7 (Syntax.tcons q7 (Syntax.tcons q7 (Syntax.tcons q7 (Syntax.tcons q4 Syntax.tnil)))))))) Syntax.tnil))) Syntax.tnil)))) Syntax.tnil))))
+  s19 = Call.callB ps·4 r·4 (claims· .8) (claims· .9) T3 tt 8 L.[] (Syntax.tyStruct (L._∷_ 114 (L._∷_ 117 (L._∷_ 108 (L._∷_ 101 (L._∷_ 115 (L._∷_ 58 (L._∷_ 58 (L._∷_ 102 (L._∷_ 111 (L._∷_ 117 (L._∷_ 110 (L._∷_ 100 (L._∷_ 58 (L._∷_ 58 (L._∷_ 70 (L._∷_ 111 (L._∷_ 117 (L._∷_ 110 (L._∷_ 100 L.[]))))))))))))))))))) (Syntax.tcons Syntax.tyBool (Syntax.tcons Syntax.tyBool (Syntax.tcons (Syntax.tyStruct (L._∷_ 115 (L._∷_ 116 (L._∷_ 101 (L._∷_ 112 (L._∷_ 58 (L._∷_ 58 (L._∷_ 83 (L._∷_ 116 (L._∷_ 101 (L._∷_ 112 L.[])))))))))) (Syntax.tcons (Syntax.tyInt Syntax.w64) (Syntax.tcons (Syntax.tyInt Syntax.w64) (Syntax.tcons (Syntax.tyStruct (L._∷_ 115 (L._∷_ 116 (L._∷_ 101 (L._∷_ 112 (L._∷_ 58 (L._∷_ 58 (L._∷_ 67 (L._∷_ 104 (L._∷_ 97 (L._∷_ 110 (L._∷_ 103 (L._∷_ 101 L.[])))))))))))) (Syntax.tcons (Syntax.tyStruct (L._∷_ 110 (L._∷_ 101 (L._∷_ 116 (L._∷_ 119 (L._∷_ 111 (L._∷_ 114 (L._∷_ 107 (L._∷_ 58 (L._∷_ 58 (L._∷_ 69 (L._∷_ 100 (L._∷_ 105 (L._∷_ 116 L.[]))))))))))))) (Syntax.tcons q7 (Syntax.tcons q7 (Syntax.tcons q7 (Syntax.tcons q7 (Syntax.tcons q2 (Syntax.tcons q2 (Syntax.tcons (Syntax.tyInt Syntax.w64) Syntax.tnil)))))))) (Syntax.tcons (Syntax.tyStruct (L._∷_ 115 (L._∷_ 116 (L._∷_ 101 (L._∷_ 112 (L._∷_ 58 (L._∷_ 58 (L._∷_ 79 (L._∷_ 108 (L._∷_ 100 L.[]))))))))) (Syntax.tcons (Syntax.tyInt Syntax.w64) (Syntax.tcons q6 (Syntax.tcons q7 (Syntax.tcons q7 (Syntax.tcons q7 (Syntax.tcons q7 (Syntax.tcons q4 Syntax.tnil)))))))) Syntax.tnil))) Syntax.tnil)))) Syntax.tnil))))
 
   abbrev s20 : Typed.Mo T24 → Typed.Mo T25
-  s20 = Make.n-make (Declared.row (Apart.apartT scan-Looked·.the-type)) T24 0 λ m. (m .1 .1 .1 .1 .1 .1 .1 .1 .0, (m .1 .1 .1 .0, tt))
+  s20 = Make.n-make (Declared.row (Apart.apartT rules-proofs-tried-Looked·.the-type)) T24 0 λ m. (m .1 .1 .1 .1 .1 .1 .1 .1 .0, (m .1 .1 .1 .0, tt))
 
   abbrev s21 : Typed.Mo T25 → Typed.Mo T26
   s21 = Scalar.n-room T25 3 q5
@@ -520,13 +520,13 @@ module _ (claims· : Claims) where
   s22 = Scalar.n-room T26 5 (Syntax.tyInt Syntax.w64)
 
   abbrev s23 : Typed.Mo T27 → Typed.Mo T28
-  s23 = Scalar.n-room T27 8 (Syntax.tyStruct (L._∷_ 115 (L._∷_ 101 (L._∷_ 97 (L._∷_ 114 (L._∷_ 99 (L._∷_ 104 (L._∷_ 58 (L._∷_ 58 (L._∷_ 115 (L._∷_ 99 (L._∷_ 97 (L._∷_ 110 (L._∷_ 58 (L._∷_ 58 (L._∷_ 70 (L._∷_ 111 (L._∷_ 117 (L._∷_ 110 (L._∷_ 100 L.[]))))))))))))))))))) (Syntax.tcons Syntax.tyBool (Syntax.tcons Syntax.tyBool (Syntax.tcons (Syntax.tyStruct (L._∷_ 115 (L._∷_ 116 (L._∷_ 101 (L._∷_ 112 (L._∷_ 58 (L._∷_ 58 (L._∷_ 83 (L._∷_ 116 (L._∷_ 101 (L._∷_ 112 L.[])))))))))) (Syntax.tcons (Syntax.tyInt Syntax.w64) (Syntax.tcons (Syntax.tyInt Syntax.w64) (Syntax.tcons (Syntax.tyStruct (L._∷_ 115 (L._∷_ 116 (L._∷_ 101 (L._∷_ 112 (L._∷_ 58 (L._∷_ 58 (L._∷_ 67 (L._∷_ 104 (L._∷_ 97 (L._∷_ 110 (L._∷_ 103 (L._∷_ 101 L.[])))))))))))) (Syntax.tcons (Syntax.tyStruct (L._∷_ 110 (L._∷_ 101 (L._∷_ 116 (L._∷_ 119 (L._∷_ 111 (L._∷_ 114 (L._∷_ 107 (L._∷_ 58 (L._∷_ 58 (L._∷_ 69 (L._∷_ 100 (L._∷_ 105 (L._∷_ 116 L.[]))))))))))))) (Syntax.tcons q7 (Syntax.tcons q7 (Syntax.tcons q7 (Syntax.tcons q7 (Syntax.tcons q2 (Syntax.tcons q2 (Syntax.tcons (Syntax.tyInt Syntax.w64) Syntax.tnil)))))))) (Syntax.tcons (Syntax.tyStruct (L._∷_ 115 (L._∷_ 116 (L._∷_ 101 (L._∷_ 112 (L._∷_ 58 (L._∷_ 58 (L._∷_ 79 (L._∷_ 108 (L._∷_ 100 L.[]))))))))) (Syntax.tcons (Syntax.tyInt Syntax.w64) (Syntax.tcons q6 (Syntax.tcons q7 (Syntax.tcons q7 (Syntax.tcons q7 (Syntax.tcons q7 (Syntax.tcons q4 Syntax.tnil)))))))) Syntax.tnil))) Syntax.tnil)))) Syntax.tnil))))
+  s23 = Scalar.n-room T27 8 (Syntax.tyStruct (L._∷_ 114 (L._∷_ 117 (L._∷_ 108 (L._∷_ 101 (L._∷_ 115 (L._∷_ 58 (L._∷_ 58 (L._∷_ 102 (L._∷_ 111 (L._∷_ 117 (L._∷_ 110 (L._∷_ 100 (L._∷_ 58 (L._∷_ 58 (L._∷_ 70 (L._∷_ 111 (L._∷_ 117 (L._∷_ 110 (L._∷_ 100 L.[]))))))))))))))))))) (Syntax.tcons Syntax.tyBool (Syntax.tcons Syntax.tyBool (Syntax.tcons (Syntax.tyStruct (L._∷_ 115 (L._∷_ 116 (L._∷_ 101 (L._∷_ 112 (L._∷_ 58 (L._∷_ 58 (L._∷_ 83 (L._∷_ 116 (L._∷_ 101 (L._∷_ 112 L.[])))))))))) (Syntax.tcons (Syntax.tyInt Syntax.w64) (Syntax.tcons (Syntax.tyInt Syntax.w64) (Syntax.tcons (Syntax.tyStruct (L._∷_ 115 (L._∷_ 116 (L._∷_ 101 (L._∷_ 112 (L._∷_ 58 (L._∷_ 58 (L._∷_ 67 (L._∷_ 104 (L._∷_ 97 (L._∷_ 110 (L._∷_ 103 (L._∷_ 101 L.[])))))))))))) (Syntax.tcons (Syntax.tyStruct (L._∷_ 110 (L._∷_ 101 (L._∷_ 116 (L._∷_ 119 (L._∷_ 111 (L._∷_ 114 (L._∷_ 107 (L._∷_ 58 (L._∷_ 58 (L._∷_ 69 (L._∷_ 100 (L._∷_ 105 (L._∷_ 116 L.[]))))))))))))) (Syntax.tcons q7 (Syntax.tcons q7 (Syntax.tcons q7 (Syntax.tcons q7 (Syntax.tcons q2 (Syntax.tcons q2 (Syntax.tcons (Syntax.tyInt Syntax.w64) Syntax.tnil)))))))) (Syntax.tcons (Syntax.tyStruct (L._∷_ 115 (L._∷_ 116 (L._∷_ 101 (L._∷_ 112 (L._∷_ 58 (L._∷_ 58 (L._∷_ 79 (L._∷_ 108 (L._∷_ 100 L.[]))))))))) (Syntax.tcons (Syntax.tyInt Syntax.w64) (Syntax.tcons q6 (Syntax.tcons q7 (Syntax.tcons q7 (Syntax.tcons q7 (Syntax.tcons q7 (Syntax.tcons q4 Syntax.tnil)))))))) Syntax.tnil))) Syntax.tnil)))) Syntax.tnil))))
 
   abbrev s24 : Typed.Mo T28 → Typed.Mo T29
   s24 = Scalar.n-room T28 4 (Syntax.tyInt Syntax.w8)
 
   abbrev s25 : Typed.Mo T29 → Typed.Mo T30
-  s25 = AtSlots.n-as-by T29 0 (Rows.whole (Declared.row scan-Looked·.the-type)) λ v. scan-Looked·.struct .make v tt
+  s25 = AtSlots.n-as-by T29 0 (Rows.whole (Declared.row rules-proofs-tried-Looked·.the-type)) λ v. rules-proofs-tried-Looked·.struct .make v tt
 
   abbrev put0 : Rows.sc-here (Row.sInt Syntax.w64) .Mod → Typed.Mo T2 → Typed.Mo T2
   put0 = λ vs u. Row.set 5 q17 vs (T2 .locals) u
@@ -534,7 +534,7 @@ module _ (claims· : Claims) where
   module _ (Pre· : (κs : Lifetimes.Lfts 1) → FnKinds.Dens κs ps → Type 0) (Post· : (κs : Lifetimes.Lfts 1) → (a : FnKinds.Dens κs ps) → FnKinds.Plain 1 ps r κs) where
     module _ (M : Type 1) where
       abbrev pub Closed : Type 2
-      Closed = (𝓤 : URA.URA M) (H : Wp.Heap 𝓤) (A : Atoms.Atoms 𝓤) (W : Kit.Given 𝓤 H A) (𝓣 : Wp.Tables 𝓤 H) (known0 : Plain.Known 𝓤 H A W 𝓣 1 ps·0 r·0 (claims· .0) (claims· .1) "network::list::read") (known1 : Plain.Known 𝓤 H A W 𝓣 0 ps·1 r·1 (claims· .2) (claims· .3) "search::scan::is_root") (known2 : Plain.Known 𝓤 H A W 𝓣 1 ps·2 r·2 (claims· .4) (claims· .5) "network::list::view") (known3 : Plain.Known 𝓤 H A W 𝓣 0 ps·3 r·3 (claims· .6) (claims· .7) "search::scan::at_costly") (known4 : Plain.Known 𝓤 H A W 𝓣 0 ps·4 r·4 (claims· .8) (claims· .9) "search::scan::nothing") → Statement.Triple 𝓤 (Wp.WpFn 𝓤 H (𝓣 .C) (𝓣 .Λ) (Function.fnOf 1 ps r xs m hs body)) (Function.plainOf 𝓤 H A 1 ps r Pre· Post·)
+      Closed = (𝓤 : URA.URA M) (H : Wp.Heap 𝓤) (A : Atoms.Atoms 𝓤) (W : Kit.Given 𝓤 H A) (𝓣 : Wp.Tables 𝓤 H) (known0 : Plain.Known 𝓤 H A W 𝓣 1 ps·0 r·0 (claims· .0) (claims· .1) "network::list::read") (known1 : Plain.Known 𝓤 H A W 𝓣 0 ps·1 r·1 (claims· .2) (claims· .3) "rules::tried::is_root") (known2 : Plain.Known 𝓤 H A W 𝓣 1 ps·2 r·2 (claims· .4) (claims· .5) "network::list::view") (known3 : Plain.Known 𝓤 H A W 𝓣 0 ps·3 r·3 (claims· .6) (claims· .7) "rules::tried::at_costly") (known4 : Plain.Known 𝓤 H A W 𝓣 0 ps·4 r·4 (claims· .8) (claims· .9) "rules::found::nothing") → Statement.Triple 𝓤 (Wp.WpFn 𝓤 H (𝓣 .C) (𝓣 .Λ) (Function.fnOf 1 ps r xs m hs body)) (Function.plainOf 𝓤 H A 1 ps r Pre· Post·)
 
     module _ (Inv·0 : InvT-loop) (μ·0 : MeasureT-loop) where
       abbrev at0 : Typed.TF T7 O4
@@ -656,7 +656,7 @@ module _ (claims· : Claims) where
 
       module _ {M : Type 1} (𝓤 : URA.URA M) (H : Wp.Heap 𝓤) (A : Atoms.Atoms 𝓤) (W : Kit.Given 𝓤 H A) (𝓣 : Wp.Tables 𝓤 H) where
         abbrev Knowns : Type 1
-        Knowns = Plain.Known 𝓤 H A W 𝓣 1 ps·0 r·0 (claims· .0) (claims· .1) "network::list::read" × Plain.Known 𝓤 H A W 𝓣 0 ps·1 r·1 (claims· .2) (claims· .3) "search::scan::is_root" × Plain.Known 𝓤 H A W 𝓣 1 ps·2 r·2 (claims· .4) (claims· .5) "network::list::view" × Plain.Known 𝓤 H A W 𝓣 0 ps·3 r·3 (claims· .6) (claims· .7) "search::scan::at_costly" × Plain.Known 𝓤 H A W 𝓣 0 ps·4 r·4 (claims· .8) (claims· .9) "search::scan::nothing"
+        Knowns = Plain.Known 𝓤 H A W 𝓣 1 ps·0 r·0 (claims· .0) (claims· .1) "network::list::read" × Plain.Known 𝓤 H A W 𝓣 0 ps·1 r·1 (claims· .2) (claims· .3) "rules::tried::is_root" × Plain.Known 𝓤 H A W 𝓣 1 ps·2 r·2 (claims· .4) (claims· .5) "network::list::view" × Plain.Known 𝓤 H A W 𝓣 0 ps·3 r·3 (claims· .6) (claims· .7) "rules::tried::at_costly" × Plain.Known 𝓤 H A W 𝓣 0 ps·4 r·4 (claims· .8) (claims· .9) "rules::found::nothing"
 
       module _ (κs : Lifetimes.Lfts 1) (qs : Lifetimes.Shares 1) where
         abbrev G0 : Row.Cx
@@ -811,10 +811,10 @@ module _ (claims· : Claims) where
           d11 = Typed.g-pre 𝓤 H A W 𝓣 E G16 G17 b9 Δ5 (Typed.pass T16 T17 s12) at10 (Scalar.g-room 𝓤 H A W E G16 1 q1 (Local.room-whole 𝓤 H A W (Declared.row network-proofs-Nodes·.the-type) q1 Path.refl)) d10
 
           d12 : Typed.Typed 𝓤 H A 𝓣 E G15 b10 Δ5 at12
-          d12 = Typed.s-seq 𝓤 H A W 𝓣 E G15 G16 b8 b9 Δ5 (Typed.both s11) at11 (Plain.t-call-plain 𝓤 H A W 𝓣 0 ps·3 r·3 (claims· .6) (claims· .7) "search::scan::at_costly" (known .3) E (λ pos β. β) G15 (record { pos = 1; st = L.[]; d = 0; at = λ x. x }, (record { pos = 7; st = L.[]; d = 0; at = λ x. x }, (record { pos = 3; st = L.[]; d = 0; at = λ x. x }, (Num.vAt 4 λ x. x, tt)))) 0 L.[] (Call.sub-id 𝓤 H A W (G15 .slots)) ((Yields.yields-copy 𝓤 H A W (λ ρ. Unit) (Declared.row network-proofs-Nodes·.the-type) Path.refl (Copies.cStruct network-proofs-Nodes·.the-type network-proofs-Nodes-Laws·.the-laws network-proofs-Nodes-Laws·.the-copy .copy 𝓤 H A W) (Rows.whole (Declared.row network-proofs-Nodes·.the-type)) (λ x. x) (λ x. x) (λ ρ told. Local.mem-whole 𝓤 H A W (Declared.row network-proofs-Nodes·.the-type) ρ) λ ρ told. Local.whole-mem 𝓤 H A W (Declared.row network-proofs-Nodes·.the-type) ρ, Path.refl), ((KArray.arr-yields 𝓤 H A W Rec.elem Rec.elem-laws 97, Path.refl), ((Yields.yields-copy 𝓤 H A W (λ ρ. Unit) (Declared.row costly-arc-proofs-Seen·.the-type) Path.refl (Copies.cStruct costly-arc-proofs-Seen·.the-type costly-arc-proofs-Seen-Laws·.the-laws costly-arc-proofs-Seen-Laws·.the-copy .copy 𝓤 H A W) (Rows.whole (Declared.row costly-arc-proofs-Seen·.the-type)) (λ x. x) (λ x. x) (λ ρ told. Local.mem-whole 𝓤 H A W (Declared.row costly-arc-proofs-Seen·.the-type) ρ) λ ρ told. Local.whole-mem 𝓤 H A W (Declared.row costly-arc-proofs-Seen·.the-type) ρ, Path.refl), ((Scalar.reads-sc 𝓤 H A W (Row.sInt Syntax.w8), Path.refl), tt)))) (TReads.room-gone 𝓤 H A (Syntax.tyStruct (L._∷_ 115 (L._∷_ 101 (L._∷_ 97 (L._∷_ 114 (L._∷_ 99 (L._∷_ 104 (L._∷_ 58 (L._∷_ 58 (L._∷_ 115 (L._∷_ 99 (L._∷_ 97 (L._∷_ 110 (L._∷_ 58 (L._∷_ 58 (L._∷_ 76 (L._∷_ 111 (L._∷_ 111 (L._∷_ 107 (L._∷_ 101 (L._∷_ 100 L.[])))))))))))))))))))) (Syntax.tcons (Syntax.tyStruct (L._∷_ 115 (L._∷_ 101 (L._∷_ 97 (L._∷_ 114 (L._∷_ 99 (L._∷_ 104 (L._∷_ 58 (L._∷_ 58 (L._∷_ 115 (L._∷_ 99 (L._∷_ 97 (L._∷_ 110 (L._∷_ 58 (L._∷_ 58 (L._∷_ 70 (L._∷_ 111 (L._∷_ 117 (L._∷_ 110 (L._∷_ 100 L.[]))))))))))))))))))) (Syntax.tcons Syntax.tyBool (Syntax.tcons Syntax.tyBool (Syntax.tcons (Syntax.tyStruct (L._∷_ 115 (L._∷_ 116 (L._∷_ 101 (L._∷_ 112 (L._∷_ 58 (L._∷_ 58 (L._∷_ 83 (L._∷_ 116 (L._∷_ 101 (L._∷_ 112 L.[])))))))))) (Syntax.tcons (Syntax.tyInt Syntax.w64) (Syntax.tcons (Syntax.tyInt Syntax.w64) (Syntax.tcons (Syntax.tyStruct (L._∷_ 115 (L._∷_ 116 (L._∷_ 101 (L._∷_ 112 (L._∷_ 58 (L._∷_ 58 (L._∷_ 67 (L._∷_ 104 (L._∷_ 97 (L._∷_ 110 (L._∷_ 103 (L._∷_ 101 L.[])))))))))))) (Syntax.tcons (Syntax.tyStruct (L._∷_ 110 (L._∷_ 101 (L._∷_ 116 (L._∷_ 119 (L._∷_ 111 (L._∷_ 114 (L._∷_ 107 (L._∷_ 58 (L._∷_ 58 (L._∷_ 69 (L._∷_ 100 (L._∷_ 105 (L._∷_ 116 L.[]))))))))))))) (Syntax.tcons q7 (Syntax.tcons q7 (Syntax.tcons q7 (Syntax.tcons q7 (Syntax.tcons q2 (Syntax.tcons q2 (Syntax.tcons (Syntax.tyInt Syntax.w64) Syntax.tnil)))))))) (Syntax.tcons (Syntax.tyStruct (L._∷_ 115 (L._∷_ 116 (L._∷_ 101 (L._∷_ 112 (L._∷_ 58 (L._∷_ 58 (L._∷_ 79 (L._∷_ 108 (L._∷_ 100 L.[]))))))))) (Syntax.tcons (Syntax.tyInt Syntax.w64) (Syntax.tcons q6 (Syntax.tcons q7 (Syntax.tcons q7 (Syntax.tcons q7 (Syntax.tcons q7 (Syntax.tcons q4 Syntax.tnil)))))))) Syntax.tnil))) Syntax.tnil)))) Syntax.tnil)))) (Syntax.tcons q5 Syntax.tnil)))) tt Path.refl) d11
+          d12 = Typed.s-seq 𝓤 H A W 𝓣 E G15 G16 b8 b9 Δ5 (Typed.both s11) at11 (Plain.t-call-plain 𝓤 H A W 𝓣 0 ps·3 r·3 (claims· .6) (claims· .7) "rules::tried::at_costly" (known .3) E (λ pos β. β) G15 (record { pos = 1; st = L.[]; d = 0; at = λ x. x }, (record { pos = 7; st = L.[]; d = 0; at = λ x. x }, (record { pos = 3; st = L.[]; d = 0; at = λ x. x }, (Num.vAt 4 λ x. x, tt)))) 0 L.[] (Call.sub-id 𝓤 H A W (G15 .slots)) ((Yields.yields-copy 𝓤 H A W (λ ρ. Unit) (Declared.row network-proofs-Nodes·.the-type) Path.refl (Copies.cStruct network-proofs-Nodes·.the-type network-proofs-Nodes-Laws·.the-laws network-proofs-Nodes-Laws·.the-copy .copy 𝓤 H A W) (Rows.whole (Declared.row network-proofs-Nodes·.the-type)) (λ x. x) (λ x. x) (λ ρ told. Local.mem-whole 𝓤 H A W (Declared.row network-proofs-Nodes·.the-type) ρ) λ ρ told. Local.whole-mem 𝓤 H A W (Declared.row network-proofs-Nodes·.the-type) ρ, Path.refl), ((KArray.arr-yields 𝓤 H A W Rec.elem Rec.elem-laws 97, Path.refl), ((Yields.yields-copy 𝓤 H A W (λ ρ. Unit) (Declared.row costly-arc-proofs-Seen·.the-type) Path.refl (Copies.cStruct costly-arc-proofs-Seen·.the-type costly-arc-proofs-Seen-Laws·.the-laws costly-arc-proofs-Seen-Laws·.the-copy .copy 𝓤 H A W) (Rows.whole (Declared.row costly-arc-proofs-Seen·.the-type)) (λ x. x) (λ x. x) (λ ρ told. Local.mem-whole 𝓤 H A W (Declared.row costly-arc-proofs-Seen·.the-type) ρ) λ ρ told. Local.whole-mem 𝓤 H A W (Declared.row costly-arc-proofs-Seen·.the-type) ρ, Path.refl), ((Scalar.reads-sc 𝓤 H A W (Row.sInt Syntax.w8), Path.refl), tt)))) (TReads.room-gone 𝓤 H A (Syntax.tyStruct (L._∷_ 114 (L._∷_ 117 (L._∷_ 108 (L._∷_ 101 (L._∷_ 115 (L._∷_ 58 (L._∷_ 58 (L._∷_ 116 (L._∷_ 114 (L._∷_ 105 (L._∷_ 101 (L._∷_ 100 (L._∷_ 58 (L._∷_ 58 (L._∷_ 76 (L._∷_ 111 (L._∷_ 111 (L._∷_ 107 (L._∷_ 101 (L._∷_ 100 L.[])))))))))))))))))))) (Syntax.tcons (Syntax.tyStruct (L._∷_ 114 (L._∷_ 117 (L._∷_ 108 (L._∷_ 101 (L._∷_ 115 (L._∷_ 58 (L._∷_ 58 (L._∷_ 102 (L._∷_ 111 (L._∷_ 117 (L._∷_ 110 (L._∷_ 100 (L._∷_ 58 (L._∷_ 58 (L._∷_ 70 (L._∷_ 111 (L._∷_ 117 (L._∷_ 110 (L._∷_ 100 L.[]))))))))))))))))))) (Syntax.tcons Syntax.tyBool (Syntax.tcons Syntax.tyBool (Syntax.tcons (Syntax.tyStruct (L._∷_ 115 (L._∷_ 116 (L._∷_ 101 (L._∷_ 112 (L._∷_ 58 (L._∷_ 58 (L._∷_ 83 (L._∷_ 116 (L._∷_ 101 (L._∷_ 112 L.[])))))))))) (Syntax.tcons (Syntax.tyInt Syntax.w64) (Syntax.tcons (Syntax.tyInt Syntax.w64) (Syntax.tcons (Syntax.tyStruct (L._∷_ 115 (L._∷_ 116 (L._∷_ 101 (L._∷_ 112 (L._∷_ 58 (L._∷_ 58 (L._∷_ 67 (L._∷_ 104 (L._∷_ 97 (L._∷_ 110 (L._∷_ 103 (L._∷_ 101 L.[])))))))))))) (Syntax.tcons (Syntax.tyStruct (L._∷_ 110 (L._∷_ 101 (L._∷_ 116 (L._∷_ 119 (L._∷_ 111 (L._∷_ 114 (L._∷_ 107 (L._∷_ 58 (L._∷_ 58 (L._∷_ 69 (L._∷_ 100 (L._∷_ 105 (L._∷_ 116 L.[]))))))))))))) (Syntax.tcons q7 (Syntax.tcons q7 (Syntax.tcons q7 (Syntax.tcons q7 (Syntax.tcons q2 (Syntax.tcons q2 (Syntax.tcons (Syntax.tyInt Syntax.w64) Syntax.tnil)))))))) (Syntax.tcons (Syntax.tyStruct (L._∷_ 115 (L._∷_ 116 (L._∷_ 101 (L._∷_ 112 (L._∷_ 58 (L._∷_ 58 (L._∷_ 79 (L._∷_ 108 (L._∷_ 100 L.[]))))))))) (Syntax.tcons (Syntax.tyInt Syntax.w64) (Syntax.tcons q6 (Syntax.tcons q7 (Syntax.tcons q7 (Syntax.tcons q7 (Syntax.tcons q7 (Syntax.tcons q4 Syntax.tnil)))))))) Syntax.tnil))) Syntax.tnil)))) Syntax.tnil)))) (Syntax.tcons q5 Syntax.tnil)))) tt Path.refl) d11
 
           d13 : Typed.Typed 𝓤 H A 𝓣 E G14 b11 Δ5 at13
-          d13 = Typed.s-seq 𝓤 H A W 𝓣 E G14 G15 b7 b10 Δ5 (Typed.both s10) at12 (Plain.t-call-plain 𝓤 H A W 𝓣 1 ps·2 r·2 (claims· .4) (claims· .5) "network::list::view" (known .2) E (λ pos β. β) G14 (record { pos = 2; ty = Syntax.tyRef (Syntax.named 0) Syntax.imm Rec.named; ref = λ x. x }, tt) 7 (L._∷_ 0 L.[]) (Call.sub-id 𝓤 H A W (G14 .slots)) (ShrSlice.spares-sslice 𝓤 H A W Rec.row q12 0, Shared.reads-sslice 𝓤 H A W Rec.row q12 0, Path.refl, tt) (TReads.room-gone 𝓤 H A q21) (tt, tt) Path.refl) d12
+          d13 = Typed.s-seq 𝓤 H A W 𝓣 E G14 G15 b7 b10 Δ5 (Typed.both s10) at12 (Plain.t-call-plain 𝓤 H A W 𝓣 1 ps·2 r·2 (claims· .4) (claims· .5) "network::list::view" (known .2) E (λ pos β. β) G14 (record { pos = 2; ty = Syntax.tyRef (Syntax.named 0) Syntax.imm Rec.named; ref = λ x. x }, tt) 7 (L._∷_ 0 L.[]) (Call.sub-id 𝓤 H A W (G14 .slots)) (ShrSlice.spares-sslice 𝓤 H A W Rec.row q14 0, Shared.reads-sslice 𝓤 H A W Rec.row q14 0, Path.refl, tt) (TReads.room-gone 𝓤 H A q21) (tt, tt) Path.refl) d12
 
           d14 : Typed.Typed 𝓤 H A 𝓣 E G13 b11 Δ5 at14
           d14 = Typed.g-pre 𝓤 H A W 𝓣 E G13 G14 b11 Δ5 (Typed.pass T13 T14 s9) at13 (Scalar.g-room 𝓤 H A W E G13 10 Syntax.tyBool (Scalar.room-sc 𝓤 H A W Row.sBool)) d13
@@ -838,10 +838,10 @@ module _ (claims· : Claims) where
           d20 = Typed.t-seq 𝓤 H A W 𝓣 E G11 G12 b13 b14 Δ3 at18 at19 d18 d19
 
           d21 : Typed.Typed 𝓤 H A 𝓣 E G10 b16 Δ3 at21
-          d21 = Typed.s-seq 𝓤 H A W 𝓣 E G10 G11 b6 b15 Δ3 (Typed.both s7) at20 (Plain.t-call-plain 𝓤 H A W 𝓣 0 ps·1 r·1 (claims· .2) (claims· .3) "search::scan::is_root" (known .1) E (λ pos β. β) G10 (record { pos = 6; st = L.[]; d = 0; at = λ x. x }, tt) 10 L.[] (Call.sub-id 𝓤 H A W (G10 .slots)) ((Rec.yields 𝓤 H A W, Path.refl), tt) (TReads.room-gone 𝓤 H A Syntax.tyBool) tt Path.refl) d20
+          d21 = Typed.s-seq 𝓤 H A W 𝓣 E G10 G11 b6 b15 Δ3 (Typed.both s7) at20 (Plain.t-call-plain 𝓤 H A W 𝓣 0 ps·1 r·1 (claims· .2) (claims· .3) "rules::tried::is_root" (known .1) E (λ pos β. β) G10 (record { pos = 6; st = L.[]; d = 0; at = λ x. x }, tt) 10 L.[] (Call.sub-id 𝓤 H A W (G10 .slots)) ((Rec.yields 𝓤 H A W, Path.refl), tt) (TReads.room-gone 𝓤 H A Syntax.tyBool) tt Path.refl) d20
 
           d22 : Typed.Typed 𝓤 H A 𝓣 E G6 b17 Δ3 at22
-          d22 = Typed.s-seq 𝓤 H A W 𝓣 E G6 G10 b5 b16 Δ3 (Typed.both s6) at21 (Plain.t-call-plain 𝓤 H A W 𝓣 1 ps·0 r·0 (claims· .0) (claims· .1) "network::list::read" (known .0) E (λ pos β. β) G6 (record { pos = 2; ty = Syntax.tyRef (Syntax.named 0) Syntax.imm Rec.named; ref = λ x. x }, (Num.vAt 5 λ x. x, tt)) 6 (L._∷_ 0 L.[]) (Call.sub-id 𝓤 H A W (G6 .slots)) (ShrSlice.spares-sslice 𝓤 H A W Rec.row q12 0, Shared.reads-sslice 𝓤 H A W Rec.row q12 0, Path.refl, ((Scalar.reads-sc 𝓤 H A W (Row.sInt Syntax.w64), Path.refl), tt)) (TReads.room-gone 𝓤 H A Rec.by-value) (tt, tt) Path.refl) d21
+          d22 = Typed.s-seq 𝓤 H A W 𝓣 E G6 G10 b5 b16 Δ3 (Typed.both s6) at21 (Plain.t-call-plain 𝓤 H A W 𝓣 1 ps·0 r·0 (claims· .0) (claims· .1) "network::list::read" (known .0) E (λ pos β. β) G6 (record { pos = 2; ty = Syntax.tyRef (Syntax.named 0) Syntax.imm Rec.named; ref = λ x. x }, (Num.vAt 5 λ x. x, tt)) 6 (L._∷_ 0 L.[]) (Call.sub-id 𝓤 H A W (G6 .slots)) (ShrSlice.spares-sslice 𝓤 H A W Rec.row q14 0, Shared.reads-sslice 𝓤 H A W Rec.row q14 0, Path.refl, ((Scalar.reads-sc 𝓤 H A W (Row.sInt Syntax.w64), Path.refl), tt)) (TReads.room-gone 𝓤 H A Rec.by-value) (tt, tt) Path.refl) d21
 
           d23 : Typed.Typed 𝓤 H A 𝓣 E G5 b18 Δ3 at23
           d23 = Typed.t-seq 𝓤 H A W 𝓣 E G5 G6 b4 b17 Δ3 at5 at22 d5 d22
@@ -862,13 +862,13 @@ module _ (claims· : Claims) where
           d28 = Typed.t-return 𝓤 H A W 𝓣 E Δ0 tt
 
           d29 : Typed.Typed 𝓤 H A 𝓣 E G29 b24 Δ0 at29
-          d29 = Typed.g-pre 𝓤 H A W 𝓣 E G29 G30 b24 Δ0 (Typed.pass T29 T30 s25) at28 (AtSlots.g-as-by 𝓤 H A W E (λ ρ. Unit) G29 0 (Rows.whole (Declared.row scan-Looked·.the-type)) (λ v. scan-Looked·.struct .make v tt) (Own.told-none 𝓤 H A (G29 .slots)) λ ρ told v b. Apart.folds 𝓤 H A scan-Looked·.the-type (scan-Looked·.struct .Ghost) (scan-Looked·.struct .make) (λ v g. Path.refl) ρ v tt b) d28
+          d29 = Typed.g-pre 𝓤 H A W 𝓣 E G29 G30 b24 Δ0 (Typed.pass T29 T30 s25) at28 (AtSlots.g-as-by 𝓤 H A W E (λ ρ. Unit) G29 0 (Rows.whole (Declared.row rules-proofs-tried-Looked·.the-type)) (λ v. rules-proofs-tried-Looked·.struct .make v tt) (Own.told-none 𝓤 H A (G29 .slots)) λ ρ told v b. Apart.folds 𝓤 H A rules-proofs-tried-Looked·.the-type (rules-proofs-tried-Looked·.struct .Ghost) (rules-proofs-tried-Looked·.struct .make) (λ v g. Path.refl) ρ v tt b) d28
 
           d30 : Typed.Typed 𝓤 H A 𝓣 E G28 b24 Δ0 at30
           d30 = Typed.g-pre 𝓤 H A W 𝓣 E G28 G29 b24 Δ0 (Typed.pass T28 T29 s24) at29 (Scalar.g-room 𝓤 H A W E G28 4 (Syntax.tyInt Syntax.w8) (Scalar.room-sc 𝓤 H A W (Row.sInt Syntax.w8))) d29
 
           d31 : Typed.Typed 𝓤 H A 𝓣 E G27 b24 Δ0 at31
-          d31 = Typed.g-pre 𝓤 H A W 𝓣 E G27 G28 b24 Δ0 (Typed.pass T27 T28 s23) at30 (Scalar.g-room 𝓤 H A W E G27 8 (Syntax.tyStruct (L._∷_ 115 (L._∷_ 101 (L._∷_ 97 (L._∷_ 114 (L._∷_ 99 (L._∷_ 104 (L._∷_ 58 (L._∷_ 58 (L._∷_ 115 (L._∷_ 99 (L._∷_ 97 (L._∷_ 110 (L._∷_ 58 (L._∷_ 58 (L._∷_ 70 (L._∷_ 111 (L._∷_ 117 (L._∷_ 110 (L._∷_ 100 L.[]))))))))))))))))))) (Syntax.tcons Syntax.tyBool (Syntax.tcons Syntax.tyBool (Syntax.tcons (Syntax.tyStruct (L._∷_ 115 (L._∷_ 116 (L._∷_ 101 (L._∷_ 112 (L._∷_ 58 (L._∷_ 58 (L._∷_ 83 (L._∷_ 116 (L._∷_ 101 (L._∷_ 112 L.[])))))))))) (Syntax.tcons (Syntax.tyInt Syntax.w64) (Syntax.tcons (Syntax.tyInt Syntax.w64) (Syntax.tcons (Syntax.tyStruct (L._∷_ 115 (L._∷_ 116 (L._∷_ 101 (L._∷_ 112 (L._∷_ 58 (L._∷_ 58 (L._∷_ 67 (L._∷_ 104 (L._∷_ 97 (L._∷_ 110 (L._∷_ 103 (L._∷_ 101 L.[])))))))))))) (Syntax.tcons (Syntax.tyStruct (L._∷_ 110 (L._∷_ 101 (L._∷_ 116 (L._∷_ 119 (L._∷_ 111 (L._∷_ 114 (L._∷_ 107 (L._∷_ 58 (L._∷_ 58 (L._∷_ 69 (L._∷_ 100 (L._∷_ 105 (L._∷_ 116 L.[]))))))))))))) (Syntax.tcons q7 (Syntax.tcons q7 (Syntax.tcons q7 (Syntax.tcons q7 (Syntax.tcons q2 (Syntax.tcons q2 (Syntax.tcons (Syntax.tyInt Syntax.w64) Syntax.tnil)))))))) (Syntax.tcons (Syntax.tyStruct (L._∷_ 115 (L._∷_ 116 (L._∷_ 101 (L._∷_ 112 (L._∷_ 58 (L._∷_ 58 (L._∷_ 79 (L._∷_ 108 (L._∷_ 100 L.[]))))))))) (Syntax.tcons (Syntax.tyInt Syntax.w64) (Syntax.tcons q6 (Syntax.tcons q7 (Syntax.tcons q7 (Syntax.tcons q7 (Syntax.tcons q7 (Syntax.tcons q4 Syntax.tnil)))))))) Syntax.tnil))) Syntax.tnil)))) Syntax.tnil)))) (Local.room-whole 𝓤 H A W (Declared.row scan-Found·.the-type) (Syntax.tyStruct (L._∷_ 115 (L._∷_ 101 (L._∷_ 97 (L._∷_ 114 (L._∷_ 99 (L._∷_ 104 (L._∷_ 58 (L._∷_ 58 (L._∷_ 115 (L._∷_ 99 (L._∷_ 97 (L._∷_ 110 (L._∷_ 58 (L._∷_ 58 (L._∷_ 70 (L._∷_ 111 (L._∷_ 117 (L._∷_ 110 (L._∷_ 100 L.[]))))))))))))))))))) (Syntax.tcons Syntax.tyBool (Syntax.tcons Syntax.tyBool (Syntax.tcons (Syntax.tyStruct (L._∷_ 115 (L._∷_ 116 (L._∷_ 101 (L._∷_ 112 (L._∷_ 58 (L._∷_ 58 (L._∷_ 83 (L._∷_ 116 (L._∷_ 101 (L._∷_ 112 L.[])))))))))) (Syntax.tcons (Syntax.tyInt Syntax.w64) (Syntax.tcons (Syntax.tyInt Syntax.w64) (Syntax.tcons (Syntax.tyStruct (L._∷_ 115 (L._∷_ 116 (L._∷_ 101 (L._∷_ 112 (L._∷_ 58 (L._∷_ 58 (L._∷_ 67 (L._∷_ 104 (L._∷_ 97 (L._∷_ 110 (L._∷_ 103 (L._∷_ 101 L.[])))))))))))) (Syntax.tcons (Syntax.tyStruct (L._∷_ 110 (L._∷_ 101 (L._∷_ 116 (L._∷_ 119 (L._∷_ 111 (L._∷_ 114 (L._∷_ 107 (L._∷_ 58 (L._∷_ 58 (L._∷_ 69 (L._∷_ 100 (L._∷_ 105 (L._∷_ 116 L.[]))))))))))))) (Syntax.tcons q7 (Syntax.tcons q7 (Syntax.tcons q7 (Syntax.tcons q7 (Syntax.tcons q2 (Syntax.tcons q2 (Syntax.tcons (Syntax.tyInt Syntax.w64) Syntax.tnil)))))))) (Syntax.tcons (Syntax.tyStruct (L._∷_ 115 (L._∷_ 116 (L._∷_ 101 (L._∷_ 112 (L._∷_ 58 (L._∷_ 58 (L._∷_ 79 (L._∷_ 108 (L._∷_ 100 L.[]))))))))) (Syntax.tcons (Syntax.tyInt Syntax.w64) (Syntax.tcons q6 (Syntax.tcons q7 (Syntax.tcons q7 (Syntax.tcons q7 (Syntax.tcons q7 (Syntax.tcons q4 Syntax.tnil)))))))) Syntax.tnil))) Syntax.tnil)))) Syntax.tnil)))) Path.refl)) d30
+          d31 = Typed.g-pre 𝓤 H A W 𝓣 E G27 G28 b24 Δ0 (Typed.pass T27 T28 s23) at30 (Scalar.g-room 𝓤 H A W E G27 8 (Syntax.tyStruct (L._∷_ 114 (L._∷_ 117 (L._∷_ 108 (L._∷_ 101 (L._∷_ 115 (L._∷_ 58 (L._∷_ 58 (L._∷_ 102 (L._∷_ 111 (L._∷_ 117 (L._∷_ 110 (L._∷_ 100 (L._∷_ 58 (L._∷_ 58 (L._∷_ 70 (L._∷_ 111 (L._∷_ 117 (L._∷_ 110 (L._∷_ 100 L.[]))))))))))))))))))) (Syntax.tcons Syntax.tyBool (Syntax.tcons Syntax.tyBool (Syntax.tcons (Syntax.tyStruct (L._∷_ 115 (L._∷_ 116 (L._∷_ 101 (L._∷_ 112 (L._∷_ 58 (L._∷_ 58 (L._∷_ 83 (L._∷_ 116 (L._∷_ 101 (L._∷_ 112 L.[])))))))))) (Syntax.tcons (Syntax.tyInt Syntax.w64) (Syntax.tcons (Syntax.tyInt Syntax.w64) (Syntax.tcons (Syntax.tyStruct (L._∷_ 115 (L._∷_ 116 (L._∷_ 101 (L._∷_ 112 (L._∷_ 58 (L._∷_ 58 (L._∷_ 67 (L._∷_ 104 (L._∷_ 97 (L._∷_ 110 (L._∷_ 103 (L._∷_ 101 L.[])))))))))))) (Syntax.tcons (Syntax.tyStruct (L._∷_ 110 (L._∷_ 101 (L._∷_ 116 (L._∷_ 119 (L._∷_ 111 (L._∷_ 114 (L._∷_ 107 (L._∷_ 58 (L._∷_ 58 (L._∷_ 69 (L._∷_ 100 (L._∷_ 105 (L._∷_ 116 L.[]))))))))))))) (Syntax.tcons q7 (Syntax.tcons q7 (Syntax.tcons q7 (Syntax.tcons q7 (Syntax.tcons q2 (Syntax.tcons q2 (Syntax.tcons (Syntax.tyInt Syntax.w64) Syntax.tnil)))))))) (Syntax.tcons (Syntax.tyStruct (L._∷_ 115 (L._∷_ 116 (L._∷_ 101 (L._∷_ 112 (L._∷_ 58 (L._∷_ 58 (L._∷_ 79 (L._∷_ 108 (L._∷_ 100 L.[]))))))))) (Syntax.tcons (Syntax.tyInt Syntax.w64) (Syntax.tcons q6 (Syntax.tcons q7 (Syntax.tcons q7 (Syntax.tcons q7 (Syntax.tcons q7 (Syntax.tcons q4 Syntax.tnil)))))))) Syntax.tnil))) Syntax.tnil)))) Syntax.tnil)))) (Local.room-whole 𝓤 H A W (Declared.row rules-proofs-found-Found·.the-type) (Syntax.tyStruct (L._∷_ 114 (L._∷_ 117 (L._∷_ 108 (L._∷_ 101 (L._∷_ 115 (L._∷_ 58 (L._∷_ 58 (L._∷_ 102 (L._∷_ 111 (L._∷_ 117 (L._∷_ 110 (L._∷_ 100 (L._∷_ 58 (L._∷_ 58 (L._∷_ 70 (L._∷_ 111 (L._∷_ 117 (L._∷_ 110 (L._∷_ 100 L.[]))))))))))))))))))) (Syntax.tcons Syntax.tyBool (Syntax.tcons Syntax.tyBool (Syntax.tcons (Syntax.tyStruct (L._∷_ 115 (L._∷_ 116 (L._∷_ 101 (L._∷_ 112 (L._∷_ 58 (L._∷_ 58 (L._∷_ 83 (L._∷_ 116 (L._∷_ 101 (L._∷_ 112 L.[])))))))))) (Syntax.tcons (Syntax.tyInt Syntax.w64) (Syntax.tcons (Syntax.tyInt Syntax.w64) (Syntax.tcons (Syntax.tyStruct (L._∷_ 115 (L._∷_ 116 (L._∷_ 101 (L._∷_ 112 (L._∷_ 58 (L._∷_ 58 (L._∷_ 67 (L._∷_ 104 (L._∷_ 97 (L._∷_ 110 (L._∷_ 103 (L._∷_ 101 L.[])))))))))))) (Syntax.tcons (Syntax.tyStruct (L._∷_ 110 (L._∷_ 101 (L._∷_ 116 (L._∷_ 119 (L._∷_ 111 (L._∷_ 114 (L._∷_ 107 (L._∷_ 58 (L._∷_ 58 (L._∷_ 69 (L._∷_ 100 (L._∷_ 105 (L._∷_ 116 L.[]))))))))))))) (Syntax.tcons q7 (Syntax.tcons q7 (Syntax.tcons q7 (Syntax.tcons q7 (Syntax.tcons q2 (Syntax.tcons q2 (Syntax.tcons (Syntax.tyInt Syntax.w64) Syntax.tnil)))))))) (Syntax.tcons (Syntax.tyStruct (L._∷_ 115 (L._∷_ 116 (L._∷_ 101 (L._∷_ 112 (L._∷_ 58 (L._∷_ 58 (L._∷_ 79 (L._∷_ 108 (L._∷_ 100 L.[]))))))))) (Syntax.tcons (Syntax.tyInt Syntax.w64) (Syntax.tcons q6 (Syntax.tcons q7 (Syntax.tcons q7 (Syntax.tcons q7 (Syntax.tcons q7 (Syntax.tcons q4 Syntax.tnil)))))))) Syntax.tnil))) Syntax.tnil)))) Syntax.tnil)))) Path.refl)) d30
 
           d32 : Typed.Typed 𝓤 H A 𝓣 E G26 b24 Δ0 at32
           d32 = Typed.g-pre 𝓤 H A W 𝓣 E G26 G27 b24 Δ0 (Typed.pass T26 T27 s22) at31 (Scalar.g-room 𝓤 H A W E G26 5 (Syntax.tyInt Syntax.w64) (Scalar.room-sc 𝓤 H A W (Row.sInt Syntax.w64))) d31
@@ -877,10 +877,10 @@ module _ (claims· : Claims) where
           d33 = Typed.g-pre 𝓤 H A W 𝓣 E G25 G26 b24 Δ0 (Typed.pass T25 T26 s21) at32 (Scalar.g-room 𝓤 H A W E G25 3 q5 (Local.room-whole 𝓤 H A W (Declared.row costly-arc-proofs-Seen·.the-type) q5 Path.refl)) d32
 
           d34 : Typed.Typed 𝓤 H A 𝓣 E G24 b25 Δ0 at34
-          d34 = Typed.s-seq 𝓤 H A W 𝓣 E G24 G25 b23 b24 Δ0 (Typed.pass T24 T25 s20) at33 (Make.t-make-told 𝓤 H A W E 𝓣 (Declared.row (Apart.apartT scan-Looked·.the-type)) Path.refl (StructLaws.val (Apart.apartT scan-Looked·.the-type) scan-Looked-Laws·.the-laws) (StructLaws.lawful (Apart.apartT scan-Looked·.the-type) scan-Looked-Laws·.the-laws 𝓤 H A W) (StructLaws.makes (Apart.apartT scan-Looked·.the-type) scan-Looked-Laws·.the-plain 𝓤 H A) G24 0 (L._∷_ (Scalar.oAt 8 (Syntax.tyStruct (L._∷_ 115 (L._∷_ 101 (L._∷_ 97 (L._∷_ 114 (L._∷_ 99 (L._∷_ 104 (L._∷_ 58 (L._∷_ 58 (L._∷_ 115 (L._∷_ 99 (L._∷_ 97 (L._∷_ 110 (L._∷_ 58 (L._∷_ 58 (L._∷_ 70 (L._∷_ 111 (L._∷_ 117 (L._∷_ 110 (L._∷_ 100 L.[]))))))))))))))))))) (Syntax.tcons Syntax.tyBool (Syntax.tcons Syntax.tyBool (Syntax.tcons (Syntax.tyStruct (L._∷_ 115 (L._∷_ 116 (L._∷_ 101 (L._∷_ 112 (L._∷_ 58 (L._∷_ 58 (L._∷_ 83 (L._∷_ 116 (L._∷_ 101 (L._∷_ 112 L.[])))))))))) (Syntax.tcons (Syntax.tyInt Syntax.w64) (Syntax.tcons (Syntax.tyInt Syntax.w64) (Syntax.tcons (Syntax.tyStruct (L._∷_ 115 (L._∷_ 116 (L._∷_ 101 (L._∷_ 112 (L._∷_ 58 (L._∷_ 58 (L._∷_ 67 (L._∷_ 104 (L._∷_ 97 (L._∷_ 110 (L._∷_ 103 (L._∷_ 101 L.[])))))))))))) (Syntax.tcons (Syntax.tyStruct (L._∷_ 110 (L._∷_ 101 (L._∷_ 116 (L._∷_ 119 (L._∷_ 111 (L._∷_ 114 (L._∷_ 107 (L._∷_ 58 (L._∷_ 58 (L._∷_ 69 (L._∷_ 100 (L._∷_ 105 (L._∷_ 116 L.[]))))))))))))) (Syntax.tcons q7 (Syntax.tcons q7 (Syntax.tcons q7 (Syntax.tcons q7 (Syntax.tcons q2 (Syntax.tcons q2 (Syntax.tcons (Syntax.tyInt Syntax.w64) Syntax.tnil)))))))) (Syntax.tcons (Syntax.tyStruct (L._∷_ 115 (L._∷_ 116 (L._∷_ 101 (L._∷_ 112 (L._∷_ 58 (L._∷_ 58 (L._∷_ 79 (L._∷_ 108 (L._∷_ 100 L.[]))))))))) (Syntax.tcons (Syntax.tyInt Syntax.w64) (Syntax.tcons q6 (Syntax.tcons q7 (Syntax.tcons q7 (Syntax.tcons q7 (Syntax.tcons q7 (Syntax.tcons q4 Syntax.tnil)))))))) Syntax.tnil))) Syntax.tnil)))) Syntax.tnil)))) (StructLaws.val scan-Found·.the-type scan-Found-Laws·.the-laws)) (L._∷_ (Scalar.oAt 3 q5 (StructLaws.val costly-arc-proofs-Seen·.the-type costly-arc-proofs-Seen-Laws·.the-laws)) L.[])) (λ m. (m .1 .1 .1 .1 .1 .1 .1 .1 .0, (m .1 .1 .1 .0, tt))) (λ m. denoteLaws.Is (Declared.row scan-Found·.the-type) (m .1 .1 .1 .1 .1 .1 .1 .1 .0) (StructLaws.vals scan-Found·.the-type scan-Found-Laws·.the-laws (m .1 .1 .1 .1 .1 .1 .1 .1 .0)) × denoteLaws.Is (Declared.row costly-arc-proofs-Seen·.the-type) (m .1 .1 .1 .0) (StructLaws.vals costly-arc-proofs-Seen·.the-type costly-arc-proofs-Seen-Laws·.the-laws (m .1 .1 .1 .0))) (TReads.room-gone 𝓤 H A (Syntax.tyStruct (L._∷_ 115 (L._∷_ 101 (L._∷_ 97 (L._∷_ 114 (L._∷_ 99 (L._∷_ 104 (L._∷_ 58 (L._∷_ 58 (L._∷_ 115 (L._∷_ 99 (L._∷_ 97 (L._∷_ 110 (L._∷_ 58 (L._∷_ 58 (L._∷_ 76 (L._∷_ 111 (L._∷_ 111 (L._∷_ 107 (L._∷_ 101 (L._∷_ 100 L.[])))))))))))))))))))) (Syntax.tcons (Syntax.tyStruct (L._∷_ 115 (L._∷_ 101 (L._∷_ 97 (L._∷_ 114 (L._∷_ 99 (L._∷_ 104 (L._∷_ 58 (L._∷_ 58 (L._∷_ 115 (L._∷_ 99 (L._∷_ 97 (L._∷_ 110 (L._∷_ 58 (L._∷_ 58 (L._∷_ 70 (L._∷_ 111 (L._∷_ 117 (L._∷_ 110 (L._∷_ 100 L.[]))))))))))))))))))) (Syntax.tcons Syntax.tyBool (Syntax.tcons Syntax.tyBool (Syntax.tcons (Syntax.tyStruct (L._∷_ 115 (L._∷_ 116 (L._∷_ 101 (L._∷_ 112 (L._∷_ 58 (L._∷_ 58 (L._∷_ 83 (L._∷_ 116 (L._∷_ 101 (L._∷_ 112 L.[])))))))))) (Syntax.tcons (Syntax.tyInt Syntax.w64) (Syntax.tcons (Syntax.tyInt Syntax.w64) (Syntax.tcons (Syntax.tyStruct (L._∷_ 115 (L._∷_ 116 (L._∷_ 101 (L._∷_ 112 (L._∷_ 58 (L._∷_ 58 (L._∷_ 67 (L._∷_ 104 (L._∷_ 97 (L._∷_ 110 (L._∷_ 103 (L._∷_ 101 L.[])))))))))))) (Syntax.tcons (Syntax.tyStruct (L._∷_ 110 (L._∷_ 101 (L._∷_ 116 (L._∷_ 119 (L._∷_ 111 (L._∷_ 114 (L._∷_ 107 (L._∷_ 58 (L._∷_ 58 (L._∷_ 69 (L._∷_ 100 (L._∷_ 105 (L._∷_ 116 L.[]))))))))))))) (Syntax.tcons q7 (Syntax.tcons q7 (Syntax.tcons q7 (Syntax.tcons q7 (Syntax.tcons q2 (Syntax.tcons q2 (Syntax.tcons (Syntax.tyInt Syntax.w64) Syntax.tnil)))))))) (Syntax.tcons (Syntax.tyStruct (L._∷_ 115 (L._∷_ 116 (L._∷_ 101 (L._∷_ 112 (L._∷_ 58 (L._∷_ 58 (L._∷_ 79 (L._∷_ 108 (L._∷_ 100 L.[]))))))))) (Syntax.tcons (Syntax.tyInt Syntax.w64) (Syntax.tcons q6 (Syntax.tcons q7 (Syntax.tcons q7 (Syntax.tcons q7 (Syntax.tcons q7 (Syntax.tcons q4 Syntax.tnil)))))))) Syntax.tnil))) Syntax.tnil)))) Syntax.tnil)))) (Syntax.tcons q5 Syntax.tnil)))) ((Reads.reads-struct 𝓤 H A W scan-Found·.the-type scan-Found-Laws·.the-laws, Path.refl), ((Reads.reads-struct 𝓤 H A W costly-arc-proofs-Seen·.the-type costly-arc-proofs-Seen-Laws·.the-laws, Path.refl), tt)) Path.refl (λ ρ m. Make.tells-both 𝓤 H A W E ρ (Row.out 0 (G24 .locals)) m (denoteLaws.Is (Declared.row scan-Found·.the-type) (m .1 .1 .1 .1 .1 .1 .1 .1 .0) (StructLaws.vals scan-Found·.the-type scan-Found-Laws·.the-laws (m .1 .1 .1 .1 .1 .1 .1 .1 .0))) (denoteLaws.Is (Declared.row costly-arc-proofs-Seen·.the-type) (m .1 .1 .1 .0) (StructLaws.vals costly-arc-proofs-Seen·.the-type costly-arc-proofs-Seen-Laws·.the-laws (m .1 .1 .1 .0))) (Make.tells-row 𝓤 H A W E ρ (Row.out 0 (G24 .locals)) m 8 (denoteLaws.Is (Declared.row scan-Found·.the-type) (m .1 .1 .1 .1 .1 .1 .1 .1 .0) (StructLaws.vals scan-Found·.the-type scan-Found-Laws·.the-laws (m .1 .1 .1 .1 .1 .1 .1 .1 .0))) (Make.whole-is 𝓤 H A W E (Declared.row scan-Found·.the-type) Path.refl (StructLaws.val scan-Found·.the-type scan-Found-Laws·.the-laws) (StructLaws.tells scan-Found·.the-type scan-Found-Laws·.the-laws) ρ 8 (m .1 .1 .1 .1 .1 .1 .1 .1 .0))) (Make.tells-row 𝓤 H A W E ρ (Row.out 0 (G24 .locals)) m 3 (denoteLaws.Is (Declared.row costly-arc-proofs-Seen·.the-type) (m .1 .1 .1 .0) (StructLaws.vals costly-arc-proofs-Seen·.the-type costly-arc-proofs-Seen-Laws·.the-laws (m .1 .1 .1 .0))) (Make.whole-is 𝓤 H A W E (Declared.row costly-arc-proofs-Seen·.the-type) Path.refl (StructLaws.val costly-arc-proofs-Seen·.the-type costly-arc-proofs-Seen-Laws·.the-laws) (StructLaws.tells costly-arc-proofs-Seen·.the-type costly-arc-proofs-Seen-Laws·.the-laws) ρ 3 (m .1 .1 .1 .0)))) (λ m q. StructSigned.made-val (Apart.apartT scan-Looked·.the-type) scan-Looked-Laws·.the-laws (L._∷_ (StructLaws.val scan-Found·.the-type scan-Found-Laws·.the-laws (m .1 .1 .1 .1 .1 .1 .1 .1 .0)) (L._∷_ (StructLaws.val costly-arc-proofs-Seen·.the-type costly-arc-proofs-Seen-Laws·.the-laws (m .1 .1 .1 .0)) L.[])) (m .1 .1 .1 .1 .1 .1 .1 .1 .0, (m .1 .1 .1 .0, tt)) (StructSigned.made-struct scan-Found·.the-type scan-Found-Laws·.the-laws scan-Found-Laws·.lowers (m .1 .1 .1 .1 .1 .1 .1 .1 .0) (q .0), (StructSigned.made-struct costly-arc-proofs-Seen·.the-type costly-arc-proofs-Seen-Laws·.the-laws costly-arc-proofs-Seen-Laws·.lowers (m .1 .1 .1 .0) (q .1), tt))) λ m q. StructSigned.made-is (Apart.apartT scan-Looked·.the-type) scan-Looked-Laws·.the-laws (L._∷_ (StructLaws.val scan-Found·.the-type scan-Found-Laws·.the-laws (m .1 .1 .1 .1 .1 .1 .1 .1 .0)) (L._∷_ (StructLaws.val costly-arc-proofs-Seen·.the-type costly-arc-proofs-Seen-Laws·.the-laws (m .1 .1 .1 .0)) L.[])) (m .1 .1 .1 .1 .1 .1 .1 .1 .0, (m .1 .1 .1 .0, tt)) (StructSigned.made-struct scan-Found·.the-type scan-Found-Laws·.the-laws scan-Found-Laws·.lowers (m .1 .1 .1 .1 .1 .1 .1 .1 .0) (q .0), (StructSigned.made-struct costly-arc-proofs-Seen·.the-type costly-arc-proofs-Seen-Laws·.the-laws costly-arc-proofs-Seen-Laws·.lowers (m .1 .1 .1 .0) (q .1), tt))) d33
+          d34 = Typed.s-seq 𝓤 H A W 𝓣 E G24 G25 b23 b24 Δ0 (Typed.pass T24 T25 s20) at33 (Make.t-make-told 𝓤 H A W E 𝓣 (Declared.row (Apart.apartT rules-proofs-tried-Looked·.the-type)) Path.refl (StructLaws.val (Apart.apartT rules-proofs-tried-Looked·.the-type) rules-proofs-tried-Looked-Laws·.the-laws) (StructLaws.lawful (Apart.apartT rules-proofs-tried-Looked·.the-type) rules-proofs-tried-Looked-Laws·.the-laws 𝓤 H A W) (StructLaws.makes (Apart.apartT rules-proofs-tried-Looked·.the-type) rules-proofs-tried-Looked-Laws·.the-plain 𝓤 H A) G24 0 (L._∷_ (Scalar.oAt 8 (Syntax.tyStruct (L._∷_ 114 (L._∷_ 117 (L._∷_ 108 (L._∷_ 101 (L._∷_ 115 (L._∷_ 58 (L._∷_ 58 (L._∷_ 102 (L._∷_ 111 (L._∷_ 117 (L._∷_ 110 (L._∷_ 100 (L._∷_ 58 (L._∷_ 58 (L._∷_ 70 (L._∷_ 111 (L._∷_ 117 (L._∷_ 110 (L._∷_ 100 L.[]))))))))))))))))))) (Syntax.tcons Syntax.tyBool (Syntax.tcons Syntax.tyBool (Syntax.tcons (Syntax.tyStruct (L._∷_ 115 (L._∷_ 116 (L._∷_ 101 (L._∷_ 112 (L._∷_ 58 (L._∷_ 58 (L._∷_ 83 (L._∷_ 116 (L._∷_ 101 (L._∷_ 112 L.[])))))))))) (Syntax.tcons (Syntax.tyInt Syntax.w64) (Syntax.tcons (Syntax.tyInt Syntax.w64) (Syntax.tcons (Syntax.tyStruct (L._∷_ 115 (L._∷_ 116 (L._∷_ 101 (L._∷_ 112 (L._∷_ 58 (L._∷_ 58 (L._∷_ 67 (L._∷_ 104 (L._∷_ 97 (L._∷_ 110 (L._∷_ 103 (L._∷_ 101 L.[])))))))))))) (Syntax.tcons (Syntax.tyStruct (L._∷_ 110 (L._∷_ 101 (L._∷_ 116 (L._∷_ 119 (L._∷_ 111 (L._∷_ 114 (L._∷_ 107 (L._∷_ 58 (L._∷_ 58 (L._∷_ 69 (L._∷_ 100 (L._∷_ 105 (L._∷_ 116 L.[]))))))))))))) (Syntax.tcons q7 (Syntax.tcons q7 (Syntax.tcons q7 (Syntax.tcons q7 (Syntax.tcons q2 (Syntax.tcons q2 (Syntax.tcons (Syntax.tyInt Syntax.w64) Syntax.tnil)))))))) (Syntax.tcons (Syntax.tyStruct (L._∷_ 115 (L._∷_ 116 (L._∷_ 101 (L._∷_ 112 (L._∷_ 58 (L._∷_ 58 (L._∷_ 79 (L._∷_ 108 (L._∷_ 100 L.[]))))))))) (Syntax.tcons (Syntax.tyInt Syntax.w64) (Syntax.tcons q6 (Syntax.tcons q7 (Syntax.tcons q7 (Syntax.tcons q7 (Syntax.tcons q7 (Syntax.tcons q4 Syntax.tnil)))))))) Syntax.tnil))) Syntax.tnil)))) Syntax.tnil)))) (StructLaws.val rules-proofs-found-Found·.the-type rules-proofs-found-Found-Laws·.the-laws)) (L._∷_ (Scalar.oAt 3 q5 (StructLaws.val costly-arc-proofs-Seen·.the-type costly-arc-proofs-Seen-Laws·.the-laws)) L.[])) (λ m. (m .1 .1 .1 .1 .1 .1 .1 .1 .0, (m .1 .1 .1 .0, tt))) (λ m. denoteLaws.Is (Declared.row rules-proofs-found-Found·.the-type) (m .1 .1 .1 .1 .1 .1 .1 .1 .0) (StructLaws.vals rules-proofs-found-Found·.the-type rules-proofs-found-Found-Laws·.the-laws (m .1 .1 .1 .1 .1 .1 .1 .1 .0)) × denoteLaws.Is (Declared.row costly-arc-proofs-Seen·.the-type) (m .1 .1 .1 .0) (StructLaws.vals costly-arc-proofs-Seen·.the-type costly-arc-proofs-Seen-Laws·.the-laws (m .1 .1 .1 .0))) (TReads.room-gone 𝓤 H A (Syntax.tyStruct (L._∷_ 114 (L._∷_ 117 (L._∷_ 108 (L._∷_ 101 (L._∷_ 115 (L._∷_ 58 (L._∷_ 58 (L._∷_ 116 (L._∷_ 114 (L._∷_ 105 (L._∷_ 101 (L._∷_ 100 (L._∷_ 58 (L._∷_ 58 (L._∷_ 76 (L._∷_ 111 (L._∷_ 111 (L._∷_ 107 (L._∷_ 101 (L._∷_ 100 L.[])))))))))))))))))))) (Syntax.tcons (Syntax.tyStruct (L._∷_ 114 (L._∷_ 117 (L._∷_ 108 (L._∷_ 101 (L._∷_ 115 (L._∷_ 58 (L._∷_ 58 (L._∷_ 102 (L._∷_ 111 (L._∷_ 117 (L._∷_ 110 (L._∷_ 100 (L._∷_ 58 (L._∷_ 58 (L._∷_ 70 (L._∷_ 111 (L._∷_ 117 (L._∷_ 110 (L._∷_ 100 L.[]))))))))))))))))))) (Syntax.tcons Syntax.tyBool (Syntax.tcons Syntax.tyBool (Syntax.tcons (Syntax.tyStruct (L._∷_ 115 (L._∷_ 116 (L._∷_ 101 (L._∷_ 112 (L._∷_ 58 (L._∷_ 58 (L._∷_ 83 (L._∷_ 116 (L._∷_ 101 (L._∷_ 112 L.[])))))))))) (Syntax.tcons (Syntax.tyInt Syntax.w64) (Syntax.tcons (Syntax.tyInt Syntax.w64) (Syntax.tcons (Syntax.tyStruct (L._∷_ 115 (L._∷_ 116 (L._∷_ 101 (L._∷_ 112 (L._∷_ 58 (L._∷_ 58 (L._∷_ 67 (L._∷_ 104 (L._∷_ 97 (L._∷_ 110 (L._∷_ 103 (L._∷_ 101 L.[])))))))))))) (Syntax.tcons (Syntax.tyStruct (L._∷_ 110 (L._∷_ 101 (L._∷_ 116 (L._∷_ 119 (L._∷_ 111 (L._∷_ 114 (L._∷_ 107 (L._∷_ 58 (L._∷_ 58 (L._∷_ 69 (L._∷_ 100 (L._∷_ 105 (L._∷_ 116 L.[]))))))))))))) (Syntax.tcons q7 (Syntax.tcons q7 (Syntax.tcons q7 (Syntax.tcons q7 (Syntax.tcons q2 (Syntax.tcons q2 (Syntax.tcons (Syntax.tyInt Syntax.w64) Syntax.tnil)))))))) (Syntax.tcons (Syntax.tyStruct (L._∷_ 115 (L._∷_ 116 (L._∷_ 101 (L._∷_ 112 (L._∷_ 58 (L._∷_ 58 (L._∷_ 79 (L._∷_ 108 (L._∷_ 100 L.[]))))))))) (Syntax.tcons (Syntax.tyInt Syntax.w64) (Syntax.tcons q6 (Syntax.tcons q7 (Syntax.tcons q7 (Syntax.tcons q7 (Syntax.tcons q7 (Syntax.tcons q4 Syntax.tnil)))))))) Syntax.tnil))) Syntax.tnil)))) Syntax.tnil)))) (Syntax.tcons q5 Syntax.tnil)))) ((Reads.reads-struct 𝓤 H A W rules-proofs-found-Found·.the-type rules-proofs-found-Found-Laws·.the-laws, Path.refl), ((Reads.reads-struct 𝓤 H A W costly-arc-proofs-Seen·.the-type costly-arc-proofs-Seen-Laws·.the-laws, Path.refl), tt)) Path.refl (λ ρ m. Make.tells-both 𝓤 H A W E ρ (Row.out 0 (G24 .locals)) m (denoteLaws.Is (Declared.row rules-proofs-found-Found·.the-type) (m .1 .1 .1 .1 .1 .1 .1 .1 .0) (StructLaws.vals rules-proofs-found-Found·.the-type rules-proofs-found-Found-Laws·.the-laws (m .1 .1 .1 .1 .1 .1 .1 .1 .0))) (denoteLaws.Is (Declared.row costly-arc-proofs-Seen·.the-type) (m .1 .1 .1 .0) (StructLaws.vals costly-arc-proofs-Seen·.the-type costly-arc-proofs-Seen-Laws·.the-laws (m .1 .1 .1 .0))) (Make.tells-row 𝓤 H A W E ρ (Row.out 0 (G24 .locals)) m 8 (denoteLaws.Is (Declared.row rules-proofs-found-Found·.the-type) (m .1 .1 .1 .1 .1 .1 .1 .1 .0) (StructLaws.vals rules-proofs-found-Found·.the-type rules-proofs-found-Found-Laws·.the-laws (m .1 .1 .1 .1 .1 .1 .1 .1 .0))) (Make.whole-is 𝓤 H A W E (Declared.row rules-proofs-found-Found·.the-type) Path.refl (StructLaws.val rules-proofs-found-Found·.the-type rules-proofs-found-Found-Laws·.the-laws) (StructLaws.tells rules-proofs-found-Found·.the-type rules-proofs-found-Found-Laws·.the-laws) ρ 8 (m .1 .1 .1 .1 .1 .1 .1 .1 .0))) (Make.tells-row 𝓤 H A W E ρ (Row.out 0 (G24 .locals)) m 3 (denoteLaws.Is (Declared.row costly-arc-proofs-Seen·.the-type) (m .1 .1 .1 .0) (StructLaws.vals costly-arc-proofs-Seen·.the-type costly-arc-proofs-Seen-Laws·.the-laws (m .1 .1 .1 .0))) (Make.whole-is 𝓤 H A W E (Declared.row costly-arc-proofs-Seen·.the-type) Path.refl (StructLaws.val costly-arc-proofs-Seen·.the-type costly-arc-proofs-Seen-Laws·.the-laws) (StructLaws.tells costly-arc-proofs-Seen·.the-type costly-arc-proofs-Seen-Laws·.the-laws) ρ 3 (m .1 .1 .1 .0)))) (λ m q. StructSigned.made-val (Apart.apartT rules-proofs-tried-Looked·.the-type) rules-proofs-tried-Looked-Laws·.the-laws (L._∷_ (StructLaws.val rules-proofs-found-Found·.the-type rules-proofs-found-Found-Laws·.the-laws (m .1 .1 .1 .1 .1 .1 .1 .1 .0)) (L._∷_ (StructLaws.val costly-arc-proofs-Seen·.the-type costly-arc-proofs-Seen-Laws·.the-laws (m .1 .1 .1 .0)) L.[])) (m .1 .1 .1 .1 .1 .1 .1 .1 .0, (m .1 .1 .1 .0, tt)) (StructSigned.made-struct rules-proofs-found-Found·.the-type rules-proofs-found-Found-Laws·.the-laws rules-proofs-found-Found-Laws·.lowers (m .1 .1 .1 .1 .1 .1 .1 .1 .0) (q .0), (StructSigned.made-struct costly-arc-proofs-Seen·.the-type costly-arc-proofs-Seen-Laws·.the-laws costly-arc-proofs-Seen-Laws·.lowers (m .1 .1 .1 .0) (q .1), tt))) λ m q. StructSigned.made-is (Apart.apartT rules-proofs-tried-Looked·.the-type) rules-proofs-tried-Looked-Laws·.the-laws (L._∷_ (StructLaws.val rules-proofs-found-Found·.the-type rules-proofs-found-Found-Laws·.the-laws (m .1 .1 .1 .1 .1 .1 .1 .1 .0)) (L._∷_ (StructLaws.val costly-arc-proofs-Seen·.the-type costly-arc-proofs-Seen-Laws·.the-laws (m .1 .1 .1 .0)) L.[])) (m .1 .1 .1 .1 .1 .1 .1 .1 .0, (m .1 .1 .1 .0, tt)) (StructSigned.made-struct rules-proofs-found-Found·.the-type rules-proofs-found-Found-Laws·.the-laws rules-proofs-found-Found-Laws·.lowers (m .1 .1 .1 .1 .1 .1 .1 .1 .0) (q .0), (StructSigned.made-struct costly-arc-proofs-Seen·.the-type costly-arc-proofs-Seen-Laws·.the-laws costly-arc-proofs-Seen-Laws·.lowers (m .1 .1 .1 .0) (q .1), tt))) d33
 
           d35 : Typed.Typed 𝓤 H A 𝓣 E G3 b26 Δ0 at35
-          d35 = Typed.s-seq 𝓤 H A W 𝓣 E G3 G24 b22 b25 Δ0 (Typed.both s19) at34 (Plain.t-call-plain 𝓤 H A W 𝓣 0 ps·4 r·4 (claims· .8) (claims· .9) "search::scan::nothing" (known .4) E (λ pos β. β) G3 tt 8 L.[] (Call.sub-id 𝓤 H A W (G3 .slots)) tt (TReads.room-gone 𝓤 H A (Syntax.tyStruct (L._∷_ 115 (L._∷_ 101 (L._∷_ 97 (L._∷_ 114 (L._∷_ 99 (L._∷_ 104 (L._∷_ 58 (L._∷_ 58 (L._∷_ 115 (L._∷_ 99 (L._∷_ 97 (L._∷_ 110 (L._∷_ 58 (L._∷_ 58 (L._∷_ 70 (L._∷_ 111 (L._∷_ 117 (L._∷_ 110 (L._∷_ 100 L.[]))))))))))))))))))) (Syntax.tcons Syntax.tyBool (Syntax.tcons Syntax.tyBool (Syntax.tcons (Syntax.tyStruct (L._∷_ 115 (L._∷_ 116 (L._∷_ 101 (L._∷_ 112 (L._∷_ 58 (L._∷_ 58 (L._∷_ 83 (L._∷_ 116 (L._∷_ 101 (L._∷_ 112 L.[])))))))))) (Syntax.tcons (Syntax.tyInt Syntax.w64) (Syntax.tcons (Syntax.tyInt Syntax.w64) (Syntax.tcons (Syntax.tyStruct (L._∷_ 115 (L._∷_ 116 (L._∷_ 101 (L._∷_ 112 (L._∷_ 58 (L._∷_ 58 (L._∷_ 67 (L._∷_ 104 (L._∷_ 97 (L._∷_ 110 (L._∷_ 103 (L._∷_ 101 L.[])))))))))))) (Syntax.tcons (Syntax.tyStruct (L._∷_ 110 (L._∷_ 101 (L._∷_ 116 (L._∷_ 119 (L._∷_ 111 (L._∷_ 114 (L._∷_ 107 (L._∷_ 58 (L._∷_ 58 (L._∷_ 69 (L._∷_ 100 (L._∷_ 105 (L._∷_ 116 L.[]))))))))))))) (Syntax.tcons q7 (Syntax.tcons q7 (Syntax.tcons q7 (Syntax.tcons q7 (Syntax.tcons q2 (Syntax.tcons q2 (Syntax.tcons (Syntax.tyInt Syntax.w64) Syntax.tnil)))))))) (Syntax.tcons (Syntax.tyStruct (L._∷_ 115 (L._∷_ 116 (L._∷_ 101 (L._∷_ 112 (L._∷_ 58 (L._∷_ 58 (L._∷_ 79 (L._∷_ 108 (L._∷_ 100 L.[]))))))))) (Syntax.tcons (Syntax.tyInt Syntax.w64) (Syntax.tcons q6 (Syntax.tcons q7 (Syntax.tcons q7 (Syntax.tcons q7 (Syntax.tcons q7 (Syntax.tcons q4 Syntax.tnil)))))))) Syntax.tnil))) Syntax.tnil)))) Syntax.tnil))))) tt Path.refl) d34
+          d35 = Typed.s-seq 𝓤 H A W 𝓣 E G3 G24 b22 b25 Δ0 (Typed.both s19) at34 (Plain.t-call-plain 𝓤 H A W 𝓣 0 ps·4 r·4 (claims· .8) (claims· .9) "rules::found::nothing" (known .4) E (λ pos β. β) G3 tt 8 L.[] (Call.sub-id 𝓤 H A W (G3 .slots)) tt (TReads.room-gone 𝓤 H A (Syntax.tyStruct (L._∷_ 114 (L._∷_ 117 (L._∷_ 108 (L._∷_ 101 (L._∷_ 115 (L._∷_ 58 (L._∷_ 58 (L._∷_ 102 (L._∷_ 111 (L._∷_ 117 (L._∷_ 110 (L._∷_ 100 (L._∷_ 58 (L._∷_ 58 (L._∷_ 70 (L._∷_ 111 (L._∷_ 117 (L._∷_ 110 (L._∷_ 100 L.[]))))))))))))))))))) (Syntax.tcons Syntax.tyBool (Syntax.tcons Syntax.tyBool (Syntax.tcons (Syntax.tyStruct (L._∷_ 115 (L._∷_ 116 (L._∷_ 101 (L._∷_ 112 (L._∷_ 58 (L._∷_ 58 (L._∷_ 83 (L._∷_ 116 (L._∷_ 101 (L._∷_ 112 L.[])))))))))) (Syntax.tcons (Syntax.tyInt Syntax.w64) (Syntax.tcons (Syntax.tyInt Syntax.w64) (Syntax.tcons (Syntax.tyStruct (L._∷_ 115 (L._∷_ 116 (L._∷_ 101 (L._∷_ 112 (L._∷_ 58 (L._∷_ 58 (L._∷_ 67 (L._∷_ 104 (L._∷_ 97 (L._∷_ 110 (L._∷_ 103 (L._∷_ 101 L.[])))))))))))) (Syntax.tcons (Syntax.tyStruct (L._∷_ 110 (L._∷_ 101 (L._∷_ 116 (L._∷_ 119 (L._∷_ 111 (L._∷_ 114 (L._∷_ 107 (L._∷_ 58 (L._∷_ 58 (L._∷_ 69 (L._∷_ 100 (L._∷_ 105 (L._∷_ 116 L.[]))))))))))))) (Syntax.tcons q7 (Syntax.tcons q7 (Syntax.tcons q7 (Syntax.tcons q7 (Syntax.tcons q2 (Syntax.tcons q2 (Syntax.tcons (Syntax.tyInt Syntax.w64) Syntax.tnil)))))))) (Syntax.tcons (Syntax.tyStruct (L._∷_ 115 (L._∷_ 116 (L._∷_ 101 (L._∷_ 112 (L._∷_ 58 (L._∷_ 58 (L._∷_ 79 (L._∷_ 108 (L._∷_ 100 L.[]))))))))) (Syntax.tcons (Syntax.tyInt Syntax.w64) (Syntax.tcons q6 (Syntax.tcons q7 (Syntax.tcons q7 (Syntax.tcons q7 (Syntax.tcons q7 (Syntax.tcons q4 Syntax.tnil)))))))) Syntax.tnil))) Syntax.tnil)))) Syntax.tnil))))) tt Path.refl) d34
 
           d36 : Typed.Typed 𝓤 H A 𝓣 E G2 b27 Δ0 at36
           d36 = Typed.t-seq 𝓤 H A W 𝓣 E G2 G3 b21 b26 Δ0 at27 at35 d27 d35
@@ -1189,6 +1189,6 @@ module _ (claims· : Claims) where
           pub asked : (a : FnKinds.Dens κs ps) → (good : FnKinds.GoodsP κs ps a) → (pre : Pre· κs a) → (bs : L.List Nat.ℕ) → Φ (Any.wantQ 1 ps r xs m κs qs a (Post· κs a)) (Function.init 1 ps r xs m κs qs a)
           asked = λ a good pre bs. laid record { κs = κs; args = record { nodes = a .0; arcs = a .1 .0; seen = a .1 .1 .0; time = a .1 .1 .1 .0 }; good = good; fits = record { time = record { fits = good .1 .1 .1 .0 .1 } }; pre = pre }
 
-        module _ {M : Type 1} (𝓤 : URA.URA M) (H : Wp.Heap 𝓤) (A : Atoms.Atoms 𝓤) (W : Kit.Given 𝓤 H A) (𝓣 : Wp.Tables 𝓤 H) (known0 : Plain.Known 𝓤 H A W 𝓣 1 ps·0 r·0 (claims· .0) (claims· .1) "network::list::read") (known1 : Plain.Known 𝓤 H A W 𝓣 0 ps·1 r·1 (claims· .2) (claims· .3) "search::scan::is_root") (known2 : Plain.Known 𝓤 H A W 𝓣 1 ps·2 r·2 (claims· .4) (claims· .5) "network::list::view") (known3 : Plain.Known 𝓤 H A W 𝓣 0 ps·3 r·3 (claims· .6) (claims· .7) "search::scan::at_costly") (known4 : Plain.Known 𝓤 H A W 𝓣 0 ps·4 r·4 (claims· .8) (claims· .9) "search::scan::nothing") where
+        module _ {M : Type 1} (𝓤 : URA.URA M) (H : Wp.Heap 𝓤) (A : Atoms.Atoms 𝓤) (W : Kit.Given 𝓤 H A) (𝓣 : Wp.Tables 𝓤 H) (known0 : Plain.Known 𝓤 H A W 𝓣 1 ps·0 r·0 (claims· .0) (claims· .1) "network::list::read") (known1 : Plain.Known 𝓤 H A W 𝓣 0 ps·1 r·1 (claims· .2) (claims· .3) "rules::tried::is_root") (known2 : Plain.Known 𝓤 H A W 𝓣 1 ps·2 r·2 (claims· .4) (claims· .5) "network::list::view") (known3 : Plain.Known 𝓤 H A W 𝓣 0 ps·3 r·3 (claims· .6) (claims· .7) "rules::tried::at_costly") (known4 : Plain.Known 𝓤 H A W 𝓣 0 ps·4 r·4 (claims· .8) (claims· .9) "rules::found::nothing") where
           pub spec : Statement.Triple 𝓤 (Wp.WpFn 𝓤 H (𝓣 .C) (𝓣 .Λ) (Function.fnOf 1 ps r xs m hs body)) (Function.plainOf 𝓤 H A 1 ps r Pre· Post·)
           spec = Plain.t-fn-plain 𝓤 H A W 𝓣 1 ps r xs m hs body (λ κs qs bs. Φ) (λ κs qs bs bd. typed κs qs 𝓤 H A W 𝓣 (known0, known1, known2, known3, known4) bs bd) Pre· Post· asked

@@ -6,10 +6,10 @@ use Rattle.network.proofs.Degrees as network-proofs-Degrees·
 use Rattle.network.proofs.Degrees.Laws as network-proofs-Degrees-Laws·
 use Rattle.network.proofs.Nodes as network-proofs-Nodes·
 use Rattle.network.proofs.Nodes.Laws as network-proofs-Nodes-Laws·
-use Rattle.search.proofs.scan.Around as scan-Around·
-use Rattle.search.proofs.scan.Around.Laws as scan-Around-Laws·
-use Rattle.search.proofs.scan.Found as scan-Found·
-use Rattle.search.proofs.scan.Found.Laws as scan-Found-Laws·
+use Rattle.rules.proofs.found.Found as rules-proofs-found-Found·
+use Rattle.rules.proofs.found.Found.Laws as rules-proofs-found-Found-Laws·
+use Rattle.rules.proofs.tried.Around as rules-proofs-tried-Around·
+use Rattle.rules.proofs.tried.Around.Laws as rules-proofs-tried-Around-Laws·
 use borrow.Author.Called
 use borrow.Author.Tests
 use borrow.Fn.Any
@@ -136,38 +136,38 @@ q25 = (11, Rows.any-gone (Syntax.tyInt Syntax.w64))
 abbrev pub q24 : Syntax.Ty
 q24 = Syntax.tyArray (Syntax.tyInt Syntax.w64) 33
 
-abbrev pub q23 : Row.Row
-q23 = Rows.whole (Declared.row scan-Found·.the-type)
+abbrev pub q23 : Syntax.Ty
+q23 = Syntax.tyRef (Syntax.named 0) Syntax.imm Rec.named
 
-abbrev pub q22 : Row.Entry
-q22 = (0, Rows.whole (Declared.row scan-Found·.the-type))
+abbrev pub q22 : Row.Row
+q22 = Rows.whole (Declared.row network-proofs-Nodes·.the-type)
 
-abbrev pub q21 : Row.Entry
-q21 = (10, Rows.whole (Declared.row scan-Found·.the-type))
+abbrev pub q21 : Row.Row
+q21 = Rows.whole (Declared.row network-proofs-Degrees·.the-type)
 
-abbrev pub q20 : Syntax.Ty
-q20 = Syntax.tyRef (Syntax.named 0) Syntax.imm Rec.named
+abbrev pub q20 : Row.Entry
+q20 = (5, Rows.whole (Declared.row network-proofs-Nodes·.the-type))
 
 abbrev pub q19 : Row.Row
-q19 = Rows.whole (Declared.row network-proofs-Nodes·.the-type)
+q19 = Rows.whole (Declared.row rules-proofs-found-Found·.the-type)
 
 abbrev pub q18 : Row.Row
-q18 = Rows.whole (Declared.row network-proofs-Degrees·.the-type)
+q18 = Rows.whole (Declared.row fraction-proofs-Fraction·.the-type)
 
 abbrev pub q17 : Row.Entry
-q17 = (5, Rows.whole (Declared.row network-proofs-Nodes·.the-type))
+q17 = (6, Rows.whole (Declared.row network-proofs-Degrees·.the-type))
 
-abbrev pub q16 : Row.Row
-q16 = Rows.whole (Declared.row fraction-proofs-Fraction·.the-type)
+abbrev pub q16 : Row.Entry
+q16 = (3, Rows.whole (Declared.row network-proofs-Degrees·.the-type))
 
 abbrev pub q15 : Row.Entry
-q15 = (6, Rows.whole (Declared.row network-proofs-Degrees·.the-type))
+q15 = (0, Rows.whole (Declared.row rules-proofs-found-Found·.the-type))
 
 abbrev pub q14 : Row.Entry
-q14 = (3, Rows.whole (Declared.row network-proofs-Degrees·.the-type))
+q14 = (10, Rows.whole (Declared.row rules-proofs-found-Found·.the-type))
 
 abbrev pub q13 : Row.Entry
-q13 = (2, Rows.sslice Rec.row q20 0)
+q13 = (2, Rows.sslice Rec.row q23 0)
 
 abbrev pub q12 : Syntax.Ty
 q12 = Syntax.tyStruct (L._∷_ 110 (L._∷_ 101 (L._∷_ 116 (L._∷_ 119 (L._∷_ 111 (L._∷_ 114 (L._∷_ 107 (L._∷_ 58 (L._∷_ 58 (L._∷_ 68 (L._∷_ 101 (L._∷_ 103 (L._∷_ 114 (L._∷_ 101 (L._∷_ 101 (L._∷_ 115 L.[])))))))))))))))) (Syntax.tcons q24 Syntax.tnil)
@@ -212,10 +212,10 @@ abbrev pub ps : L.List (FnKinds.PK 1)
 ps = L._∷_ (Value.pVal record { ty = Declared.row network-proofs-Nodes·.the-type; one = Path.refl; val = StructLaws.val network-proofs-Nodes·.the-type network-proofs-Nodes-Laws·.the-laws; tells = StructLaws.tells network-proofs-Nodes·.the-type network-proofs-Nodes-Laws·.the-laws; still = StructLaws.still network-proofs-Nodes·.the-type network-proofs-Nodes-Laws·.the-copy Exit.yes; row = Rows.whole (Declared.row network-proofs-Nodes·.the-type); rd = λ x. x; mk = λ x. x } λ M 𝓤 H A W. record { copies = StructLaws.copy network-proofs-Nodes·.the-type network-proofs-Nodes-Laws·.the-copy 𝓤 H A W; lawful = StructLaws.lawful network-proofs-Nodes·.the-type network-proofs-Nodes-Laws·.the-laws 𝓤 H A W; makes = StructLaws.makes network-proofs-Nodes·.the-type network-proofs-Nodes-Laws·.the-plain 𝓤 H A; in-mem = Local.mem-whole 𝓤 H A W (Declared.row network-proofs-Nodes·.the-type); of-mem = Local.whole-mem 𝓤 H A W (Declared.row network-proofs-Nodes·.the-type) }) (L._∷_ (ShrSlice.pShrS Rec.row 0 tt) (L._∷_ (Value.pVal record { ty = Declared.row network-proofs-Degrees·.the-type; one = Path.refl; val = StructLaws.val network-proofs-Degrees·.the-type network-proofs-Degrees-Laws·.the-laws; tells = StructLaws.tells network-proofs-Degrees·.the-type network-proofs-Degrees-Laws·.the-laws; still = StructLaws.still network-proofs-Degrees·.the-type network-proofs-Degrees-Laws·.the-copy Exit.yes; row = Rows.whole (Declared.row network-proofs-Degrees·.the-type); rd = λ x. x; mk = λ x. x } λ M 𝓤 H A W. record { copies = StructLaws.copy network-proofs-Degrees·.the-type network-proofs-Degrees-Laws·.the-copy 𝓤 H A W; lawful = StructLaws.lawful network-proofs-Degrees·.the-type network-proofs-Degrees-Laws·.the-laws 𝓤 H A W; makes = StructLaws.makes network-proofs-Degrees·.the-type network-proofs-Degrees-Laws·.the-plain 𝓤 H A; in-mem = Local.mem-whole 𝓤 H A W (Declared.row network-proofs-Degrees·.the-type); of-mem = Local.whole-mem 𝓤 H A W (Declared.row network-proofs-Degrees·.the-type) }) (L._∷_ (Num.pNum Syntax.w64) L.[])))
 
 abbrev pub r : FnKinds.RK 1
-r = Value.rVal record { ty = Declared.row scan-Found·.the-type; one = Path.refl; val = StructLaws.val scan-Found·.the-type scan-Found-Laws·.the-laws; tells = StructLaws.tells scan-Found·.the-type scan-Found-Laws·.the-laws; still = StructLaws.still scan-Found·.the-type scan-Found-Laws·.the-copy Exit.yes; row = Rows.whole (Declared.row scan-Found·.the-type); rd = λ x. x; mk = λ x. x } λ M 𝓤 H A W. record { copies = StructLaws.copy scan-Found·.the-type scan-Found-Laws·.the-copy 𝓤 H A W; lawful = StructLaws.lawful scan-Found·.the-type scan-Found-Laws·.the-laws 𝓤 H A W; makes = StructLaws.makes scan-Found·.the-type scan-Found-Laws·.the-plain 𝓤 H A; in-mem = Local.mem-whole 𝓤 H A W (Declared.row scan-Found·.the-type); of-mem = Local.whole-mem 𝓤 H A W (Declared.row scan-Found·.the-type) }
+r = Value.rVal record { ty = Declared.row rules-proofs-found-Found·.the-type; one = Path.refl; val = StructLaws.val rules-proofs-found-Found·.the-type rules-proofs-found-Found-Laws·.the-laws; tells = StructLaws.tells rules-proofs-found-Found·.the-type rules-proofs-found-Found-Laws·.the-laws; still = StructLaws.still rules-proofs-found-Found·.the-type rules-proofs-found-Found-Laws·.the-copy Exit.yes; row = Rows.whole (Declared.row rules-proofs-found-Found·.the-type); rd = λ x. x; mk = λ x. x } λ M 𝓤 H A W. record { copies = StructLaws.copy rules-proofs-found-Found·.the-type rules-proofs-found-Found-Laws·.the-copy 𝓤 H A W; lawful = StructLaws.lawful rules-proofs-found-Found·.the-type rules-proofs-found-Found-Laws·.the-laws 𝓤 H A W; makes = StructLaws.makes rules-proofs-found-Found·.the-type rules-proofs-found-Found-Laws·.the-plain 𝓤 H A; in-mem = Local.mem-whole 𝓤 H A W (Declared.row rules-proofs-found-Found·.the-type); of-mem = Local.whole-mem 𝓤 H A W (Declared.row rules-proofs-found-Found·.the-type) }
 
 abbrev pub xs : L.List Syntax.Ty
-xs = L._∷_ q2 (L._∷_ q12 (L._∷_ (Syntax.tyInt Syntax.w64) (L._∷_ (Syntax.tyInt Syntax.w64) (L._∷_ (Syntax.tyStruct (L._∷_ 115 (L._∷_ 101 (L._∷_ 97 (L._∷_ 114 (L._∷_ 99 (L._∷_ 104 (L._∷_ 58 (L._∷_ 58 (L._∷_ 115 (L._∷_ 99 (L._∷_ 97 (L._∷_ 110 (L._∷_ 58 (L._∷_ 58 (L._∷_ 65 (L._∷_ 114 (L._∷_ 111 (L._∷_ 117 (L._∷_ 110 (L._∷_ 100 L.[])))))))))))))))))))) (Syntax.tcons q9 (Syntax.tcons q9 (Syntax.tcons q9 (Syntax.tcons q9 Syntax.tnil))))) (L._∷_ (Syntax.tyStruct (L._∷_ 115 (L._∷_ 101 (L._∷_ 97 (L._∷_ 114 (L._∷_ 99 (L._∷_ 104 (L._∷_ 58 (L._∷_ 58 (L._∷_ 115 (L._∷_ 99 (L._∷_ 97 (L._∷_ 110 (L._∷_ 58 (L._∷_ 58 (L._∷_ 70 (L._∷_ 111 (L._∷_ 117 (L._∷_ 110 (L._∷_ 100 L.[]))))))))))))))))))) (Syntax.tcons Syntax.tyBool (Syntax.tcons Syntax.tyBool (Syntax.tcons (Syntax.tyStruct (L._∷_ 115 (L._∷_ 116 (L._∷_ 101 (L._∷_ 112 (L._∷_ 58 (L._∷_ 58 (L._∷_ 83 (L._∷_ 116 (L._∷_ 101 (L._∷_ 112 L.[])))))))))) (Syntax.tcons (Syntax.tyInt Syntax.w64) (Syntax.tcons (Syntax.tyInt Syntax.w64) (Syntax.tcons (Syntax.tyStruct (L._∷_ 115 (L._∷_ 116 (L._∷_ 101 (L._∷_ 112 (L._∷_ 58 (L._∷_ 58 (L._∷_ 67 (L._∷_ 104 (L._∷_ 97 (L._∷_ 110 (L._∷_ 103 (L._∷_ 101 L.[])))))))))))) (Syntax.tcons (Syntax.tyStruct (L._∷_ 110 (L._∷_ 101 (L._∷_ 116 (L._∷_ 119 (L._∷_ 111 (L._∷_ 114 (L._∷_ 107 (L._∷_ 58 (L._∷_ 58 (L._∷_ 69 (L._∷_ 100 (L._∷_ 105 (L._∷_ 116 L.[]))))))))))))) (Syntax.tcons q9 (Syntax.tcons q9 (Syntax.tcons q9 (Syntax.tcons q9 (Syntax.tcons q3 (Syntax.tcons q3 (Syntax.tcons (Syntax.tyInt Syntax.w64) Syntax.tnil)))))))) (Syntax.tcons (Syntax.tyStruct (L._∷_ 115 (L._∷_ 116 (L._∷_ 101 (L._∷_ 112 (L._∷_ 58 (L._∷_ 58 (L._∷_ 79 (L._∷_ 108 (L._∷_ 100 L.[]))))))))) (Syntax.tcons (Syntax.tyInt Syntax.w64) (Syntax.tcons q8 (Syntax.tcons q9 (Syntax.tcons q9 (Syntax.tcons q9 (Syntax.tcons q9 (Syntax.tcons q5 Syntax.tnil)))))))) Syntax.tnil))) Syntax.tnil)))) Syntax.tnil)))) (L._∷_ (Syntax.tyInt Syntax.w64) (L._∷_ Syntax.tyBool (L._∷_ Syntax.tyPtr (L._∷_ Syntax.tyPtr (L._∷_ (Syntax.tyInt Syntax.w64) (L._∷_ Syntax.tyBool (L._∷_ Syntax.tyPtr (L._∷_ Syntax.tyPtr (L._∷_ Syntax.tyPtr (L._∷_ Syntax.tyPtr (L._∷_ q8 (L._∷_ q6 (L._∷_ Syntax.tyBool L.[]))))))))))))))))))
+xs = L._∷_ q2 (L._∷_ q12 (L._∷_ (Syntax.tyInt Syntax.w64) (L._∷_ (Syntax.tyInt Syntax.w64) (L._∷_ (Syntax.tyStruct (L._∷_ 114 (L._∷_ 117 (L._∷_ 108 (L._∷_ 101 (L._∷_ 115 (L._∷_ 58 (L._∷_ 58 (L._∷_ 116 (L._∷_ 114 (L._∷_ 105 (L._∷_ 101 (L._∷_ 100 (L._∷_ 58 (L._∷_ 58 (L._∷_ 65 (L._∷_ 114 (L._∷_ 111 (L._∷_ 117 (L._∷_ 110 (L._∷_ 100 L.[])))))))))))))))))))) (Syntax.tcons q9 (Syntax.tcons q9 (Syntax.tcons q9 (Syntax.tcons q9 Syntax.tnil))))) (L._∷_ (Syntax.tyStruct (L._∷_ 114 (L._∷_ 117 (L._∷_ 108 (L._∷_ 101 (L._∷_ 115 (L._∷_ 58 (L._∷_ 58 (L._∷_ 102 (L._∷_ 111 (L._∷_ 117 (L._∷_ 110 (L._∷_ 100 (L._∷_ 58 (L._∷_ 58 (L._∷_ 70 (L._∷_ 111 (L._∷_ 117 (L._∷_ 110 (L._∷_ 100 L.[]))))))))))))))))))) (Syntax.tcons Syntax.tyBool (Syntax.tcons Syntax.tyBool (Syntax.tcons (Syntax.tyStruct (L._∷_ 115 (L._∷_ 116 (L._∷_ 101 (L._∷_ 112 (L._∷_ 58 (L._∷_ 58 (L._∷_ 83 (L._∷_ 116 (L._∷_ 101 (L._∷_ 112 L.[])))))))))) (Syntax.tcons (Syntax.tyInt Syntax.w64) (Syntax.tcons (Syntax.tyInt Syntax.w64) (Syntax.tcons (Syntax.tyStruct (L._∷_ 115 (L._∷_ 116 (L._∷_ 101 (L._∷_ 112 (L._∷_ 58 (L._∷_ 58 (L._∷_ 67 (L._∷_ 104 (L._∷_ 97 (L._∷_ 110 (L._∷_ 103 (L._∷_ 101 L.[])))))))))))) (Syntax.tcons (Syntax.tyStruct (L._∷_ 110 (L._∷_ 101 (L._∷_ 116 (L._∷_ 119 (L._∷_ 111 (L._∷_ 114 (L._∷_ 107 (L._∷_ 58 (L._∷_ 58 (L._∷_ 69 (L._∷_ 100 (L._∷_ 105 (L._∷_ 116 L.[]))))))))))))) (Syntax.tcons q9 (Syntax.tcons q9 (Syntax.tcons q9 (Syntax.tcons q9 (Syntax.tcons q3 (Syntax.tcons q3 (Syntax.tcons (Syntax.tyInt Syntax.w64) Syntax.tnil)))))))) (Syntax.tcons (Syntax.tyStruct (L._∷_ 115 (L._∷_ 116 (L._∷_ 101 (L._∷_ 112 (L._∷_ 58 (L._∷_ 58 (L._∷_ 79 (L._∷_ 108 (L._∷_ 100 L.[]))))))))) (Syntax.tcons (Syntax.tyInt Syntax.w64) (Syntax.tcons q8 (Syntax.tcons q9 (Syntax.tcons q9 (Syntax.tcons q9 (Syntax.tcons q9 (Syntax.tcons q5 Syntax.tnil)))))))) Syntax.tnil))) Syntax.tnil)))) Syntax.tnil)))) (L._∷_ (Syntax.tyInt Syntax.w64) (L._∷_ Syntax.tyBool (L._∷_ Syntax.tyPtr (L._∷_ Syntax.tyPtr (L._∷_ (Syntax.tyInt Syntax.w64) (L._∷_ Syntax.tyBool (L._∷_ Syntax.tyPtr (L._∷_ Syntax.tyPtr (L._∷_ Syntax.tyPtr (L._∷_ Syntax.tyPtr (L._∷_ q8 (L._∷_ q6 (L._∷_ Syntax.tyBool L.[]))))))))))))))))))
 
 abbrev pub m : Nat.ℕ
 m = 0
@@ -230,19 +230,19 @@ abbrev pub ps·1 : L.List (FnKinds.PK 1)
 ps·1 = L._∷_ (ShrSlice.pShrS Rec.row 0 tt) (L._∷_ (Num.pNum Syntax.w64) (L._∷_ (Num.pNum Syntax.w64) L.[]))
 
 abbrev pub r·1 : FnKinds.RK 1
-r·1 = Value.rVal record { ty = Declared.row scan-Around·.the-type; one = Path.refl; val = StructLaws.val scan-Around·.the-type scan-Around-Laws·.the-laws; tells = StructLaws.tells scan-Around·.the-type scan-Around-Laws·.the-laws; still = StructLaws.still scan-Around·.the-type scan-Around-Laws·.the-copy Exit.yes; row = Rows.whole (Declared.row scan-Around·.the-type); rd = λ x. x; mk = λ x. x } λ M 𝓤 H A W. record { copies = StructLaws.copy scan-Around·.the-type scan-Around-Laws·.the-copy 𝓤 H A W; lawful = StructLaws.lawful scan-Around·.the-type scan-Around-Laws·.the-laws 𝓤 H A W; makes = StructLaws.makes scan-Around·.the-type scan-Around-Laws·.the-plain 𝓤 H A; in-mem = Local.mem-whole 𝓤 H A W (Declared.row scan-Around·.the-type); of-mem = Local.whole-mem 𝓤 H A W (Declared.row scan-Around·.the-type) }
+r·1 = Value.rVal record { ty = Declared.row rules-proofs-tried-Around·.the-type; one = Path.refl; val = StructLaws.val rules-proofs-tried-Around·.the-type rules-proofs-tried-Around-Laws·.the-laws; tells = StructLaws.tells rules-proofs-tried-Around·.the-type rules-proofs-tried-Around-Laws·.the-laws; still = StructLaws.still rules-proofs-tried-Around·.the-type rules-proofs-tried-Around-Laws·.the-copy Exit.yes; row = Rows.whole (Declared.row rules-proofs-tried-Around·.the-type); rd = λ x. x; mk = λ x. x } λ M 𝓤 H A W. record { copies = StructLaws.copy rules-proofs-tried-Around·.the-type rules-proofs-tried-Around-Laws·.the-copy 𝓤 H A W; lawful = StructLaws.lawful rules-proofs-tried-Around·.the-type rules-proofs-tried-Around-Laws·.the-laws 𝓤 H A W; makes = StructLaws.makes rules-proofs-tried-Around·.the-type rules-proofs-tried-Around-Laws·.the-plain 𝓤 H A; in-mem = Local.mem-whole 𝓤 H A W (Declared.row rules-proofs-tried-Around·.the-type); of-mem = Local.whole-mem 𝓤 H A W (Declared.row rules-proofs-tried-Around·.the-type) }
 
 abbrev pub ps·2 : L.List (FnKinds.PK 0)
-ps·2 = L._∷_ (KArray.pArr (KArray.eStruct fraction-proofs-Fraction·.the-type fraction-proofs-Fraction-Laws·.the-laws fraction-proofs-Fraction-Laws·.the-copy) (KArray.eStruct-laws fraction-proofs-Fraction·.the-type fraction-proofs-Fraction-Laws·.the-laws fraction-proofs-Fraction-Laws·.the-copy fraction-proofs-Fraction-Laws·.the-plain) 33) (L._∷_ (Num.pNum Syntax.w64) (L._∷_ (Num.pNum Syntax.w64) (L._∷_ (Value.pVal record { ty = Declared.row scan-Around·.the-type; one = Path.refl; val = StructLaws.val scan-Around·.the-type scan-Around-Laws·.the-laws; tells = StructLaws.tells scan-Around·.the-type scan-Around-Laws·.the-laws; still = StructLaws.still scan-Around·.the-type scan-Around-Laws·.the-copy Exit.yes; row = Rows.whole (Declared.row scan-Around·.the-type); rd = λ x. x; mk = λ x. x } λ M 𝓤 H A W. record { copies = StructLaws.copy scan-Around·.the-type scan-Around-Laws·.the-copy 𝓤 H A W; lawful = StructLaws.lawful scan-Around·.the-type scan-Around-Laws·.the-laws 𝓤 H A W; makes = StructLaws.makes scan-Around·.the-type scan-Around-Laws·.the-plain 𝓤 H A; in-mem = Local.mem-whole 𝓤 H A W (Declared.row scan-Around·.the-type); of-mem = Local.whole-mem 𝓤 H A W (Declared.row scan-Around·.the-type) }) L.[])))
+ps·2 = L._∷_ (KArray.pArr (KArray.eStruct fraction-proofs-Fraction·.the-type fraction-proofs-Fraction-Laws·.the-laws fraction-proofs-Fraction-Laws·.the-copy) (KArray.eStruct-laws fraction-proofs-Fraction·.the-type fraction-proofs-Fraction-Laws·.the-laws fraction-proofs-Fraction-Laws·.the-copy fraction-proofs-Fraction-Laws·.the-plain) 33) (L._∷_ (Num.pNum Syntax.w64) (L._∷_ (Num.pNum Syntax.w64) (L._∷_ (Value.pVal record { ty = Declared.row rules-proofs-tried-Around·.the-type; one = Path.refl; val = StructLaws.val rules-proofs-tried-Around·.the-type rules-proofs-tried-Around-Laws·.the-laws; tells = StructLaws.tells rules-proofs-tried-Around·.the-type rules-proofs-tried-Around-Laws·.the-laws; still = StructLaws.still rules-proofs-tried-Around·.the-type rules-proofs-tried-Around-Laws·.the-copy Exit.yes; row = Rows.whole (Declared.row rules-proofs-tried-Around·.the-type); rd = λ x. x; mk = λ x. x } λ M 𝓤 H A W. record { copies = StructLaws.copy rules-proofs-tried-Around·.the-type rules-proofs-tried-Around-Laws·.the-copy 𝓤 H A W; lawful = StructLaws.lawful rules-proofs-tried-Around·.the-type rules-proofs-tried-Around-Laws·.the-laws 𝓤 H A W; makes = StructLaws.makes rules-proofs-tried-Around·.the-type rules-proofs-tried-Around-Laws·.the-plain 𝓤 H A; in-mem = Local.mem-whole 𝓤 H A W (Declared.row rules-proofs-tried-Around·.the-type); of-mem = Local.whole-mem 𝓤 H A W (Declared.row rules-proofs-tried-Around·.the-type) }) L.[])))
 
 abbrev pub r·2 : FnKinds.RK 0
-r·2 = Value.rVal record { ty = Declared.row scan-Found·.the-type; one = Path.refl; val = StructLaws.val scan-Found·.the-type scan-Found-Laws·.the-laws; tells = StructLaws.tells scan-Found·.the-type scan-Found-Laws·.the-laws; still = StructLaws.still scan-Found·.the-type scan-Found-Laws·.the-copy Exit.yes; row = Rows.whole (Declared.row scan-Found·.the-type); rd = λ x. x; mk = λ x. x } λ M 𝓤 H A W. record { copies = StructLaws.copy scan-Found·.the-type scan-Found-Laws·.the-copy 𝓤 H A W; lawful = StructLaws.lawful scan-Found·.the-type scan-Found-Laws·.the-laws 𝓤 H A W; makes = StructLaws.makes scan-Found·.the-type scan-Found-Laws·.the-plain 𝓤 H A; in-mem = Local.mem-whole 𝓤 H A W (Declared.row scan-Found·.the-type); of-mem = Local.whole-mem 𝓤 H A W (Declared.row scan-Found·.the-type) }
+r·2 = Value.rVal record { ty = Declared.row rules-proofs-found-Found·.the-type; one = Path.refl; val = StructLaws.val rules-proofs-found-Found·.the-type rules-proofs-found-Found-Laws·.the-laws; tells = StructLaws.tells rules-proofs-found-Found·.the-type rules-proofs-found-Found-Laws·.the-laws; still = StructLaws.still rules-proofs-found-Found·.the-type rules-proofs-found-Found-Laws·.the-copy Exit.yes; row = Rows.whole (Declared.row rules-proofs-found-Found·.the-type); rd = λ x. x; mk = λ x. x } λ M 𝓤 H A W. record { copies = StructLaws.copy rules-proofs-found-Found·.the-type rules-proofs-found-Found-Laws·.the-copy 𝓤 H A W; lawful = StructLaws.lawful rules-proofs-found-Found·.the-type rules-proofs-found-Found-Laws·.the-laws 𝓤 H A W; makes = StructLaws.makes rules-proofs-found-Found·.the-type rules-proofs-found-Found-Laws·.the-plain 𝓤 H A; in-mem = Local.mem-whole 𝓤 H A W (Declared.row rules-proofs-found-Found·.the-type); of-mem = Local.whole-mem 𝓤 H A W (Declared.row rules-proofs-found-Found·.the-type) }
 
 abbrev pub ps·3 : L.List (FnKinds.PK 0)
 ps·3 = L.[]
 
 abbrev pub r·3 : FnKinds.RK 0
-r·3 = Value.rVal record { ty = Declared.row scan-Found·.the-type; one = Path.refl; val = StructLaws.val scan-Found·.the-type scan-Found-Laws·.the-laws; tells = StructLaws.tells scan-Found·.the-type scan-Found-Laws·.the-laws; still = StructLaws.still scan-Found·.the-type scan-Found-Laws·.the-copy Exit.yes; row = Rows.whole (Declared.row scan-Found·.the-type); rd = λ x. x; mk = λ x. x } λ M 𝓤 H A W. record { copies = StructLaws.copy scan-Found·.the-type scan-Found-Laws·.the-copy 𝓤 H A W; lawful = StructLaws.lawful scan-Found·.the-type scan-Found-Laws·.the-laws 𝓤 H A W; makes = StructLaws.makes scan-Found·.the-type scan-Found-Laws·.the-plain 𝓤 H A; in-mem = Local.mem-whole 𝓤 H A W (Declared.row scan-Found·.the-type); of-mem = Local.whole-mem 𝓤 H A W (Declared.row scan-Found·.the-type) }
+r·3 = Value.rVal record { ty = Declared.row rules-proofs-found-Found·.the-type; one = Path.refl; val = StructLaws.val rules-proofs-found-Found·.the-type rules-proofs-found-Found-Laws·.the-laws; tells = StructLaws.tells rules-proofs-found-Found·.the-type rules-proofs-found-Found-Laws·.the-laws; still = StructLaws.still rules-proofs-found-Found·.the-type rules-proofs-found-Found-Laws·.the-copy Exit.yes; row = Rows.whole (Declared.row rules-proofs-found-Found·.the-type); rd = λ x. x; mk = λ x. x } λ M 𝓤 H A W. record { copies = StructLaws.copy rules-proofs-found-Found·.the-type rules-proofs-found-Found-Laws·.the-copy 𝓤 H A W; lawful = StructLaws.lawful rules-proofs-found-Found·.the-type rules-proofs-found-Found-Laws·.the-laws 𝓤 H A W; makes = StructLaws.makes rules-proofs-found-Found·.the-type rules-proofs-found-Found-Laws·.the-plain 𝓤 H A; in-mem = Local.mem-whole 𝓤 H A W (Declared.row rules-proofs-found-Found·.the-type); of-mem = Local.whole-mem 𝓤 H A W (Declared.row rules-proofs-found-Found·.the-type) }
 
 abbrev pub hs : L.List Syntax.Home
 hs = L._∷_ Syntax.valueLocal (L._∷_ Syntax.valueLocal (L._∷_ Syntax.valueLocal (L._∷_ Syntax.valueLocal (L._∷_ Syntax.valueLocal (L._∷_ Syntax.memorySlot (L._∷_ Syntax.memorySlot (L._∷_ Syntax.valueLocal (L._∷_ Syntax.valueLocal (L._∷_ Syntax.valueLocal (L._∷_ Syntax.valueLocal (L._∷_ Syntax.valueLocal (L._∷_ Syntax.valueLocal (L._∷_ Syntax.valueLocal (L._∷_ Syntax.valueLocal (L._∷_ Syntax.valueLocal (L._∷_ Syntax.valueLocal (L._∷_ Syntax.valueLocal (L._∷_ Syntax.valueLocal (L._∷_ Syntax.valueLocal (L._∷_ Syntax.valueLocal (L._∷_ Syntax.valueLocal (L._∷_ Syntax.valueLocal (L._∷_ Syntax.valueLocal L.[])))))))))))))))))))))))
@@ -308,7 +308,7 @@ abbrev b19 : Syntax.Body
 b19 = Syntax.assign (Syntax.place 21 L.[]) (Syntax.rvOpd (Syntax.copy (Syntax.place 20 (L._∷_ (Syntax.deref q8) L.[]))))
 
 abbrev b20 : Syntax.Body
-b20 = Syntax.call "search::scan::is_wanted" (L._∷_ (Syntax.copy (Syntax.place 4 L.[])) (L._∷_ (Syntax.copy (Syntax.place 12 L.[])) (L._∷_ (Syntax.copy (Syntax.place 8 L.[])) (L._∷_ (Syntax.copy (Syntax.place 21 L.[])) L.[])))) (Syntax.place 16 L.[])
+b20 = Syntax.call "rules::tried::is_wanted" (L._∷_ (Syntax.copy (Syntax.place 4 L.[])) (L._∷_ (Syntax.copy (Syntax.place 12 L.[])) (L._∷_ (Syntax.copy (Syntax.place 8 L.[])) (L._∷_ (Syntax.copy (Syntax.place 21 L.[])) L.[])))) (Syntax.place 16 L.[])
 
 abbrev b21 : Syntax.Body
 b21 = Syntax.call "search::scan::gather" (L._∷_ (Syntax.copy (Syntax.place 2 L.[])) (L._∷_ (Syntax.copy (Syntax.place 7 L.[])) (L._∷_ (Syntax.copy (Syntax.place 8 L.[])) L.[]))) (Syntax.place 9 L.[])
@@ -317,7 +317,7 @@ abbrev b22 : Syntax.Body
 b22 = Syntax.assign (Syntax.place 22 L.[]) (Syntax.rvOpd (Syntax.copy (Syntax.place 5 (L._∷_ (Syntax.field 3) L.[]))))
 
 abbrev b23 : Syntax.Body
-b23 = Syntax.call "search::scan::at_node" (L._∷_ (Syntax.copy (Syntax.place 22 L.[])) (L._∷_ (Syntax.copy (Syntax.place 4 L.[])) (L._∷_ (Syntax.copy (Syntax.place 7 L.[])) (L._∷_ (Syntax.copy (Syntax.place 9 L.[])) L.[])))) (Syntax.place 10 L.[])
+b23 = Syntax.call "rules::tried::at_node" (L._∷_ (Syntax.copy (Syntax.place 22 L.[])) (L._∷_ (Syntax.copy (Syntax.place 4 L.[])) (L._∷_ (Syntax.copy (Syntax.place 7 L.[])) (L._∷_ (Syntax.copy (Syntax.place 9 L.[])) L.[])))) (Syntax.place 10 L.[])
 
 abbrev b24 : Syntax.Body
 b24 = Syntax.assign (Syntax.place 23 L.[]) (Syntax.rvOpd (Syntax.copy (Syntax.place 10 (L._∷_ (Syntax.field 0) L.[]))))
@@ -416,7 +416,7 @@ abbrev b55 : Syntax.Body
 b55 = Syntax.block b54
 
 abbrev b56 : Syntax.Body
-b56 = Syntax.call "search::scan::nothing" L.[] (Syntax.place 0 L.[])
+b56 = Syntax.call "rules::found::nothing" L.[] (Syntax.place 0 L.[])
 
 abbrev b57 : Syntax.Body
 b57 = Syntax.return
@@ -443,70 +443,70 @@ abbrev pub Claims : Type 1
 Claims = FnKinds.In 0 ps·0 × FnKinds.Out 0 ps·0 r·0 × FnKinds.In 1 ps·1 × FnKinds.Out 1 ps·1 r·1 × FnKinds.In 0 ps·2 × FnKinds.Out 0 ps·2 r·2 × FnKinds.In 0 ps·3 × FnKinds.Out 0 ps·3 r·3
 
 abbrev pub t0 : L.List Row.Entry
-t0 = L._∷_ (0, Rows.any-gone (Syntax.tyStruct (L._∷_ 115 (L._∷_ 101 (L._∷_ 97 (L._∷_ 114 (L._∷_ 99 (L._∷_ 104 (L._∷_ 58 (L._∷_ 58 (L._∷_ 115 (L._∷_ 99 (L._∷_ 97 (L._∷_ 110 (L._∷_ 58 (L._∷_ 58 (L._∷_ 70 (L._∷_ 111 (L._∷_ 117 (L._∷_ 110 (L._∷_ 100 L.[]))))))))))))))))))) (Syntax.tcons Syntax.tyBool (Syntax.tcons Syntax.tyBool (Syntax.tcons (Syntax.tyStruct (L._∷_ 115 (L._∷_ 116 (L._∷_ 101 (L._∷_ 112 (L._∷_ 58 (L._∷_ 58 (L._∷_ 83 (L._∷_ 116 (L._∷_ 101 (L._∷_ 112 L.[])))))))))) (Syntax.tcons (Syntax.tyInt Syntax.w64) (Syntax.tcons (Syntax.tyInt Syntax.w64) (Syntax.tcons (Syntax.tyStruct (L._∷_ 115 (L._∷_ 116 (L._∷_ 101 (L._∷_ 112 (L._∷_ 58 (L._∷_ 58 (L._∷_ 67 (L._∷_ 104 (L._∷_ 97 (L._∷_ 110 (L._∷_ 103 (L._∷_ 101 L.[])))))))))))) (Syntax.tcons (Syntax.tyStruct (L._∷_ 110 (L._∷_ 101 (L._∷_ 116 (L._∷_ 119 (L._∷_ 111 (L._∷_ 114 (L._∷_ 107 (L._∷_ 58 (L._∷_ 58 (L._∷_ 69 (L._∷_ 100 (L._∷_ 105 (L._∷_ 116 L.[]))))))))))))) (Syntax.tcons q9 (Syntax.tcons q9 (Syntax.tcons q9 (Syntax.tcons q9 (Syntax.tcons q3 (Syntax.tcons q3 (Syntax.tcons (Syntax.tyInt Syntax.w64) Syntax.tnil)))))))) (Syntax.tcons (Syntax.tyStruct (L._∷_ 115 (L._∷_ 116 (L._∷_ 101 (L._∷_ 112 (L._∷_ 58 (L._∷_ 58 (L._∷_ 79 (L._∷_ 108 (L._∷_ 100 L.[]))))))))) (Syntax.tcons (Syntax.tyInt Syntax.w64) (Syntax.tcons q8 (Syntax.tcons q9 (Syntax.tcons q9 (Syntax.tcons q9 (Syntax.tcons q9 (Syntax.tcons q5 Syntax.tnil)))))))) Syntax.tnil))) Syntax.tnil)))) Syntax.tnil))))) (L._∷_ (1, Rows.whole (Declared.row network-proofs-Nodes·.the-type)) (L._∷_ q13 (L._∷_ q14 (L._∷_ q31 (L._∷_ q0 (L._∷_ q10 (L._∷_ q27 (L._∷_ q28 (L._∷_ (9, Rows.any-gone (Syntax.tyStruct (L._∷_ 115 (L._∷_ 101 (L._∷_ 97 (L._∷_ 114 (L._∷_ 99 (L._∷_ 104 (L._∷_ 58 (L._∷_ 58 (L._∷_ 115 (L._∷_ 99 (L._∷_ 97 (L._∷_ 110 (L._∷_ 58 (L._∷_ 58 (L._∷_ 65 (L._∷_ 114 (L._∷_ 111 (L._∷_ 117 (L._∷_ 110 (L._∷_ 100 L.[])))))))))))))))))))) (Syntax.tcons q9 (Syntax.tcons q9 (Syntax.tcons q9 (Syntax.tcons q9 Syntax.tnil)))))) (L._∷_ (10, Rows.any-gone (Syntax.tyStruct (L._∷_ 115 (L._∷_ 101 (L._∷_ 97 (L._∷_ 114 (L._∷_ 99 (L._∷_ 104 (L._∷_ 58 (L._∷_ 58 (L._∷_ 115 (L._∷_ 99 (L._∷_ 97 (L._∷_ 110 (L._∷_ 58 (L._∷_ 58 (L._∷_ 70 (L._∷_ 111 (L._∷_ 117 (L._∷_ 110 (L._∷_ 100 L.[]))))))))))))))))))) (Syntax.tcons Syntax.tyBool (Syntax.tcons Syntax.tyBool (Syntax.tcons (Syntax.tyStruct (L._∷_ 115 (L._∷_ 116 (L._∷_ 101 (L._∷_ 112 (L._∷_ 58 (L._∷_ 58 (L._∷_ 83 (L._∷_ 116 (L._∷_ 101 (L._∷_ 112 L.[])))))))))) (Syntax.tcons (Syntax.tyInt Syntax.w64) (Syntax.tcons (Syntax.tyInt Syntax.w64) (Syntax.tcons (Syntax.tyStruct (L._∷_ 115 (L._∷_ 116 (L._∷_ 101 (L._∷_ 112 (L._∷_ 58 (L._∷_ 58 (L._∷_ 67 (L._∷_ 104 (L._∷_ 97 (L._∷_ 110 (L._∷_ 103 (L._∷_ 101 L.[])))))))))))) (Syntax.tcons (Syntax.tyStruct (L._∷_ 110 (L._∷_ 101 (L._∷_ 116 (L._∷_ 119 (L._∷_ 111 (L._∷_ 114 (L._∷_ 107 (L._∷_ 58 (L._∷_ 58 (L._∷_ 69 (L._∷_ 100 (L._∷_ 105 (L._∷_ 116 L.[]))))))))))))) (Syntax.tcons q9 (Syntax.tcons q9 (Syntax.tcons q9 (Syntax.tcons q9 (Syntax.tcons q3 (Syntax.tcons q3 (Syntax.tcons (Syntax.tyInt Syntax.w64) Syntax.tnil)))))))) (Syntax.tcons (Syntax.tyStruct (L._∷_ 115 (L._∷_ 116 (L._∷_ 101 (L._∷_ 112 (L._∷_ 58 (L._∷_ 58 (L._∷_ 79 (L._∷_ 108 (L._∷_ 100 L.[]))))))))) (Syntax.tcons (Syntax.tyInt Syntax.w64) (Syntax.tcons q8 (Syntax.tcons q9 (Syntax.tcons q9 (Syntax.tcons q9 (Syntax.tcons q9 (Syntax.tcons q5 Syntax.tnil)))))))) Syntax.tnil))) Syntax.tnil)))) Syntax.tnil))))) (L._∷_ q25 (L._∷_ q36 (L._∷_ q39 (L._∷_ q40 (L._∷_ q26 L.[])))))))))))))))
+t0 = L._∷_ (0, Rows.any-gone (Syntax.tyStruct (L._∷_ 114 (L._∷_ 117 (L._∷_ 108 (L._∷_ 101 (L._∷_ 115 (L._∷_ 58 (L._∷_ 58 (L._∷_ 102 (L._∷_ 111 (L._∷_ 117 (L._∷_ 110 (L._∷_ 100 (L._∷_ 58 (L._∷_ 58 (L._∷_ 70 (L._∷_ 111 (L._∷_ 117 (L._∷_ 110 (L._∷_ 100 L.[]))))))))))))))))))) (Syntax.tcons Syntax.tyBool (Syntax.tcons Syntax.tyBool (Syntax.tcons (Syntax.tyStruct (L._∷_ 115 (L._∷_ 116 (L._∷_ 101 (L._∷_ 112 (L._∷_ 58 (L._∷_ 58 (L._∷_ 83 (L._∷_ 116 (L._∷_ 101 (L._∷_ 112 L.[])))))))))) (Syntax.tcons (Syntax.tyInt Syntax.w64) (Syntax.tcons (Syntax.tyInt Syntax.w64) (Syntax.tcons (Syntax.tyStruct (L._∷_ 115 (L._∷_ 116 (L._∷_ 101 (L._∷_ 112 (L._∷_ 58 (L._∷_ 58 (L._∷_ 67 (L._∷_ 104 (L._∷_ 97 (L._∷_ 110 (L._∷_ 103 (L._∷_ 101 L.[])))))))))))) (Syntax.tcons (Syntax.tyStruct (L._∷_ 110 (L._∷_ 101 (L._∷_ 116 (L._∷_ 119 (L._∷_ 111 (L._∷_ 114 (L._∷_ 107 (L._∷_ 58 (L._∷_ 58 (L._∷_ 69 (L._∷_ 100 (L._∷_ 105 (L._∷_ 116 L.[]))))))))))))) (Syntax.tcons q9 (Syntax.tcons q9 (Syntax.tcons q9 (Syntax.tcons q9 (Syntax.tcons q3 (Syntax.tcons q3 (Syntax.tcons (Syntax.tyInt Syntax.w64) Syntax.tnil)))))))) (Syntax.tcons (Syntax.tyStruct (L._∷_ 115 (L._∷_ 116 (L._∷_ 101 (L._∷_ 112 (L._∷_ 58 (L._∷_ 58 (L._∷_ 79 (L._∷_ 108 (L._∷_ 100 L.[]))))))))) (Syntax.tcons (Syntax.tyInt Syntax.w64) (Syntax.tcons q8 (Syntax.tcons q9 (Syntax.tcons q9 (Syntax.tcons q9 (Syntax.tcons q9 (Syntax.tcons q5 Syntax.tnil)))))))) Syntax.tnil))) Syntax.tnil)))) Syntax.tnil))))) (L._∷_ (1, Rows.whole (Declared.row network-proofs-Nodes·.the-type)) (L._∷_ q13 (L._∷_ q16 (L._∷_ q31 (L._∷_ q0 (L._∷_ q10 (L._∷_ q27 (L._∷_ q28 (L._∷_ (9, Rows.any-gone (Syntax.tyStruct (L._∷_ 114 (L._∷_ 117 (L._∷_ 108 (L._∷_ 101 (L._∷_ 115 (L._∷_ 58 (L._∷_ 58 (L._∷_ 116 (L._∷_ 114 (L._∷_ 105 (L._∷_ 101 (L._∷_ 100 (L._∷_ 58 (L._∷_ 58 (L._∷_ 65 (L._∷_ 114 (L._∷_ 111 (L._∷_ 117 (L._∷_ 110 (L._∷_ 100 L.[])))))))))))))))))))) (Syntax.tcons q9 (Syntax.tcons q9 (Syntax.tcons q9 (Syntax.tcons q9 Syntax.tnil)))))) (L._∷_ (10, Rows.any-gone (Syntax.tyStruct (L._∷_ 114 (L._∷_ 117 (L._∷_ 108 (L._∷_ 101 (L._∷_ 115 (L._∷_ 58 (L._∷_ 58 (L._∷_ 102 (L._∷_ 111 (L._∷_ 117 (L._∷_ 110 (L._∷_ 100 (L._∷_ 58 (L._∷_ 58 (L._∷_ 70 (L._∷_ 111 (L._∷_ 117 (L._∷_ 110 (L._∷_ 100 L.[]))))))))))))))))))) (Syntax.tcons Syntax.tyBool (Syntax.tcons Syntax.tyBool (Syntax.tcons (Syntax.tyStruct (L._∷_ 115 (L._∷_ 116 (L._∷_ 101 (L._∷_ 112 (L._∷_ 58 (L._∷_ 58 (L._∷_ 83 (L._∷_ 116 (L._∷_ 101 (L._∷_ 112 L.[])))))))))) (Syntax.tcons (Syntax.tyInt Syntax.w64) (Syntax.tcons (Syntax.tyInt Syntax.w64) (Syntax.tcons (Syntax.tyStruct (L._∷_ 115 (L._∷_ 116 (L._∷_ 101 (L._∷_ 112 (L._∷_ 58 (L._∷_ 58 (L._∷_ 67 (L._∷_ 104 (L._∷_ 97 (L._∷_ 110 (L._∷_ 103 (L._∷_ 101 L.[])))))))))))) (Syntax.tcons (Syntax.tyStruct (L._∷_ 110 (L._∷_ 101 (L._∷_ 116 (L._∷_ 119 (L._∷_ 111 (L._∷_ 114 (L._∷_ 107 (L._∷_ 58 (L._∷_ 58 (L._∷_ 69 (L._∷_ 100 (L._∷_ 105 (L._∷_ 116 L.[]))))))))))))) (Syntax.tcons q9 (Syntax.tcons q9 (Syntax.tcons q9 (Syntax.tcons q9 (Syntax.tcons q3 (Syntax.tcons q3 (Syntax.tcons (Syntax.tyInt Syntax.w64) Syntax.tnil)))))))) (Syntax.tcons (Syntax.tyStruct (L._∷_ 115 (L._∷_ 116 (L._∷_ 101 (L._∷_ 112 (L._∷_ 58 (L._∷_ 58 (L._∷_ 79 (L._∷_ 108 (L._∷_ 100 L.[]))))))))) (Syntax.tcons (Syntax.tyInt Syntax.w64) (Syntax.tcons q8 (Syntax.tcons q9 (Syntax.tcons q9 (Syntax.tcons q9 (Syntax.tcons q9 (Syntax.tcons q5 Syntax.tnil)))))))) Syntax.tnil))) Syntax.tnil)))) Syntax.tnil))))) (L._∷_ q25 (L._∷_ q36 (L._∷_ q39 (L._∷_ q40 (L._∷_ q26 L.[])))))))))))))))
 
 abbrev pub t1 : L.List Row.Entry
 t1 = L._∷_ q37 (L._∷_ q41 (L._∷_ q42 (L._∷_ q43 (L._∷_ q44 (L._∷_ q7 (L._∷_ q4 (L._∷_ q38 L.[])))))))
 
 abbrev pub t2 : L.List Row.Entry
-t2 = L._∷_ q22 (L._∷_ q1 (L._∷_ q13 (L._∷_ q11 (L._∷_ (4, Rows.any-gone (Syntax.tyInt Syntax.w64)) (L._∷_ q0 (L._∷_ q10 (L._∷_ q27 (L._∷_ q28 (L._∷_ (9, Rows.any-gone (Syntax.tyStruct (L._∷_ 115 (L._∷_ 101 (L._∷_ 97 (L._∷_ 114 (L._∷_ 99 (L._∷_ 104 (L._∷_ 58 (L._∷_ 58 (L._∷_ 115 (L._∷_ 99 (L._∷_ 97 (L._∷_ 110 (L._∷_ 58 (L._∷_ 58 (L._∷_ 65 (L._∷_ 114 (L._∷_ 111 (L._∷_ 117 (L._∷_ 110 (L._∷_ 100 L.[])))))))))))))))))))) (Syntax.tcons q9 (Syntax.tcons q9 (Syntax.tcons q9 (Syntax.tcons q9 Syntax.tnil)))))) (L._∷_ (10, Rows.any-gone (Syntax.tyStruct (L._∷_ 115 (L._∷_ 101 (L._∷_ 97 (L._∷_ 114 (L._∷_ 99 (L._∷_ 104 (L._∷_ 58 (L._∷_ 58 (L._∷_ 115 (L._∷_ 99 (L._∷_ 97 (L._∷_ 110 (L._∷_ 58 (L._∷_ 58 (L._∷_ 70 (L._∷_ 111 (L._∷_ 117 (L._∷_ 110 (L._∷_ 100 L.[]))))))))))))))))))) (Syntax.tcons Syntax.tyBool (Syntax.tcons Syntax.tyBool (Syntax.tcons (Syntax.tyStruct (L._∷_ 115 (L._∷_ 116 (L._∷_ 101 (L._∷_ 112 (L._∷_ 58 (L._∷_ 58 (L._∷_ 83 (L._∷_ 116 (L._∷_ 101 (L._∷_ 112 L.[])))))))))) (Syntax.tcons (Syntax.tyInt Syntax.w64) (Syntax.tcons (Syntax.tyInt Syntax.w64) (Syntax.tcons (Syntax.tyStruct (L._∷_ 115 (L._∷_ 116 (L._∷_ 101 (L._∷_ 112 (L._∷_ 58 (L._∷_ 58 (L._∷_ 67 (L._∷_ 104 (L._∷_ 97 (L._∷_ 110 (L._∷_ 103 (L._∷_ 101 L.[])))))))))))) (Syntax.tcons (Syntax.tyStruct (L._∷_ 110 (L._∷_ 101 (L._∷_ 116 (L._∷_ 119 (L._∷_ 111 (L._∷_ 114 (L._∷_ 107 (L._∷_ 58 (L._∷_ 58 (L._∷_ 69 (L._∷_ 100 (L._∷_ 105 (L._∷_ 116 L.[]))))))))))))) (Syntax.tcons q9 (Syntax.tcons q9 (Syntax.tcons q9 (Syntax.tcons q9 (Syntax.tcons q3 (Syntax.tcons q3 (Syntax.tcons (Syntax.tyInt Syntax.w64) Syntax.tnil)))))))) (Syntax.tcons (Syntax.tyStruct (L._∷_ 115 (L._∷_ 116 (L._∷_ 101 (L._∷_ 112 (L._∷_ 58 (L._∷_ 58 (L._∷_ 79 (L._∷_ 108 (L._∷_ 100 L.[]))))))))) (Syntax.tcons (Syntax.tyInt Syntax.w64) (Syntax.tcons q8 (Syntax.tcons q9 (Syntax.tcons q9 (Syntax.tcons q9 (Syntax.tcons q9 (Syntax.tcons q5 Syntax.tnil)))))))) Syntax.tnil))) Syntax.tnil)))) Syntax.tnil))))) (L._∷_ q25 (L._∷_ q36 (L._∷_ q39 (L._∷_ q40 (L._∷_ q26 L.[])))))))))))))))
+t2 = L._∷_ q15 (L._∷_ q1 (L._∷_ q13 (L._∷_ q11 (L._∷_ (4, Rows.any-gone (Syntax.tyInt Syntax.w64)) (L._∷_ q0 (L._∷_ q10 (L._∷_ q27 (L._∷_ q28 (L._∷_ (9, Rows.any-gone (Syntax.tyStruct (L._∷_ 114 (L._∷_ 117 (L._∷_ 108 (L._∷_ 101 (L._∷_ 115 (L._∷_ 58 (L._∷_ 58 (L._∷_ 116 (L._∷_ 114 (L._∷_ 105 (L._∷_ 101 (L._∷_ 100 (L._∷_ 58 (L._∷_ 58 (L._∷_ 65 (L._∷_ 114 (L._∷_ 111 (L._∷_ 117 (L._∷_ 110 (L._∷_ 100 L.[])))))))))))))))))))) (Syntax.tcons q9 (Syntax.tcons q9 (Syntax.tcons q9 (Syntax.tcons q9 Syntax.tnil)))))) (L._∷_ (10, Rows.any-gone (Syntax.tyStruct (L._∷_ 114 (L._∷_ 117 (L._∷_ 108 (L._∷_ 101 (L._∷_ 115 (L._∷_ 58 (L._∷_ 58 (L._∷_ 102 (L._∷_ 111 (L._∷_ 117 (L._∷_ 110 (L._∷_ 100 (L._∷_ 58 (L._∷_ 58 (L._∷_ 70 (L._∷_ 111 (L._∷_ 117 (L._∷_ 110 (L._∷_ 100 L.[]))))))))))))))))))) (Syntax.tcons Syntax.tyBool (Syntax.tcons Syntax.tyBool (Syntax.tcons (Syntax.tyStruct (L._∷_ 115 (L._∷_ 116 (L._∷_ 101 (L._∷_ 112 (L._∷_ 58 (L._∷_ 58 (L._∷_ 83 (L._∷_ 116 (L._∷_ 101 (L._∷_ 112 L.[])))))))))) (Syntax.tcons (Syntax.tyInt Syntax.w64) (Syntax.tcons (Syntax.tyInt Syntax.w64) (Syntax.tcons (Syntax.tyStruct (L._∷_ 115 (L._∷_ 116 (L._∷_ 101 (L._∷_ 112 (L._∷_ 58 (L._∷_ 58 (L._∷_ 67 (L._∷_ 104 (L._∷_ 97 (L._∷_ 110 (L._∷_ 103 (L._∷_ 101 L.[])))))))))))) (Syntax.tcons (Syntax.tyStruct (L._∷_ 110 (L._∷_ 101 (L._∷_ 116 (L._∷_ 119 (L._∷_ 111 (L._∷_ 114 (L._∷_ 107 (L._∷_ 58 (L._∷_ 58 (L._∷_ 69 (L._∷_ 100 (L._∷_ 105 (L._∷_ 116 L.[]))))))))))))) (Syntax.tcons q9 (Syntax.tcons q9 (Syntax.tcons q9 (Syntax.tcons q9 (Syntax.tcons q3 (Syntax.tcons q3 (Syntax.tcons (Syntax.tyInt Syntax.w64) Syntax.tnil)))))))) (Syntax.tcons (Syntax.tyStruct (L._∷_ 115 (L._∷_ 116 (L._∷_ 101 (L._∷_ 112 (L._∷_ 58 (L._∷_ 58 (L._∷_ 79 (L._∷_ 108 (L._∷_ 100 L.[]))))))))) (Syntax.tcons (Syntax.tyInt Syntax.w64) (Syntax.tcons q8 (Syntax.tcons q9 (Syntax.tcons q9 (Syntax.tcons q9 (Syntax.tcons q9 (Syntax.tcons q5 Syntax.tnil)))))))) Syntax.tnil))) Syntax.tnil)))) Syntax.tnil))))) (L._∷_ q25 (L._∷_ q36 (L._∷_ q39 (L._∷_ q40 (L._∷_ q26 L.[])))))))))))))))
 
 abbrev pub t3 : L.List Row.Entry
-t3 = L._∷_ (0, Rows.any-gone (Syntax.tyStruct (L._∷_ 115 (L._∷_ 101 (L._∷_ 97 (L._∷_ 114 (L._∷_ 99 (L._∷_ 104 (L._∷_ 58 (L._∷_ 58 (L._∷_ 115 (L._∷_ 99 (L._∷_ 97 (L._∷_ 110 (L._∷_ 58 (L._∷_ 58 (L._∷_ 70 (L._∷_ 111 (L._∷_ 117 (L._∷_ 110 (L._∷_ 100 L.[]))))))))))))))))))) (Syntax.tcons Syntax.tyBool (Syntax.tcons Syntax.tyBool (Syntax.tcons (Syntax.tyStruct (L._∷_ 115 (L._∷_ 116 (L._∷_ 101 (L._∷_ 112 (L._∷_ 58 (L._∷_ 58 (L._∷_ 83 (L._∷_ 116 (L._∷_ 101 (L._∷_ 112 L.[])))))))))) (Syntax.tcons (Syntax.tyInt Syntax.w64) (Syntax.tcons (Syntax.tyInt Syntax.w64) (Syntax.tcons (Syntax.tyStruct (L._∷_ 115 (L._∷_ 116 (L._∷_ 101 (L._∷_ 112 (L._∷_ 58 (L._∷_ 58 (L._∷_ 67 (L._∷_ 104 (L._∷_ 97 (L._∷_ 110 (L._∷_ 103 (L._∷_ 101 L.[])))))))))))) (Syntax.tcons (Syntax.tyStruct (L._∷_ 110 (L._∷_ 101 (L._∷_ 116 (L._∷_ 119 (L._∷_ 111 (L._∷_ 114 (L._∷_ 107 (L._∷_ 58 (L._∷_ 58 (L._∷_ 69 (L._∷_ 100 (L._∷_ 105 (L._∷_ 116 L.[]))))))))))))) (Syntax.tcons q9 (Syntax.tcons q9 (Syntax.tcons q9 (Syntax.tcons q9 (Syntax.tcons q3 (Syntax.tcons q3 (Syntax.tcons (Syntax.tyInt Syntax.w64) Syntax.tnil)))))))) (Syntax.tcons (Syntax.tyStruct (L._∷_ 115 (L._∷_ 116 (L._∷_ 101 (L._∷_ 112 (L._∷_ 58 (L._∷_ 58 (L._∷_ 79 (L._∷_ 108 (L._∷_ 100 L.[]))))))))) (Syntax.tcons (Syntax.tyInt Syntax.w64) (Syntax.tcons q8 (Syntax.tcons q9 (Syntax.tcons q9 (Syntax.tcons q9 (Syntax.tcons q9 (Syntax.tcons q5 Syntax.tnil)))))))) Syntax.tnil))) Syntax.tnil)))) Syntax.tnil))))) (L._∷_ (1, Rows.whole (Declared.row network-proofs-Nodes·.the-type)) (L._∷_ q13 (L._∷_ q14 (L._∷_ q31 (L._∷_ q17 (L._∷_ q10 (L._∷_ q27 (L._∷_ q28 (L._∷_ (9, Rows.any-gone (Syntax.tyStruct (L._∷_ 115 (L._∷_ 101 (L._∷_ 97 (L._∷_ 114 (L._∷_ 99 (L._∷_ 104 (L._∷_ 58 (L._∷_ 58 (L._∷_ 115 (L._∷_ 99 (L._∷_ 97 (L._∷_ 110 (L._∷_ 58 (L._∷_ 58 (L._∷_ 65 (L._∷_ 114 (L._∷_ 111 (L._∷_ 117 (L._∷_ 110 (L._∷_ 100 L.[])))))))))))))))))))) (Syntax.tcons q9 (Syntax.tcons q9 (Syntax.tcons q9 (Syntax.tcons q9 Syntax.tnil)))))) (L._∷_ (10, Rows.any-gone (Syntax.tyStruct (L._∷_ 115 (L._∷_ 101 (L._∷_ 97 (L._∷_ 114 (L._∷_ 99 (L._∷_ 104 (L._∷_ 58 (L._∷_ 58 (L._∷_ 115 (L._∷_ 99 (L._∷_ 97 (L._∷_ 110 (L._∷_ 58 (L._∷_ 58 (L._∷_ 70 (L._∷_ 111 (L._∷_ 117 (L._∷_ 110 (L._∷_ 100 L.[]))))))))))))))))))) (Syntax.tcons Syntax.tyBool (Syntax.tcons Syntax.tyBool (Syntax.tcons (Syntax.tyStruct (L._∷_ 115 (L._∷_ 116 (L._∷_ 101 (L._∷_ 112 (L._∷_ 58 (L._∷_ 58 (L._∷_ 83 (L._∷_ 116 (L._∷_ 101 (L._∷_ 112 L.[])))))))))) (Syntax.tcons (Syntax.tyInt Syntax.w64) (Syntax.tcons (Syntax.tyInt Syntax.w64) (Syntax.tcons (Syntax.tyStruct (L._∷_ 115 (L._∷_ 116 (L._∷_ 101 (L._∷_ 112 (L._∷_ 58 (L._∷_ 58 (L._∷_ 67 (L._∷_ 104 (L._∷_ 97 (L._∷_ 110 (L._∷_ 103 (L._∷_ 101 L.[])))))))))))) (Syntax.tcons (Syntax.tyStruct (L._∷_ 110 (L._∷_ 101 (L._∷_ 116 (L._∷_ 119 (L._∷_ 111 (L._∷_ 114 (L._∷_ 107 (L._∷_ 58 (L._∷_ 58 (L._∷_ 69 (L._∷_ 100 (L._∷_ 105 (L._∷_ 116 L.[]))))))))))))) (Syntax.tcons q9 (Syntax.tcons q9 (Syntax.tcons q9 (Syntax.tcons q9 (Syntax.tcons q3 (Syntax.tcons q3 (Syntax.tcons (Syntax.tyInt Syntax.w64) Syntax.tnil)))))))) (Syntax.tcons (Syntax.tyStruct (L._∷_ 115 (L._∷_ 116 (L._∷_ 101 (L._∷_ 112 (L._∷_ 58 (L._∷_ 58 (L._∷_ 79 (L._∷_ 108 (L._∷_ 100 L.[]))))))))) (Syntax.tcons (Syntax.tyInt Syntax.w64) (Syntax.tcons q8 (Syntax.tcons q9 (Syntax.tcons q9 (Syntax.tcons q9 (Syntax.tcons q9 (Syntax.tcons q5 Syntax.tnil)))))))) Syntax.tnil))) Syntax.tnil)))) Syntax.tnil))))) (L._∷_ q25 (L._∷_ q36 (L._∷_ q39 (L._∷_ q40 (L._∷_ q26 L.[])))))))))))))))
+t3 = L._∷_ (0, Rows.any-gone (Syntax.tyStruct (L._∷_ 114 (L._∷_ 117 (L._∷_ 108 (L._∷_ 101 (L._∷_ 115 (L._∷_ 58 (L._∷_ 58 (L._∷_ 102 (L._∷_ 111 (L._∷_ 117 (L._∷_ 110 (L._∷_ 100 (L._∷_ 58 (L._∷_ 58 (L._∷_ 70 (L._∷_ 111 (L._∷_ 117 (L._∷_ 110 (L._∷_ 100 L.[]))))))))))))))))))) (Syntax.tcons Syntax.tyBool (Syntax.tcons Syntax.tyBool (Syntax.tcons (Syntax.tyStruct (L._∷_ 115 (L._∷_ 116 (L._∷_ 101 (L._∷_ 112 (L._∷_ 58 (L._∷_ 58 (L._∷_ 83 (L._∷_ 116 (L._∷_ 101 (L._∷_ 112 L.[])))))))))) (Syntax.tcons (Syntax.tyInt Syntax.w64) (Syntax.tcons (Syntax.tyInt Syntax.w64) (Syntax.tcons (Syntax.tyStruct (L._∷_ 115 (L._∷_ 116 (L._∷_ 101 (L._∷_ 112 (L._∷_ 58 (L._∷_ 58 (L._∷_ 67 (L._∷_ 104 (L._∷_ 97 (L._∷_ 110 (L._∷_ 103 (L._∷_ 101 L.[])))))))))))) (Syntax.tcons (Syntax.tyStruct (L._∷_ 110 (L._∷_ 101 (L._∷_ 116 (L._∷_ 119 (L._∷_ 111 (L._∷_ 114 (L._∷_ 107 (L._∷_ 58 (L._∷_ 58 (L._∷_ 69 (L._∷_ 100 (L._∷_ 105 (L._∷_ 116 L.[]))))))))))))) (Syntax.tcons q9 (Syntax.tcons q9 (Syntax.tcons q9 (Syntax.tcons q9 (Syntax.tcons q3 (Syntax.tcons q3 (Syntax.tcons (Syntax.tyInt Syntax.w64) Syntax.tnil)))))))) (Syntax.tcons (Syntax.tyStruct (L._∷_ 115 (L._∷_ 116 (L._∷_ 101 (L._∷_ 112 (L._∷_ 58 (L._∷_ 58 (L._∷_ 79 (L._∷_ 108 (L._∷_ 100 L.[]))))))))) (Syntax.tcons (Syntax.tyInt Syntax.w64) (Syntax.tcons q8 (Syntax.tcons q9 (Syntax.tcons q9 (Syntax.tcons q9 (Syntax.tcons q9 (Syntax.tcons q5 Syntax.tnil)))))))) Syntax.tnil))) Syntax.tnil)))) Syntax.tnil))))) (L._∷_ (1, Rows.whole (Declared.row network-proofs-Nodes·.the-type)) (L._∷_ q13 (L._∷_ q16 (L._∷_ q31 (L._∷_ q20 (L._∷_ q10 (L._∷_ q27 (L._∷_ q28 (L._∷_ (9, Rows.any-gone (Syntax.tyStruct (L._∷_ 114 (L._∷_ 117 (L._∷_ 108 (L._∷_ 101 (L._∷_ 115 (L._∷_ 58 (L._∷_ 58 (L._∷_ 116 (L._∷_ 114 (L._∷_ 105 (L._∷_ 101 (L._∷_ 100 (L._∷_ 58 (L._∷_ 58 (L._∷_ 65 (L._∷_ 114 (L._∷_ 111 (L._∷_ 117 (L._∷_ 110 (L._∷_ 100 L.[])))))))))))))))))))) (Syntax.tcons q9 (Syntax.tcons q9 (Syntax.tcons q9 (Syntax.tcons q9 Syntax.tnil)))))) (L._∷_ (10, Rows.any-gone (Syntax.tyStruct (L._∷_ 114 (L._∷_ 117 (L._∷_ 108 (L._∷_ 101 (L._∷_ 115 (L._∷_ 58 (L._∷_ 58 (L._∷_ 102 (L._∷_ 111 (L._∷_ 117 (L._∷_ 110 (L._∷_ 100 (L._∷_ 58 (L._∷_ 58 (L._∷_ 70 (L._∷_ 111 (L._∷_ 117 (L._∷_ 110 (L._∷_ 100 L.[]))))))))))))))))))) (Syntax.tcons Syntax.tyBool (Syntax.tcons Syntax.tyBool (Syntax.tcons (Syntax.tyStruct (L._∷_ 115 (L._∷_ 116 (L._∷_ 101 (L._∷_ 112 (L._∷_ 58 (L._∷_ 58 (L._∷_ 83 (L._∷_ 116 (L._∷_ 101 (L._∷_ 112 L.[])))))))))) (Syntax.tcons (Syntax.tyInt Syntax.w64) (Syntax.tcons (Syntax.tyInt Syntax.w64) (Syntax.tcons (Syntax.tyStruct (L._∷_ 115 (L._∷_ 116 (L._∷_ 101 (L._∷_ 112 (L._∷_ 58 (L._∷_ 58 (L._∷_ 67 (L._∷_ 104 (L._∷_ 97 (L._∷_ 110 (L._∷_ 103 (L._∷_ 101 L.[])))))))))))) (Syntax.tcons (Syntax.tyStruct (L._∷_ 110 (L._∷_ 101 (L._∷_ 116 (L._∷_ 119 (L._∷_ 111 (L._∷_ 114 (L._∷_ 107 (L._∷_ 58 (L._∷_ 58 (L._∷_ 69 (L._∷_ 100 (L._∷_ 105 (L._∷_ 116 L.[]))))))))))))) (Syntax.tcons q9 (Syntax.tcons q9 (Syntax.tcons q9 (Syntax.tcons q9 (Syntax.tcons q3 (Syntax.tcons q3 (Syntax.tcons (Syntax.tyInt Syntax.w64) Syntax.tnil)))))))) (Syntax.tcons (Syntax.tyStruct (L._∷_ 115 (L._∷_ 116 (L._∷_ 101 (L._∷_ 112 (L._∷_ 58 (L._∷_ 58 (L._∷_ 79 (L._∷_ 108 (L._∷_ 100 L.[]))))))))) (Syntax.tcons (Syntax.tyInt Syntax.w64) (Syntax.tcons q8 (Syntax.tcons q9 (Syntax.tcons q9 (Syntax.tcons q9 (Syntax.tcons q9 (Syntax.tcons q5 Syntax.tnil)))))))) Syntax.tnil))) Syntax.tnil)))) Syntax.tnil))))) (L._∷_ q25 (L._∷_ q36 (L._∷_ q39 (L._∷_ q40 (L._∷_ q26 L.[])))))))))))))))
 
 abbrev pub t4 : L.List Row.Entry
-t4 = L._∷_ (0, Rows.any-gone (Syntax.tyStruct (L._∷_ 115 (L._∷_ 101 (L._∷_ 97 (L._∷_ 114 (L._∷_ 99 (L._∷_ 104 (L._∷_ 58 (L._∷_ 58 (L._∷_ 115 (L._∷_ 99 (L._∷_ 97 (L._∷_ 110 (L._∷_ 58 (L._∷_ 58 (L._∷_ 70 (L._∷_ 111 (L._∷_ 117 (L._∷_ 110 (L._∷_ 100 L.[]))))))))))))))))))) (Syntax.tcons Syntax.tyBool (Syntax.tcons Syntax.tyBool (Syntax.tcons (Syntax.tyStruct (L._∷_ 115 (L._∷_ 116 (L._∷_ 101 (L._∷_ 112 (L._∷_ 58 (L._∷_ 58 (L._∷_ 83 (L._∷_ 116 (L._∷_ 101 (L._∷_ 112 L.[])))))))))) (Syntax.tcons (Syntax.tyInt Syntax.w64) (Syntax.tcons (Syntax.tyInt Syntax.w64) (Syntax.tcons (Syntax.tyStruct (L._∷_ 115 (L._∷_ 116 (L._∷_ 101 (L._∷_ 112 (L._∷_ 58 (L._∷_ 58 (L._∷_ 67 (L._∷_ 104 (L._∷_ 97 (L._∷_ 110 (L._∷_ 103 (L._∷_ 101 L.[])))))))))))) (Syntax.tcons (Syntax.tyStruct (L._∷_ 110 (L._∷_ 101 (L._∷_ 116 (L._∷_ 119 (L._∷_ 111 (L._∷_ 114 (L._∷_ 107 (L._∷_ 58 (L._∷_ 58 (L._∷_ 69 (L._∷_ 100 (L._∷_ 105 (L._∷_ 116 L.[]))))))))))))) (Syntax.tcons q9 (Syntax.tcons q9 (Syntax.tcons q9 (Syntax.tcons q9 (Syntax.tcons q3 (Syntax.tcons q3 (Syntax.tcons (Syntax.tyInt Syntax.w64) Syntax.tnil)))))))) (Syntax.tcons (Syntax.tyStruct (L._∷_ 115 (L._∷_ 116 (L._∷_ 101 (L._∷_ 112 (L._∷_ 58 (L._∷_ 58 (L._∷_ 79 (L._∷_ 108 (L._∷_ 100 L.[]))))))))) (Syntax.tcons (Syntax.tyInt Syntax.w64) (Syntax.tcons q8 (Syntax.tcons q9 (Syntax.tcons q9 (Syntax.tcons q9 (Syntax.tcons q9 (Syntax.tcons q5 Syntax.tnil)))))))) Syntax.tnil))) Syntax.tnil)))) Syntax.tnil))))) (L._∷_ q1 (L._∷_ q13 (L._∷_ q14 (L._∷_ q31 (L._∷_ q17 (L._∷_ q10 (L._∷_ q27 (L._∷_ q28 (L._∷_ (9, Rows.any-gone (Syntax.tyStruct (L._∷_ 115 (L._∷_ 101 (L._∷_ 97 (L._∷_ 114 (L._∷_ 99 (L._∷_ 104 (L._∷_ 58 (L._∷_ 58 (L._∷_ 115 (L._∷_ 99 (L._∷_ 97 (L._∷_ 110 (L._∷_ 58 (L._∷_ 58 (L._∷_ 65 (L._∷_ 114 (L._∷_ 111 (L._∷_ 117 (L._∷_ 110 (L._∷_ 100 L.[])))))))))))))))))))) (Syntax.tcons q9 (Syntax.tcons q9 (Syntax.tcons q9 (Syntax.tcons q9 Syntax.tnil)))))) (L._∷_ (10, Rows.any-gone (Syntax.tyStruct (L._∷_ 115 (L._∷_ 101 (L._∷_ 97 (L._∷_ 114 (L._∷_ 99 (L._∷_ 104 (L._∷_ 58 (L._∷_ 58 (L._∷_ 115 (L._∷_ 99 (L._∷_ 97 (L._∷_ 110 (L._∷_ 58 (L._∷_ 58 (L._∷_ 70 (L._∷_ 111 (L._∷_ 117 (L._∷_ 110 (L._∷_ 100 L.[]))))))))))))))))))) (Syntax.tcons Syntax.tyBool (Syntax.tcons Syntax.tyBool (Syntax.tcons (Syntax.tyStruct (L._∷_ 115 (L._∷_ 116 (L._∷_ 101 (L._∷_ 112 (L._∷_ 58 (L._∷_ 58 (L._∷_ 83 (L._∷_ 116 (L._∷_ 101 (L._∷_ 112 L.[])))))))))) (Syntax.tcons (Syntax.tyInt Syntax.w64) (Syntax.tcons (Syntax.tyInt Syntax.w64) (Syntax.tcons (Syntax.tyStruct (L._∷_ 115 (L._∷_ 116 (L._∷_ 101 (L._∷_ 112 (L._∷_ 58 (L._∷_ 58 (L._∷_ 67 (L._∷_ 104 (L._∷_ 97 (L._∷_ 110 (L._∷_ 103 (L._∷_ 101 L.[])))))))))))) (Syntax.tcons (Syntax.tyStruct (L._∷_ 110 (L._∷_ 101 (L._∷_ 116 (L._∷_ 119 (L._∷_ 111 (L._∷_ 114 (L._∷_ 107 (L._∷_ 58 (L._∷_ 58 (L._∷_ 69 (L._∷_ 100 (L._∷_ 105 (L._∷_ 116 L.[]))))))))))))) (Syntax.tcons q9 (Syntax.tcons q9 (Syntax.tcons q9 (Syntax.tcons q9 (Syntax.tcons q3 (Syntax.tcons q3 (Syntax.tcons (Syntax.tyInt Syntax.w64) Syntax.tnil)))))))) (Syntax.tcons (Syntax.tyStruct (L._∷_ 115 (L._∷_ 116 (L._∷_ 101 (L._∷_ 112 (L._∷_ 58 (L._∷_ 58 (L._∷_ 79 (L._∷_ 108 (L._∷_ 100 L.[]))))))))) (Syntax.tcons (Syntax.tyInt Syntax.w64) (Syntax.tcons q8 (Syntax.tcons q9 (Syntax.tcons q9 (Syntax.tcons q9 (Syntax.tcons q9 (Syntax.tcons q5 Syntax.tnil)))))))) Syntax.tnil))) Syntax.tnil)))) Syntax.tnil))))) (L._∷_ q25 (L._∷_ q36 (L._∷_ q39 (L._∷_ q40 (L._∷_ q26 L.[])))))))))))))))
+t4 = L._∷_ (0, Rows.any-gone (Syntax.tyStruct (L._∷_ 114 (L._∷_ 117 (L._∷_ 108 (L._∷_ 101 (L._∷_ 115 (L._∷_ 58 (L._∷_ 58 (L._∷_ 102 (L._∷_ 111 (L._∷_ 117 (L._∷_ 110 (L._∷_ 100 (L._∷_ 58 (L._∷_ 58 (L._∷_ 70 (L._∷_ 111 (L._∷_ 117 (L._∷_ 110 (L._∷_ 100 L.[]))))))))))))))))))) (Syntax.tcons Syntax.tyBool (Syntax.tcons Syntax.tyBool (Syntax.tcons (Syntax.tyStruct (L._∷_ 115 (L._∷_ 116 (L._∷_ 101 (L._∷_ 112 (L._∷_ 58 (L._∷_ 58 (L._∷_ 83 (L._∷_ 116 (L._∷_ 101 (L._∷_ 112 L.[])))))))))) (Syntax.tcons (Syntax.tyInt Syntax.w64) (Syntax.tcons (Syntax.tyInt Syntax.w64) (Syntax.tcons (Syntax.tyStruct (L._∷_ 115 (L._∷_ 116 (L._∷_ 101 (L._∷_ 112 (L._∷_ 58 (L._∷_ 58 (L._∷_ 67 (L._∷_ 104 (L._∷_ 97 (L._∷_ 110 (L._∷_ 103 (L._∷_ 101 L.[])))))))))))) (Syntax.tcons (Syntax.tyStruct (L._∷_ 110 (L._∷_ 101 (L._∷_ 116 (L._∷_ 119 (L._∷_ 111 (L._∷_ 114 (L._∷_ 107 (L._∷_ 58 (L._∷_ 58 (L._∷_ 69 (L._∷_ 100 (L._∷_ 105 (L._∷_ 116 L.[]))))))))))))) (Syntax.tcons q9 (Syntax.tcons q9 (Syntax.tcons q9 (Syntax.tcons q9 (Syntax.tcons q3 (Syntax.tcons q3 (Syntax.tcons (Syntax.tyInt Syntax.w64) Syntax.tnil)))))))) (Syntax.tcons (Syntax.tyStruct (L._∷_ 115 (L._∷_ 116 (L._∷_ 101 (L._∷_ 112 (L._∷_ 58 (L._∷_ 58 (L._∷_ 79 (L._∷_ 108 (L._∷_ 100 L.[]))))))))) (Syntax.tcons (Syntax.tyInt Syntax.w64) (Syntax.tcons q8 (Syntax.tcons q9 (Syntax.tcons q9 (Syntax.tcons q9 (Syntax.tcons q9 (Syntax.tcons q5 Syntax.tnil)))))))) Syntax.tnil))) Syntax.tnil)))) Syntax.tnil))))) (L._∷_ q1 (L._∷_ q13 (L._∷_ q16 (L._∷_ q31 (L._∷_ q20 (L._∷_ q10 (L._∷_ q27 (L._∷_ q28 (L._∷_ (9, Rows.any-gone (Syntax.tyStruct (L._∷_ 114 (L._∷_ 117 (L._∷_ 108 (L._∷_ 101 (L._∷_ 115 (L._∷_ 58 (L._∷_ 58 (L._∷_ 116 (L._∷_ 114 (L._∷_ 105 (L._∷_ 101 (L._∷_ 100 (L._∷_ 58 (L._∷_ 58 (L._∷_ 65 (L._∷_ 114 (L._∷_ 111 (L._∷_ 117 (L._∷_ 110 (L._∷_ 100 L.[])))))))))))))))))))) (Syntax.tcons q9 (Syntax.tcons q9 (Syntax.tcons q9 (Syntax.tcons q9 Syntax.tnil)))))) (L._∷_ (10, Rows.any-gone (Syntax.tyStruct (L._∷_ 114 (L._∷_ 117 (L._∷_ 108 (L._∷_ 101 (L._∷_ 115 (L._∷_ 58 (L._∷_ 58 (L._∷_ 102 (L._∷_ 111 (L._∷_ 117 (L._∷_ 110 (L._∷_ 100 (L._∷_ 58 (L._∷_ 58 (L._∷_ 70 (L._∷_ 111 (L._∷_ 117 (L._∷_ 110 (L._∷_ 100 L.[]))))))))))))))))))) (Syntax.tcons Syntax.tyBool (Syntax.tcons Syntax.tyBool (Syntax.tcons (Syntax.tyStruct (L._∷_ 115 (L._∷_ 116 (L._∷_ 101 (L._∷_ 112 (L._∷_ 58 (L._∷_ 58 (L._∷_ 83 (L._∷_ 116 (L._∷_ 101 (L._∷_ 112 L.[])))))))))) (Syntax.tcons (Syntax.tyInt Syntax.w64) (Syntax.tcons (Syntax.tyInt Syntax.w64) (Syntax.tcons (Syntax.tyStruct (L._∷_ 115 (L._∷_ 116 (L._∷_ 101 (L._∷_ 112 (L._∷_ 58 (L._∷_ 58 (L._∷_ 67 (L._∷_ 104 (L._∷_ 97 (L._∷_ 110 (L._∷_ 103 (L._∷_ 101 L.[])))))))))))) (Syntax.tcons (Syntax.tyStruct (L._∷_ 110 (L._∷_ 101 (L._∷_ 116 (L._∷_ 119 (L._∷_ 111 (L._∷_ 114 (L._∷_ 107 (L._∷_ 58 (L._∷_ 58 (L._∷_ 69 (L._∷_ 100 (L._∷_ 105 (L._∷_ 116 L.[]))))))))))))) (Syntax.tcons q9 (Syntax.tcons q9 (Syntax.tcons q9 (Syntax.tcons q9 (Syntax.tcons q3 (Syntax.tcons q3 (Syntax.tcons (Syntax.tyInt Syntax.w64) Syntax.tnil)))))))) (Syntax.tcons (Syntax.tyStruct (L._∷_ 115 (L._∷_ 116 (L._∷_ 101 (L._∷_ 112 (L._∷_ 58 (L._∷_ 58 (L._∷_ 79 (L._∷_ 108 (L._∷_ 100 L.[]))))))))) (Syntax.tcons (Syntax.tyInt Syntax.w64) (Syntax.tcons q8 (Syntax.tcons q9 (Syntax.tcons q9 (Syntax.tcons q9 (Syntax.tcons q9 (Syntax.tcons q5 Syntax.tnil)))))))) Syntax.tnil))) Syntax.tnil)))) Syntax.tnil))))) (L._∷_ q25 (L._∷_ q36 (L._∷_ q39 (L._∷_ q40 (L._∷_ q26 L.[])))))))))))))))
 
 abbrev pub t5 : L.List Row.Entry
-t5 = L._∷_ (0, Rows.any-gone (Syntax.tyStruct (L._∷_ 115 (L._∷_ 101 (L._∷_ 97 (L._∷_ 114 (L._∷_ 99 (L._∷_ 104 (L._∷_ 58 (L._∷_ 58 (L._∷_ 115 (L._∷_ 99 (L._∷_ 97 (L._∷_ 110 (L._∷_ 58 (L._∷_ 58 (L._∷_ 70 (L._∷_ 111 (L._∷_ 117 (L._∷_ 110 (L._∷_ 100 L.[]))))))))))))))))))) (Syntax.tcons Syntax.tyBool (Syntax.tcons Syntax.tyBool (Syntax.tcons (Syntax.tyStruct (L._∷_ 115 (L._∷_ 116 (L._∷_ 101 (L._∷_ 112 (L._∷_ 58 (L._∷_ 58 (L._∷_ 83 (L._∷_ 116 (L._∷_ 101 (L._∷_ 112 L.[])))))))))) (Syntax.tcons (Syntax.tyInt Syntax.w64) (Syntax.tcons (Syntax.tyInt Syntax.w64) (Syntax.tcons (Syntax.tyStruct (L._∷_ 115 (L._∷_ 116 (L._∷_ 101 (L._∷_ 112 (L._∷_ 58 (L._∷_ 58 (L._∷_ 67 (L._∷_ 104 (L._∷_ 97 (L._∷_ 110 (L._∷_ 103 (L._∷_ 101 L.[])))))))))))) (Syntax.tcons (Syntax.tyStruct (L._∷_ 110 (L._∷_ 101 (L._∷_ 116 (L._∷_ 119 (L._∷_ 111 (L._∷_ 114 (L._∷_ 107 (L._∷_ 58 (L._∷_ 58 (L._∷_ 69 (L._∷_ 100 (L._∷_ 105 (L._∷_ 116 L.[]))))))))))))) (Syntax.tcons q9 (Syntax.tcons q9 (Syntax.tcons q9 (Syntax.tcons q9 (Syntax.tcons q3 (Syntax.tcons q3 (Syntax.tcons (Syntax.tyInt Syntax.w64) Syntax.tnil)))))))) (Syntax.tcons (Syntax.tyStruct (L._∷_ 115 (L._∷_ 116 (L._∷_ 101 (L._∷_ 112 (L._∷_ 58 (L._∷_ 58 (L._∷_ 79 (L._∷_ 108 (L._∷_ 100 L.[]))))))))) (Syntax.tcons (Syntax.tyInt Syntax.w64) (Syntax.tcons q8 (Syntax.tcons q9 (Syntax.tcons q9 (Syntax.tcons q9 (Syntax.tcons q9 (Syntax.tcons q5 Syntax.tnil)))))))) Syntax.tnil))) Syntax.tnil)))) Syntax.tnil))))) (L._∷_ q1 (L._∷_ q13 (L._∷_ q14 (L._∷_ q31 (L._∷_ q17 (L._∷_ q15 (L._∷_ q27 (L._∷_ q28 (L._∷_ (9, Rows.any-gone (Syntax.tyStruct (L._∷_ 115 (L._∷_ 101 (L._∷_ 97 (L._∷_ 114 (L._∷_ 99 (L._∷_ 104 (L._∷_ 58 (L._∷_ 58 (L._∷_ 115 (L._∷_ 99 (L._∷_ 97 (L._∷_ 110 (L._∷_ 58 (L._∷_ 58 (L._∷_ 65 (L._∷_ 114 (L._∷_ 111 (L._∷_ 117 (L._∷_ 110 (L._∷_ 100 L.[])))))))))))))))))))) (Syntax.tcons q9 (Syntax.tcons q9 (Syntax.tcons q9 (Syntax.tcons q9 Syntax.tnil)))))) (L._∷_ (10, Rows.any-gone (Syntax.tyStruct (L._∷_ 115 (L._∷_ 101 (L._∷_ 97 (L._∷_ 114 (L._∷_ 99 (L._∷_ 104 (L._∷_ 58 (L._∷_ 58 (L._∷_ 115 (L._∷_ 99 (L._∷_ 97 (L._∷_ 110 (L._∷_ 58 (L._∷_ 58 (L._∷_ 70 (L._∷_ 111 (L._∷_ 117 (L._∷_ 110 (L._∷_ 100 L.[]))))))))))))))))))) (Syntax.tcons Syntax.tyBool (Syntax.tcons Syntax.tyBool (Syntax.tcons (Syntax.tyStruct (L._∷_ 115 (L._∷_ 116 (L._∷_ 101 (L._∷_ 112 (L._∷_ 58 (L._∷_ 58 (L._∷_ 83 (L._∷_ 116 (L._∷_ 101 (L._∷_ 112 L.[])))))))))) (Syntax.tcons (Syntax.tyInt Syntax.w64) (Syntax.tcons (Syntax.tyInt Syntax.w64) (Syntax.tcons (Syntax.tyStruct (L._∷_ 115 (L._∷_ 116 (L._∷_ 101 (L._∷_ 112 (L._∷_ 58 (L._∷_ 58 (L._∷_ 67 (L._∷_ 104 (L._∷_ 97 (L._∷_ 110 (L._∷_ 103 (L._∷_ 101 L.[])))))))))))) (Syntax.tcons (Syntax.tyStruct (L._∷_ 110 (L._∷_ 101 (L._∷_ 116 (L._∷_ 119 (L._∷_ 111 (L._∷_ 114 (L._∷_ 107 (L._∷_ 58 (L._∷_ 58 (L._∷_ 69 (L._∷_ 100 (L._∷_ 105 (L._∷_ 116 L.[]))))))))))))) (Syntax.tcons q9 (Syntax.tcons q9 (Syntax.tcons q9 (Syntax.tcons q9 (Syntax.tcons q3 (Syntax.tcons q3 (Syntax.tcons (Syntax.tyInt Syntax.w64) Syntax.tnil)))))))) (Syntax.tcons (Syntax.tyStruct (L._∷_ 115 (L._∷_ 116 (L._∷_ 101 (L._∷_ 112 (L._∷_ 58 (L._∷_ 58 (L._∷_ 79 (L._∷_ 108 (L._∷_ 100 L.[]))))))))) (Syntax.tcons (Syntax.tyInt Syntax.w64) (Syntax.tcons q8 (Syntax.tcons q9 (Syntax.tcons q9 (Syntax.tcons q9 (Syntax.tcons q9 (Syntax.tcons q5 Syntax.tnil)))))))) Syntax.tnil))) Syntax.tnil)))) Syntax.tnil))))) (L._∷_ q25 (L._∷_ q36 (L._∷_ q39 (L._∷_ q40 (L._∷_ q26 L.[])))))))))))))))
+t5 = L._∷_ (0, Rows.any-gone (Syntax.tyStruct (L._∷_ 114 (L._∷_ 117 (L._∷_ 108 (L._∷_ 101 (L._∷_ 115 (L._∷_ 58 (L._∷_ 58 (L._∷_ 102 (L._∷_ 111 (L._∷_ 117 (L._∷_ 110 (L._∷_ 100 (L._∷_ 58 (L._∷_ 58 (L._∷_ 70 (L._∷_ 111 (L._∷_ 117 (L._∷_ 110 (L._∷_ 100 L.[]))))))))))))))))))) (Syntax.tcons Syntax.tyBool (Syntax.tcons Syntax.tyBool (Syntax.tcons (Syntax.tyStruct (L._∷_ 115 (L._∷_ 116 (L._∷_ 101 (L._∷_ 112 (L._∷_ 58 (L._∷_ 58 (L._∷_ 83 (L._∷_ 116 (L._∷_ 101 (L._∷_ 112 L.[])))))))))) (Syntax.tcons (Syntax.tyInt Syntax.w64) (Syntax.tcons (Syntax.tyInt Syntax.w64) (Syntax.tcons (Syntax.tyStruct (L._∷_ 115 (L._∷_ 116 (L._∷_ 101 (L._∷_ 112 (L._∷_ 58 (L._∷_ 58 (L._∷_ 67 (L._∷_ 104 (L._∷_ 97 (L._∷_ 110 (L._∷_ 103 (L._∷_ 101 L.[])))))))))))) (Syntax.tcons (Syntax.tyStruct (L._∷_ 110 (L._∷_ 101 (L._∷_ 116 (L._∷_ 119 (L._∷_ 111 (L._∷_ 114 (L._∷_ 107 (L._∷_ 58 (L._∷_ 58 (L._∷_ 69 (L._∷_ 100 (L._∷_ 105 (L._∷_ 116 L.[]))))))))))))) (Syntax.tcons q9 (Syntax.tcons q9 (Syntax.tcons q9 (Syntax.tcons q9 (Syntax.tcons q3 (Syntax.tcons q3 (Syntax.tcons (Syntax.tyInt Syntax.w64) Syntax.tnil)))))))) (Syntax.tcons (Syntax.tyStruct (L._∷_ 115 (L._∷_ 116 (L._∷_ 101 (L._∷_ 112 (L._∷_ 58 (L._∷_ 58 (L._∷_ 79 (L._∷_ 108 (L._∷_ 100 L.[]))))))))) (Syntax.tcons (Syntax.tyInt Syntax.w64) (Syntax.tcons q8 (Syntax.tcons q9 (Syntax.tcons q9 (Syntax.tcons q9 (Syntax.tcons q9 (Syntax.tcons q5 Syntax.tnil)))))))) Syntax.tnil))) Syntax.tnil)))) Syntax.tnil))))) (L._∷_ q1 (L._∷_ q13 (L._∷_ q16 (L._∷_ q31 (L._∷_ q20 (L._∷_ q17 (L._∷_ q27 (L._∷_ q28 (L._∷_ (9, Rows.any-gone (Syntax.tyStruct (L._∷_ 114 (L._∷_ 117 (L._∷_ 108 (L._∷_ 101 (L._∷_ 115 (L._∷_ 58 (L._∷_ 58 (L._∷_ 116 (L._∷_ 114 (L._∷_ 105 (L._∷_ 101 (L._∷_ 100 (L._∷_ 58 (L._∷_ 58 (L._∷_ 65 (L._∷_ 114 (L._∷_ 111 (L._∷_ 117 (L._∷_ 110 (L._∷_ 100 L.[])))))))))))))))))))) (Syntax.tcons q9 (Syntax.tcons q9 (Syntax.tcons q9 (Syntax.tcons q9 Syntax.tnil)))))) (L._∷_ (10, Rows.any-gone (Syntax.tyStruct (L._∷_ 114 (L._∷_ 117 (L._∷_ 108 (L._∷_ 101 (L._∷_ 115 (L._∷_ 58 (L._∷_ 58 (L._∷_ 102 (L._∷_ 111 (L._∷_ 117 (L._∷_ 110 (L._∷_ 100 (L._∷_ 58 (L._∷_ 58 (L._∷_ 70 (L._∷_ 111 (L._∷_ 117 (L._∷_ 110 (L._∷_ 100 L.[]))))))))))))))))))) (Syntax.tcons Syntax.tyBool (Syntax.tcons Syntax.tyBool (Syntax.tcons (Syntax.tyStruct (L._∷_ 115 (L._∷_ 116 (L._∷_ 101 (L._∷_ 112 (L._∷_ 58 (L._∷_ 58 (L._∷_ 83 (L._∷_ 116 (L._∷_ 101 (L._∷_ 112 L.[])))))))))) (Syntax.tcons (Syntax.tyInt Syntax.w64) (Syntax.tcons (Syntax.tyInt Syntax.w64) (Syntax.tcons (Syntax.tyStruct (L._∷_ 115 (L._∷_ 116 (L._∷_ 101 (L._∷_ 112 (L._∷_ 58 (L._∷_ 58 (L._∷_ 67 (L._∷_ 104 (L._∷_ 97 (L._∷_ 110 (L._∷_ 103 (L._∷_ 101 L.[])))))))))))) (Syntax.tcons (Syntax.tyStruct (L._∷_ 110 (L._∷_ 101 (L._∷_ 116 (L._∷_ 119 (L._∷_ 111 (L._∷_ 114 (L._∷_ 107 (L._∷_ 58 (L._∷_ 58 (L._∷_ 69 (L._∷_ 100 (L._∷_ 105 (L._∷_ 116 L.[]))))))))))))) (Syntax.tcons q9 (Syntax.tcons q9 (Syntax.tcons q9 (Syntax.tcons q9 (Syntax.tcons q3 (Syntax.tcons q3 (Syntax.tcons (Syntax.tyInt Syntax.w64) Syntax.tnil)))))))) (Syntax.tcons (Syntax.tyStruct (L._∷_ 115 (L._∷_ 116 (L._∷_ 101 (L._∷_ 112 (L._∷_ 58 (L._∷_ 58 (L._∷_ 79 (L._∷_ 108 (L._∷_ 100 L.[]))))))))) (Syntax.tcons (Syntax.tyInt Syntax.w64) (Syntax.tcons q8 (Syntax.tcons q9 (Syntax.tcons q9 (Syntax.tcons q9 (Syntax.tcons q9 (Syntax.tcons q5 Syntax.tnil)))))))) Syntax.tnil))) Syntax.tnil)))) Syntax.tnil))))) (L._∷_ q25 (L._∷_ q36 (L._∷_ q39 (L._∷_ q40 (L._∷_ q26 L.[])))))))))))))))
 
 abbrev pub t6 : L.List Row.Entry
-t6 = L._∷_ (0, Rows.any-gone (Syntax.tyStruct (L._∷_ 115 (L._∷_ 101 (L._∷_ 97 (L._∷_ 114 (L._∷_ 99 (L._∷_ 104 (L._∷_ 58 (L._∷_ 58 (L._∷_ 115 (L._∷_ 99 (L._∷_ 97 (L._∷_ 110 (L._∷_ 58 (L._∷_ 58 (L._∷_ 70 (L._∷_ 111 (L._∷_ 117 (L._∷_ 110 (L._∷_ 100 L.[]))))))))))))))))))) (Syntax.tcons Syntax.tyBool (Syntax.tcons Syntax.tyBool (Syntax.tcons (Syntax.tyStruct (L._∷_ 115 (L._∷_ 116 (L._∷_ 101 (L._∷_ 112 (L._∷_ 58 (L._∷_ 58 (L._∷_ 83 (L._∷_ 116 (L._∷_ 101 (L._∷_ 112 L.[])))))))))) (Syntax.tcons (Syntax.tyInt Syntax.w64) (Syntax.tcons (Syntax.tyInt Syntax.w64) (Syntax.tcons (Syntax.tyStruct (L._∷_ 115 (L._∷_ 116 (L._∷_ 101 (L._∷_ 112 (L._∷_ 58 (L._∷_ 58 (L._∷_ 67 (L._∷_ 104 (L._∷_ 97 (L._∷_ 110 (L._∷_ 103 (L._∷_ 101 L.[])))))))))))) (Syntax.tcons (Syntax.tyStruct (L._∷_ 110 (L._∷_ 101 (L._∷_ 116 (L._∷_ 119 (L._∷_ 111 (L._∷_ 114 (L._∷_ 107 (L._∷_ 58 (L._∷_ 58 (L._∷_ 69 (L._∷_ 100 (L._∷_ 105 (L._∷_ 116 L.[]))))))))))))) (Syntax.tcons q9 (Syntax.tcons q9 (Syntax.tcons q9 (Syntax.tcons q9 (Syntax.tcons q3 (Syntax.tcons q3 (Syntax.tcons (Syntax.tyInt Syntax.w64) Syntax.tnil)))))))) (Syntax.tcons (Syntax.tyStruct (L._∷_ 115 (L._∷_ 116 (L._∷_ 101 (L._∷_ 112 (L._∷_ 58 (L._∷_ 58 (L._∷_ 79 (L._∷_ 108 (L._∷_ 100 L.[]))))))))) (Syntax.tcons (Syntax.tyInt Syntax.w64) (Syntax.tcons q8 (Syntax.tcons q9 (Syntax.tcons q9 (Syntax.tcons q9 (Syntax.tcons q9 (Syntax.tcons q5 Syntax.tnil)))))))) Syntax.tnil))) Syntax.tnil)))) Syntax.tnil))))) (L._∷_ q1 (L._∷_ q13 (L._∷_ q11 (L._∷_ q31 (L._∷_ q17 (L._∷_ q15 (L._∷_ q27 (L._∷_ q28 (L._∷_ (9, Rows.any-gone (Syntax.tyStruct (L._∷_ 115 (L._∷_ 101 (L._∷_ 97 (L._∷_ 114 (L._∷_ 99 (L._∷_ 104 (L._∷_ 58 (L._∷_ 58 (L._∷_ 115 (L._∷_ 99 (L._∷_ 97 (L._∷_ 110 (L._∷_ 58 (L._∷_ 58 (L._∷_ 65 (L._∷_ 114 (L._∷_ 111 (L._∷_ 117 (L._∷_ 110 (L._∷_ 100 L.[])))))))))))))))))))) (Syntax.tcons q9 (Syntax.tcons q9 (Syntax.tcons q9 (Syntax.tcons q9 Syntax.tnil)))))) (L._∷_ (10, Rows.any-gone (Syntax.tyStruct (L._∷_ 115 (L._∷_ 101 (L._∷_ 97 (L._∷_ 114 (L._∷_ 99 (L._∷_ 104 (L._∷_ 58 (L._∷_ 58 (L._∷_ 115 (L._∷_ 99 (L._∷_ 97 (L._∷_ 110 (L._∷_ 58 (L._∷_ 58 (L._∷_ 70 (L._∷_ 111 (L._∷_ 117 (L._∷_ 110 (L._∷_ 100 L.[]))))))))))))))))))) (Syntax.tcons Syntax.tyBool (Syntax.tcons Syntax.tyBool (Syntax.tcons (Syntax.tyStruct (L._∷_ 115 (L._∷_ 116 (L._∷_ 101 (L._∷_ 112 (L._∷_ 58 (L._∷_ 58 (L._∷_ 83 (L._∷_ 116 (L._∷_ 101 (L._∷_ 112 L.[])))))))))) (Syntax.tcons (Syntax.tyInt Syntax.w64) (Syntax.tcons (Syntax.tyInt Syntax.w64) (Syntax.tcons (Syntax.tyStruct (L._∷_ 115 (L._∷_ 116 (L._∷_ 101 (L._∷_ 112 (L._∷_ 58 (L._∷_ 58 (L._∷_ 67 (L._∷_ 104 (L._∷_ 97 (L._∷_ 110 (L._∷_ 103 (L._∷_ 101 L.[])))))))))))) (Syntax.tcons (Syntax.tyStruct (L._∷_ 110 (L._∷_ 101 (L._∷_ 116 (L._∷_ 119 (L._∷_ 111 (L._∷_ 114 (L._∷_ 107 (L._∷_ 58 (L._∷_ 58 (L._∷_ 69 (L._∷_ 100 (L._∷_ 105 (L._∷_ 116 L.[]))))))))))))) (Syntax.tcons q9 (Syntax.tcons q9 (Syntax.tcons q9 (Syntax.tcons q9 (Syntax.tcons q3 (Syntax.tcons q3 (Syntax.tcons (Syntax.tyInt Syntax.w64) Syntax.tnil)))))))) (Syntax.tcons (Syntax.tyStruct (L._∷_ 115 (L._∷_ 116 (L._∷_ 101 (L._∷_ 112 (L._∷_ 58 (L._∷_ 58 (L._∷_ 79 (L._∷_ 108 (L._∷_ 100 L.[]))))))))) (Syntax.tcons (Syntax.tyInt Syntax.w64) (Syntax.tcons q8 (Syntax.tcons q9 (Syntax.tcons q9 (Syntax.tcons q9 (Syntax.tcons q9 (Syntax.tcons q5 Syntax.tnil)))))))) Syntax.tnil))) Syntax.tnil)))) Syntax.tnil))))) (L._∷_ q25 (L._∷_ q36 (L._∷_ q39 (L._∷_ q40 (L._∷_ q26 L.[])))))))))))))))
+t6 = L._∷_ (0, Rows.any-gone (Syntax.tyStruct (L._∷_ 114 (L._∷_ 117 (L._∷_ 108 (L._∷_ 101 (L._∷_ 115 (L._∷_ 58 (L._∷_ 58 (L._∷_ 102 (L._∷_ 111 (L._∷_ 117 (L._∷_ 110 (L._∷_ 100 (L._∷_ 58 (L._∷_ 58 (L._∷_ 70 (L._∷_ 111 (L._∷_ 117 (L._∷_ 110 (L._∷_ 100 L.[]))))))))))))))))))) (Syntax.tcons Syntax.tyBool (Syntax.tcons Syntax.tyBool (Syntax.tcons (Syntax.tyStruct (L._∷_ 115 (L._∷_ 116 (L._∷_ 101 (L._∷_ 112 (L._∷_ 58 (L._∷_ 58 (L._∷_ 83 (L._∷_ 116 (L._∷_ 101 (L._∷_ 112 L.[])))))))))) (Syntax.tcons (Syntax.tyInt Syntax.w64) (Syntax.tcons (Syntax.tyInt Syntax.w64) (Syntax.tcons (Syntax.tyStruct (L._∷_ 115 (L._∷_ 116 (L._∷_ 101 (L._∷_ 112 (L._∷_ 58 (L._∷_ 58 (L._∷_ 67 (L._∷_ 104 (L._∷_ 97 (L._∷_ 110 (L._∷_ 103 (L._∷_ 101 L.[])))))))))))) (Syntax.tcons (Syntax.tyStruct (L._∷_ 110 (L._∷_ 101 (L._∷_ 116 (L._∷_ 119 (L._∷_ 111 (L._∷_ 114 (L._∷_ 107 (L._∷_ 58 (L._∷_ 58 (L._∷_ 69 (L._∷_ 100 (L._∷_ 105 (L._∷_ 116 L.[]))))))))))))) (Syntax.tcons q9 (Syntax.tcons q9 (Syntax.tcons q9 (Syntax.tcons q9 (Syntax.tcons q3 (Syntax.tcons q3 (Syntax.tcons (Syntax.tyInt Syntax.w64) Syntax.tnil)))))))) (Syntax.tcons (Syntax.tyStruct (L._∷_ 115 (L._∷_ 116 (L._∷_ 101 (L._∷_ 112 (L._∷_ 58 (L._∷_ 58 (L._∷_ 79 (L._∷_ 108 (L._∷_ 100 L.[]))))))))) (Syntax.tcons (Syntax.tyInt Syntax.w64) (Syntax.tcons q8 (Syntax.tcons q9 (Syntax.tcons q9 (Syntax.tcons q9 (Syntax.tcons q9 (Syntax.tcons q5 Syntax.tnil)))))))) Syntax.tnil))) Syntax.tnil)))) Syntax.tnil))))) (L._∷_ q1 (L._∷_ q13 (L._∷_ q11 (L._∷_ q31 (L._∷_ q20 (L._∷_ q17 (L._∷_ q27 (L._∷_ q28 (L._∷_ (9, Rows.any-gone (Syntax.tyStruct (L._∷_ 114 (L._∷_ 117 (L._∷_ 108 (L._∷_ 101 (L._∷_ 115 (L._∷_ 58 (L._∷_ 58 (L._∷_ 116 (L._∷_ 114 (L._∷_ 105 (L._∷_ 101 (L._∷_ 100 (L._∷_ 58 (L._∷_ 58 (L._∷_ 65 (L._∷_ 114 (L._∷_ 111 (L._∷_ 117 (L._∷_ 110 (L._∷_ 100 L.[])))))))))))))))))))) (Syntax.tcons q9 (Syntax.tcons q9 (Syntax.tcons q9 (Syntax.tcons q9 Syntax.tnil)))))) (L._∷_ (10, Rows.any-gone (Syntax.tyStruct (L._∷_ 114 (L._∷_ 117 (L._∷_ 108 (L._∷_ 101 (L._∷_ 115 (L._∷_ 58 (L._∷_ 58 (L._∷_ 102 (L._∷_ 111 (L._∷_ 117 (L._∷_ 110 (L._∷_ 100 (L._∷_ 58 (L._∷_ 58 (L._∷_ 70 (L._∷_ 111 (L._∷_ 117 (L._∷_ 110 (L._∷_ 100 L.[]))))))))))))))))))) (Syntax.tcons Syntax.tyBool (Syntax.tcons Syntax.tyBool (Syntax.tcons (Syntax.tyStruct (L._∷_ 115 (L._∷_ 116 (L._∷_ 101 (L._∷_ 112 (L._∷_ 58 (L._∷_ 58 (L._∷_ 83 (L._∷_ 116 (L._∷_ 101 (L._∷_ 112 L.[])))))))))) (Syntax.tcons (Syntax.tyInt Syntax.w64) (Syntax.tcons (Syntax.tyInt Syntax.w64) (Syntax.tcons (Syntax.tyStruct (L._∷_ 115 (L._∷_ 116 (L._∷_ 101 (L._∷_ 112 (L._∷_ 58 (L._∷_ 58 (L._∷_ 67 (L._∷_ 104 (L._∷_ 97 (L._∷_ 110 (L._∷_ 103 (L._∷_ 101 L.[])))))))))))) (Syntax.tcons (Syntax.tyStruct (L._∷_ 110 (L._∷_ 101 (L._∷_ 116 (L._∷_ 119 (L._∷_ 111 (L._∷_ 114 (L._∷_ 107 (L._∷_ 58 (L._∷_ 58 (L._∷_ 69 (L._∷_ 100 (L._∷_ 105 (L._∷_ 116 L.[]))))))))))))) (Syntax.tcons q9 (Syntax.tcons q9 (Syntax.tcons q9 (Syntax.tcons q9 (Syntax.tcons q3 (Syntax.tcons q3 (Syntax.tcons (Syntax.tyInt Syntax.w64) Syntax.tnil)))))))) (Syntax.tcons (Syntax.tyStruct (L._∷_ 115 (L._∷_ 116 (L._∷_ 101 (L._∷_ 112 (L._∷_ 58 (L._∷_ 58 (L._∷_ 79 (L._∷_ 108 (L._∷_ 100 L.[]))))))))) (Syntax.tcons (Syntax.tyInt Syntax.w64) (Syntax.tcons q8 (Syntax.tcons q9 (Syntax.tcons q9 (Syntax.tcons q9 (Syntax.tcons q9 (Syntax.tcons q5 Syntax.tnil)))))))) Syntax.tnil))) Syntax.tnil)))) Syntax.tnil))))) (L._∷_ q25 (L._∷_ q36 (L._∷_ q39 (L._∷_ q40 (L._∷_ q26 L.[])))))))))))))))
 
 abbrev pub t7 : L.List Row.Entry
-t7 = L._∷_ (0, Rows.any-gone (Syntax.tyStruct (L._∷_ 115 (L._∷_ 101 (L._∷_ 97 (L._∷_ 114 (L._∷_ 99 (L._∷_ 104 (L._∷_ 58 (L._∷_ 58 (L._∷_ 115 (L._∷_ 99 (L._∷_ 97 (L._∷_ 110 (L._∷_ 58 (L._∷_ 58 (L._∷_ 70 (L._∷_ 111 (L._∷_ 117 (L._∷_ 110 (L._∷_ 100 L.[]))))))))))))))))))) (Syntax.tcons Syntax.tyBool (Syntax.tcons Syntax.tyBool (Syntax.tcons (Syntax.tyStruct (L._∷_ 115 (L._∷_ 116 (L._∷_ 101 (L._∷_ 112 (L._∷_ 58 (L._∷_ 58 (L._∷_ 83 (L._∷_ 116 (L._∷_ 101 (L._∷_ 112 L.[])))))))))) (Syntax.tcons (Syntax.tyInt Syntax.w64) (Syntax.tcons (Syntax.tyInt Syntax.w64) (Syntax.tcons (Syntax.tyStruct (L._∷_ 115 (L._∷_ 116 (L._∷_ 101 (L._∷_ 112 (L._∷_ 58 (L._∷_ 58 (L._∷_ 67 (L._∷_ 104 (L._∷_ 97 (L._∷_ 110 (L._∷_ 103 (L._∷_ 101 L.[])))))))))))) (Syntax.tcons (Syntax.tyStruct (L._∷_ 110 (L._∷_ 101 (L._∷_ 116 (L._∷_ 119 (L._∷_ 111 (L._∷_ 114 (L._∷_ 107 (L._∷_ 58 (L._∷_ 58 (L._∷_ 69 (L._∷_ 100 (L._∷_ 105 (L._∷_ 116 L.[]))))))))))))) (Syntax.tcons q9 (Syntax.tcons q9 (Syntax.tcons q9 (Syntax.tcons q9 (Syntax.tcons q3 (Syntax.tcons q3 (Syntax.tcons (Syntax.tyInt Syntax.w64) Syntax.tnil)))))))) (Syntax.tcons (Syntax.tyStruct (L._∷_ 115 (L._∷_ 116 (L._∷_ 101 (L._∷_ 112 (L._∷_ 58 (L._∷_ 58 (L._∷_ 79 (L._∷_ 108 (L._∷_ 100 L.[]))))))))) (Syntax.tcons (Syntax.tyInt Syntax.w64) (Syntax.tcons q8 (Syntax.tcons q9 (Syntax.tcons q9 (Syntax.tcons q9 (Syntax.tcons q9 (Syntax.tcons q5 Syntax.tnil)))))))) Syntax.tnil))) Syntax.tnil)))) Syntax.tnil))))) (L._∷_ q1 (L._∷_ q13 (L._∷_ q11 (L._∷_ q31 (L._∷_ q17 (L._∷_ q15 (L._∷_ q32 (L._∷_ q28 (L._∷_ (9, Rows.any-gone (Syntax.tyStruct (L._∷_ 115 (L._∷_ 101 (L._∷_ 97 (L._∷_ 114 (L._∷_ 99 (L._∷_ 104 (L._∷_ 58 (L._∷_ 58 (L._∷_ 115 (L._∷_ 99 (L._∷_ 97 (L._∷_ 110 (L._∷_ 58 (L._∷_ 58 (L._∷_ 65 (L._∷_ 114 (L._∷_ 111 (L._∷_ 117 (L._∷_ 110 (L._∷_ 100 L.[])))))))))))))))))))) (Syntax.tcons q9 (Syntax.tcons q9 (Syntax.tcons q9 (Syntax.tcons q9 Syntax.tnil)))))) (L._∷_ (10, Rows.any-gone (Syntax.tyStruct (L._∷_ 115 (L._∷_ 101 (L._∷_ 97 (L._∷_ 114 (L._∷_ 99 (L._∷_ 104 (L._∷_ 58 (L._∷_ 58 (L._∷_ 115 (L._∷_ 99 (L._∷_ 97 (L._∷_ 110 (L._∷_ 58 (L._∷_ 58 (L._∷_ 70 (L._∷_ 111 (L._∷_ 117 (L._∷_ 110 (L._∷_ 100 L.[]))))))))))))))))))) (Syntax.tcons Syntax.tyBool (Syntax.tcons Syntax.tyBool (Syntax.tcons (Syntax.tyStruct (L._∷_ 115 (L._∷_ 116 (L._∷_ 101 (L._∷_ 112 (L._∷_ 58 (L._∷_ 58 (L._∷_ 83 (L._∷_ 116 (L._∷_ 101 (L._∷_ 112 L.[])))))))))) (Syntax.tcons (Syntax.tyInt Syntax.w64) (Syntax.tcons (Syntax.tyInt Syntax.w64) (Syntax.tcons (Syntax.tyStruct (L._∷_ 115 (L._∷_ 116 (L._∷_ 101 (L._∷_ 112 (L._∷_ 58 (L._∷_ 58 (L._∷_ 67 (L._∷_ 104 (L._∷_ 97 (L._∷_ 110 (L._∷_ 103 (L._∷_ 101 L.[])))))))))))) (Syntax.tcons (Syntax.tyStruct (L._∷_ 110 (L._∷_ 101 (L._∷_ 116 (L._∷_ 119 (L._∷_ 111 (L._∷_ 114 (L._∷_ 107 (L._∷_ 58 (L._∷_ 58 (L._∷_ 69 (L._∷_ 100 (L._∷_ 105 (L._∷_ 116 L.[]))))))))))))) (Syntax.tcons q9 (Syntax.tcons q9 (Syntax.tcons q9 (Syntax.tcons q9 (Syntax.tcons q3 (Syntax.tcons q3 (Syntax.tcons (Syntax.tyInt Syntax.w64) Syntax.tnil)))))))) (Syntax.tcons (Syntax.tyStruct (L._∷_ 115 (L._∷_ 116 (L._∷_ 101 (L._∷_ 112 (L._∷_ 58 (L._∷_ 58 (L._∷_ 79 (L._∷_ 108 (L._∷_ 100 L.[]))))))))) (Syntax.tcons (Syntax.tyInt Syntax.w64) (Syntax.tcons q8 (Syntax.tcons q9 (Syntax.tcons q9 (Syntax.tcons q9 (Syntax.tcons q9 (Syntax.tcons q5 Syntax.tnil)))))))) Syntax.tnil))) Syntax.tnil)))) Syntax.tnil))))) (L._∷_ q25 (L._∷_ q36 (L._∷_ q39 (L._∷_ q40 (L._∷_ q26 L.[])))))))))))))))
+t7 = L._∷_ (0, Rows.any-gone (Syntax.tyStruct (L._∷_ 114 (L._∷_ 117 (L._∷_ 108 (L._∷_ 101 (L._∷_ 115 (L._∷_ 58 (L._∷_ 58 (L._∷_ 102 (L._∷_ 111 (L._∷_ 117 (L._∷_ 110 (L._∷_ 100 (L._∷_ 58 (L._∷_ 58 (L._∷_ 70 (L._∷_ 111 (L._∷_ 117 (L._∷_ 110 (L._∷_ 100 L.[]))))))))))))))))))) (Syntax.tcons Syntax.tyBool (Syntax.tcons Syntax.tyBool (Syntax.tcons (Syntax.tyStruct (L._∷_ 115 (L._∷_ 116 (L._∷_ 101 (L._∷_ 112 (L._∷_ 58 (L._∷_ 58 (L._∷_ 83 (L._∷_ 116 (L._∷_ 101 (L._∷_ 112 L.[])))))))))) (Syntax.tcons (Syntax.tyInt Syntax.w64) (Syntax.tcons (Syntax.tyInt Syntax.w64) (Syntax.tcons (Syntax.tyStruct (L._∷_ 115 (L._∷_ 116 (L._∷_ 101 (L._∷_ 112 (L._∷_ 58 (L._∷_ 58 (L._∷_ 67 (L._∷_ 104 (L._∷_ 97 (L._∷_ 110 (L._∷_ 103 (L._∷_ 101 L.[])))))))))))) (Syntax.tcons (Syntax.tyStruct (L._∷_ 110 (L._∷_ 101 (L._∷_ 116 (L._∷_ 119 (L._∷_ 111 (L._∷_ 114 (L._∷_ 107 (L._∷_ 58 (L._∷_ 58 (L._∷_ 69 (L._∷_ 100 (L._∷_ 105 (L._∷_ 116 L.[]))))))))))))) (Syntax.tcons q9 (Syntax.tcons q9 (Syntax.tcons q9 (Syntax.tcons q9 (Syntax.tcons q3 (Syntax.tcons q3 (Syntax.tcons (Syntax.tyInt Syntax.w64) Syntax.tnil)))))))) (Syntax.tcons (Syntax.tyStruct (L._∷_ 115 (L._∷_ 116 (L._∷_ 101 (L._∷_ 112 (L._∷_ 58 (L._∷_ 58 (L._∷_ 79 (L._∷_ 108 (L._∷_ 100 L.[]))))))))) (Syntax.tcons (Syntax.tyInt Syntax.w64) (Syntax.tcons q8 (Syntax.tcons q9 (Syntax.tcons q9 (Syntax.tcons q9 (Syntax.tcons q9 (Syntax.tcons q5 Syntax.tnil)))))))) Syntax.tnil))) Syntax.tnil)))) Syntax.tnil))))) (L._∷_ q1 (L._∷_ q13 (L._∷_ q11 (L._∷_ q31 (L._∷_ q20 (L._∷_ q17 (L._∷_ q32 (L._∷_ q28 (L._∷_ (9, Rows.any-gone (Syntax.tyStruct (L._∷_ 114 (L._∷_ 117 (L._∷_ 108 (L._∷_ 101 (L._∷_ 115 (L._∷_ 58 (L._∷_ 58 (L._∷_ 116 (L._∷_ 114 (L._∷_ 105 (L._∷_ 101 (L._∷_ 100 (L._∷_ 58 (L._∷_ 58 (L._∷_ 65 (L._∷_ 114 (L._∷_ 111 (L._∷_ 117 (L._∷_ 110 (L._∷_ 100 L.[])))))))))))))))))))) (Syntax.tcons q9 (Syntax.tcons q9 (Syntax.tcons q9 (Syntax.tcons q9 Syntax.tnil)))))) (L._∷_ (10, Rows.any-gone (Syntax.tyStruct (L._∷_ 114 (L._∷_ 117 (L._∷_ 108 (L._∷_ 101 (L._∷_ 115 (L._∷_ 58 (L._∷_ 58 (L._∷_ 102 (L._∷_ 111 (L._∷_ 117 (L._∷_ 110 (L._∷_ 100 (L._∷_ 58 (L._∷_ 58 (L._∷_ 70 (L._∷_ 111 (L._∷_ 117 (L._∷_ 110 (L._∷_ 100 L.[]))))))))))))))))))) (Syntax.tcons Syntax.tyBool (Syntax.tcons Syntax.tyBool (Syntax.tcons (Syntax.tyStruct (L._∷_ 115 (L._∷_ 116 (L._∷_ 101 (L._∷_ 112 (L._∷_ 58 (L._∷_ 58 (L._∷_ 83 (L._∷_ 116 (L._∷_ 101 (L._∷_ 112 L.[])))))))))) (Syntax.tcons (Syntax.tyInt Syntax.w64) (Syntax.tcons (Syntax.tyInt Syntax.w64) (Syntax.tcons (Syntax.tyStruct (L._∷_ 115 (L._∷_ 116 (L._∷_ 101 (L._∷_ 112 (L._∷_ 58 (L._∷_ 58 (L._∷_ 67 (L._∷_ 104 (L._∷_ 97 (L._∷_ 110 (L._∷_ 103 (L._∷_ 101 L.[])))))))))))) (Syntax.tcons (Syntax.tyStruct (L._∷_ 110 (L._∷_ 101 (L._∷_ 116 (L._∷_ 119 (L._∷_ 111 (L._∷_ 114 (L._∷_ 107 (L._∷_ 58 (L._∷_ 58 (L._∷_ 69 (L._∷_ 100 (L._∷_ 105 (L._∷_ 116 L.[]))))))))))))) (Syntax.tcons q9 (Syntax.tcons q9 (Syntax.tcons q9 (Syntax.tcons q9 (Syntax.tcons q3 (Syntax.tcons q3 (Syntax.tcons (Syntax.tyInt Syntax.w64) Syntax.tnil)))))))) (Syntax.tcons (Syntax.tyStruct (L._∷_ 115 (L._∷_ 116 (L._∷_ 101 (L._∷_ 112 (L._∷_ 58 (L._∷_ 58 (L._∷_ 79 (L._∷_ 108 (L._∷_ 100 L.[]))))))))) (Syntax.tcons (Syntax.tyInt Syntax.w64) (Syntax.tcons q8 (Syntax.tcons q9 (Syntax.tcons q9 (Syntax.tcons q9 (Syntax.tcons q9 (Syntax.tcons q5 Syntax.tnil)))))))) Syntax.tnil))) Syntax.tnil)))) Syntax.tnil))))) (L._∷_ q25 (L._∷_ q36 (L._∷_ q39 (L._∷_ q40 (L._∷_ q26 L.[])))))))))))))))
 
 abbrev pub t8 : L.List Row.Entry
-t8 = L._∷_ (0, Rows.any-gone (Syntax.tyStruct (L._∷_ 115 (L._∷_ 101 (L._∷_ 97 (L._∷_ 114 (L._∷_ 99 (L._∷_ 104 (L._∷_ 58 (L._∷_ 58 (L._∷_ 115 (L._∷_ 99 (L._∷_ 97 (L._∷_ 110 (L._∷_ 58 (L._∷_ 58 (L._∷_ 70 (L._∷_ 111 (L._∷_ 117 (L._∷_ 110 (L._∷_ 100 L.[]))))))))))))))))))) (Syntax.tcons Syntax.tyBool (Syntax.tcons Syntax.tyBool (Syntax.tcons (Syntax.tyStruct (L._∷_ 115 (L._∷_ 116 (L._∷_ 101 (L._∷_ 112 (L._∷_ 58 (L._∷_ 58 (L._∷_ 83 (L._∷_ 116 (L._∷_ 101 (L._∷_ 112 L.[])))))))))) (Syntax.tcons (Syntax.tyInt Syntax.w64) (Syntax.tcons (Syntax.tyInt Syntax.w64) (Syntax.tcons (Syntax.tyStruct (L._∷_ 115 (L._∷_ 116 (L._∷_ 101 (L._∷_ 112 (L._∷_ 58 (L._∷_ 58 (L._∷_ 67 (L._∷_ 104 (L._∷_ 97 (L._∷_ 110 (L._∷_ 103 (L._∷_ 101 L.[])))))))))))) (Syntax.tcons (Syntax.tyStruct (L._∷_ 110 (L._∷_ 101 (L._∷_ 116 (L._∷_ 119 (L._∷_ 111 (L._∷_ 114 (L._∷_ 107 (L._∷_ 58 (L._∷_ 58 (L._∷_ 69 (L._∷_ 100 (L._∷_ 105 (L._∷_ 116 L.[]))))))))))))) (Syntax.tcons q9 (Syntax.tcons q9 (Syntax.tcons q9 (Syntax.tcons q9 (Syntax.tcons q3 (Syntax.tcons q3 (Syntax.tcons (Syntax.tyInt Syntax.w64) Syntax.tnil)))))))) (Syntax.tcons (Syntax.tyStruct (L._∷_ 115 (L._∷_ 116 (L._∷_ 101 (L._∷_ 112 (L._∷_ 58 (L._∷_ 58 (L._∷_ 79 (L._∷_ 108 (L._∷_ 100 L.[]))))))))) (Syntax.tcons (Syntax.tyInt Syntax.w64) (Syntax.tcons q8 (Syntax.tcons q9 (Syntax.tcons q9 (Syntax.tcons q9 (Syntax.tcons q9 (Syntax.tcons q5 Syntax.tnil)))))))) Syntax.tnil))) Syntax.tnil)))) Syntax.tnil))))) (L._∷_ q1 (L._∷_ q13 (L._∷_ q11 (L._∷_ q31 (L._∷_ q0 (L._∷_ q10 (L._∷_ q32 (L._∷_ q28 (L._∷_ (9, Rows.any-gone (Syntax.tyStruct (L._∷_ 115 (L._∷_ 101 (L._∷_ 97 (L._∷_ 114 (L._∷_ 99 (L._∷_ 104 (L._∷_ 58 (L._∷_ 58 (L._∷_ 115 (L._∷_ 99 (L._∷_ 97 (L._∷_ 110 (L._∷_ 58 (L._∷_ 58 (L._∷_ 65 (L._∷_ 114 (L._∷_ 111 (L._∷_ 117 (L._∷_ 110 (L._∷_ 100 L.[])))))))))))))))))))) (Syntax.tcons q9 (Syntax.tcons q9 (Syntax.tcons q9 (Syntax.tcons q9 Syntax.tnil)))))) (L._∷_ (10, Rows.any-gone (Syntax.tyStruct (L._∷_ 115 (L._∷_ 101 (L._∷_ 97 (L._∷_ 114 (L._∷_ 99 (L._∷_ 104 (L._∷_ 58 (L._∷_ 58 (L._∷_ 115 (L._∷_ 99 (L._∷_ 97 (L._∷_ 110 (L._∷_ 58 (L._∷_ 58 (L._∷_ 70 (L._∷_ 111 (L._∷_ 117 (L._∷_ 110 (L._∷_ 100 L.[]))))))))))))))))))) (Syntax.tcons Syntax.tyBool (Syntax.tcons Syntax.tyBool (Syntax.tcons (Syntax.tyStruct (L._∷_ 115 (L._∷_ 116 (L._∷_ 101 (L._∷_ 112 (L._∷_ 58 (L._∷_ 58 (L._∷_ 83 (L._∷_ 116 (L._∷_ 101 (L._∷_ 112 L.[])))))))))) (Syntax.tcons (Syntax.tyInt Syntax.w64) (Syntax.tcons (Syntax.tyInt Syntax.w64) (Syntax.tcons (Syntax.tyStruct (L._∷_ 115 (L._∷_ 116 (L._∷_ 101 (L._∷_ 112 (L._∷_ 58 (L._∷_ 58 (L._∷_ 67 (L._∷_ 104 (L._∷_ 97 (L._∷_ 110 (L._∷_ 103 (L._∷_ 101 L.[])))))))))))) (Syntax.tcons (Syntax.tyStruct (L._∷_ 110 (L._∷_ 101 (L._∷_ 116 (L._∷_ 119 (L._∷_ 111 (L._∷_ 114 (L._∷_ 107 (L._∷_ 58 (L._∷_ 58 (L._∷_ 69 (L._∷_ 100 (L._∷_ 105 (L._∷_ 116 L.[]))))))))))))) (Syntax.tcons q9 (Syntax.tcons q9 (Syntax.tcons q9 (Syntax.tcons q9 (Syntax.tcons q3 (Syntax.tcons q3 (Syntax.tcons (Syntax.tyInt Syntax.w64) Syntax.tnil)))))))) (Syntax.tcons (Syntax.tyStruct (L._∷_ 115 (L._∷_ 116 (L._∷_ 101 (L._∷_ 112 (L._∷_ 58 (L._∷_ 58 (L._∷_ 79 (L._∷_ 108 (L._∷_ 100 L.[]))))))))) (Syntax.tcons (Syntax.tyInt Syntax.w64) (Syntax.tcons q8 (Syntax.tcons q9 (Syntax.tcons q9 (Syntax.tcons q9 (Syntax.tcons q9 (Syntax.tcons q5 Syntax.tnil)))))))) Syntax.tnil))) Syntax.tnil)))) Syntax.tnil))))) (L._∷_ q25 (L._∷_ q36 (L._∷_ q39 (L._∷_ q40 (L._∷_ q26 L.[])))))))))))))))
+t8 = L._∷_ (0, Rows.any-gone (Syntax.tyStruct (L._∷_ 114 (L._∷_ 117 (L._∷_ 108 (L._∷_ 101 (L._∷_ 115 (L._∷_ 58 (L._∷_ 58 (L._∷_ 102 (L._∷_ 111 (L._∷_ 117 (L._∷_ 110 (L._∷_ 100 (L._∷_ 58 (L._∷_ 58 (L._∷_ 70 (L._∷_ 111 (L._∷_ 117 (L._∷_ 110 (L._∷_ 100 L.[]))))))))))))))))))) (Syntax.tcons Syntax.tyBool (Syntax.tcons Syntax.tyBool (Syntax.tcons (Syntax.tyStruct (L._∷_ 115 (L._∷_ 116 (L._∷_ 101 (L._∷_ 112 (L._∷_ 58 (L._∷_ 58 (L._∷_ 83 (L._∷_ 116 (L._∷_ 101 (L._∷_ 112 L.[])))))))))) (Syntax.tcons (Syntax.tyInt Syntax.w64) (Syntax.tcons (Syntax.tyInt Syntax.w64) (Syntax.tcons (Syntax.tyStruct (L._∷_ 115 (L._∷_ 116 (L._∷_ 101 (L._∷_ 112 (L._∷_ 58 (L._∷_ 58 (L._∷_ 67 (L._∷_ 104 (L._∷_ 97 (L._∷_ 110 (L._∷_ 103 (L._∷_ 101 L.[])))))))))))) (Syntax.tcons (Syntax.tyStruct (L._∷_ 110 (L._∷_ 101 (L._∷_ 116 (L._∷_ 119 (L._∷_ 111 (L._∷_ 114 (L._∷_ 107 (L._∷_ 58 (L._∷_ 58 (L._∷_ 69 (L._∷_ 100 (L._∷_ 105 (L._∷_ 116 L.[]))))))))))))) (Syntax.tcons q9 (Syntax.tcons q9 (Syntax.tcons q9 (Syntax.tcons q9 (Syntax.tcons q3 (Syntax.tcons q3 (Syntax.tcons (Syntax.tyInt Syntax.w64) Syntax.tnil)))))))) (Syntax.tcons (Syntax.tyStruct (L._∷_ 115 (L._∷_ 116 (L._∷_ 101 (L._∷_ 112 (L._∷_ 58 (L._∷_ 58 (L._∷_ 79 (L._∷_ 108 (L._∷_ 100 L.[]))))))))) (Syntax.tcons (Syntax.tyInt Syntax.w64) (Syntax.tcons q8 (Syntax.tcons q9 (Syntax.tcons q9 (Syntax.tcons q9 (Syntax.tcons q9 (Syntax.tcons q5 Syntax.tnil)))))))) Syntax.tnil))) Syntax.tnil)))) Syntax.tnil))))) (L._∷_ q1 (L._∷_ q13 (L._∷_ q11 (L._∷_ q31 (L._∷_ q0 (L._∷_ q10 (L._∷_ q32 (L._∷_ q28 (L._∷_ (9, Rows.any-gone (Syntax.tyStruct (L._∷_ 114 (L._∷_ 117 (L._∷_ 108 (L._∷_ 101 (L._∷_ 115 (L._∷_ 58 (L._∷_ 58 (L._∷_ 116 (L._∷_ 114 (L._∷_ 105 (L._∷_ 101 (L._∷_ 100 (L._∷_ 58 (L._∷_ 58 (L._∷_ 65 (L._∷_ 114 (L._∷_ 111 (L._∷_ 117 (L._∷_ 110 (L._∷_ 100 L.[])))))))))))))))))))) (Syntax.tcons q9 (Syntax.tcons q9 (Syntax.tcons q9 (Syntax.tcons q9 Syntax.tnil)))))) (L._∷_ (10, Rows.any-gone (Syntax.tyStruct (L._∷_ 114 (L._∷_ 117 (L._∷_ 108 (L._∷_ 101 (L._∷_ 115 (L._∷_ 58 (L._∷_ 58 (L._∷_ 102 (L._∷_ 111 (L._∷_ 117 (L._∷_ 110 (L._∷_ 100 (L._∷_ 58 (L._∷_ 58 (L._∷_ 70 (L._∷_ 111 (L._∷_ 117 (L._∷_ 110 (L._∷_ 100 L.[]))))))))))))))))))) (Syntax.tcons Syntax.tyBool (Syntax.tcons Syntax.tyBool (Syntax.tcons (Syntax.tyStruct (L._∷_ 115 (L._∷_ 116 (L._∷_ 101 (L._∷_ 112 (L._∷_ 58 (L._∷_ 58 (L._∷_ 83 (L._∷_ 116 (L._∷_ 101 (L._∷_ 112 L.[])))))))))) (Syntax.tcons (Syntax.tyInt Syntax.w64) (Syntax.tcons (Syntax.tyInt Syntax.w64) (Syntax.tcons (Syntax.tyStruct (L._∷_ 115 (L._∷_ 116 (L._∷_ 101 (L._∷_ 112 (L._∷_ 58 (L._∷_ 58 (L._∷_ 67 (L._∷_ 104 (L._∷_ 97 (L._∷_ 110 (L._∷_ 103 (L._∷_ 101 L.[])))))))))))) (Syntax.tcons (Syntax.tyStruct (L._∷_ 110 (L._∷_ 101 (L._∷_ 116 (L._∷_ 119 (L._∷_ 111 (L._∷_ 114 (L._∷_ 107 (L._∷_ 58 (L._∷_ 58 (L._∷_ 69 (L._∷_ 100 (L._∷_ 105 (L._∷_ 116 L.[]))))))))))))) (Syntax.tcons q9 (Syntax.tcons q9 (Syntax.tcons q9 (Syntax.tcons q9 (Syntax.tcons q3 (Syntax.tcons q3 (Syntax.tcons (Syntax.tyInt Syntax.w64) Syntax.tnil)))))))) (Syntax.tcons (Syntax.tyStruct (L._∷_ 115 (L._∷_ 116 (L._∷_ 101 (L._∷_ 112 (L._∷_ 58 (L._∷_ 58 (L._∷_ 79 (L._∷_ 108 (L._∷_ 100 L.[]))))))))) (Syntax.tcons (Syntax.tyInt Syntax.w64) (Syntax.tcons q8 (Syntax.tcons q9 (Syntax.tcons q9 (Syntax.tcons q9 (Syntax.tcons q9 (Syntax.tcons q5 Syntax.tnil)))))))) Syntax.tnil))) Syntax.tnil)))) Syntax.tnil))))) (L._∷_ q25 (L._∷_ q36 (L._∷_ q39 (L._∷_ q40 (L._∷_ q26 L.[])))))))))))))))
 
 abbrev pub t9 : L.List Row.Entry
-t9 = L._∷_ (0, Rows.any-gone (Syntax.tyStruct (L._∷_ 115 (L._∷_ 101 (L._∷_ 97 (L._∷_ 114 (L._∷_ 99 (L._∷_ 104 (L._∷_ 58 (L._∷_ 58 (L._∷_ 115 (L._∷_ 99 (L._∷_ 97 (L._∷_ 110 (L._∷_ 58 (L._∷_ 58 (L._∷_ 70 (L._∷_ 111 (L._∷_ 117 (L._∷_ 110 (L._∷_ 100 L.[]))))))))))))))))))) (Syntax.tcons Syntax.tyBool (Syntax.tcons Syntax.tyBool (Syntax.tcons (Syntax.tyStruct (L._∷_ 115 (L._∷_ 116 (L._∷_ 101 (L._∷_ 112 (L._∷_ 58 (L._∷_ 58 (L._∷_ 83 (L._∷_ 116 (L._∷_ 101 (L._∷_ 112 L.[])))))))))) (Syntax.tcons (Syntax.tyInt Syntax.w64) (Syntax.tcons (Syntax.tyInt Syntax.w64) (Syntax.tcons (Syntax.tyStruct (L._∷_ 115 (L._∷_ 116 (L._∷_ 101 (L._∷_ 112 (L._∷_ 58 (L._∷_ 58 (L._∷_ 67 (L._∷_ 104 (L._∷_ 97 (L._∷_ 110 (L._∷_ 103 (L._∷_ 101 L.[])))))))))))) (Syntax.tcons (Syntax.tyStruct (L._∷_ 110 (L._∷_ 101 (L._∷_ 116 (L._∷_ 119 (L._∷_ 111 (L._∷_ 114 (L._∷_ 107 (L._∷_ 58 (L._∷_ 58 (L._∷_ 69 (L._∷_ 100 (L._∷_ 105 (L._∷_ 116 L.[]))))))))))))) (Syntax.tcons q9 (Syntax.tcons q9 (Syntax.tcons q9 (Syntax.tcons q9 (Syntax.tcons q3 (Syntax.tcons q3 (Syntax.tcons (Syntax.tyInt Syntax.w64) Syntax.tnil)))))))) (Syntax.tcons (Syntax.tyStruct (L._∷_ 115 (L._∷_ 116 (L._∷_ 101 (L._∷_ 112 (L._∷_ 58 (L._∷_ 58 (L._∷_ 79 (L._∷_ 108 (L._∷_ 100 L.[]))))))))) (Syntax.tcons (Syntax.tyInt Syntax.w64) (Syntax.tcons q8 (Syntax.tcons q9 (Syntax.tcons q9 (Syntax.tcons q9 (Syntax.tcons q9 (Syntax.tcons q5 Syntax.tnil)))))))) Syntax.tnil))) Syntax.tnil)))) Syntax.tnil))))) (L._∷_ q1 (L._∷_ q13 (L._∷_ q11 (L._∷_ q31 (L._∷_ q17 (L._∷_ q15 (L._∷_ q32 (L._∷_ q28 (L._∷_ (9, Rows.any-gone (Syntax.tyStruct (L._∷_ 115 (L._∷_ 101 (L._∷_ 97 (L._∷_ 114 (L._∷_ 99 (L._∷_ 104 (L._∷_ 58 (L._∷_ 58 (L._∷_ 115 (L._∷_ 99 (L._∷_ 97 (L._∷_ 110 (L._∷_ 58 (L._∷_ 58 (L._∷_ 65 (L._∷_ 114 (L._∷_ 111 (L._∷_ 117 (L._∷_ 110 (L._∷_ 100 L.[])))))))))))))))))))) (Syntax.tcons q9 (Syntax.tcons q9 (Syntax.tcons q9 (Syntax.tcons q9 Syntax.tnil)))))) (L._∷_ (10, Rows.any-gone (Syntax.tyStruct (L._∷_ 115 (L._∷_ 101 (L._∷_ 97 (L._∷_ 114 (L._∷_ 99 (L._∷_ 104 (L._∷_ 58 (L._∷_ 58 (L._∷_ 115 (L._∷_ 99 (L._∷_ 97 (L._∷_ 110 (L._∷_ 58 (L._∷_ 58 (L._∷_ 70 (L._∷_ 111 (L._∷_ 117 (L._∷_ 110 (L._∷_ 100 L.[]))))))))))))))))))) (Syntax.tcons Syntax.tyBool (Syntax.tcons Syntax.tyBool (Syntax.tcons (Syntax.tyStruct (L._∷_ 115 (L._∷_ 116 (L._∷_ 101 (L._∷_ 112 (L._∷_ 58 (L._∷_ 58 (L._∷_ 83 (L._∷_ 116 (L._∷_ 101 (L._∷_ 112 L.[])))))))))) (Syntax.tcons (Syntax.tyInt Syntax.w64) (Syntax.tcons (Syntax.tyInt Syntax.w64) (Syntax.tcons (Syntax.tyStruct (L._∷_ 115 (L._∷_ 116 (L._∷_ 101 (L._∷_ 112 (L._∷_ 58 (L._∷_ 58 (L._∷_ 67 (L._∷_ 104 (L._∷_ 97 (L._∷_ 110 (L._∷_ 103 (L._∷_ 101 L.[])))))))))))) (Syntax.tcons (Syntax.tyStruct (L._∷_ 110 (L._∷_ 101 (L._∷_ 116 (L._∷_ 119 (L._∷_ 111 (L._∷_ 114 (L._∷_ 107 (L._∷_ 58 (L._∷_ 58 (L._∷_ 69 (L._∷_ 100 (L._∷_ 105 (L._∷_ 116 L.[]))))))))))))) (Syntax.tcons q9 (Syntax.tcons q9 (Syntax.tcons q9 (Syntax.tcons q9 (Syntax.tcons q3 (Syntax.tcons q3 (Syntax.tcons (Syntax.tyInt Syntax.w64) Syntax.tnil)))))))) (Syntax.tcons (Syntax.tyStruct (L._∷_ 115 (L._∷_ 116 (L._∷_ 101 (L._∷_ 112 (L._∷_ 58 (L._∷_ 58 (L._∷_ 79 (L._∷_ 108 (L._∷_ 100 L.[]))))))))) (Syntax.tcons (Syntax.tyInt Syntax.w64) (Syntax.tcons q8 (Syntax.tcons q9 (Syntax.tcons q9 (Syntax.tcons q9 (Syntax.tcons q9 (Syntax.tcons q5 Syntax.tnil)))))))) Syntax.tnil))) Syntax.tnil)))) Syntax.tnil))))) (L._∷_ q29 (L._∷_ q36 (L._∷_ q39 (L._∷_ q40 (L._∷_ q26 L.[])))))))))))))))
+t9 = L._∷_ (0, Rows.any-gone (Syntax.tyStruct (L._∷_ 114 (L._∷_ 117 (L._∷_ 108 (L._∷_ 101 (L._∷_ 115 (L._∷_ 58 (L._∷_ 58 (L._∷_ 102 (L._∷_ 111 (L._∷_ 117 (L._∷_ 110 (L._∷_ 100 (L._∷_ 58 (L._∷_ 58 (L._∷_ 70 (L._∷_ 111 (L._∷_ 117 (L._∷_ 110 (L._∷_ 100 L.[]))))))))))))))))))) (Syntax.tcons Syntax.tyBool (Syntax.tcons Syntax.tyBool (Syntax.tcons (Syntax.tyStruct (L._∷_ 115 (L._∷_ 116 (L._∷_ 101 (L._∷_ 112 (L._∷_ 58 (L._∷_ 58 (L._∷_ 83 (L._∷_ 116 (L._∷_ 101 (L._∷_ 112 L.[])))))))))) (Syntax.tcons (Syntax.tyInt Syntax.w64) (Syntax.tcons (Syntax.tyInt Syntax.w64) (Syntax.tcons (Syntax.tyStruct (L._∷_ 115 (L._∷_ 116 (L._∷_ 101 (L._∷_ 112 (L._∷_ 58 (L._∷_ 58 (L._∷_ 67 (L._∷_ 104 (L._∷_ 97 (L._∷_ 110 (L._∷_ 103 (L._∷_ 101 L.[])))))))))))) (Syntax.tcons (Syntax.tyStruct (L._∷_ 110 (L._∷_ 101 (L._∷_ 116 (L._∷_ 119 (L._∷_ 111 (L._∷_ 114 (L._∷_ 107 (L._∷_ 58 (L._∷_ 58 (L._∷_ 69 (L._∷_ 100 (L._∷_ 105 (L._∷_ 116 L.[]))))))))))))) (Syntax.tcons q9 (Syntax.tcons q9 (Syntax.tcons q9 (Syntax.tcons q9 (Syntax.tcons q3 (Syntax.tcons q3 (Syntax.tcons (Syntax.tyInt Syntax.w64) Syntax.tnil)))))))) (Syntax.tcons (Syntax.tyStruct (L._∷_ 115 (L._∷_ 116 (L._∷_ 101 (L._∷_ 112 (L._∷_ 58 (L._∷_ 58 (L._∷_ 79 (L._∷_ 108 (L._∷_ 100 L.[]))))))))) (Syntax.tcons (Syntax.tyInt Syntax.w64) (Syntax.tcons q8 (Syntax.tcons q9 (Syntax.tcons q9 (Syntax.tcons q9 (Syntax.tcons q9 (Syntax.tcons q5 Syntax.tnil)))))))) Syntax.tnil))) Syntax.tnil)))) Syntax.tnil))))) (L._∷_ q1 (L._∷_ q13 (L._∷_ q11 (L._∷_ q31 (L._∷_ q20 (L._∷_ q17 (L._∷_ q32 (L._∷_ q28 (L._∷_ (9, Rows.any-gone (Syntax.tyStruct (L._∷_ 114 (L._∷_ 117 (L._∷_ 108 (L._∷_ 101 (L._∷_ 115 (L._∷_ 58 (L._∷_ 58 (L._∷_ 116 (L._∷_ 114 (L._∷_ 105 (L._∷_ 101 (L._∷_ 100 (L._∷_ 58 (L._∷_ 58 (L._∷_ 65 (L._∷_ 114 (L._∷_ 111 (L._∷_ 117 (L._∷_ 110 (L._∷_ 100 L.[])))))))))))))))))))) (Syntax.tcons q9 (Syntax.tcons q9 (Syntax.tcons q9 (Syntax.tcons q9 Syntax.tnil)))))) (L._∷_ (10, Rows.any-gone (Syntax.tyStruct (L._∷_ 114 (L._∷_ 117 (L._∷_ 108 (L._∷_ 101 (L._∷_ 115 (L._∷_ 58 (L._∷_ 58 (L._∷_ 102 (L._∷_ 111 (L._∷_ 117 (L._∷_ 110 (L._∷_ 100 (L._∷_ 58 (L._∷_ 58 (L._∷_ 70 (L._∷_ 111 (L._∷_ 117 (L._∷_ 110 (L._∷_ 100 L.[]))))))))))))))))))) (Syntax.tcons Syntax.tyBool (Syntax.tcons Syntax.tyBool (Syntax.tcons (Syntax.tyStruct (L._∷_ 115 (L._∷_ 116 (L._∷_ 101 (L._∷_ 112 (L._∷_ 58 (L._∷_ 58 (L._∷_ 83 (L._∷_ 116 (L._∷_ 101 (L._∷_ 112 L.[])))))))))) (Syntax.tcons (Syntax.tyInt Syntax.w64) (Syntax.tcons (Syntax.tyInt Syntax.w64) (Syntax.tcons (Syntax.tyStruct (L._∷_ 115 (L._∷_ 116 (L._∷_ 101 (L._∷_ 112 (L._∷_ 58 (L._∷_ 58 (L._∷_ 67 (L._∷_ 104 (L._∷_ 97 (L._∷_ 110 (L._∷_ 103 (L._∷_ 101 L.[])))))))))))) (Syntax.tcons (Syntax.tyStruct (L._∷_ 110 (L._∷_ 101 (L._∷_ 116 (L._∷_ 119 (L._∷_ 111 (L._∷_ 114 (L._∷_ 107 (L._∷_ 58 (L._∷_ 58 (L._∷_ 69 (L._∷_ 100 (L._∷_ 105 (L._∷_ 116 L.[]))))))))))))) (Syntax.tcons q9 (Syntax.tcons q9 (Syntax.tcons q9 (Syntax.tcons q9 (Syntax.tcons q3 (Syntax.tcons q3 (Syntax.tcons (Syntax.tyInt Syntax.w64) Syntax.tnil)))))))) (Syntax.tcons (Syntax.tyStruct (L._∷_ 115 (L._∷_ 116 (L._∷_ 101 (L._∷_ 112 (L._∷_ 58 (L._∷_ 58 (L._∷_ 79 (L._∷_ 108 (L._∷_ 100 L.[]))))))))) (Syntax.tcons (Syntax.tyInt Syntax.w64) (Syntax.tcons q8 (Syntax.tcons q9 (Syntax.tcons q9 (Syntax.tcons q9 (Syntax.tcons q9 (Syntax.tcons q5 Syntax.tnil)))))))) Syntax.tnil))) Syntax.tnil)))) Syntax.tnil))))) (L._∷_ q29 (L._∷_ q36 (L._∷_ q39 (L._∷_ q40 (L._∷_ q26 L.[])))))))))))))))
 
 abbrev pub t10 : L.List Row.Entry
-t10 = L._∷_ (0, Rows.any-gone (Syntax.tyStruct (L._∷_ 115 (L._∷_ 101 (L._∷_ 97 (L._∷_ 114 (L._∷_ 99 (L._∷_ 104 (L._∷_ 58 (L._∷_ 58 (L._∷_ 115 (L._∷_ 99 (L._∷_ 97 (L._∷_ 110 (L._∷_ 58 (L._∷_ 58 (L._∷_ 70 (L._∷_ 111 (L._∷_ 117 (L._∷_ 110 (L._∷_ 100 L.[]))))))))))))))))))) (Syntax.tcons Syntax.tyBool (Syntax.tcons Syntax.tyBool (Syntax.tcons (Syntax.tyStruct (L._∷_ 115 (L._∷_ 116 (L._∷_ 101 (L._∷_ 112 (L._∷_ 58 (L._∷_ 58 (L._∷_ 83 (L._∷_ 116 (L._∷_ 101 (L._∷_ 112 L.[])))))))))) (Syntax.tcons (Syntax.tyInt Syntax.w64) (Syntax.tcons (Syntax.tyInt Syntax.w64) (Syntax.tcons (Syntax.tyStruct (L._∷_ 115 (L._∷_ 116 (L._∷_ 101 (L._∷_ 112 (L._∷_ 58 (L._∷_ 58 (L._∷_ 67 (L._∷_ 104 (L._∷_ 97 (L._∷_ 110 (L._∷_ 103 (L._∷_ 101 L.[])))))))))))) (Syntax.tcons (Syntax.tyStruct (L._∷_ 110 (L._∷_ 101 (L._∷_ 116 (L._∷_ 119 (L._∷_ 111 (L._∷_ 114 (L._∷_ 107 (L._∷_ 58 (L._∷_ 58 (L._∷_ 69 (L._∷_ 100 (L._∷_ 105 (L._∷_ 116 L.[]))))))))))))) (Syntax.tcons q9 (Syntax.tcons q9 (Syntax.tcons q9 (Syntax.tcons q9 (Syntax.tcons q3 (Syntax.tcons q3 (Syntax.tcons (Syntax.tyInt Syntax.w64) Syntax.tnil)))))))) (Syntax.tcons (Syntax.tyStruct (L._∷_ 115 (L._∷_ 116 (L._∷_ 101 (L._∷_ 112 (L._∷_ 58 (L._∷_ 58 (L._∷_ 79 (L._∷_ 108 (L._∷_ 100 L.[]))))))))) (Syntax.tcons (Syntax.tyInt Syntax.w64) (Syntax.tcons q8 (Syntax.tcons q9 (Syntax.tcons q9 (Syntax.tcons q9 (Syntax.tcons q9 (Syntax.tcons q5 Syntax.tnil)))))))) Syntax.tnil))) Syntax.tnil)))) Syntax.tnil))))) (L._∷_ q1 (L._∷_ q13 (L._∷_ q11 (L._∷_ q31 (L._∷_ q17 (L._∷_ q15 (L._∷_ q32 (L._∷_ q28 (L._∷_ (9, Rows.any-gone (Syntax.tyStruct (L._∷_ 115 (L._∷_ 101 (L._∷_ 97 (L._∷_ 114 (L._∷_ 99 (L._∷_ 104 (L._∷_ 58 (L._∷_ 58 (L._∷_ 115 (L._∷_ 99 (L._∷_ 97 (L._∷_ 110 (L._∷_ 58 (L._∷_ 58 (L._∷_ 65 (L._∷_ 114 (L._∷_ 111 (L._∷_ 117 (L._∷_ 110 (L._∷_ 100 L.[])))))))))))))))))))) (Syntax.tcons q9 (Syntax.tcons q9 (Syntax.tcons q9 (Syntax.tcons q9 Syntax.tnil)))))) (L._∷_ (10, Rows.any-gone (Syntax.tyStruct (L._∷_ 115 (L._∷_ 101 (L._∷_ 97 (L._∷_ 114 (L._∷_ 99 (L._∷_ 104 (L._∷_ 58 (L._∷_ 58 (L._∷_ 115 (L._∷_ 99 (L._∷_ 97 (L._∷_ 110 (L._∷_ 58 (L._∷_ 58 (L._∷_ 70 (L._∷_ 111 (L._∷_ 117 (L._∷_ 110 (L._∷_ 100 L.[]))))))))))))))))))) (Syntax.tcons Syntax.tyBool (Syntax.tcons Syntax.tyBool (Syntax.tcons (Syntax.tyStruct (L._∷_ 115 (L._∷_ 116 (L._∷_ 101 (L._∷_ 112 (L._∷_ 58 (L._∷_ 58 (L._∷_ 83 (L._∷_ 116 (L._∷_ 101 (L._∷_ 112 L.[])))))))))) (Syntax.tcons (Syntax.tyInt Syntax.w64) (Syntax.tcons (Syntax.tyInt Syntax.w64) (Syntax.tcons (Syntax.tyStruct (L._∷_ 115 (L._∷_ 116 (L._∷_ 101 (L._∷_ 112 (L._∷_ 58 (L._∷_ 58 (L._∷_ 67 (L._∷_ 104 (L._∷_ 97 (L._∷_ 110 (L._∷_ 103 (L._∷_ 101 L.[])))))))))))) (Syntax.tcons (Syntax.tyStruct (L._∷_ 110 (L._∷_ 101 (L._∷_ 116 (L._∷_ 119 (L._∷_ 111 (L._∷_ 114 (L._∷_ 107 (L._∷_ 58 (L._∷_ 58 (L._∷_ 69 (L._∷_ 100 (L._∷_ 105 (L._∷_ 116 L.[]))))))))))))) (Syntax.tcons q9 (Syntax.tcons q9 (Syntax.tcons q9 (Syntax.tcons q9 (Syntax.tcons q3 (Syntax.tcons q3 (Syntax.tcons (Syntax.tyInt Syntax.w64) Syntax.tnil)))))))) (Syntax.tcons (Syntax.tyStruct (L._∷_ 115 (L._∷_ 116 (L._∷_ 101 (L._∷_ 112 (L._∷_ 58 (L._∷_ 58 (L._∷_ 79 (L._∷_ 108 (L._∷_ 100 L.[]))))))))) (Syntax.tcons (Syntax.tyInt Syntax.w64) (Syntax.tcons q8 (Syntax.tcons q9 (Syntax.tcons q9 (Syntax.tcons q9 (Syntax.tcons q9 (Syntax.tcons q5 Syntax.tnil)))))))) Syntax.tnil))) Syntax.tnil)))) Syntax.tnil))))) (L._∷_ q29 (L._∷_ (12, Rows.sc-here Row.sBool) (L._∷_ q39 (L._∷_ q40 (L._∷_ q26 L.[])))))))))))))))
+t10 = L._∷_ (0, Rows.any-gone (Syntax.tyStruct (L._∷_ 114 (L._∷_ 117 (L._∷_ 108 (L._∷_ 101 (L._∷_ 115 (L._∷_ 58 (L._∷_ 58 (L._∷_ 102 (L._∷_ 111 (L._∷_ 117 (L._∷_ 110 (L._∷_ 100 (L._∷_ 58 (L._∷_ 58 (L._∷_ 70 (L._∷_ 111 (L._∷_ 117 (L._∷_ 110 (L._∷_ 100 L.[]))))))))))))))))))) (Syntax.tcons Syntax.tyBool (Syntax.tcons Syntax.tyBool (Syntax.tcons (Syntax.tyStruct (L._∷_ 115 (L._∷_ 116 (L._∷_ 101 (L._∷_ 112 (L._∷_ 58 (L._∷_ 58 (L._∷_ 83 (L._∷_ 116 (L._∷_ 101 (L._∷_ 112 L.[])))))))))) (Syntax.tcons (Syntax.tyInt Syntax.w64) (Syntax.tcons (Syntax.tyInt Syntax.w64) (Syntax.tcons (Syntax.tyStruct (L._∷_ 115 (L._∷_ 116 (L._∷_ 101 (L._∷_ 112 (L._∷_ 58 (L._∷_ 58 (L._∷_ 67 (L._∷_ 104 (L._∷_ 97 (L._∷_ 110 (L._∷_ 103 (L._∷_ 101 L.[])))))))))))) (Syntax.tcons (Syntax.tyStruct (L._∷_ 110 (L._∷_ 101 (L._∷_ 116 (L._∷_ 119 (L._∷_ 111 (L._∷_ 114 (L._∷_ 107 (L._∷_ 58 (L._∷_ 58 (L._∷_ 69 (L._∷_ 100 (L._∷_ 105 (L._∷_ 116 L.[]))))))))))))) (Syntax.tcons q9 (Syntax.tcons q9 (Syntax.tcons q9 (Syntax.tcons q9 (Syntax.tcons q3 (Syntax.tcons q3 (Syntax.tcons (Syntax.tyInt Syntax.w64) Syntax.tnil)))))))) (Syntax.tcons (Syntax.tyStruct (L._∷_ 115 (L._∷_ 116 (L._∷_ 101 (L._∷_ 112 (L._∷_ 58 (L._∷_ 58 (L._∷_ 79 (L._∷_ 108 (L._∷_ 100 L.[]))))))))) (Syntax.tcons (Syntax.tyInt Syntax.w64) (Syntax.tcons q8 (Syntax.tcons q9 (Syntax.tcons q9 (Syntax.tcons q9 (Syntax.tcons q9 (Syntax.tcons q5 Syntax.tnil)))))))) Syntax.tnil))) Syntax.tnil)))) Syntax.tnil))))) (L._∷_ q1 (L._∷_ q13 (L._∷_ q11 (L._∷_ q31 (L._∷_ q20 (L._∷_ q17 (L._∷_ q32 (L._∷_ q28 (L._∷_ (9, Rows.any-gone (Syntax.tyStruct (L._∷_ 114 (L._∷_ 117 (L._∷_ 108 (L._∷_ 101 (L._∷_ 115 (L._∷_ 58 (L._∷_ 58 (L._∷_ 116 (L._∷_ 114 (L._∷_ 105 (L._∷_ 101 (L._∷_ 100 (L._∷_ 58 (L._∷_ 58 (L._∷_ 65 (L._∷_ 114 (L._∷_ 111 (L._∷_ 117 (L._∷_ 110 (L._∷_ 100 L.[])))))))))))))))))))) (Syntax.tcons q9 (Syntax.tcons q9 (Syntax.tcons q9 (Syntax.tcons q9 Syntax.tnil)))))) (L._∷_ (10, Rows.any-gone (Syntax.tyStruct (L._∷_ 114 (L._∷_ 117 (L._∷_ 108 (L._∷_ 101 (L._∷_ 115 (L._∷_ 58 (L._∷_ 58 (L._∷_ 102 (L._∷_ 111 (L._∷_ 117 (L._∷_ 110 (L._∷_ 100 (L._∷_ 58 (L._∷_ 58 (L._∷_ 70 (L._∷_ 111 (L._∷_ 117 (L._∷_ 110 (L._∷_ 100 L.[]))))))))))))))))))) (Syntax.tcons Syntax.tyBool (Syntax.tcons Syntax.tyBool (Syntax.tcons (Syntax.tyStruct (L._∷_ 115 (L._∷_ 116 (L._∷_ 101 (L._∷_ 112 (L._∷_ 58 (L._∷_ 58 (L._∷_ 83 (L._∷_ 116 (L._∷_ 101 (L._∷_ 112 L.[])))))))))) (Syntax.tcons (Syntax.tyInt Syntax.w64) (Syntax.tcons (Syntax.tyInt Syntax.w64) (Syntax.tcons (Syntax.tyStruct (L._∷_ 115 (L._∷_ 116 (L._∷_ 101 (L._∷_ 112 (L._∷_ 58 (L._∷_ 58 (L._∷_ 67 (L._∷_ 104 (L._∷_ 97 (L._∷_ 110 (L._∷_ 103 (L._∷_ 101 L.[])))))))))))) (Syntax.tcons (Syntax.tyStruct (L._∷_ 110 (L._∷_ 101 (L._∷_ 116 (L._∷_ 119 (L._∷_ 111 (L._∷_ 114 (L._∷_ 107 (L._∷_ 58 (L._∷_ 58 (L._∷_ 69 (L._∷_ 100 (L._∷_ 105 (L._∷_ 116 L.[]))))))))))))) (Syntax.tcons q9 (Syntax.tcons q9 (Syntax.tcons q9 (Syntax.tcons q9 (Syntax.tcons q3 (Syntax.tcons q3 (Syntax.tcons (Syntax.tyInt Syntax.w64) Syntax.tnil)))))))) (Syntax.tcons (Syntax.tyStruct (L._∷_ 115 (L._∷_ 116 (L._∷_ 101 (L._∷_ 112 (L._∷_ 58 (L._∷_ 58 (L._∷_ 79 (L._∷_ 108 (L._∷_ 100 L.[]))))))))) (Syntax.tcons (Syntax.tyInt Syntax.w64) (Syntax.tcons q8 (Syntax.tcons q9 (Syntax.tcons q9 (Syntax.tcons q9 (Syntax.tcons q9 (Syntax.tcons q5 Syntax.tnil)))))))) Syntax.tnil))) Syntax.tnil)))) Syntax.tnil))))) (L._∷_ q29 (L._∷_ (12, Rows.sc-here Row.sBool) (L._∷_ q39 (L._∷_ q40 (L._∷_ q26 L.[])))))))))))))))
 
 abbrev pub t11 : L.List Row.Entry
-t11 = L._∷_ (0, Rows.any-gone (Syntax.tyStruct (L._∷_ 115 (L._∷_ 101 (L._∷_ 97 (L._∷_ 114 (L._∷_ 99 (L._∷_ 104 (L._∷_ 58 (L._∷_ 58 (L._∷_ 115 (L._∷_ 99 (L._∷_ 97 (L._∷_ 110 (L._∷_ 58 (L._∷_ 58 (L._∷_ 70 (L._∷_ 111 (L._∷_ 117 (L._∷_ 110 (L._∷_ 100 L.[]))))))))))))))))))) (Syntax.tcons Syntax.tyBool (Syntax.tcons Syntax.tyBool (Syntax.tcons (Syntax.tyStruct (L._∷_ 115 (L._∷_ 116 (L._∷_ 101 (L._∷_ 112 (L._∷_ 58 (L._∷_ 58 (L._∷_ 83 (L._∷_ 116 (L._∷_ 101 (L._∷_ 112 L.[])))))))))) (Syntax.tcons (Syntax.tyInt Syntax.w64) (Syntax.tcons (Syntax.tyInt Syntax.w64) (Syntax.tcons (Syntax.tyStruct (L._∷_ 115 (L._∷_ 116 (L._∷_ 101 (L._∷_ 112 (L._∷_ 58 (L._∷_ 58 (L._∷_ 67 (L._∷_ 104 (L._∷_ 97 (L._∷_ 110 (L._∷_ 103 (L._∷_ 101 L.[])))))))))))) (Syntax.tcons (Syntax.tyStruct (L._∷_ 110 (L._∷_ 101 (L._∷_ 116 (L._∷_ 119 (L._∷_ 111 (L._∷_ 114 (L._∷_ 107 (L._∷_ 58 (L._∷_ 58 (L._∷_ 69 (L._∷_ 100 (L._∷_ 105 (L._∷_ 116 L.[]))))))))))))) (Syntax.tcons q9 (Syntax.tcons q9 (Syntax.tcons q9 (Syntax.tcons q9 (Syntax.tcons q3 (Syntax.tcons q3 (Syntax.tcons (Syntax.tyInt Syntax.w64) Syntax.tnil)))))))) (Syntax.tcons (Syntax.tyStruct (L._∷_ 115 (L._∷_ 116 (L._∷_ 101 (L._∷_ 112 (L._∷_ 58 (L._∷_ 58 (L._∷_ 79 (L._∷_ 108 (L._∷_ 100 L.[]))))))))) (Syntax.tcons (Syntax.tyInt Syntax.w64) (Syntax.tcons q8 (Syntax.tcons q9 (Syntax.tcons q9 (Syntax.tcons q9 (Syntax.tcons q9 (Syntax.tcons q5 Syntax.tnil)))))))) Syntax.tnil))) Syntax.tnil)))) Syntax.tnil))))) (L._∷_ q1 (L._∷_ q13 (L._∷_ q11 (L._∷_ q31 (L._∷_ q17 (L._∷_ q15 (L._∷_ q32 (L._∷_ q28 (L._∷_ (9, Rows.any-gone (Syntax.tyStruct (L._∷_ 115 (L._∷_ 101 (L._∷_ 97 (L._∷_ 114 (L._∷_ 99 (L._∷_ 104 (L._∷_ 58 (L._∷_ 58 (L._∷_ 115 (L._∷_ 99 (L._∷_ 97 (L._∷_ 110 (L._∷_ 58 (L._∷_ 58 (L._∷_ 65 (L._∷_ 114 (L._∷_ 111 (L._∷_ 117 (L._∷_ 110 (L._∷_ 100 L.[])))))))))))))))))))) (Syntax.tcons q9 (Syntax.tcons q9 (Syntax.tcons q9 (Syntax.tcons q9 Syntax.tnil)))))) (L._∷_ (10, Rows.any-gone (Syntax.tyStruct (L._∷_ 115 (L._∷_ 101 (L._∷_ 97 (L._∷_ 114 (L._∷_ 99 (L._∷_ 104 (L._∷_ 58 (L._∷_ 58 (L._∷_ 115 (L._∷_ 99 (L._∷_ 97 (L._∷_ 110 (L._∷_ 58 (L._∷_ 58 (L._∷_ 70 (L._∷_ 111 (L._∷_ 117 (L._∷_ 110 (L._∷_ 100 L.[]))))))))))))))))))) (Syntax.tcons Syntax.tyBool (Syntax.tcons Syntax.tyBool (Syntax.tcons (Syntax.tyStruct (L._∷_ 115 (L._∷_ 116 (L._∷_ 101 (L._∷_ 112 (L._∷_ 58 (L._∷_ 58 (L._∷_ 83 (L._∷_ 116 (L._∷_ 101 (L._∷_ 112 L.[])))))))))) (Syntax.tcons (Syntax.tyInt Syntax.w64) (Syntax.tcons (Syntax.tyInt Syntax.w64) (Syntax.tcons (Syntax.tyStruct (L._∷_ 115 (L._∷_ 116 (L._∷_ 101 (L._∷_ 112 (L._∷_ 58 (L._∷_ 58 (L._∷_ 67 (L._∷_ 104 (L._∷_ 97 (L._∷_ 110 (L._∷_ 103 (L._∷_ 101 L.[])))))))))))) (Syntax.tcons (Syntax.tyStruct (L._∷_ 110 (L._∷_ 101 (L._∷_ 116 (L._∷_ 119 (L._∷_ 111 (L._∷_ 114 (L._∷_ 107 (L._∷_ 58 (L._∷_ 58 (L._∷_ 69 (L._∷_ 100 (L._∷_ 105 (L._∷_ 116 L.[]))))))))))))) (Syntax.tcons q9 (Syntax.tcons q9 (Syntax.tcons q9 (Syntax.tcons q9 (Syntax.tcons q3 (Syntax.tcons q3 (Syntax.tcons (Syntax.tyInt Syntax.w64) Syntax.tnil)))))))) (Syntax.tcons (Syntax.tyStruct (L._∷_ 115 (L._∷_ 116 (L._∷_ 101 (L._∷_ 112 (L._∷_ 58 (L._∷_ 58 (L._∷_ 79 (L._∷_ 108 (L._∷_ 100 L.[]))))))))) (Syntax.tcons (Syntax.tyInt Syntax.w64) (Syntax.tcons q8 (Syntax.tcons q9 (Syntax.tcons q9 (Syntax.tcons q9 (Syntax.tcons q9 (Syntax.tcons q5 Syntax.tnil)))))))) Syntax.tnil))) Syntax.tnil)))) Syntax.tnil))))) (L._∷_ q25 (L._∷_ (12, Rows.sc-here Row.sBool) (L._∷_ q39 (L._∷_ q40 (L._∷_ q26 L.[])))))))))))))))
+t11 = L._∷_ (0, Rows.any-gone (Syntax.tyStruct (L._∷_ 114 (L._∷_ 117 (L._∷_ 108 (L._∷_ 101 (L._∷_ 115 (L._∷_ 58 (L._∷_ 58 (L._∷_ 102 (L._∷_ 111 (L._∷_ 117 (L._∷_ 110 (L._∷_ 100 (L._∷_ 58 (L._∷_ 58 (L._∷_ 70 (L._∷_ 111 (L._∷_ 117 (L._∷_ 110 (L._∷_ 100 L.[]))))))))))))))))))) (Syntax.tcons Syntax.tyBool (Syntax.tcons Syntax.tyBool (Syntax.tcons (Syntax.tyStruct (L._∷_ 115 (L._∷_ 116 (L._∷_ 101 (L._∷_ 112 (L._∷_ 58 (L._∷_ 58 (L._∷_ 83 (L._∷_ 116 (L._∷_ 101 (L._∷_ 112 L.[])))))))))) (Syntax.tcons (Syntax.tyInt Syntax.w64) (Syntax.tcons (Syntax.tyInt Syntax.w64) (Syntax.tcons (Syntax.tyStruct (L._∷_ 115 (L._∷_ 116 (L._∷_ 101 (L._∷_ 112 (L._∷_ 58 (L._∷_ 58 (L._∷_ 67 (L._∷_ 104 (L._∷_ 97 (L._∷_ 110 (L._∷_ 103 (L._∷_ 101 L.[])))))))))))) (Syntax.tcons (Syntax.tyStruct (L._∷_ 110 (L._∷_ 101 (L._∷_ 116 (L._∷_ 119 (L._∷_ 111 (L._∷_ 114 (L._∷_ 107 (L._∷_ 58 (L._∷_ 58 (L._∷_ 69 (L._∷_ 100 (L._∷_ 105 (L._∷_ 116 L.[]))))))))))))) (Syntax.tcons q9 (Syntax.tcons q9 (Syntax.tcons q9 (Syntax.tcons q9 (Syntax.tcons q3 (Syntax.tcons q3 (Syntax.tcons (Syntax.tyInt Syntax.w64) Syntax.tnil)))))))) (Syntax.tcons (Syntax.tyStruct (L._∷_ 115 (L._∷_ 116 (L._∷_ 101 (L._∷_ 112 (L._∷_ 58 (L._∷_ 58 (L._∷_ 79 (L._∷_ 108 (L._∷_ 100 L.[]))))))))) (Syntax.tcons (Syntax.tyInt Syntax.w64) (Syntax.tcons q8 (Syntax.tcons q9 (Syntax.tcons q9 (Syntax.tcons q9 (Syntax.tcons q9 (Syntax.tcons q5 Syntax.tnil)))))))) Syntax.tnil))) Syntax.tnil)))) Syntax.tnil))))) (L._∷_ q1 (L._∷_ q13 (L._∷_ q11 (L._∷_ q31 (L._∷_ q20 (L._∷_ q17 (L._∷_ q32 (L._∷_ q28 (L._∷_ (9, Rows.any-gone (Syntax.tyStruct (L._∷_ 114 (L._∷_ 117 (L._∷_ 108 (L._∷_ 101 (L._∷_ 115 (L._∷_ 58 (L._∷_ 58 (L._∷_ 116 (L._∷_ 114 (L._∷_ 105 (L._∷_ 101 (L._∷_ 100 (L._∷_ 58 (L._∷_ 58 (L._∷_ 65 (L._∷_ 114 (L._∷_ 111 (L._∷_ 117 (L._∷_ 110 (L._∷_ 100 L.[])))))))))))))))))))) (Syntax.tcons q9 (Syntax.tcons q9 (Syntax.tcons q9 (Syntax.tcons q9 Syntax.tnil)))))) (L._∷_ (10, Rows.any-gone (Syntax.tyStruct (L._∷_ 114 (L._∷_ 117 (L._∷_ 108 (L._∷_ 101 (L._∷_ 115 (L._∷_ 58 (L._∷_ 58 (L._∷_ 102 (L._∷_ 111 (L._∷_ 117 (L._∷_ 110 (L._∷_ 100 (L._∷_ 58 (L._∷_ 58 (L._∷_ 70 (L._∷_ 111 (L._∷_ 117 (L._∷_ 110 (L._∷_ 100 L.[]))))))))))))))))))) (Syntax.tcons Syntax.tyBool (Syntax.tcons Syntax.tyBool (Syntax.tcons (Syntax.tyStruct (L._∷_ 115 (L._∷_ 116 (L._∷_ 101 (L._∷_ 112 (L._∷_ 58 (L._∷_ 58 (L._∷_ 83 (L._∷_ 116 (L._∷_ 101 (L._∷_ 112 L.[])))))))))) (Syntax.tcons (Syntax.tyInt Syntax.w64) (Syntax.tcons (Syntax.tyInt Syntax.w64) (Syntax.tcons (Syntax.tyStruct (L._∷_ 115 (L._∷_ 116 (L._∷_ 101 (L._∷_ 112 (L._∷_ 58 (L._∷_ 58 (L._∷_ 67 (L._∷_ 104 (L._∷_ 97 (L._∷_ 110 (L._∷_ 103 (L._∷_ 101 L.[])))))))))))) (Syntax.tcons (Syntax.tyStruct (L._∷_ 110 (L._∷_ 101 (L._∷_ 116 (L._∷_ 119 (L._∷_ 111 (L._∷_ 114 (L._∷_ 107 (L._∷_ 58 (L._∷_ 58 (L._∷_ 69 (L._∷_ 100 (L._∷_ 105 (L._∷_ 116 L.[]))))))))))))) (Syntax.tcons q9 (Syntax.tcons q9 (Syntax.tcons q9 (Syntax.tcons q9 (Syntax.tcons q3 (Syntax.tcons q3 (Syntax.tcons (Syntax.tyInt Syntax.w64) Syntax.tnil)))))))) (Syntax.tcons (Syntax.tyStruct (L._∷_ 115 (L._∷_ 116 (L._∷_ 101 (L._∷_ 112 (L._∷_ 58 (L._∷_ 58 (L._∷_ 79 (L._∷_ 108 (L._∷_ 100 L.[]))))))))) (Syntax.tcons (Syntax.tyInt Syntax.w64) (Syntax.tcons q8 (Syntax.tcons q9 (Syntax.tcons q9 (Syntax.tcons q9 (Syntax.tcons q9 (Syntax.tcons q5 Syntax.tnil)))))))) Syntax.tnil))) Syntax.tnil)))) Syntax.tnil))))) (L._∷_ q25 (L._∷_ (12, Rows.sc-here Row.sBool) (L._∷_ q39 (L._∷_ q40 (L._∷_ q26 L.[])))))))))))))))
 
 abbrev pub t12 : L.List Row.Entry
-t12 = L._∷_ (0, Rows.any-gone (Syntax.tyStruct (L._∷_ 115 (L._∷_ 101 (L._∷_ 97 (L._∷_ 114 (L._∷_ 99 (L._∷_ 104 (L._∷_ 58 (L._∷_ 58 (L._∷_ 115 (L._∷_ 99 (L._∷_ 97 (L._∷_ 110 (L._∷_ 58 (L._∷_ 58 (L._∷_ 70 (L._∷_ 111 (L._∷_ 117 (L._∷_ 110 (L._∷_ 100 L.[]))))))))))))))))))) (Syntax.tcons Syntax.tyBool (Syntax.tcons Syntax.tyBool (Syntax.tcons (Syntax.tyStruct (L._∷_ 115 (L._∷_ 116 (L._∷_ 101 (L._∷_ 112 (L._∷_ 58 (L._∷_ 58 (L._∷_ 83 (L._∷_ 116 (L._∷_ 101 (L._∷_ 112 L.[])))))))))) (Syntax.tcons (Syntax.tyInt Syntax.w64) (Syntax.tcons (Syntax.tyInt Syntax.w64) (Syntax.tcons (Syntax.tyStruct (L._∷_ 115 (L._∷_ 116 (L._∷_ 101 (L._∷_ 112 (L._∷_ 58 (L._∷_ 58 (L._∷_ 67 (L._∷_ 104 (L._∷_ 97 (L._∷_ 110 (L._∷_ 103 (L._∷_ 101 L.[])))))))))))) (Syntax.tcons (Syntax.tyStruct (L._∷_ 110 (L._∷_ 101 (L._∷_ 116 (L._∷_ 119 (L._∷_ 111 (L._∷_ 114 (L._∷_ 107 (L._∷_ 58 (L._∷_ 58 (L._∷_ 69 (L._∷_ 100 (L._∷_ 105 (L._∷_ 116 L.[]))))))))))))) (Syntax.tcons q9 (Syntax.tcons q9 (Syntax.tcons q9 (Syntax.tcons q9 (Syntax.tcons q3 (Syntax.tcons q3 (Syntax.tcons (Syntax.tyInt Syntax.w64) Syntax.tnil)))))))) (Syntax.tcons (Syntax.tyStruct (L._∷_ 115 (L._∷_ 116 (L._∷_ 101 (L._∷_ 112 (L._∷_ 58 (L._∷_ 58 (L._∷_ 79 (L._∷_ 108 (L._∷_ 100 L.[]))))))))) (Syntax.tcons (Syntax.tyInt Syntax.w64) (Syntax.tcons q8 (Syntax.tcons q9 (Syntax.tcons q9 (Syntax.tcons q9 (Syntax.tcons q9 (Syntax.tcons q5 Syntax.tnil)))))))) Syntax.tnil))) Syntax.tnil)))) Syntax.tnil))))) (L._∷_ q1 (L._∷_ q13 (L._∷_ q11 (L._∷_ q31 (L._∷_ q0 (L._∷_ q15 (L._∷_ q32 (L._∷_ q28 (L._∷_ (9, Rows.any-gone (Syntax.tyStruct (L._∷_ 115 (L._∷_ 101 (L._∷_ 97 (L._∷_ 114 (L._∷_ 99 (L._∷_ 104 (L._∷_ 58 (L._∷_ 58 (L._∷_ 115 (L._∷_ 99 (L._∷_ 97 (L._∷_ 110 (L._∷_ 58 (L._∷_ 58 (L._∷_ 65 (L._∷_ 114 (L._∷_ 111 (L._∷_ 117 (L._∷_ 110 (L._∷_ 100 L.[])))))))))))))))))))) (Syntax.tcons q9 (Syntax.tcons q9 (Syntax.tcons q9 (Syntax.tcons q9 Syntax.tnil)))))) (L._∷_ (10, Rows.any-gone (Syntax.tyStruct (L._∷_ 115 (L._∷_ 101 (L._∷_ 97 (L._∷_ 114 (L._∷_ 99 (L._∷_ 104 (L._∷_ 58 (L._∷_ 58 (L._∷_ 115 (L._∷_ 99 (L._∷_ 97 (L._∷_ 110 (L._∷_ 58 (L._∷_ 58 (L._∷_ 70 (L._∷_ 111 (L._∷_ 117 (L._∷_ 110 (L._∷_ 100 L.[]))))))))))))))))))) (Syntax.tcons Syntax.tyBool (Syntax.tcons Syntax.tyBool (Syntax.tcons (Syntax.tyStruct (L._∷_ 115 (L._∷_ 116 (L._∷_ 101 (L._∷_ 112 (L._∷_ 58 (L._∷_ 58 (L._∷_ 83 (L._∷_ 116 (L._∷_ 101 (L._∷_ 112 L.[])))))))))) (Syntax.tcons (Syntax.tyInt Syntax.w64) (Syntax.tcons (Syntax.tyInt Syntax.w64) (Syntax.tcons (Syntax.tyStruct (L._∷_ 115 (L._∷_ 116 (L._∷_ 101 (L._∷_ 112 (L._∷_ 58 (L._∷_ 58 (L._∷_ 67 (L._∷_ 104 (L._∷_ 97 (L._∷_ 110 (L._∷_ 103 (L._∷_ 101 L.[])))))))))))) (Syntax.tcons (Syntax.tyStruct (L._∷_ 110 (L._∷_ 101 (L._∷_ 116 (L._∷_ 119 (L._∷_ 111 (L._∷_ 114 (L._∷_ 107 (L._∷_ 58 (L._∷_ 58 (L._∷_ 69 (L._∷_ 100 (L._∷_ 105 (L._∷_ 116 L.[]))))))))))))) (Syntax.tcons q9 (Syntax.tcons q9 (Syntax.tcons q9 (Syntax.tcons q9 (Syntax.tcons q3 (Syntax.tcons q3 (Syntax.tcons (Syntax.tyInt Syntax.w64) Syntax.tnil)))))))) (Syntax.tcons (Syntax.tyStruct (L._∷_ 115 (L._∷_ 116 (L._∷_ 101 (L._∷_ 112 (L._∷_ 58 (L._∷_ 58 (L._∷_ 79 (L._∷_ 108 (L._∷_ 100 L.[]))))))))) (Syntax.tcons (Syntax.tyInt Syntax.w64) (Syntax.tcons q8 (Syntax.tcons q9 (Syntax.tcons q9 (Syntax.tcons q9 (Syntax.tcons q9 (Syntax.tcons q5 Syntax.tnil)))))))) Syntax.tnil))) Syntax.tnil)))) Syntax.tnil))))) (L._∷_ q25 (L._∷_ (12, Rows.sc-here Row.sBool) (L._∷_ q39 (L._∷_ q40 (L._∷_ q26 L.[])))))))))))))))
+t12 = L._∷_ (0, Rows.any-gone (Syntax.tyStruct (L._∷_ 114 (L._∷_ 117 (L._∷_ 108 (L._∷_ 101 (L._∷_ 115 (L._∷_ 58 (L._∷_ 58 (L._∷_ 102 (L._∷_ 111 (L._∷_ 117 (L._∷_ 110 (L._∷_ 100 (L._∷_ 58 (L._∷_ 58 (L._∷_ 70 (L._∷_ 111 (L._∷_ 117 (L._∷_ 110 (L._∷_ 100 L.[]))))))))))))))))))) (Syntax.tcons Syntax.tyBool (Syntax.tcons Syntax.tyBool (Syntax.tcons (Syntax.tyStruct (L._∷_ 115 (L._∷_ 116 (L._∷_ 101 (L._∷_ 112 (L._∷_ 58 (L._∷_ 58 (L._∷_ 83 (L._∷_ 116 (L._∷_ 101 (L._∷_ 112 L.[])))))))))) (Syntax.tcons (Syntax.tyInt Syntax.w64) (Syntax.tcons (Syntax.tyInt Syntax.w64) (Syntax.tcons (Syntax.tyStruct (L._∷_ 115 (L._∷_ 116 (L._∷_ 101 (L._∷_ 112 (L._∷_ 58 (L._∷_ 58 (L._∷_ 67 (L._∷_ 104 (L._∷_ 97 (L._∷_ 110 (L._∷_ 103 (L._∷_ 101 L.[])))))))))))) (Syntax.tcons (Syntax.tyStruct (L._∷_ 110 (L._∷_ 101 (L._∷_ 116 (L._∷_ 119 (L._∷_ 111 (L._∷_ 114 (L._∷_ 107 (L._∷_ 58 (L._∷_ 58 (L._∷_ 69 (L._∷_ 100 (L._∷_ 105 (L._∷_ 116 L.[]))))))))))))) (Syntax.tcons q9 (Syntax.tcons q9 (Syntax.tcons q9 (Syntax.tcons q9 (Syntax.tcons q3 (Syntax.tcons q3 (Syntax.tcons (Syntax.tyInt Syntax.w64) Syntax.tnil)))))))) (Syntax.tcons (Syntax.tyStruct (L._∷_ 115 (L._∷_ 116 (L._∷_ 101 (L._∷_ 112 (L._∷_ 58 (L._∷_ 58 (L._∷_ 79 (L._∷_ 108 (L._∷_ 100 L.[]))))))))) (Syntax.tcons (Syntax.tyInt Syntax.w64) (Syntax.tcons q8 (Syntax.tcons q9 (Syntax.tcons q9 (Syntax.tcons q9 (Syntax.tcons q9 (Syntax.tcons q5 Syntax.tnil)))))))) Syntax.tnil))) Syntax.tnil)))) Syntax.tnil))))) (L._∷_ q1 (L._∷_ q13 (L._∷_ q11 (L._∷_ q31 (L._∷_ q0 (L._∷_ q17 (L._∷_ q32 (L._∷_ q28 (L._∷_ (9, Rows.any-gone (Syntax.tyStruct (L._∷_ 114 (L._∷_ 117 (L._∷_ 108 (L._∷_ 101 (L._∷_ 115 (L._∷_ 58 (L._∷_ 58 (L._∷_ 116 (L._∷_ 114 (L._∷_ 105 (L._∷_ 101 (L._∷_ 100 (L._∷_ 58 (L._∷_ 58 (L._∷_ 65 (L._∷_ 114 (L._∷_ 111 (L._∷_ 117 (L._∷_ 110 (L._∷_ 100 L.[])))))))))))))))))))) (Syntax.tcons q9 (Syntax.tcons q9 (Syntax.tcons q9 (Syntax.tcons q9 Syntax.tnil)))))) (L._∷_ (10, Rows.any-gone (Syntax.tyStruct (L._∷_ 114 (L._∷_ 117 (L._∷_ 108 (L._∷_ 101 (L._∷_ 115 (L._∷_ 58 (L._∷_ 58 (L._∷_ 102 (L._∷_ 111 (L._∷_ 117 (L._∷_ 110 (L._∷_ 100 (L._∷_ 58 (L._∷_ 58 (L._∷_ 70 (L._∷_ 111 (L._∷_ 117 (L._∷_ 110 (L._∷_ 100 L.[]))))))))))))))))))) (Syntax.tcons Syntax.tyBool (Syntax.tcons Syntax.tyBool (Syntax.tcons (Syntax.tyStruct (L._∷_ 115 (L._∷_ 116 (L._∷_ 101 (L._∷_ 112 (L._∷_ 58 (L._∷_ 58 (L._∷_ 83 (L._∷_ 116 (L._∷_ 101 (L._∷_ 112 L.[])))))))))) (Syntax.tcons (Syntax.tyInt Syntax.w64) (Syntax.tcons (Syntax.tyInt Syntax.w64) (Syntax.tcons (Syntax.tyStruct (L._∷_ 115 (L._∷_ 116 (L._∷_ 101 (L._∷_ 112 (L._∷_ 58 (L._∷_ 58 (L._∷_ 67 (L._∷_ 104 (L._∷_ 97 (L._∷_ 110 (L._∷_ 103 (L._∷_ 101 L.[])))))))))))) (Syntax.tcons (Syntax.tyStruct (L._∷_ 110 (L._∷_ 101 (L._∷_ 116 (L._∷_ 119 (L._∷_ 111 (L._∷_ 114 (L._∷_ 107 (L._∷_ 58 (L._∷_ 58 (L._∷_ 69 (L._∷_ 100 (L._∷_ 105 (L._∷_ 116 L.[]))))))))))))) (Syntax.tcons q9 (Syntax.tcons q9 (Syntax.tcons q9 (Syntax.tcons q9 (Syntax.tcons q3 (Syntax.tcons q3 (Syntax.tcons (Syntax.tyInt Syntax.w64) Syntax.tnil)))))))) (Syntax.tcons (Syntax.tyStruct (L._∷_ 115 (L._∷_ 116 (L._∷_ 101 (L._∷_ 112 (L._∷_ 58 (L._∷_ 58 (L._∷_ 79 (L._∷_ 108 (L._∷_ 100 L.[]))))))))) (Syntax.tcons (Syntax.tyInt Syntax.w64) (Syntax.tcons q8 (Syntax.tcons q9 (Syntax.tcons q9 (Syntax.tcons q9 (Syntax.tcons q9 (Syntax.tcons q5 Syntax.tnil)))))))) Syntax.tnil))) Syntax.tnil)))) Syntax.tnil))))) (L._∷_ q25 (L._∷_ (12, Rows.sc-here Row.sBool) (L._∷_ q39 (L._∷_ q40 (L._∷_ q26 L.[])))))))))))))))
 
 abbrev pub t13 : L.List Row.Entry
-t13 = L._∷_ (0, Rows.any-gone (Syntax.tyStruct (L._∷_ 115 (L._∷_ 101 (L._∷_ 97 (L._∷_ 114 (L._∷_ 99 (L._∷_ 104 (L._∷_ 58 (L._∷_ 58 (L._∷_ 115 (L._∷_ 99 (L._∷_ 97 (L._∷_ 110 (L._∷_ 58 (L._∷_ 58 (L._∷_ 70 (L._∷_ 111 (L._∷_ 117 (L._∷_ 110 (L._∷_ 100 L.[]))))))))))))))))))) (Syntax.tcons Syntax.tyBool (Syntax.tcons Syntax.tyBool (Syntax.tcons (Syntax.tyStruct (L._∷_ 115 (L._∷_ 116 (L._∷_ 101 (L._∷_ 112 (L._∷_ 58 (L._∷_ 58 (L._∷_ 83 (L._∷_ 116 (L._∷_ 101 (L._∷_ 112 L.[])))))))))) (Syntax.tcons (Syntax.tyInt Syntax.w64) (Syntax.tcons (Syntax.tyInt Syntax.w64) (Syntax.tcons (Syntax.tyStruct (L._∷_ 115 (L._∷_ 116 (L._∷_ 101 (L._∷_ 112 (L._∷_ 58 (L._∷_ 58 (L._∷_ 67 (L._∷_ 104 (L._∷_ 97 (L._∷_ 110 (L._∷_ 103 (L._∷_ 101 L.[])))))))))))) (Syntax.tcons (Syntax.tyStruct (L._∷_ 110 (L._∷_ 101 (L._∷_ 116 (L._∷_ 119 (L._∷_ 111 (L._∷_ 114 (L._∷_ 107 (L._∷_ 58 (L._∷_ 58 (L._∷_ 69 (L._∷_ 100 (L._∷_ 105 (L._∷_ 116 L.[]))))))))))))) (Syntax.tcons q9 (Syntax.tcons q9 (Syntax.tcons q9 (Syntax.tcons q9 (Syntax.tcons q3 (Syntax.tcons q3 (Syntax.tcons (Syntax.tyInt Syntax.w64) Syntax.tnil)))))))) (Syntax.tcons (Syntax.tyStruct (L._∷_ 115 (L._∷_ 116 (L._∷_ 101 (L._∷_ 112 (L._∷_ 58 (L._∷_ 58 (L._∷_ 79 (L._∷_ 108 (L._∷_ 100 L.[]))))))))) (Syntax.tcons (Syntax.tyInt Syntax.w64) (Syntax.tcons q8 (Syntax.tcons q9 (Syntax.tcons q9 (Syntax.tcons q9 (Syntax.tcons q9 (Syntax.tcons q5 Syntax.tnil)))))))) Syntax.tnil))) Syntax.tnil)))) Syntax.tnil))))) (L._∷_ q1 (L._∷_ q13 (L._∷_ q11 (L._∷_ q31 (L._∷_ q0 (L._∷_ q10 (L._∷_ q32 (L._∷_ q28 (L._∷_ (9, Rows.any-gone (Syntax.tyStruct (L._∷_ 115 (L._∷_ 101 (L._∷_ 97 (L._∷_ 114 (L._∷_ 99 (L._∷_ 104 (L._∷_ 58 (L._∷_ 58 (L._∷_ 115 (L._∷_ 99 (L._∷_ 97 (L._∷_ 110 (L._∷_ 58 (L._∷_ 58 (L._∷_ 65 (L._∷_ 114 (L._∷_ 111 (L._∷_ 117 (L._∷_ 110 (L._∷_ 100 L.[])))))))))))))))))))) (Syntax.tcons q9 (Syntax.tcons q9 (Syntax.tcons q9 (Syntax.tcons q9 Syntax.tnil)))))) (L._∷_ (10, Rows.any-gone (Syntax.tyStruct (L._∷_ 115 (L._∷_ 101 (L._∷_ 97 (L._∷_ 114 (L._∷_ 99 (L._∷_ 104 (L._∷_ 58 (L._∷_ 58 (L._∷_ 115 (L._∷_ 99 (L._∷_ 97 (L._∷_ 110 (L._∷_ 58 (L._∷_ 58 (L._∷_ 70 (L._∷_ 111 (L._∷_ 117 (L._∷_ 110 (L._∷_ 100 L.[]))))))))))))))))))) (Syntax.tcons Syntax.tyBool (Syntax.tcons Syntax.tyBool (Syntax.tcons (Syntax.tyStruct (L._∷_ 115 (L._∷_ 116 (L._∷_ 101 (L._∷_ 112 (L._∷_ 58 (L._∷_ 58 (L._∷_ 83 (L._∷_ 116 (L._∷_ 101 (L._∷_ 112 L.[])))))))))) (Syntax.tcons (Syntax.tyInt Syntax.w64) (Syntax.tcons (Syntax.tyInt Syntax.w64) (Syntax.tcons (Syntax.tyStruct (L._∷_ 115 (L._∷_ 116 (L._∷_ 101 (L._∷_ 112 (L._∷_ 58 (L._∷_ 58 (L._∷_ 67 (L._∷_ 104 (L._∷_ 97 (L._∷_ 110 (L._∷_ 103 (L._∷_ 101 L.[])))))))))))) (Syntax.tcons (Syntax.tyStruct (L._∷_ 110 (L._∷_ 101 (L._∷_ 116 (L._∷_ 119 (L._∷_ 111 (L._∷_ 114 (L._∷_ 107 (L._∷_ 58 (L._∷_ 58 (L._∷_ 69 (L._∷_ 100 (L._∷_ 105 (L._∷_ 116 L.[]))))))))))))) (Syntax.tcons q9 (Syntax.tcons q9 (Syntax.tcons q9 (Syntax.tcons q9 (Syntax.tcons q3 (Syntax.tcons q3 (Syntax.tcons (Syntax.tyInt Syntax.w64) Syntax.tnil)))))))) (Syntax.tcons (Syntax.tyStruct (L._∷_ 115 (L._∷_ 116 (L._∷_ 101 (L._∷_ 112 (L._∷_ 58 (L._∷_ 58 (L._∷_ 79 (L._∷_ 108 (L._∷_ 100 L.[]))))))))) (Syntax.tcons (Syntax.tyInt Syntax.w64) (Syntax.tcons q8 (Syntax.tcons q9 (Syntax.tcons q9 (Syntax.tcons q9 (Syntax.tcons q9 (Syntax.tcons q5 Syntax.tnil)))))))) Syntax.tnil))) Syntax.tnil)))) Syntax.tnil))))) (L._∷_ q25 (L._∷_ (12, Rows.sc-here Row.sBool) (L._∷_ q39 (L._∷_ q40 (L._∷_ q26 L.[])))))))))))))))
+t13 = L._∷_ (0, Rows.any-gone (Syntax.tyStruct (L._∷_ 114 (L._∷_ 117 (L._∷_ 108 (L._∷_ 101 (L._∷_ 115 (L._∷_ 58 (L._∷_ 58 (L._∷_ 102 (L._∷_ 111 (L._∷_ 117 (L._∷_ 110 (L._∷_ 100 (L._∷_ 58 (L._∷_ 58 (L._∷_ 70 (L._∷_ 111 (L._∷_ 117 (L._∷_ 110 (L._∷_ 100 L.[]))))))))))))))))))) (Syntax.tcons Syntax.tyBool (Syntax.tcons Syntax.tyBool (Syntax.tcons (Syntax.tyStruct (L._∷_ 115 (L._∷_ 116 (L._∷_ 101 (L._∷_ 112 (L._∷_ 58 (L._∷_ 58 (L._∷_ 83 (L._∷_ 116 (L._∷_ 101 (L._∷_ 112 L.[])))))))))) (Syntax.tcons (Syntax.tyInt Syntax.w64) (Syntax.tcons (Syntax.tyInt Syntax.w64) (Syntax.tcons (Syntax.tyStruct (L._∷_ 115 (L._∷_ 116 (L._∷_ 101 (L._∷_ 112 (L._∷_ 58 (L._∷_ 58 (L._∷_ 67 (L._∷_ 104 (L._∷_ 97 (L._∷_ 110 (L._∷_ 103 (L._∷_ 101 L.[])))))))))))) (Syntax.tcons (Syntax.tyStruct (L._∷_ 110 (L._∷_ 101 (L._∷_ 116 (L._∷_ 119 (L._∷_ 111 (L._∷_ 114 (L._∷_ 107 (L._∷_ 58 (L._∷_ 58 (L._∷_ 69 (L._∷_ 100 (L._∷_ 105 (L._∷_ 116 L.[]))))))))))))) (Syntax.tcons q9 (Syntax.tcons q9 (Syntax.tcons q9 (Syntax.tcons q9 (Syntax.tcons q3 (Syntax.tcons q3 (Syntax.tcons (Syntax.tyInt Syntax.w64) Syntax.tnil)))))))) (Syntax.tcons (Syntax.tyStruct (L._∷_ 115 (L._∷_ 116 (L._∷_ 101 (L._∷_ 112 (L._∷_ 58 (L._∷_ 58 (L._∷_ 79 (L._∷_ 108 (L._∷_ 100 L.[]))))))))) (Syntax.tcons (Syntax.tyInt Syntax.w64) (Syntax.tcons q8 (Syntax.tcons q9 (Syntax.tcons q9 (Syntax.tcons q9 (Syntax.tcons q9 (Syntax.tcons q5 Syntax.tnil)))))))) Syntax.tnil))) Syntax.tnil)))) Syntax.tnil))))) (L._∷_ q1 (L._∷_ q13 (L._∷_ q11 (L._∷_ q31 (L._∷_ q0 (L._∷_ q10 (L._∷_ q32 (L._∷_ q28 (L._∷_ (9, Rows.any-gone (Syntax.tyStruct (L._∷_ 114 (L._∷_ 117 (L._∷_ 108 (L._∷_ 101 (L._∷_ 115 (L._∷_ 58 (L._∷_ 58 (L._∷_ 116 (L._∷_ 114 (L._∷_ 105 (L._∷_ 101 (L._∷_ 100 (L._∷_ 58 (L._∷_ 58 (L._∷_ 65 (L._∷_ 114 (L._∷_ 111 (L._∷_ 117 (L._∷_ 110 (L._∷_ 100 L.[])))))))))))))))))))) (Syntax.tcons q9 (Syntax.tcons q9 (Syntax.tcons q9 (Syntax.tcons q9 Syntax.tnil)))))) (L._∷_ (10, Rows.any-gone (Syntax.tyStruct (L._∷_ 114 (L._∷_ 117 (L._∷_ 108 (L._∷_ 101 (L._∷_ 115 (L._∷_ 58 (L._∷_ 58 (L._∷_ 102 (L._∷_ 111 (L._∷_ 117 (L._∷_ 110 (L._∷_ 100 (L._∷_ 58 (L._∷_ 58 (L._∷_ 70 (L._∷_ 111 (L._∷_ 117 (L._∷_ 110 (L._∷_ 100 L.[]))))))))))))))))))) (Syntax.tcons Syntax.tyBool (Syntax.tcons Syntax.tyBool (Syntax.tcons (Syntax.tyStruct (L._∷_ 115 (L._∷_ 116 (L._∷_ 101 (L._∷_ 112 (L._∷_ 58 (L._∷_ 58 (L._∷_ 83 (L._∷_ 116 (L._∷_ 101 (L._∷_ 112 L.[])))))))))) (Syntax.tcons (Syntax.tyInt Syntax.w64) (Syntax.tcons (Syntax.tyInt Syntax.w64) (Syntax.tcons (Syntax.tyStruct (L._∷_ 115 (L._∷_ 116 (L._∷_ 101 (L._∷_ 112 (L._∷_ 58 (L._∷_ 58 (L._∷_ 67 (L._∷_ 104 (L._∷_ 97 (L._∷_ 110 (L._∷_ 103 (L._∷_ 101 L.[])))))))))))) (Syntax.tcons (Syntax.tyStruct (L._∷_ 110 (L._∷_ 101 (L._∷_ 116 (L._∷_ 119 (L._∷_ 111 (L._∷_ 114 (L._∷_ 107 (L._∷_ 58 (L._∷_ 58 (L._∷_ 69 (L._∷_ 100 (L._∷_ 105 (L._∷_ 116 L.[]))))))))))))) (Syntax.tcons q9 (Syntax.tcons q9 (Syntax.tcons q9 (Syntax.tcons q9 (Syntax.tcons q3 (Syntax.tcons q3 (Syntax.tcons (Syntax.tyInt Syntax.w64) Syntax.tnil)))))))) (Syntax.tcons (Syntax.tyStruct (L._∷_ 115 (L._∷_ 116 (L._∷_ 101 (L._∷_ 112 (L._∷_ 58 (L._∷_ 58 (L._∷_ 79 (L._∷_ 108 (L._∷_ 100 L.[]))))))))) (Syntax.tcons (Syntax.tyInt Syntax.w64) (Syntax.tcons q8 (Syntax.tcons q9 (Syntax.tcons q9 (Syntax.tcons q9 (Syntax.tcons q9 (Syntax.tcons q5 Syntax.tnil)))))))) Syntax.tnil))) Syntax.tnil)))) Syntax.tnil))))) (L._∷_ q25 (L._∷_ (12, Rows.sc-here Row.sBool) (L._∷_ q39 (L._∷_ q40 (L._∷_ q26 L.[])))))))))))))))
 
 abbrev pub t14 : L.List Row.Entry
-t14 = L._∷_ (0, Rows.any-gone (Syntax.tyStruct (L._∷_ 115 (L._∷_ 101 (L._∷_ 97 (L._∷_ 114 (L._∷_ 99 (L._∷_ 104 (L._∷_ 58 (L._∷_ 58 (L._∷_ 115 (L._∷_ 99 (L._∷_ 97 (L._∷_ 110 (L._∷_ 58 (L._∷_ 58 (L._∷_ 70 (L._∷_ 111 (L._∷_ 117 (L._∷_ 110 (L._∷_ 100 L.[]))))))))))))))))))) (Syntax.tcons Syntax.tyBool (Syntax.tcons Syntax.tyBool (Syntax.tcons (Syntax.tyStruct (L._∷_ 115 (L._∷_ 116 (L._∷_ 101 (L._∷_ 112 (L._∷_ 58 (L._∷_ 58 (L._∷_ 83 (L._∷_ 116 (L._∷_ 101 (L._∷_ 112 L.[])))))))))) (Syntax.tcons (Syntax.tyInt Syntax.w64) (Syntax.tcons (Syntax.tyInt Syntax.w64) (Syntax.tcons (Syntax.tyStruct (L._∷_ 115 (L._∷_ 116 (L._∷_ 101 (L._∷_ 112 (L._∷_ 58 (L._∷_ 58 (L._∷_ 67 (L._∷_ 104 (L._∷_ 97 (L._∷_ 110 (L._∷_ 103 (L._∷_ 101 L.[])))))))))))) (Syntax.tcons (Syntax.tyStruct (L._∷_ 110 (L._∷_ 101 (L._∷_ 116 (L._∷_ 119 (L._∷_ 111 (L._∷_ 114 (L._∷_ 107 (L._∷_ 58 (L._∷_ 58 (L._∷_ 69 (L._∷_ 100 (L._∷_ 105 (L._∷_ 116 L.[]))))))))))))) (Syntax.tcons q9 (Syntax.tcons q9 (Syntax.tcons q9 (Syntax.tcons q9 (Syntax.tcons q3 (Syntax.tcons q3 (Syntax.tcons (Syntax.tyInt Syntax.w64) Syntax.tnil)))))))) (Syntax.tcons (Syntax.tyStruct (L._∷_ 115 (L._∷_ 116 (L._∷_ 101 (L._∷_ 112 (L._∷_ 58 (L._∷_ 58 (L._∷_ 79 (L._∷_ 108 (L._∷_ 100 L.[]))))))))) (Syntax.tcons (Syntax.tyInt Syntax.w64) (Syntax.tcons q8 (Syntax.tcons q9 (Syntax.tcons q9 (Syntax.tcons q9 (Syntax.tcons q9 (Syntax.tcons q5 Syntax.tnil)))))))) Syntax.tnil))) Syntax.tnil)))) Syntax.tnil))))) (L._∷_ q1 (L._∷_ q13 (L._∷_ q11 (L._∷_ q31 (L._∷_ q17 (L._∷_ q15 (L._∷_ q32 (L._∷_ q28 (L._∷_ (9, Rows.any-gone (Syntax.tyStruct (L._∷_ 115 (L._∷_ 101 (L._∷_ 97 (L._∷_ 114 (L._∷_ 99 (L._∷_ 104 (L._∷_ 58 (L._∷_ 58 (L._∷_ 115 (L._∷_ 99 (L._∷_ 97 (L._∷_ 110 (L._∷_ 58 (L._∷_ 58 (L._∷_ 65 (L._∷_ 114 (L._∷_ 111 (L._∷_ 117 (L._∷_ 110 (L._∷_ 100 L.[])))))))))))))))))))) (Syntax.tcons q9 (Syntax.tcons q9 (Syntax.tcons q9 (Syntax.tcons q9 Syntax.tnil)))))) (L._∷_ (10, Rows.any-gone (Syntax.tyStruct (L._∷_ 115 (L._∷_ 101 (L._∷_ 97 (L._∷_ 114 (L._∷_ 99 (L._∷_ 104 (L._∷_ 58 (L._∷_ 58 (L._∷_ 115 (L._∷_ 99 (L._∷_ 97 (L._∷_ 110 (L._∷_ 58 (L._∷_ 58 (L._∷_ 70 (L._∷_ 111 (L._∷_ 117 (L._∷_ 110 (L._∷_ 100 L.[]))))))))))))))))))) (Syntax.tcons Syntax.tyBool (Syntax.tcons Syntax.tyBool (Syntax.tcons (Syntax.tyStruct (L._∷_ 115 (L._∷_ 116 (L._∷_ 101 (L._∷_ 112 (L._∷_ 58 (L._∷_ 58 (L._∷_ 83 (L._∷_ 116 (L._∷_ 101 (L._∷_ 112 L.[])))))))))) (Syntax.tcons (Syntax.tyInt Syntax.w64) (Syntax.tcons (Syntax.tyInt Syntax.w64) (Syntax.tcons (Syntax.tyStruct (L._∷_ 115 (L._∷_ 116 (L._∷_ 101 (L._∷_ 112 (L._∷_ 58 (L._∷_ 58 (L._∷_ 67 (L._∷_ 104 (L._∷_ 97 (L._∷_ 110 (L._∷_ 103 (L._∷_ 101 L.[])))))))))))) (Syntax.tcons (Syntax.tyStruct (L._∷_ 110 (L._∷_ 101 (L._∷_ 116 (L._∷_ 119 (L._∷_ 111 (L._∷_ 114 (L._∷_ 107 (L._∷_ 58 (L._∷_ 58 (L._∷_ 69 (L._∷_ 100 (L._∷_ 105 (L._∷_ 116 L.[]))))))))))))) (Syntax.tcons q9 (Syntax.tcons q9 (Syntax.tcons q9 (Syntax.tcons q9 (Syntax.tcons q3 (Syntax.tcons q3 (Syntax.tcons (Syntax.tyInt Syntax.w64) Syntax.tnil)))))))) (Syntax.tcons (Syntax.tyStruct (L._∷_ 115 (L._∷_ 116 (L._∷_ 101 (L._∷_ 112 (L._∷_ 58 (L._∷_ 58 (L._∷_ 79 (L._∷_ 108 (L._∷_ 100 L.[]))))))))) (Syntax.tcons (Syntax.tyInt Syntax.w64) (Syntax.tcons q8 (Syntax.tcons q9 (Syntax.tcons q9 (Syntax.tcons q9 (Syntax.tcons q9 (Syntax.tcons q5 Syntax.tnil)))))))) Syntax.tnil))) Syntax.tnil)))) Syntax.tnil))))) (L._∷_ q29 (L._∷_ q36 (L._∷_ (13, Rows.sc-here Row.sPtr) (L._∷_ q40 (L._∷_ q26 L.[])))))))))))))))
+t14 = L._∷_ (0, Rows.any-gone (Syntax.tyStruct (L._∷_ 114 (L._∷_ 117 (L._∷_ 108 (L._∷_ 101 (L._∷_ 115 (L._∷_ 58 (L._∷_ 58 (L._∷_ 102 (L._∷_ 111 (L._∷_ 117 (L._∷_ 110 (L._∷_ 100 (L._∷_ 58 (L._∷_ 58 (L._∷_ 70 (L._∷_ 111 (L._∷_ 117 (L._∷_ 110 (L._∷_ 100 L.[]))))))))))))))))))) (Syntax.tcons Syntax.tyBool (Syntax.tcons Syntax.tyBool (Syntax.tcons (Syntax.tyStruct (L._∷_ 115 (L._∷_ 116 (L._∷_ 101 (L._∷_ 112 (L._∷_ 58 (L._∷_ 58 (L._∷_ 83 (L._∷_ 116 (L._∷_ 101 (L._∷_ 112 L.[])))))))))) (Syntax.tcons (Syntax.tyInt Syntax.w64) (Syntax.tcons (Syntax.tyInt Syntax.w64) (Syntax.tcons (Syntax.tyStruct (L._∷_ 115 (L._∷_ 116 (L._∷_ 101 (L._∷_ 112 (L._∷_ 58 (L._∷_ 58 (L._∷_ 67 (L._∷_ 104 (L._∷_ 97 (L._∷_ 110 (L._∷_ 103 (L._∷_ 101 L.[])))))))))))) (Syntax.tcons (Syntax.tyStruct (L._∷_ 110 (L._∷_ 101 (L._∷_ 116 (L._∷_ 119 (L._∷_ 111 (L._∷_ 114 (L._∷_ 107 (L._∷_ 58 (L._∷_ 58 (L._∷_ 69 (L._∷_ 100 (L._∷_ 105 (L._∷_ 116 L.[]))))))))))))) (Syntax.tcons q9 (Syntax.tcons q9 (Syntax.tcons q9 (Syntax.tcons q9 (Syntax.tcons q3 (Syntax.tcons q3 (Syntax.tcons (Syntax.tyInt Syntax.w64) Syntax.tnil)))))))) (Syntax.tcons (Syntax.tyStruct (L._∷_ 115 (L._∷_ 116 (L._∷_ 101 (L._∷_ 112 (L._∷_ 58 (L._∷_ 58 (L._∷_ 79 (L._∷_ 108 (L._∷_ 100 L.[]))))))))) (Syntax.tcons (Syntax.tyInt Syntax.w64) (Syntax.tcons q8 (Syntax.tcons q9 (Syntax.tcons q9 (Syntax.tcons q9 (Syntax.tcons q9 (Syntax.tcons q5 Syntax.tnil)))))))) Syntax.tnil))) Syntax.tnil)))) Syntax.tnil))))) (L._∷_ q1 (L._∷_ q13 (L._∷_ q11 (L._∷_ q31 (L._∷_ q20 (L._∷_ q17 (L._∷_ q32 (L._∷_ q28 (L._∷_ (9, Rows.any-gone (Syntax.tyStruct (L._∷_ 114 (L._∷_ 117 (L._∷_ 108 (L._∷_ 101 (L._∷_ 115 (L._∷_ 58 (L._∷_ 58 (L._∷_ 116 (L._∷_ 114 (L._∷_ 105 (L._∷_ 101 (L._∷_ 100 (L._∷_ 58 (L._∷_ 58 (L._∷_ 65 (L._∷_ 114 (L._∷_ 111 (L._∷_ 117 (L._∷_ 110 (L._∷_ 100 L.[])))))))))))))))))))) (Syntax.tcons q9 (Syntax.tcons q9 (Syntax.tcons q9 (Syntax.tcons q9 Syntax.tnil)))))) (L._∷_ (10, Rows.any-gone (Syntax.tyStruct (L._∷_ 114 (L._∷_ 117 (L._∷_ 108 (L._∷_ 101 (L._∷_ 115 (L._∷_ 58 (L._∷_ 58 (L._∷_ 102 (L._∷_ 111 (L._∷_ 117 (L._∷_ 110 (L._∷_ 100 (L._∷_ 58 (L._∷_ 58 (L._∷_ 70 (L._∷_ 111 (L._∷_ 117 (L._∷_ 110 (L._∷_ 100 L.[]))))))))))))))))))) (Syntax.tcons Syntax.tyBool (Syntax.tcons Syntax.tyBool (Syntax.tcons (Syntax.tyStruct (L._∷_ 115 (L._∷_ 116 (L._∷_ 101 (L._∷_ 112 (L._∷_ 58 (L._∷_ 58 (L._∷_ 83 (L._∷_ 116 (L._∷_ 101 (L._∷_ 112 L.[])))))))))) (Syntax.tcons (Syntax.tyInt Syntax.w64) (Syntax.tcons (Syntax.tyInt Syntax.w64) (Syntax.tcons (Syntax.tyStruct (L._∷_ 115 (L._∷_ 116 (L._∷_ 101 (L._∷_ 112 (L._∷_ 58 (L._∷_ 58 (L._∷_ 67 (L._∷_ 104 (L._∷_ 97 (L._∷_ 110 (L._∷_ 103 (L._∷_ 101 L.[])))))))))))) (Syntax.tcons (Syntax.tyStruct (L._∷_ 110 (L._∷_ 101 (L._∷_ 116 (L._∷_ 119 (L._∷_ 111 (L._∷_ 114 (L._∷_ 107 (L._∷_ 58 (L._∷_ 58 (L._∷_ 69 (L._∷_ 100 (L._∷_ 105 (L._∷_ 116 L.[]))))))))))))) (Syntax.tcons q9 (Syntax.tcons q9 (Syntax.tcons q9 (Syntax.tcons q9 (Syntax.tcons q3 (Syntax.tcons q3 (Syntax.tcons (Syntax.tyInt Syntax.w64) Syntax.tnil)))))))) (Syntax.tcons (Syntax.tyStruct (L._∷_ 115 (L._∷_ 116 (L._∷_ 101 (L._∷_ 112 (L._∷_ 58 (L._∷_ 58 (L._∷_ 79 (L._∷_ 108 (L._∷_ 100 L.[]))))))))) (Syntax.tcons (Syntax.tyInt Syntax.w64) (Syntax.tcons q8 (Syntax.tcons q9 (Syntax.tcons q9 (Syntax.tcons q9 (Syntax.tcons q9 (Syntax.tcons q5 Syntax.tnil)))))))) Syntax.tnil))) Syntax.tnil)))) Syntax.tnil))))) (L._∷_ q29 (L._∷_ q36 (L._∷_ (13, Rows.sc-here Row.sPtr) (L._∷_ q40 (L._∷_ q26 L.[])))))))))))))))
 
 abbrev pub t15 : L.List Row.Entry
-t15 = L._∷_ (0, Rows.any-gone (Syntax.tyStruct (L._∷_ 115 (L._∷_ 101 (L._∷_ 97 (L._∷_ 114 (L._∷_ 99 (L._∷_ 104 (L._∷_ 58 (L._∷_ 58 (L._∷_ 115 (L._∷_ 99 (L._∷_ 97 (L._∷_ 110 (L._∷_ 58 (L._∷_ 58 (L._∷_ 70 (L._∷_ 111 (L._∷_ 117 (L._∷_ 110 (L._∷_ 100 L.[]))))))))))))))))))) (Syntax.tcons Syntax.tyBool (Syntax.tcons Syntax.tyBool (Syntax.tcons (Syntax.tyStruct (L._∷_ 115 (L._∷_ 116 (L._∷_ 101 (L._∷_ 112 (L._∷_ 58 (L._∷_ 58 (L._∷_ 83 (L._∷_ 116 (L._∷_ 101 (L._∷_ 112 L.[])))))))))) (Syntax.tcons (Syntax.tyInt Syntax.w64) (Syntax.tcons (Syntax.tyInt Syntax.w64) (Syntax.tcons (Syntax.tyStruct (L._∷_ 115 (L._∷_ 116 (L._∷_ 101 (L._∷_ 112 (L._∷_ 58 (L._∷_ 58 (L._∷_ 67 (L._∷_ 104 (L._∷_ 97 (L._∷_ 110 (L._∷_ 103 (L._∷_ 101 L.[])))))))))))) (Syntax.tcons (Syntax.tyStruct (L._∷_ 110 (L._∷_ 101 (L._∷_ 116 (L._∷_ 119 (L._∷_ 111 (L._∷_ 114 (L._∷_ 107 (L._∷_ 58 (L._∷_ 58 (L._∷_ 69 (L._∷_ 100 (L._∷_ 105 (L._∷_ 116 L.[]))))))))))))) (Syntax.tcons q9 (Syntax.tcons q9 (Syntax.tcons q9 (Syntax.tcons q9 (Syntax.tcons q3 (Syntax.tcons q3 (Syntax.tcons (Syntax.tyInt Syntax.w64) Syntax.tnil)))))))) (Syntax.tcons (Syntax.tyStruct (L._∷_ 115 (L._∷_ 116 (L._∷_ 101 (L._∷_ 112 (L._∷_ 58 (L._∷_ 58 (L._∷_ 79 (L._∷_ 108 (L._∷_ 100 L.[]))))))))) (Syntax.tcons (Syntax.tyInt Syntax.w64) (Syntax.tcons q8 (Syntax.tcons q9 (Syntax.tcons q9 (Syntax.tcons q9 (Syntax.tcons q9 (Syntax.tcons q5 Syntax.tnil)))))))) Syntax.tnil))) Syntax.tnil)))) Syntax.tnil))))) (L._∷_ q1 (L._∷_ q13 (L._∷_ q11 (L._∷_ q31 (L._∷_ q17 (L._∷_ q15 (L._∷_ q32 (L._∷_ q28 (L._∷_ (9, Rows.any-gone (Syntax.tyStruct (L._∷_ 115 (L._∷_ 101 (L._∷_ 97 (L._∷_ 114 (L._∷_ 99 (L._∷_ 104 (L._∷_ 58 (L._∷_ 58 (L._∷_ 115 (L._∷_ 99 (L._∷_ 97 (L._∷_ 110 (L._∷_ 58 (L._∷_ 58 (L._∷_ 65 (L._∷_ 114 (L._∷_ 111 (L._∷_ 117 (L._∷_ 110 (L._∷_ 100 L.[])))))))))))))))))))) (Syntax.tcons q9 (Syntax.tcons q9 (Syntax.tcons q9 (Syntax.tcons q9 Syntax.tnil)))))) (L._∷_ (10, Rows.any-gone (Syntax.tyStruct (L._∷_ 115 (L._∷_ 101 (L._∷_ 97 (L._∷_ 114 (L._∷_ 99 (L._∷_ 104 (L._∷_ 58 (L._∷_ 58 (L._∷_ 115 (L._∷_ 99 (L._∷_ 97 (L._∷_ 110 (L._∷_ 58 (L._∷_ 58 (L._∷_ 70 (L._∷_ 111 (L._∷_ 117 (L._∷_ 110 (L._∷_ 100 L.[]))))))))))))))))))) (Syntax.tcons Syntax.tyBool (Syntax.tcons Syntax.tyBool (Syntax.tcons (Syntax.tyStruct (L._∷_ 115 (L._∷_ 116 (L._∷_ 101 (L._∷_ 112 (L._∷_ 58 (L._∷_ 58 (L._∷_ 83 (L._∷_ 116 (L._∷_ 101 (L._∷_ 112 L.[])))))))))) (Syntax.tcons (Syntax.tyInt Syntax.w64) (Syntax.tcons (Syntax.tyInt Syntax.w64) (Syntax.tcons (Syntax.tyStruct (L._∷_ 115 (L._∷_ 116 (L._∷_ 101 (L._∷_ 112 (L._∷_ 58 (L._∷_ 58 (L._∷_ 67 (L._∷_ 104 (L._∷_ 97 (L._∷_ 110 (L._∷_ 103 (L._∷_ 101 L.[])))))))))))) (Syntax.tcons (Syntax.tyStruct (L._∷_ 110 (L._∷_ 101 (L._∷_ 116 (L._∷_ 119 (L._∷_ 111 (L._∷_ 114 (L._∷_ 107 (L._∷_ 58 (L._∷_ 58 (L._∷_ 69 (L._∷_ 100 (L._∷_ 105 (L._∷_ 116 L.[]))))))))))))) (Syntax.tcons q9 (Syntax.tcons q9 (Syntax.tcons q9 (Syntax.tcons q9 (Syntax.tcons q3 (Syntax.tcons q3 (Syntax.tcons (Syntax.tyInt Syntax.w64) Syntax.tnil)))))))) (Syntax.tcons (Syntax.tyStruct (L._∷_ 115 (L._∷_ 116 (L._∷_ 101 (L._∷_ 112 (L._∷_ 58 (L._∷_ 58 (L._∷_ 79 (L._∷_ 108 (L._∷_ 100 L.[]))))))))) (Syntax.tcons (Syntax.tyInt Syntax.w64) (Syntax.tcons q8 (Syntax.tcons q9 (Syntax.tcons q9 (Syntax.tcons q9 (Syntax.tcons q9 (Syntax.tcons q5 Syntax.tnil)))))))) Syntax.tnil))) Syntax.tnil)))) Syntax.tnil))))) (L._∷_ q29 (L._∷_ q36 (L._∷_ (13, Rows.sc-here Row.sPtr) (L._∷_ (14, Rows.sc-here Row.sPtr) (L._∷_ q26 L.[])))))))))))))))
+t15 = L._∷_ (0, Rows.any-gone (Syntax.tyStruct (L._∷_ 114 (L._∷_ 117 (L._∷_ 108 (L._∷_ 101 (L._∷_ 115 (L._∷_ 58 (L._∷_ 58 (L._∷_ 102 (L._∷_ 111 (L._∷_ 117 (L._∷_ 110 (L._∷_ 100 (L._∷_ 58 (L._∷_ 58 (L._∷_ 70 (L._∷_ 111 (L._∷_ 117 (L._∷_ 110 (L._∷_ 100 L.[]))))))))))))))))))) (Syntax.tcons Syntax.tyBool (Syntax.tcons Syntax.tyBool (Syntax.tcons (Syntax.tyStruct (L._∷_ 115 (L._∷_ 116 (L._∷_ 101 (L._∷_ 112 (L._∷_ 58 (L._∷_ 58 (L._∷_ 83 (L._∷_ 116 (L._∷_ 101 (L._∷_ 112 L.[])))))))))) (Syntax.tcons (Syntax.tyInt Syntax.w64) (Syntax.tcons (Syntax.tyInt Syntax.w64) (Syntax.tcons (Syntax.tyStruct (L._∷_ 115 (L._∷_ 116 (L._∷_ 101 (L._∷_ 112 (L._∷_ 58 (L._∷_ 58 (L._∷_ 67 (L._∷_ 104 (L._∷_ 97 (L._∷_ 110 (L._∷_ 103 (L._∷_ 101 L.[])))))))))))) (Syntax.tcons (Syntax.tyStruct (L._∷_ 110 (L._∷_ 101 (L._∷_ 116 (L._∷_ 119 (L._∷_ 111 (L._∷_ 114 (L._∷_ 107 (L._∷_ 58 (L._∷_ 58 (L._∷_ 69 (L._∷_ 100 (L._∷_ 105 (L._∷_ 116 L.[]))))))))))))) (Syntax.tcons q9 (Syntax.tcons q9 (Syntax.tcons q9 (Syntax.tcons q9 (Syntax.tcons q3 (Syntax.tcons q3 (Syntax.tcons (Syntax.tyInt Syntax.w64) Syntax.tnil)))))))) (Syntax.tcons (Syntax.tyStruct (L._∷_ 115 (L._∷_ 116 (L._∷_ 101 (L._∷_ 112 (L._∷_ 58 (L._∷_ 58 (L._∷_ 79 (L._∷_ 108 (L._∷_ 100 L.[]))))))))) (Syntax.tcons (Syntax.tyInt Syntax.w64) (Syntax.tcons q8 (Syntax.tcons q9 (Syntax.tcons q9 (Syntax.tcons q9 (Syntax.tcons q9 (Syntax.tcons q5 Syntax.tnil)))))))) Syntax.tnil))) Syntax.tnil)))) Syntax.tnil))))) (L._∷_ q1 (L._∷_ q13 (L._∷_ q11 (L._∷_ q31 (L._∷_ q20 (L._∷_ q17 (L._∷_ q32 (L._∷_ q28 (L._∷_ (9, Rows.any-gone (Syntax.tyStruct (L._∷_ 114 (L._∷_ 117 (L._∷_ 108 (L._∷_ 101 (L._∷_ 115 (L._∷_ 58 (L._∷_ 58 (L._∷_ 116 (L._∷_ 114 (L._∷_ 105 (L._∷_ 101 (L._∷_ 100 (L._∷_ 58 (L._∷_ 58 (L._∷_ 65 (L._∷_ 114 (L._∷_ 111 (L._∷_ 117 (L._∷_ 110 (L._∷_ 100 L.[])))))))))))))))))))) (Syntax.tcons q9 (Syntax.tcons q9 (Syntax.tcons q9 (Syntax.tcons q9 Syntax.tnil)))))) (L._∷_ (10, Rows.any-gone (Syntax.tyStruct (L._∷_ 114 (L._∷_ 117 (L._∷_ 108 (L._∷_ 101 (L._∷_ 115 (L._∷_ 58 (L._∷_ 58 (L._∷_ 102 (L._∷_ 111 (L._∷_ 117 (L._∷_ 110 (L._∷_ 100 (L._∷_ 58 (L._∷_ 58 (L._∷_ 70 (L._∷_ 111 (L._∷_ 117 (L._∷_ 110 (L._∷_ 100 L.[]))))))))))))))))))) (Syntax.tcons Syntax.tyBool (Syntax.tcons Syntax.tyBool (Syntax.tcons (Syntax.tyStruct (L._∷_ 115 (L._∷_ 116 (L._∷_ 101 (L._∷_ 112 (L._∷_ 58 (L._∷_ 58 (L._∷_ 83 (L._∷_ 116 (L._∷_ 101 (L._∷_ 112 L.[])))))))))) (Syntax.tcons (Syntax.tyInt Syntax.w64) (Syntax.tcons (Syntax.tyInt Syntax.w64) (Syntax.tcons (Syntax.tyStruct (L._∷_ 115 (L._∷_ 116 (L._∷_ 101 (L._∷_ 112 (L._∷_ 58 (L._∷_ 58 (L._∷_ 67 (L._∷_ 104 (L._∷_ 97 (L._∷_ 110 (L._∷_ 103 (L._∷_ 101 L.[])))))))))))) (Syntax.tcons (Syntax.tyStruct (L._∷_ 110 (L._∷_ 101 (L._∷_ 116 (L._∷_ 119 (L._∷_ 111 (L._∷_ 114 (L._∷_ 107 (L._∷_ 58 (L._∷_ 58 (L._∷_ 69 (L._∷_ 100 (L._∷_ 105 (L._∷_ 116 L.[]))))))))))))) (Syntax.tcons q9 (Syntax.tcons q9 (Syntax.tcons q9 (Syntax.tcons q9 (Syntax.tcons q3 (Syntax.tcons q3 (Syntax.tcons (Syntax.tyInt Syntax.w64) Syntax.tnil)))))))) (Syntax.tcons (Syntax.tyStruct (L._∷_ 115 (L._∷_ 116 (L._∷_ 101 (L._∷_ 112 (L._∷_ 58 (L._∷_ 58 (L._∷_ 79 (L._∷_ 108 (L._∷_ 100 L.[]))))))))) (Syntax.tcons (Syntax.tyInt Syntax.w64) (Syntax.tcons q8 (Syntax.tcons q9 (Syntax.tcons q9 (Syntax.tcons q9 (Syntax.tcons q9 (Syntax.tcons q5 Syntax.tnil)))))))) Syntax.tnil))) Syntax.tnil)))) Syntax.tnil))))) (L._∷_ q29 (L._∷_ q36 (L._∷_ (13, Rows.sc-here Row.sPtr) (L._∷_ (14, Rows.sc-here Row.sPtr) (L._∷_ q26 L.[])))))))))))))))
 
 abbrev pub t16 : L.List Row.Entry
-t16 = L._∷_ (0, Rows.any-gone (Syntax.tyStruct (L._∷_ 115 (L._∷_ 101 (L._∷_ 97 (L._∷_ 114 (L._∷_ 99 (L._∷_ 104 (L._∷_ 58 (L._∷_ 58 (L._∷_ 115 (L._∷_ 99 (L._∷_ 97 (L._∷_ 110 (L._∷_ 58 (L._∷_ 58 (L._∷_ 70 (L._∷_ 111 (L._∷_ 117 (L._∷_ 110 (L._∷_ 100 L.[]))))))))))))))))))) (Syntax.tcons Syntax.tyBool (Syntax.tcons Syntax.tyBool (Syntax.tcons (Syntax.tyStruct (L._∷_ 115 (L._∷_ 116 (L._∷_ 101 (L._∷_ 112 (L._∷_ 58 (L._∷_ 58 (L._∷_ 83 (L._∷_ 116 (L._∷_ 101 (L._∷_ 112 L.[])))))))))) (Syntax.tcons (Syntax.tyInt Syntax.w64) (Syntax.tcons (Syntax.tyInt Syntax.w64) (Syntax.tcons (Syntax.tyStruct (L._∷_ 115 (L._∷_ 116 (L._∷_ 101 (L._∷_ 112 (L._∷_ 58 (L._∷_ 58 (L._∷_ 67 (L._∷_ 104 (L._∷_ 97 (L._∷_ 110 (L._∷_ 103 (L._∷_ 101 L.[])))))))))))) (Syntax.tcons (Syntax.tyStruct (L._∷_ 110 (L._∷_ 101 (L._∷_ 116 (L._∷_ 119 (L._∷_ 111 (L._∷_ 114 (L._∷_ 107 (L._∷_ 58 (L._∷_ 58 (L._∷_ 69 (L._∷_ 100 (L._∷_ 105 (L._∷_ 116 L.[]))))))))))))) (Syntax.tcons q9 (Syntax.tcons q9 (Syntax.tcons q9 (Syntax.tcons q9 (Syntax.tcons q3 (Syntax.tcons q3 (Syntax.tcons (Syntax.tyInt Syntax.w64) Syntax.tnil)))))))) (Syntax.tcons (Syntax.tyStruct (L._∷_ 115 (L._∷_ 116 (L._∷_ 101 (L._∷_ 112 (L._∷_ 58 (L._∷_ 58 (L._∷_ 79 (L._∷_ 108 (L._∷_ 100 L.[]))))))))) (Syntax.tcons (Syntax.tyInt Syntax.w64) (Syntax.tcons q8 (Syntax.tcons q9 (Syntax.tcons q9 (Syntax.tcons q9 (Syntax.tcons q9 (Syntax.tcons q5 Syntax.tnil)))))))) Syntax.tnil))) Syntax.tnil)))) Syntax.tnil))))) (L._∷_ q1 (L._∷_ q13 (L._∷_ q11 (L._∷_ q31 (L._∷_ q17 (L._∷_ q15 (L._∷_ q32 (L._∷_ q28 (L._∷_ (9, Rows.any-gone (Syntax.tyStruct (L._∷_ 115 (L._∷_ 101 (L._∷_ 97 (L._∷_ 114 (L._∷_ 99 (L._∷_ 104 (L._∷_ 58 (L._∷_ 58 (L._∷_ 115 (L._∷_ 99 (L._∷_ 97 (L._∷_ 110 (L._∷_ 58 (L._∷_ 58 (L._∷_ 65 (L._∷_ 114 (L._∷_ 111 (L._∷_ 117 (L._∷_ 110 (L._∷_ 100 L.[])))))))))))))))))))) (Syntax.tcons q9 (Syntax.tcons q9 (Syntax.tcons q9 (Syntax.tcons q9 Syntax.tnil)))))) (L._∷_ (10, Rows.any-gone (Syntax.tyStruct (L._∷_ 115 (L._∷_ 101 (L._∷_ 97 (L._∷_ 114 (L._∷_ 99 (L._∷_ 104 (L._∷_ 58 (L._∷_ 58 (L._∷_ 115 (L._∷_ 99 (L._∷_ 97 (L._∷_ 110 (L._∷_ 58 (L._∷_ 58 (L._∷_ 70 (L._∷_ 111 (L._∷_ 117 (L._∷_ 110 (L._∷_ 100 L.[]))))))))))))))))))) (Syntax.tcons Syntax.tyBool (Syntax.tcons Syntax.tyBool (Syntax.tcons (Syntax.tyStruct (L._∷_ 115 (L._∷_ 116 (L._∷_ 101 (L._∷_ 112 (L._∷_ 58 (L._∷_ 58 (L._∷_ 83 (L._∷_ 116 (L._∷_ 101 (L._∷_ 112 L.[])))))))))) (Syntax.tcons (Syntax.tyInt Syntax.w64) (Syntax.tcons (Syntax.tyInt Syntax.w64) (Syntax.tcons (Syntax.tyStruct (L._∷_ 115 (L._∷_ 116 (L._∷_ 101 (L._∷_ 112 (L._∷_ 58 (L._∷_ 58 (L._∷_ 67 (L._∷_ 104 (L._∷_ 97 (L._∷_ 110 (L._∷_ 103 (L._∷_ 101 L.[])))))))))))) (Syntax.tcons (Syntax.tyStruct (L._∷_ 110 (L._∷_ 101 (L._∷_ 116 (L._∷_ 119 (L._∷_ 111 (L._∷_ 114 (L._∷_ 107 (L._∷_ 58 (L._∷_ 58 (L._∷_ 69 (L._∷_ 100 (L._∷_ 105 (L._∷_ 116 L.[]))))))))))))) (Syntax.tcons q9 (Syntax.tcons q9 (Syntax.tcons q9 (Syntax.tcons q9 (Syntax.tcons q3 (Syntax.tcons q3 (Syntax.tcons (Syntax.tyInt Syntax.w64) Syntax.tnil)))))))) (Syntax.tcons (Syntax.tyStruct (L._∷_ 115 (L._∷_ 116 (L._∷_ 101 (L._∷_ 112 (L._∷_ 58 (L._∷_ 58 (L._∷_ 79 (L._∷_ 108 (L._∷_ 100 L.[]))))))))) (Syntax.tcons (Syntax.tyInt Syntax.w64) (Syntax.tcons q8 (Syntax.tcons q9 (Syntax.tcons q9 (Syntax.tcons q9 (Syntax.tcons q9 (Syntax.tcons q5 Syntax.tnil)))))))) Syntax.tnil))) Syntax.tnil)))) Syntax.tnil))))) (L._∷_ q29 (L._∷_ q36 (L._∷_ q39 (L._∷_ (14, Rows.sc-here Row.sPtr) (L._∷_ q26 L.[])))))))))))))))
+t16 = L._∷_ (0, Rows.any-gone (Syntax.tyStruct (L._∷_ 114 (L._∷_ 117 (L._∷_ 108 (L._∷_ 101 (L._∷_ 115 (L._∷_ 58 (L._∷_ 58 (L._∷_ 102 (L._∷_ 111 (L._∷_ 117 (L._∷_ 110 (L._∷_ 100 (L._∷_ 58 (L._∷_ 58 (L._∷_ 70 (L._∷_ 111 (L._∷_ 117 (L._∷_ 110 (L._∷_ 100 L.[]))))))))))))))))))) (Syntax.tcons Syntax.tyBool (Syntax.tcons Syntax.tyBool (Syntax.tcons (Syntax.tyStruct (L._∷_ 115 (L._∷_ 116 (L._∷_ 101 (L._∷_ 112 (L._∷_ 58 (L._∷_ 58 (L._∷_ 83 (L._∷_ 116 (L._∷_ 101 (L._∷_ 112 L.[])))))))))) (Syntax.tcons (Syntax.tyInt Syntax.w64) (Syntax.tcons (Syntax.tyInt Syntax.w64) (Syntax.tcons (Syntax.tyStruct (L._∷_ 115 (L._∷_ 116 (L._∷_ 101 (L._∷_ 112 (L._∷_ 58 (L._∷_ 58 (L._∷_ 67 (L._∷_ 104 (L._∷_ 97 (L._∷_ 110 (L._∷_ 103 (L._∷_ 101 L.[])))))))))))) (Syntax.tcons (Syntax.tyStruct (L._∷_ 110 (L._∷_ 101 (L._∷_ 116 (L._∷_ 119 (L._∷_ 111 (L._∷_ 114 (L._∷_ 107 (L._∷_ 58 (L._∷_ 58 (L._∷_ 69 (L._∷_ 100 (L._∷_ 105 (L._∷_ 116 L.[]))))))))))))) (Syntax.tcons q9 (Syntax.tcons q9 (Syntax.tcons q9 (Syntax.tcons q9 (Syntax.tcons q3 (Syntax.tcons q3 (Syntax.tcons (Syntax.tyInt Syntax.w64) Syntax.tnil)))))))) (Syntax.tcons (Syntax.tyStruct (L._∷_ 115 (L._∷_ 116 (L._∷_ 101 (L._∷_ 112 (L._∷_ 58 (L._∷_ 58 (L._∷_ 79 (L._∷_ 108 (L._∷_ 100 L.[]))))))))) (Syntax.tcons (Syntax.tyInt Syntax.w64) (Syntax.tcons q8 (Syntax.tcons q9 (Syntax.tcons q9 (Syntax.tcons q9 (Syntax.tcons q9 (Syntax.tcons q5 Syntax.tnil)))))))) Syntax.tnil))) Syntax.tnil)))) Syntax.tnil))))) (L._∷_ q1 (L._∷_ q13 (L._∷_ q11 (L._∷_ q31 (L._∷_ q20 (L._∷_ q17 (L._∷_ q32 (L._∷_ q28 (L._∷_ (9, Rows.any-gone (Syntax.tyStruct (L._∷_ 114 (L._∷_ 117 (L._∷_ 108 (L._∷_ 101 (L._∷_ 115 (L._∷_ 58 (L._∷_ 58 (L._∷_ 116 (L._∷_ 114 (L._∷_ 105 (L._∷_ 101 (L._∷_ 100 (L._∷_ 58 (L._∷_ 58 (L._∷_ 65 (L._∷_ 114 (L._∷_ 111 (L._∷_ 117 (L._∷_ 110 (L._∷_ 100 L.[])))))))))))))))))))) (Syntax.tcons q9 (Syntax.tcons q9 (Syntax.tcons q9 (Syntax.tcons q9 Syntax.tnil)))))) (L._∷_ (10, Rows.any-gone (Syntax.tyStruct (L._∷_ 114 (L._∷_ 117 (L._∷_ 108 (L._∷_ 101 (L._∷_ 115 (L._∷_ 58 (L._∷_ 58 (L._∷_ 102 (L._∷_ 111 (L._∷_ 117 (L._∷_ 110 (L._∷_ 100 (L._∷_ 58 (L._∷_ 58 (L._∷_ 70 (L._∷_ 111 (L._∷_ 117 (L._∷_ 110 (L._∷_ 100 L.[]))))))))))))))))))) (Syntax.tcons Syntax.tyBool (Syntax.tcons Syntax.tyBool (Syntax.tcons (Syntax.tyStruct (L._∷_ 115 (L._∷_ 116 (L._∷_ 101 (L._∷_ 112 (L._∷_ 58 (L._∷_ 58 (L._∷_ 83 (L._∷_ 116 (L._∷_ 101 (L._∷_ 112 L.[])))))))))) (Syntax.tcons (Syntax.tyInt Syntax.w64) (Syntax.tcons (Syntax.tyInt Syntax.w64) (Syntax.tcons (Syntax.tyStruct (L._∷_ 115 (L._∷_ 116 (L._∷_ 101 (L._∷_ 112 (L._∷_ 58 (L._∷_ 58 (L._∷_ 67 (L._∷_ 104 (L._∷_ 97 (L._∷_ 110 (L._∷_ 103 (L._∷_ 101 L.[])))))))))))) (Syntax.tcons (Syntax.tyStruct (L._∷_ 110 (L._∷_ 101 (L._∷_ 116 (L._∷_ 119 (L._∷_ 111 (L._∷_ 114 (L._∷_ 107 (L._∷_ 58 (L._∷_ 58 (L._∷_ 69 (L._∷_ 100 (L._∷_ 105 (L._∷_ 116 L.[]))))))))))))) (Syntax.tcons q9 (Syntax.tcons q9 (Syntax.tcons q9 (Syntax.tcons q9 (Syntax.tcons q3 (Syntax.tcons q3 (Syntax.tcons (Syntax.tyInt Syntax.w64) Syntax.tnil)))))))) (Syntax.tcons (Syntax.tyStruct (L._∷_ 115 (L._∷_ 116 (L._∷_ 101 (L._∷_ 112 (L._∷_ 58 (L._∷_ 58 (L._∷_ 79 (L._∷_ 108 (L._∷_ 100 L.[]))))))))) (Syntax.tcons (Syntax.tyInt Syntax.w64) (Syntax.tcons q8 (Syntax.tcons q9 (Syntax.tcons q9 (Syntax.tcons q9 (Syntax.tcons q9 (Syntax.tcons q5 Syntax.tnil)))))))) Syntax.tnil))) Syntax.tnil)))) Syntax.tnil))))) (L._∷_ q29 (L._∷_ q36 (L._∷_ q39 (L._∷_ (14, Rows.sc-here Row.sPtr) (L._∷_ q26 L.[])))))))))))))))
 
 abbrev pub t17 : L.List Row.Entry
-t17 = L._∷_ (0, Rows.any-gone (Syntax.tyStruct (L._∷_ 115 (L._∷_ 101 (L._∷_ 97 (L._∷_ 114 (L._∷_ 99 (L._∷_ 104 (L._∷_ 58 (L._∷_ 58 (L._∷_ 115 (L._∷_ 99 (L._∷_ 97 (L._∷_ 110 (L._∷_ 58 (L._∷_ 58 (L._∷_ 70 (L._∷_ 111 (L._∷_ 117 (L._∷_ 110 (L._∷_ 100 L.[]))))))))))))))))))) (Syntax.tcons Syntax.tyBool (Syntax.tcons Syntax.tyBool (Syntax.tcons (Syntax.tyStruct (L._∷_ 115 (L._∷_ 116 (L._∷_ 101 (L._∷_ 112 (L._∷_ 58 (L._∷_ 58 (L._∷_ 83 (L._∷_ 116 (L._∷_ 101 (L._∷_ 112 L.[])))))))))) (Syntax.tcons (Syntax.tyInt Syntax.w64) (Syntax.tcons (Syntax.tyInt Syntax.w64) (Syntax.tcons (Syntax.tyStruct (L._∷_ 115 (L._∷_ 116 (L._∷_ 101 (L._∷_ 112 (L._∷_ 58 (L._∷_ 58 (L._∷_ 67 (L._∷_ 104 (L._∷_ 97 (L._∷_ 110 (L._∷_ 103 (L._∷_ 101 L.[])))))))))))) (Syntax.tcons (Syntax.tyStruct (L._∷_ 110 (L._∷_ 101 (L._∷_ 116 (L._∷_ 119 (L._∷_ 111 (L._∷_ 114 (L._∷_ 107 (L._∷_ 58 (L._∷_ 58 (L._∷_ 69 (L._∷_ 100 (L._∷_ 105 (L._∷_ 116 L.[]))))))))))))) (Syntax.tcons q9 (Syntax.tcons q9 (Syntax.tcons q9 (Syntax.tcons q9 (Syntax.tcons q3 (Syntax.tcons q3 (Syntax.tcons (Syntax.tyInt Syntax.w64) Syntax.tnil)))))))) (Syntax.tcons (Syntax.tyStruct (L._∷_ 115 (L._∷_ 116 (L._∷_ 101 (L._∷_ 112 (L._∷_ 58 (L._∷_ 58 (L._∷_ 79 (L._∷_ 108 (L._∷_ 100 L.[]))))))))) (Syntax.tcons (Syntax.tyInt Syntax.w64) (Syntax.tcons q8 (Syntax.tcons q9 (Syntax.tcons q9 (Syntax.tcons q9 (Syntax.tcons q9 (Syntax.tcons q5 Syntax.tnil)))))))) Syntax.tnil))) Syntax.tnil)))) Syntax.tnil))))) (L._∷_ q1 (L._∷_ q13 (L._∷_ q11 (L._∷_ q31 (L._∷_ q17 (L._∷_ q15 (L._∷_ q32 (L._∷_ q28 (L._∷_ (9, Rows.any-gone (Syntax.tyStruct (L._∷_ 115 (L._∷_ 101 (L._∷_ 97 (L._∷_ 114 (L._∷_ 99 (L._∷_ 104 (L._∷_ 58 (L._∷_ 58 (L._∷_ 115 (L._∷_ 99 (L._∷_ 97 (L._∷_ 110 (L._∷_ 58 (L._∷_ 58 (L._∷_ 65 (L._∷_ 114 (L._∷_ 111 (L._∷_ 117 (L._∷_ 110 (L._∷_ 100 L.[])))))))))))))))))))) (Syntax.tcons q9 (Syntax.tcons q9 (Syntax.tcons q9 (Syntax.tcons q9 Syntax.tnil)))))) (L._∷_ (10, Rows.any-gone (Syntax.tyStruct (L._∷_ 115 (L._∷_ 101 (L._∷_ 97 (L._∷_ 114 (L._∷_ 99 (L._∷_ 104 (L._∷_ 58 (L._∷_ 58 (L._∷_ 115 (L._∷_ 99 (L._∷_ 97 (L._∷_ 110 (L._∷_ 58 (L._∷_ 58 (L._∷_ 70 (L._∷_ 111 (L._∷_ 117 (L._∷_ 110 (L._∷_ 100 L.[]))))))))))))))))))) (Syntax.tcons Syntax.tyBool (Syntax.tcons Syntax.tyBool (Syntax.tcons (Syntax.tyStruct (L._∷_ 115 (L._∷_ 116 (L._∷_ 101 (L._∷_ 112 (L._∷_ 58 (L._∷_ 58 (L._∷_ 83 (L._∷_ 116 (L._∷_ 101 (L._∷_ 112 L.[])))))))))) (Syntax.tcons (Syntax.tyInt Syntax.w64) (Syntax.tcons (Syntax.tyInt Syntax.w64) (Syntax.tcons (Syntax.tyStruct (L._∷_ 115 (L._∷_ 116 (L._∷_ 101 (L._∷_ 112 (L._∷_ 58 (L._∷_ 58 (L._∷_ 67 (L._∷_ 104 (L._∷_ 97 (L._∷_ 110 (L._∷_ 103 (L._∷_ 101 L.[])))))))))))) (Syntax.tcons (Syntax.tyStruct (L._∷_ 110 (L._∷_ 101 (L._∷_ 116 (L._∷_ 119 (L._∷_ 111 (L._∷_ 114 (L._∷_ 107 (L._∷_ 58 (L._∷_ 58 (L._∷_ 69 (L._∷_ 100 (L._∷_ 105 (L._∷_ 116 L.[]))))))))))))) (Syntax.tcons q9 (Syntax.tcons q9 (Syntax.tcons q9 (Syntax.tcons q9 (Syntax.tcons q3 (Syntax.tcons q3 (Syntax.tcons (Syntax.tyInt Syntax.w64) Syntax.tnil)))))))) (Syntax.tcons (Syntax.tyStruct (L._∷_ 115 (L._∷_ 116 (L._∷_ 101 (L._∷_ 112 (L._∷_ 58 (L._∷_ 58 (L._∷_ 79 (L._∷_ 108 (L._∷_ 100 L.[]))))))))) (Syntax.tcons (Syntax.tyInt Syntax.w64) (Syntax.tcons q8 (Syntax.tcons q9 (Syntax.tcons q9 (Syntax.tcons q9 (Syntax.tcons q9 (Syntax.tcons q5 Syntax.tnil)))))))) Syntax.tnil))) Syntax.tnil)))) Syntax.tnil))))) (L._∷_ q29 (L._∷_ q36 (L._∷_ q39 (L._∷_ (14, Rows.sc-here Row.sPtr) (L._∷_ q30 L.[])))))))))))))))
+t17 = L._∷_ (0, Rows.any-gone (Syntax.tyStruct (L._∷_ 114 (L._∷_ 117 (L._∷_ 108 (L._∷_ 101 (L._∷_ 115 (L._∷_ 58 (L._∷_ 58 (L._∷_ 102 (L._∷_ 111 (L._∷_ 117 (L._∷_ 110 (L._∷_ 100 (L._∷_ 58 (L._∷_ 58 (L._∷_ 70 (L._∷_ 111 (L._∷_ 117 (L._∷_ 110 (L._∷_ 100 L.[]))))))))))))))))))) (Syntax.tcons Syntax.tyBool (Syntax.tcons Syntax.tyBool (Syntax.tcons (Syntax.tyStruct (L._∷_ 115 (L._∷_ 116 (L._∷_ 101 (L._∷_ 112 (L._∷_ 58 (L._∷_ 58 (L._∷_ 83 (L._∷_ 116 (L._∷_ 101 (L._∷_ 112 L.[])))))))))) (Syntax.tcons (Syntax.tyInt Syntax.w64) (Syntax.tcons (Syntax.tyInt Syntax.w64) (Syntax.tcons (Syntax.tyStruct (L._∷_ 115 (L._∷_ 116 (L._∷_ 101 (L._∷_ 112 (L._∷_ 58 (L._∷_ 58 (L._∷_ 67 (L._∷_ 104 (L._∷_ 97 (L._∷_ 110 (L._∷_ 103 (L._∷_ 101 L.[])))))))))))) (Syntax.tcons (Syntax.tyStruct (L._∷_ 110 (L._∷_ 101 (L._∷_ 116 (L._∷_ 119 (L._∷_ 111 (L._∷_ 114 (L._∷_ 107 (L._∷_ 58 (L._∷_ 58 (L._∷_ 69 (L._∷_ 100 (L._∷_ 105 (L._∷_ 116 L.[]))))))))))))) (Syntax.tcons q9 (Syntax.tcons q9 (Syntax.tcons q9 (Syntax.tcons q9 (Syntax.tcons q3 (Syntax.tcons q3 (Syntax.tcons (Syntax.tyInt Syntax.w64) Syntax.tnil)))))))) (Syntax.tcons (Syntax.tyStruct (L._∷_ 115 (L._∷_ 116 (L._∷_ 101 (L._∷_ 112 (L._∷_ 58 (L._∷_ 58 (L._∷_ 79 (L._∷_ 108 (L._∷_ 100 L.[]))))))))) (Syntax.tcons (Syntax.tyInt Syntax.w64) (Syntax.tcons q8 (Syntax.tcons q9 (Syntax.tcons q9 (Syntax.tcons q9 (Syntax.tcons q9 (Syntax.tcons q5 Syntax.tnil)))))))) Syntax.tnil))) Syntax.tnil)))) Syntax.tnil))))) (L._∷_ q1 (L._∷_ q13 (L._∷_ q11 (L._∷_ q31 (L._∷_ q20 (L._∷_ q17 (L._∷_ q32 (L._∷_ q28 (L._∷_ (9, Rows.any-gone (Syntax.tyStruct (L._∷_ 114 (L._∷_ 117 (L._∷_ 108 (L._∷_ 101 (L._∷_ 115 (L._∷_ 58 (L._∷_ 58 (L._∷_ 116 (L._∷_ 114 (L._∷_ 105 (L._∷_ 101 (L._∷_ 100 (L._∷_ 58 (L._∷_ 58 (L._∷_ 65 (L._∷_ 114 (L._∷_ 111 (L._∷_ 117 (L._∷_ 110 (L._∷_ 100 L.[])))))))))))))))))))) (Syntax.tcons q9 (Syntax.tcons q9 (Syntax.tcons q9 (Syntax.tcons q9 Syntax.tnil)))))) (L._∷_ (10, Rows.any-gone (Syntax.tyStruct (L._∷_ 114 (L._∷_ 117 (L._∷_ 108 (L._∷_ 101 (L._∷_ 115 (L._∷_ 58 (L._∷_ 58 (L._∷_ 102 (L._∷_ 111 (L._∷_ 117 (L._∷_ 110 (L._∷_ 100 (L._∷_ 58 (L._∷_ 58 (L._∷_ 70 (L._∷_ 111 (L._∷_ 117 (L._∷_ 110 (L._∷_ 100 L.[]))))))))))))))))))) (Syntax.tcons Syntax.tyBool (Syntax.tcons Syntax.tyBool (Syntax.tcons (Syntax.tyStruct (L._∷_ 115 (L._∷_ 116 (L._∷_ 101 (L._∷_ 112 (L._∷_ 58 (L._∷_ 58 (L._∷_ 83 (L._∷_ 116 (L._∷_ 101 (L._∷_ 112 L.[])))))))))) (Syntax.tcons (Syntax.tyInt Syntax.w64) (Syntax.tcons (Syntax.tyInt Syntax.w64) (Syntax.tcons (Syntax.tyStruct (L._∷_ 115 (L._∷_ 116 (L._∷_ 101 (L._∷_ 112 (L._∷_ 58 (L._∷_ 58 (L._∷_ 67 (L._∷_ 104 (L._∷_ 97 (L._∷_ 110 (L._∷_ 103 (L._∷_ 101 L.[])))))))))))) (Syntax.tcons (Syntax.tyStruct (L._∷_ 110 (L._∷_ 101 (L._∷_ 116 (L._∷_ 119 (L._∷_ 111 (L._∷_ 114 (L._∷_ 107 (L._∷_ 58 (L._∷_ 58 (L._∷_ 69 (L._∷_ 100 (L._∷_ 105 (L._∷_ 116 L.[]))))))))))))) (Syntax.tcons q9 (Syntax.tcons q9 (Syntax.tcons q9 (Syntax.tcons q9 (Syntax.tcons q3 (Syntax.tcons q3 (Syntax.tcons (Syntax.tyInt Syntax.w64) Syntax.tnil)))))))) (Syntax.tcons (Syntax.tyStruct (L._∷_ 115 (L._∷_ 116 (L._∷_ 101 (L._∷_ 112 (L._∷_ 58 (L._∷_ 58 (L._∷_ 79 (L._∷_ 108 (L._∷_ 100 L.[]))))))))) (Syntax.tcons (Syntax.tyInt Syntax.w64) (Syntax.tcons q8 (Syntax.tcons q9 (Syntax.tcons q9 (Syntax.tcons q9 (Syntax.tcons q9 (Syntax.tcons q5 Syntax.tnil)))))))) Syntax.tnil))) Syntax.tnil)))) Syntax.tnil))))) (L._∷_ q29 (L._∷_ q36 (L._∷_ q39 (L._∷_ (14, Rows.sc-here Row.sPtr) (L._∷_ q30 L.[])))))))))))))))
 
 abbrev pub t18 : L.List Row.Entry
-t18 = L._∷_ (0, Rows.any-gone (Syntax.tyStruct (L._∷_ 115 (L._∷_ 101 (L._∷_ 97 (L._∷_ 114 (L._∷_ 99 (L._∷_ 104 (L._∷_ 58 (L._∷_ 58 (L._∷_ 115 (L._∷_ 99 (L._∷_ 97 (L._∷_ 110 (L._∷_ 58 (L._∷_ 58 (L._∷_ 70 (L._∷_ 111 (L._∷_ 117 (L._∷_ 110 (L._∷_ 100 L.[]))))))))))))))))))) (Syntax.tcons Syntax.tyBool (Syntax.tcons Syntax.tyBool (Syntax.tcons (Syntax.tyStruct (L._∷_ 115 (L._∷_ 116 (L._∷_ 101 (L._∷_ 112 (L._∷_ 58 (L._∷_ 58 (L._∷_ 83 (L._∷_ 116 (L._∷_ 101 (L._∷_ 112 L.[])))))))))) (Syntax.tcons (Syntax.tyInt Syntax.w64) (Syntax.tcons (Syntax.tyInt Syntax.w64) (Syntax.tcons (Syntax.tyStruct (L._∷_ 115 (L._∷_ 116 (L._∷_ 101 (L._∷_ 112 (L._∷_ 58 (L._∷_ 58 (L._∷_ 67 (L._∷_ 104 (L._∷_ 97 (L._∷_ 110 (L._∷_ 103 (L._∷_ 101 L.[])))))))))))) (Syntax.tcons (Syntax.tyStruct (L._∷_ 110 (L._∷_ 101 (L._∷_ 116 (L._∷_ 119 (L._∷_ 111 (L._∷_ 114 (L._∷_ 107 (L._∷_ 58 (L._∷_ 58 (L._∷_ 69 (L._∷_ 100 (L._∷_ 105 (L._∷_ 116 L.[]))))))))))))) (Syntax.tcons q9 (Syntax.tcons q9 (Syntax.tcons q9 (Syntax.tcons q9 (Syntax.tcons q3 (Syntax.tcons q3 (Syntax.tcons (Syntax.tyInt Syntax.w64) Syntax.tnil)))))))) (Syntax.tcons (Syntax.tyStruct (L._∷_ 115 (L._∷_ 116 (L._∷_ 101 (L._∷_ 112 (L._∷_ 58 (L._∷_ 58 (L._∷_ 79 (L._∷_ 108 (L._∷_ 100 L.[]))))))))) (Syntax.tcons (Syntax.tyInt Syntax.w64) (Syntax.tcons q8 (Syntax.tcons q9 (Syntax.tcons q9 (Syntax.tcons q9 (Syntax.tcons q9 (Syntax.tcons q5 Syntax.tnil)))))))) Syntax.tnil))) Syntax.tnil)))) Syntax.tnil))))) (L._∷_ q1 (L._∷_ q13 (L._∷_ q11 (L._∷_ q31 (L._∷_ q17 (L._∷_ q15 (L._∷_ q32 (L._∷_ q28 (L._∷_ (9, Rows.any-gone (Syntax.tyStruct (L._∷_ 115 (L._∷_ 101 (L._∷_ 97 (L._∷_ 114 (L._∷_ 99 (L._∷_ 104 (L._∷_ 58 (L._∷_ 58 (L._∷_ 115 (L._∷_ 99 (L._∷_ 97 (L._∷_ 110 (L._∷_ 58 (L._∷_ 58 (L._∷_ 65 (L._∷_ 114 (L._∷_ 111 (L._∷_ 117 (L._∷_ 110 (L._∷_ 100 L.[])))))))))))))))))))) (Syntax.tcons q9 (Syntax.tcons q9 (Syntax.tcons q9 (Syntax.tcons q9 Syntax.tnil)))))) (L._∷_ (10, Rows.any-gone (Syntax.tyStruct (L._∷_ 115 (L._∷_ 101 (L._∷_ 97 (L._∷_ 114 (L._∷_ 99 (L._∷_ 104 (L._∷_ 58 (L._∷_ 58 (L._∷_ 115 (L._∷_ 99 (L._∷_ 97 (L._∷_ 110 (L._∷_ 58 (L._∷_ 58 (L._∷_ 70 (L._∷_ 111 (L._∷_ 117 (L._∷_ 110 (L._∷_ 100 L.[]))))))))))))))))))) (Syntax.tcons Syntax.tyBool (Syntax.tcons Syntax.tyBool (Syntax.tcons (Syntax.tyStruct (L._∷_ 115 (L._∷_ 116 (L._∷_ 101 (L._∷_ 112 (L._∷_ 58 (L._∷_ 58 (L._∷_ 83 (L._∷_ 116 (L._∷_ 101 (L._∷_ 112 L.[])))))))))) (Syntax.tcons (Syntax.tyInt Syntax.w64) (Syntax.tcons (Syntax.tyInt Syntax.w64) (Syntax.tcons (Syntax.tyStruct (L._∷_ 115 (L._∷_ 116 (L._∷_ 101 (L._∷_ 112 (L._∷_ 58 (L._∷_ 58 (L._∷_ 67 (L._∷_ 104 (L._∷_ 97 (L._∷_ 110 (L._∷_ 103 (L._∷_ 101 L.[])))))))))))) (Syntax.tcons (Syntax.tyStruct (L._∷_ 110 (L._∷_ 101 (L._∷_ 116 (L._∷_ 119 (L._∷_ 111 (L._∷_ 114 (L._∷_ 107 (L._∷_ 58 (L._∷_ 58 (L._∷_ 69 (L._∷_ 100 (L._∷_ 105 (L._∷_ 116 L.[]))))))))))))) (Syntax.tcons q9 (Syntax.tcons q9 (Syntax.tcons q9 (Syntax.tcons q9 (Syntax.tcons q3 (Syntax.tcons q3 (Syntax.tcons (Syntax.tyInt Syntax.w64) Syntax.tnil)))))))) (Syntax.tcons (Syntax.tyStruct (L._∷_ 115 (L._∷_ 116 (L._∷_ 101 (L._∷_ 112 (L._∷_ 58 (L._∷_ 58 (L._∷_ 79 (L._∷_ 108 (L._∷_ 100 L.[]))))))))) (Syntax.tcons (Syntax.tyInt Syntax.w64) (Syntax.tcons q8 (Syntax.tcons q9 (Syntax.tcons q9 (Syntax.tcons q9 (Syntax.tcons q9 (Syntax.tcons q5 Syntax.tnil)))))))) Syntax.tnil))) Syntax.tnil)))) Syntax.tnil))))) (L._∷_ q25 (L._∷_ q36 (L._∷_ q39 (L._∷_ (14, Rows.sc-here Row.sPtr) (L._∷_ q30 L.[])))))))))))))))
+t18 = L._∷_ (0, Rows.any-gone (Syntax.tyStruct (L._∷_ 114 (L._∷_ 117 (L._∷_ 108 (L._∷_ 101 (L._∷_ 115 (L._∷_ 58 (L._∷_ 58 (L._∷_ 102 (L._∷_ 111 (L._∷_ 117 (L._∷_ 110 (L._∷_ 100 (L._∷_ 58 (L._∷_ 58 (L._∷_ 70 (L._∷_ 111 (L._∷_ 117 (L._∷_ 110 (L._∷_ 100 L.[]))))))))))))))))))) (Syntax.tcons Syntax.tyBool (Syntax.tcons Syntax.tyBool (Syntax.tcons (Syntax.tyStruct (L._∷_ 115 (L._∷_ 116 (L._∷_ 101 (L._∷_ 112 (L._∷_ 58 (L._∷_ 58 (L._∷_ 83 (L._∷_ 116 (L._∷_ 101 (L._∷_ 112 L.[])))))))))) (Syntax.tcons (Syntax.tyInt Syntax.w64) (Syntax.tcons (Syntax.tyInt Syntax.w64) (Syntax.tcons (Syntax.tyStruct (L._∷_ 115 (L._∷_ 116 (L._∷_ 101 (L._∷_ 112 (L._∷_ 58 (L._∷_ 58 (L._∷_ 67 (L._∷_ 104 (L._∷_ 97 (L._∷_ 110 (L._∷_ 103 (L._∷_ 101 L.[])))))))))))) (Syntax.tcons (Syntax.tyStruct (L._∷_ 110 (L._∷_ 101 (L._∷_ 116 (L._∷_ 119 (L._∷_ 111 (L._∷_ 114 (L._∷_ 107 (L._∷_ 58 (L._∷_ 58 (L._∷_ 69 (L._∷_ 100 (L._∷_ 105 (L._∷_ 116 L.[]))))))))))))) (Syntax.tcons q9 (Syntax.tcons q9 (Syntax.tcons q9 (Syntax.tcons q9 (Syntax.tcons q3 (Syntax.tcons q3 (Syntax.tcons (Syntax.tyInt Syntax.w64) Syntax.tnil)))))))) (Syntax.tcons (Syntax.tyStruct (L._∷_ 115 (L._∷_ 116 (L._∷_ 101 (L._∷_ 112 (L._∷_ 58 (L._∷_ 58 (L._∷_ 79 (L._∷_ 108 (L._∷_ 100 L.[]))))))))) (Syntax.tcons (Syntax.tyInt Syntax.w64) (Syntax.tcons q8 (Syntax.tcons q9 (Syntax.tcons q9 (Syntax.tcons q9 (Syntax.tcons q9 (Syntax.tcons q5 Syntax.tnil)))))))) Syntax.tnil))) Syntax.tnil)))) Syntax.tnil))))) (L._∷_ q1 (L._∷_ q13 (L._∷_ q11 (L._∷_ q31 (L._∷_ q20 (L._∷_ q17 (L._∷_ q32 (L._∷_ q28 (L._∷_ (9, Rows.any-gone (Syntax.tyStruct (L._∷_ 114 (L._∷_ 117 (L._∷_ 108 (L._∷_ 101 (L._∷_ 115 (L._∷_ 58 (L._∷_ 58 (L._∷_ 116 (L._∷_ 114 (L._∷_ 105 (L._∷_ 101 (L._∷_ 100 (L._∷_ 58 (L._∷_ 58 (L._∷_ 65 (L._∷_ 114 (L._∷_ 111 (L._∷_ 117 (L._∷_ 110 (L._∷_ 100 L.[])))))))))))))))))))) (Syntax.tcons q9 (Syntax.tcons q9 (Syntax.tcons q9 (Syntax.tcons q9 Syntax.tnil)))))) (L._∷_ (10, Rows.any-gone (Syntax.tyStruct (L._∷_ 114 (L._∷_ 117 (L._∷_ 108 (L._∷_ 101 (L._∷_ 115 (L._∷_ 58 (L._∷_ 58 (L._∷_ 102 (L._∷_ 111 (L._∷_ 117 (L._∷_ 110 (L._∷_ 100 (L._∷_ 58 (L._∷_ 58 (L._∷_ 70 (L._∷_ 111 (L._∷_ 117 (L._∷_ 110 (L._∷_ 100 L.[]))))))))))))))))))) (Syntax.tcons Syntax.tyBool (Syntax.tcons Syntax.tyBool (Syntax.tcons (Syntax.tyStruct (L._∷_ 115 (L._∷_ 116 (L._∷_ 101 (L._∷_ 112 (L._∷_ 58 (L._∷_ 58 (L._∷_ 83 (L._∷_ 116 (L._∷_ 101 (L._∷_ 112 L.[])))))))))) (Syntax.tcons (Syntax.tyInt Syntax.w64) (Syntax.tcons (Syntax.tyInt Syntax.w64) (Syntax.tcons (Syntax.tyStruct (L._∷_ 115 (L._∷_ 116 (L._∷_ 101 (L._∷_ 112 (L._∷_ 58 (L._∷_ 58 (L._∷_ 67 (L._∷_ 104 (L._∷_ 97 (L._∷_ 110 (L._∷_ 103 (L._∷_ 101 L.[])))))))))))) (Syntax.tcons (Syntax.tyStruct (L._∷_ 110 (L._∷_ 101 (L._∷_ 116 (L._∷_ 119 (L._∷_ 111 (L._∷_ 114 (L._∷_ 107 (L._∷_ 58 (L._∷_ 58 (L._∷_ 69 (L._∷_ 100 (L._∷_ 105 (L._∷_ 116 L.[]))))))))))))) (Syntax.tcons q9 (Syntax.tcons q9 (Syntax.tcons q9 (Syntax.tcons q9 (Syntax.tcons q3 (Syntax.tcons q3 (Syntax.tcons (Syntax.tyInt Syntax.w64) Syntax.tnil)))))))) (Syntax.tcons (Syntax.tyStruct (L._∷_ 115 (L._∷_ 116 (L._∷_ 101 (L._∷_ 112 (L._∷_ 58 (L._∷_ 58 (L._∷_ 79 (L._∷_ 108 (L._∷_ 100 L.[]))))))))) (Syntax.tcons (Syntax.tyInt Syntax.w64) (Syntax.tcons q8 (Syntax.tcons q9 (Syntax.tcons q9 (Syntax.tcons q9 (Syntax.tcons q9 (Syntax.tcons q5 Syntax.tnil)))))))) Syntax.tnil))) Syntax.tnil)))) Syntax.tnil))))) (L._∷_ q25 (L._∷_ q36 (L._∷_ q39 (L._∷_ (14, Rows.sc-here Row.sPtr) (L._∷_ q30 L.[])))))))))))))))
 
 abbrev pub t19 : L.List Row.Entry
-t19 = L._∷_ (0, Rows.any-gone (Syntax.tyStruct (L._∷_ 115 (L._∷_ 101 (L._∷_ 97 (L._∷_ 114 (L._∷_ 99 (L._∷_ 104 (L._∷_ 58 (L._∷_ 58 (L._∷_ 115 (L._∷_ 99 (L._∷_ 97 (L._∷_ 110 (L._∷_ 58 (L._∷_ 58 (L._∷_ 70 (L._∷_ 111 (L._∷_ 117 (L._∷_ 110 (L._∷_ 100 L.[]))))))))))))))))))) (Syntax.tcons Syntax.tyBool (Syntax.tcons Syntax.tyBool (Syntax.tcons (Syntax.tyStruct (L._∷_ 115 (L._∷_ 116 (L._∷_ 101 (L._∷_ 112 (L._∷_ 58 (L._∷_ 58 (L._∷_ 83 (L._∷_ 116 (L._∷_ 101 (L._∷_ 112 L.[])))))))))) (Syntax.tcons (Syntax.tyInt Syntax.w64) (Syntax.tcons (Syntax.tyInt Syntax.w64) (Syntax.tcons (Syntax.tyStruct (L._∷_ 115 (L._∷_ 116 (L._∷_ 101 (L._∷_ 112 (L._∷_ 58 (L._∷_ 58 (L._∷_ 67 (L._∷_ 104 (L._∷_ 97 (L._∷_ 110 (L._∷_ 103 (L._∷_ 101 L.[])))))))))))) (Syntax.tcons (Syntax.tyStruct (L._∷_ 110 (L._∷_ 101 (L._∷_ 116 (L._∷_ 119 (L._∷_ 111 (L._∷_ 114 (L._∷_ 107 (L._∷_ 58 (L._∷_ 58 (L._∷_ 69 (L._∷_ 100 (L._∷_ 105 (L._∷_ 116 L.[]))))))))))))) (Syntax.tcons q9 (Syntax.tcons q9 (Syntax.tcons q9 (Syntax.tcons q9 (Syntax.tcons q3 (Syntax.tcons q3 (Syntax.tcons (Syntax.tyInt Syntax.w64) Syntax.tnil)))))))) (Syntax.tcons (Syntax.tyStruct (L._∷_ 115 (L._∷_ 116 (L._∷_ 101 (L._∷_ 112 (L._∷_ 58 (L._∷_ 58 (L._∷_ 79 (L._∷_ 108 (L._∷_ 100 L.[]))))))))) (Syntax.tcons (Syntax.tyInt Syntax.w64) (Syntax.tcons q8 (Syntax.tcons q9 (Syntax.tcons q9 (Syntax.tcons q9 (Syntax.tcons q9 (Syntax.tcons q5 Syntax.tnil)))))))) Syntax.tnil))) Syntax.tnil)))) Syntax.tnil))))) (L._∷_ q1 (L._∷_ q13 (L._∷_ q11 (L._∷_ q31 (L._∷_ q17 (L._∷_ q15 (L._∷_ q32 (L._∷_ q28 (L._∷_ (9, Rows.any-gone (Syntax.tyStruct (L._∷_ 115 (L._∷_ 101 (L._∷_ 97 (L._∷_ 114 (L._∷_ 99 (L._∷_ 104 (L._∷_ 58 (L._∷_ 58 (L._∷_ 115 (L._∷_ 99 (L._∷_ 97 (L._∷_ 110 (L._∷_ 58 (L._∷_ 58 (L._∷_ 65 (L._∷_ 114 (L._∷_ 111 (L._∷_ 117 (L._∷_ 110 (L._∷_ 100 L.[])))))))))))))))))))) (Syntax.tcons q9 (Syntax.tcons q9 (Syntax.tcons q9 (Syntax.tcons q9 Syntax.tnil)))))) (L._∷_ (10, Rows.any-gone (Syntax.tyStruct (L._∷_ 115 (L._∷_ 101 (L._∷_ 97 (L._∷_ 114 (L._∷_ 99 (L._∷_ 104 (L._∷_ 58 (L._∷_ 58 (L._∷_ 115 (L._∷_ 99 (L._∷_ 97 (L._∷_ 110 (L._∷_ 58 (L._∷_ 58 (L._∷_ 70 (L._∷_ 111 (L._∷_ 117 (L._∷_ 110 (L._∷_ 100 L.[]))))))))))))))))))) (Syntax.tcons Syntax.tyBool (Syntax.tcons Syntax.tyBool (Syntax.tcons (Syntax.tyStruct (L._∷_ 115 (L._∷_ 116 (L._∷_ 101 (L._∷_ 112 (L._∷_ 58 (L._∷_ 58 (L._∷_ 83 (L._∷_ 116 (L._∷_ 101 (L._∷_ 112 L.[])))))))))) (Syntax.tcons (Syntax.tyInt Syntax.w64) (Syntax.tcons (Syntax.tyInt Syntax.w64) (Syntax.tcons (Syntax.tyStruct (L._∷_ 115 (L._∷_ 116 (L._∷_ 101 (L._∷_ 112 (L._∷_ 58 (L._∷_ 58 (L._∷_ 67 (L._∷_ 104 (L._∷_ 97 (L._∷_ 110 (L._∷_ 103 (L._∷_ 101 L.[])))))))))))) (Syntax.tcons (Syntax.tyStruct (L._∷_ 110 (L._∷_ 101 (L._∷_ 116 (L._∷_ 119 (L._∷_ 111 (L._∷_ 114 (L._∷_ 107 (L._∷_ 58 (L._∷_ 58 (L._∷_ 69 (L._∷_ 100 (L._∷_ 105 (L._∷_ 116 L.[]))))))))))))) (Syntax.tcons q9 (Syntax.tcons q9 (Syntax.tcons q9 (Syntax.tcons q9 (Syntax.tcons q3 (Syntax.tcons q3 (Syntax.tcons (Syntax.tyInt Syntax.w64) Syntax.tnil)))))))) (Syntax.tcons (Syntax.tyStruct (L._∷_ 115 (L._∷_ 116 (L._∷_ 101 (L._∷_ 112 (L._∷_ 58 (L._∷_ 58 (L._∷_ 79 (L._∷_ 108 (L._∷_ 100 L.[]))))))))) (Syntax.tcons (Syntax.tyInt Syntax.w64) (Syntax.tcons q8 (Syntax.tcons q9 (Syntax.tcons q9 (Syntax.tcons q9 (Syntax.tcons q9 (Syntax.tcons q5 Syntax.tnil)))))))) Syntax.tnil))) Syntax.tnil)))) Syntax.tnil))))) (L._∷_ q25 (L._∷_ q36 (L._∷_ q39 (L._∷_ q40 (L._∷_ q30 L.[])))))))))))))))
+t19 = L._∷_ (0, Rows.any-gone (Syntax.tyStruct (L._∷_ 114 (L._∷_ 117 (L._∷_ 108 (L._∷_ 101 (L._∷_ 115 (L._∷_ 58 (L._∷_ 58 (L._∷_ 102 (L._∷_ 111 (L._∷_ 117 (L._∷_ 110 (L._∷_ 100 (L._∷_ 58 (L._∷_ 58 (L._∷_ 70 (L._∷_ 111 (L._∷_ 117 (L._∷_ 110 (L._∷_ 100 L.[]))))))))))))))))))) (Syntax.tcons Syntax.tyBool (Syntax.tcons Syntax.tyBool (Syntax.tcons (Syntax.tyStruct (L._∷_ 115 (L._∷_ 116 (L._∷_ 101 (L._∷_ 112 (L._∷_ 58 (L._∷_ 58 (L._∷_ 83 (L._∷_ 116 (L._∷_ 101 (L._∷_ 112 L.[])))))))))) (Syntax.tcons (Syntax.tyInt Syntax.w64) (Syntax.tcons (Syntax.tyInt Syntax.w64) (Syntax.tcons (Syntax.tyStruct (L._∷_ 115 (L._∷_ 116 (L._∷_ 101 (L._∷_ 112 (L._∷_ 58 (L._∷_ 58 (L._∷_ 67 (L._∷_ 104 (L._∷_ 97 (L._∷_ 110 (L._∷_ 103 (L._∷_ 101 L.[])))))))))))) (Syntax.tcons (Syntax.tyStruct (L._∷_ 110 (L._∷_ 101 (L._∷_ 116 (L._∷_ 119 (L._∷_ 111 (L._∷_ 114 (L._∷_ 107 (L._∷_ 58 (L._∷_ 58 (L._∷_ 69 (L._∷_ 100 (L._∷_ 105 (L._∷_ 116 L.[]))))))))))))) (Syntax.tcons q9 (Syntax.tcons q9 (Syntax.tcons q9 (Syntax.tcons q9 (Syntax.tcons q3 (Syntax.tcons q3 (Syntax.tcons (Syntax.tyInt Syntax.w64) Syntax.tnil)))))))) (Syntax.tcons (Syntax.tyStruct (L._∷_ 115 (L._∷_ 116 (L._∷_ 101 (L._∷_ 112 (L._∷_ 58 (L._∷_ 58 (L._∷_ 79 (L._∷_ 108 (L._∷_ 100 L.[]))))))))) (Syntax.tcons (Syntax.tyInt Syntax.w64) (Syntax.tcons q8 (Syntax.tcons q9 (Syntax.tcons q9 (Syntax.tcons q9 (Syntax.tcons q9 (Syntax.tcons q5 Syntax.tnil)))))))) Syntax.tnil))) Syntax.tnil)))) Syntax.tnil))))) (L._∷_ q1 (L._∷_ q13 (L._∷_ q11 (L._∷_ q31 (L._∷_ q20 (L._∷_ q17 (L._∷_ q32 (L._∷_ q28 (L._∷_ (9, Rows.any-gone (Syntax.tyStruct (L._∷_ 114 (L._∷_ 117 (L._∷_ 108 (L._∷_ 101 (L._∷_ 115 (L._∷_ 58 (L._∷_ 58 (L._∷_ 116 (L._∷_ 114 (L._∷_ 105 (L._∷_ 101 (L._∷_ 100 (L._∷_ 58 (L._∷_ 58 (L._∷_ 65 (L._∷_ 114 (L._∷_ 111 (L._∷_ 117 (L._∷_ 110 (L._∷_ 100 L.[])))))))))))))))))))) (Syntax.tcons q9 (Syntax.tcons q9 (Syntax.tcons q9 (Syntax.tcons q9 Syntax.tnil)))))) (L._∷_ (10, Rows.any-gone (Syntax.tyStruct (L._∷_ 114 (L._∷_ 117 (L._∷_ 108 (L._∷_ 101 (L._∷_ 115 (L._∷_ 58 (L._∷_ 58 (L._∷_ 102 (L._∷_ 111 (L._∷_ 117 (L._∷_ 110 (L._∷_ 100 (L._∷_ 58 (L._∷_ 58 (L._∷_ 70 (L._∷_ 111 (L._∷_ 117 (L._∷_ 110 (L._∷_ 100 L.[]))))))))))))))))))) (Syntax.tcons Syntax.tyBool (Syntax.tcons Syntax.tyBool (Syntax.tcons (Syntax.tyStruct (L._∷_ 115 (L._∷_ 116 (L._∷_ 101 (L._∷_ 112 (L._∷_ 58 (L._∷_ 58 (L._∷_ 83 (L._∷_ 116 (L._∷_ 101 (L._∷_ 112 L.[])))))))))) (Syntax.tcons (Syntax.tyInt Syntax.w64) (Syntax.tcons (Syntax.tyInt Syntax.w64) (Syntax.tcons (Syntax.tyStruct (L._∷_ 115 (L._∷_ 116 (L._∷_ 101 (L._∷_ 112 (L._∷_ 58 (L._∷_ 58 (L._∷_ 67 (L._∷_ 104 (L._∷_ 97 (L._∷_ 110 (L._∷_ 103 (L._∷_ 101 L.[])))))))))))) (Syntax.tcons (Syntax.tyStruct (L._∷_ 110 (L._∷_ 101 (L._∷_ 116 (L._∷_ 119 (L._∷_ 111 (L._∷_ 114 (L._∷_ 107 (L._∷_ 58 (L._∷_ 58 (L._∷_ 69 (L._∷_ 100 (L._∷_ 105 (L._∷_ 116 L.[]))))))))))))) (Syntax.tcons q9 (Syntax.tcons q9 (Syntax.tcons q9 (Syntax.tcons q9 (Syntax.tcons q3 (Syntax.tcons q3 (Syntax.tcons (Syntax.tyInt Syntax.w64) Syntax.tnil)))))))) (Syntax.tcons (Syntax.tyStruct (L._∷_ 115 (L._∷_ 116 (L._∷_ 101 (L._∷_ 112 (L._∷_ 58 (L._∷_ 58 (L._∷_ 79 (L._∷_ 108 (L._∷_ 100 L.[]))))))))) (Syntax.tcons (Syntax.tyInt Syntax.w64) (Syntax.tcons q8 (Syntax.tcons q9 (Syntax.tcons q9 (Syntax.tcons q9 (Syntax.tcons q9 (Syntax.tcons q5 Syntax.tnil)))))))) Syntax.tnil))) Syntax.tnil)))) Syntax.tnil))))) (L._∷_ q25 (L._∷_ q36 (L._∷_ q39 (L._∷_ q40 (L._∷_ q30 L.[])))))))))))))))
 
 abbrev pub t20 : L.List Row.Entry
-t20 = L._∷_ (0, Rows.any-gone (Syntax.tyStruct (L._∷_ 115 (L._∷_ 101 (L._∷_ 97 (L._∷_ 114 (L._∷_ 99 (L._∷_ 104 (L._∷_ 58 (L._∷_ 58 (L._∷_ 115 (L._∷_ 99 (L._∷_ 97 (L._∷_ 110 (L._∷_ 58 (L._∷_ 58 (L._∷_ 70 (L._∷_ 111 (L._∷_ 117 (L._∷_ 110 (L._∷_ 100 L.[]))))))))))))))))))) (Syntax.tcons Syntax.tyBool (Syntax.tcons Syntax.tyBool (Syntax.tcons (Syntax.tyStruct (L._∷_ 115 (L._∷_ 116 (L._∷_ 101 (L._∷_ 112 (L._∷_ 58 (L._∷_ 58 (L._∷_ 83 (L._∷_ 116 (L._∷_ 101 (L._∷_ 112 L.[])))))))))) (Syntax.tcons (Syntax.tyInt Syntax.w64) (Syntax.tcons (Syntax.tyInt Syntax.w64) (Syntax.tcons (Syntax.tyStruct (L._∷_ 115 (L._∷_ 116 (L._∷_ 101 (L._∷_ 112 (L._∷_ 58 (L._∷_ 58 (L._∷_ 67 (L._∷_ 104 (L._∷_ 97 (L._∷_ 110 (L._∷_ 103 (L._∷_ 101 L.[])))))))))))) (Syntax.tcons (Syntax.tyStruct (L._∷_ 110 (L._∷_ 101 (L._∷_ 116 (L._∷_ 119 (L._∷_ 111 (L._∷_ 114 (L._∷_ 107 (L._∷_ 58 (L._∷_ 58 (L._∷_ 69 (L._∷_ 100 (L._∷_ 105 (L._∷_ 116 L.[]))))))))))))) (Syntax.tcons q9 (Syntax.tcons q9 (Syntax.tcons q9 (Syntax.tcons q9 (Syntax.tcons q3 (Syntax.tcons q3 (Syntax.tcons (Syntax.tyInt Syntax.w64) Syntax.tnil)))))))) (Syntax.tcons (Syntax.tyStruct (L._∷_ 115 (L._∷_ 116 (L._∷_ 101 (L._∷_ 112 (L._∷_ 58 (L._∷_ 58 (L._∷_ 79 (L._∷_ 108 (L._∷_ 100 L.[]))))))))) (Syntax.tcons (Syntax.tyInt Syntax.w64) (Syntax.tcons q8 (Syntax.tcons q9 (Syntax.tcons q9 (Syntax.tcons q9 (Syntax.tcons q9 (Syntax.tcons q5 Syntax.tnil)))))))) Syntax.tnil))) Syntax.tnil)))) Syntax.tnil))))) (L._∷_ q1 (L._∷_ q13 (L._∷_ q11 (L._∷_ q31 (L._∷_ q17 (L._∷_ q15 (L._∷_ q32 (L._∷_ q33 (L._∷_ (9, Rows.any-gone (Syntax.tyStruct (L._∷_ 115 (L._∷_ 101 (L._∷_ 97 (L._∷_ 114 (L._∷_ 99 (L._∷_ 104 (L._∷_ 58 (L._∷_ 58 (L._∷_ 115 (L._∷_ 99 (L._∷_ 97 (L._∷_ 110 (L._∷_ 58 (L._∷_ 58 (L._∷_ 65 (L._∷_ 114 (L._∷_ 111 (L._∷_ 117 (L._∷_ 110 (L._∷_ 100 L.[])))))))))))))))))))) (Syntax.tcons q9 (Syntax.tcons q9 (Syntax.tcons q9 (Syntax.tcons q9 Syntax.tnil)))))) (L._∷_ (10, Rows.any-gone (Syntax.tyStruct (L._∷_ 115 (L._∷_ 101 (L._∷_ 97 (L._∷_ 114 (L._∷_ 99 (L._∷_ 104 (L._∷_ 58 (L._∷_ 58 (L._∷_ 115 (L._∷_ 99 (L._∷_ 97 (L._∷_ 110 (L._∷_ 58 (L._∷_ 58 (L._∷_ 70 (L._∷_ 111 (L._∷_ 117 (L._∷_ 110 (L._∷_ 100 L.[]))))))))))))))))))) (Syntax.tcons Syntax.tyBool (Syntax.tcons Syntax.tyBool (Syntax.tcons (Syntax.tyStruct (L._∷_ 115 (L._∷_ 116 (L._∷_ 101 (L._∷_ 112 (L._∷_ 58 (L._∷_ 58 (L._∷_ 83 (L._∷_ 116 (L._∷_ 101 (L._∷_ 112 L.[])))))))))) (Syntax.tcons (Syntax.tyInt Syntax.w64) (Syntax.tcons (Syntax.tyInt Syntax.w64) (Syntax.tcons (Syntax.tyStruct (L._∷_ 115 (L._∷_ 116 (L._∷_ 101 (L._∷_ 112 (L._∷_ 58 (L._∷_ 58 (L._∷_ 67 (L._∷_ 104 (L._∷_ 97 (L._∷_ 110 (L._∷_ 103 (L._∷_ 101 L.[])))))))))))) (Syntax.tcons (Syntax.tyStruct (L._∷_ 110 (L._∷_ 101 (L._∷_ 116 (L._∷_ 119 (L._∷_ 111 (L._∷_ 114 (L._∷_ 107 (L._∷_ 58 (L._∷_ 58 (L._∷_ 69 (L._∷_ 100 (L._∷_ 105 (L._∷_ 116 L.[]))))))))))))) (Syntax.tcons q9 (Syntax.tcons q9 (Syntax.tcons q9 (Syntax.tcons q9 (Syntax.tcons q3 (Syntax.tcons q3 (Syntax.tcons (Syntax.tyInt Syntax.w64) Syntax.tnil)))))))) (Syntax.tcons (Syntax.tyStruct (L._∷_ 115 (L._∷_ 116 (L._∷_ 101 (L._∷_ 112 (L._∷_ 58 (L._∷_ 58 (L._∷_ 79 (L._∷_ 108 (L._∷_ 100 L.[]))))))))) (Syntax.tcons (Syntax.tyInt Syntax.w64) (Syntax.tcons q8 (Syntax.tcons q9 (Syntax.tcons q9 (Syntax.tcons q9 (Syntax.tcons q9 (Syntax.tcons q5 Syntax.tnil)))))))) Syntax.tnil))) Syntax.tnil)))) Syntax.tnil))))) (L._∷_ q25 (L._∷_ q36 (L._∷_ q39 (L._∷_ q40 (L._∷_ q30 L.[])))))))))))))))
+t20 = L._∷_ (0, Rows.any-gone (Syntax.tyStruct (L._∷_ 114 (L._∷_ 117 (L._∷_ 108 (L._∷_ 101 (L._∷_ 115 (L._∷_ 58 (L._∷_ 58 (L._∷_ 102 (L._∷_ 111 (L._∷_ 117 (L._∷_ 110 (L._∷_ 100 (L._∷_ 58 (L._∷_ 58 (L._∷_ 70 (L._∷_ 111 (L._∷_ 117 (L._∷_ 110 (L._∷_ 100 L.[]))))))))))))))))))) (Syntax.tcons Syntax.tyBool (Syntax.tcons Syntax.tyBool (Syntax.tcons (Syntax.tyStruct (L._∷_ 115 (L._∷_ 116 (L._∷_ 101 (L._∷_ 112 (L._∷_ 58 (L._∷_ 58 (L._∷_ 83 (L._∷_ 116 (L._∷_ 101 (L._∷_ 112 L.[])))))))))) (Syntax.tcons (Syntax.tyInt Syntax.w64) (Syntax.tcons (Syntax.tyInt Syntax.w64) (Syntax.tcons (Syntax.tyStruct (L._∷_ 115 (L._∷_ 116 (L._∷_ 101 (L._∷_ 112 (L._∷_ 58 (L._∷_ 58 (L._∷_ 67 (L._∷_ 104 (L._∷_ 97 (L._∷_ 110 (L._∷_ 103 (L._∷_ 101 L.[])))))))))))) (Syntax.tcons (Syntax.tyStruct (L._∷_ 110 (L._∷_ 101 (L._∷_ 116 (L._∷_ 119 (L._∷_ 111 (L._∷_ 114 (L._∷_ 107 (L._∷_ 58 (L._∷_ 58 (L._∷_ 69 (L._∷_ 100 (L._∷_ 105 (L._∷_ 116 L.[]))))))))))))) (Syntax.tcons q9 (Syntax.tcons q9 (Syntax.tcons q9 (Syntax.tcons q9 (Syntax.tcons q3 (Syntax.tcons q3 (Syntax.tcons (Syntax.tyInt Syntax.w64) Syntax.tnil)))))))) (Syntax.tcons (Syntax.tyStruct (L._∷_ 115 (L._∷_ 116 (L._∷_ 101 (L._∷_ 112 (L._∷_ 58 (L._∷_ 58 (L._∷_ 79 (L._∷_ 108 (L._∷_ 100 L.[]))))))))) (Syntax.tcons (Syntax.tyInt Syntax.w64) (Syntax.tcons q8 (Syntax.tcons q9 (Syntax.tcons q9 (Syntax.tcons q9 (Syntax.tcons q9 (Syntax.tcons q5 Syntax.tnil)))))))) Syntax.tnil))) Syntax.tnil)))) Syntax.tnil))))) (L._∷_ q1 (L._∷_ q13 (L._∷_ q11 (L._∷_ q31 (L._∷_ q20 (L._∷_ q17 (L._∷_ q32 (L._∷_ q33 (L._∷_ (9, Rows.any-gone (Syntax.tyStruct (L._∷_ 114 (L._∷_ 117 (L._∷_ 108 (L._∷_ 101 (L._∷_ 115 (L._∷_ 58 (L._∷_ 58 (L._∷_ 116 (L._∷_ 114 (L._∷_ 105 (L._∷_ 101 (L._∷_ 100 (L._∷_ 58 (L._∷_ 58 (L._∷_ 65 (L._∷_ 114 (L._∷_ 111 (L._∷_ 117 (L._∷_ 110 (L._∷_ 100 L.[])))))))))))))))))))) (Syntax.tcons q9 (Syntax.tcons q9 (Syntax.tcons q9 (Syntax.tcons q9 Syntax.tnil)))))) (L._∷_ (10, Rows.any-gone (Syntax.tyStruct (L._∷_ 114 (L._∷_ 117 (L._∷_ 108 (L._∷_ 101 (L._∷_ 115 (L._∷_ 58 (L._∷_ 58 (L._∷_ 102 (L._∷_ 111 (L._∷_ 117 (L._∷_ 110 (L._∷_ 100 (L._∷_ 58 (L._∷_ 58 (L._∷_ 70 (L._∷_ 111 (L._∷_ 117 (L._∷_ 110 (L._∷_ 100 L.[]))))))))))))))))))) (Syntax.tcons Syntax.tyBool (Syntax.tcons Syntax.tyBool (Syntax.tcons (Syntax.tyStruct (L._∷_ 115 (L._∷_ 116 (L._∷_ 101 (L._∷_ 112 (L._∷_ 58 (L._∷_ 58 (L._∷_ 83 (L._∷_ 116 (L._∷_ 101 (L._∷_ 112 L.[])))))))))) (Syntax.tcons (Syntax.tyInt Syntax.w64) (Syntax.tcons (Syntax.tyInt Syntax.w64) (Syntax.tcons (Syntax.tyStruct (L._∷_ 115 (L._∷_ 116 (L._∷_ 101 (L._∷_ 112 (L._∷_ 58 (L._∷_ 58 (L._∷_ 67 (L._∷_ 104 (L._∷_ 97 (L._∷_ 110 (L._∷_ 103 (L._∷_ 101 L.[])))))))))))) (Syntax.tcons (Syntax.tyStruct (L._∷_ 110 (L._∷_ 101 (L._∷_ 116 (L._∷_ 119 (L._∷_ 111 (L._∷_ 114 (L._∷_ 107 (L._∷_ 58 (L._∷_ 58 (L._∷_ 69 (L._∷_ 100 (L._∷_ 105 (L._∷_ 116 L.[]))))))))))))) (Syntax.tcons q9 (Syntax.tcons q9 (Syntax.tcons q9 (Syntax.tcons q9 (Syntax.tcons q3 (Syntax.tcons q3 (Syntax.tcons (Syntax.tyInt Syntax.w64) Syntax.tnil)))))))) (Syntax.tcons (Syntax.tyStruct (L._∷_ 115 (L._∷_ 116 (L._∷_ 101 (L._∷_ 112 (L._∷_ 58 (L._∷_ 58 (L._∷_ 79 (L._∷_ 108 (L._∷_ 100 L.[]))))))))) (Syntax.tcons (Syntax.tyInt Syntax.w64) (Syntax.tcons q8 (Syntax.tcons q9 (Syntax.tcons q9 (Syntax.tcons q9 (Syntax.tcons q9 (Syntax.tcons q5 Syntax.tnil)))))))) Syntax.tnil))) Syntax.tnil)))) Syntax.tnil))))) (L._∷_ q25 (L._∷_ q36 (L._∷_ q39 (L._∷_ q40 (L._∷_ q30 L.[])))))))))))))))
 
 abbrev pub t21 : L.List Row.Entry
-t21 = L._∷_ (0, Rows.any-gone (Syntax.tyStruct (L._∷_ 115 (L._∷_ 101 (L._∷_ 97 (L._∷_ 114 (L._∷_ 99 (L._∷_ 104 (L._∷_ 58 (L._∷_ 58 (L._∷_ 115 (L._∷_ 99 (L._∷_ 97 (L._∷_ 110 (L._∷_ 58 (L._∷_ 58 (L._∷_ 70 (L._∷_ 111 (L._∷_ 117 (L._∷_ 110 (L._∷_ 100 L.[]))))))))))))))))))) (Syntax.tcons Syntax.tyBool (Syntax.tcons Syntax.tyBool (Syntax.tcons (Syntax.tyStruct (L._∷_ 115 (L._∷_ 116 (L._∷_ 101 (L._∷_ 112 (L._∷_ 58 (L._∷_ 58 (L._∷_ 83 (L._∷_ 116 (L._∷_ 101 (L._∷_ 112 L.[])))))))))) (Syntax.tcons (Syntax.tyInt Syntax.w64) (Syntax.tcons (Syntax.tyInt Syntax.w64) (Syntax.tcons (Syntax.tyStruct (L._∷_ 115 (L._∷_ 116 (L._∷_ 101 (L._∷_ 112 (L._∷_ 58 (L._∷_ 58 (L._∷_ 67 (L._∷_ 104 (L._∷_ 97 (L._∷_ 110 (L._∷_ 103 (L._∷_ 101 L.[])))))))))))) (Syntax.tcons (Syntax.tyStruct (L._∷_ 110 (L._∷_ 101 (L._∷_ 116 (L._∷_ 119 (L._∷_ 111 (L._∷_ 114 (L._∷_ 107 (L._∷_ 58 (L._∷_ 58 (L._∷_ 69 (L._∷_ 100 (L._∷_ 105 (L._∷_ 116 L.[]))))))))))))) (Syntax.tcons q9 (Syntax.tcons q9 (Syntax.tcons q9 (Syntax.tcons q9 (Syntax.tcons q3 (Syntax.tcons q3 (Syntax.tcons (Syntax.tyInt Syntax.w64) Syntax.tnil)))))))) (Syntax.tcons (Syntax.tyStruct (L._∷_ 115 (L._∷_ 116 (L._∷_ 101 (L._∷_ 112 (L._∷_ 58 (L._∷_ 58 (L._∷_ 79 (L._∷_ 108 (L._∷_ 100 L.[]))))))))) (Syntax.tcons (Syntax.tyInt Syntax.w64) (Syntax.tcons q8 (Syntax.tcons q9 (Syntax.tcons q9 (Syntax.tcons q9 (Syntax.tcons q9 (Syntax.tcons q5 Syntax.tnil)))))))) Syntax.tnil))) Syntax.tnil)))) Syntax.tnil))))) (L._∷_ q1 (L._∷_ q13 (L._∷_ q11 (L._∷_ q31 (L._∷_ q17 (L._∷_ q15 (L._∷_ q32 (L._∷_ q33 (L._∷_ (9, Rows.any-gone (Syntax.tyStruct (L._∷_ 115 (L._∷_ 101 (L._∷_ 97 (L._∷_ 114 (L._∷_ 99 (L._∷_ 104 (L._∷_ 58 (L._∷_ 58 (L._∷_ 115 (L._∷_ 99 (L._∷_ 97 (L._∷_ 110 (L._∷_ 58 (L._∷_ 58 (L._∷_ 65 (L._∷_ 114 (L._∷_ 111 (L._∷_ 117 (L._∷_ 110 (L._∷_ 100 L.[])))))))))))))))))))) (Syntax.tcons q9 (Syntax.tcons q9 (Syntax.tcons q9 (Syntax.tcons q9 Syntax.tnil)))))) (L._∷_ (10, Rows.any-gone (Syntax.tyStruct (L._∷_ 115 (L._∷_ 101 (L._∷_ 97 (L._∷_ 114 (L._∷_ 99 (L._∷_ 104 (L._∷_ 58 (L._∷_ 58 (L._∷_ 115 (L._∷_ 99 (L._∷_ 97 (L._∷_ 110 (L._∷_ 58 (L._∷_ 58 (L._∷_ 70 (L._∷_ 111 (L._∷_ 117 (L._∷_ 110 (L._∷_ 100 L.[]))))))))))))))))))) (Syntax.tcons Syntax.tyBool (Syntax.tcons Syntax.tyBool (Syntax.tcons (Syntax.tyStruct (L._∷_ 115 (L._∷_ 116 (L._∷_ 101 (L._∷_ 112 (L._∷_ 58 (L._∷_ 58 (L._∷_ 83 (L._∷_ 116 (L._∷_ 101 (L._∷_ 112 L.[])))))))))) (Syntax.tcons (Syntax.tyInt Syntax.w64) (Syntax.tcons (Syntax.tyInt Syntax.w64) (Syntax.tcons (Syntax.tyStruct (L._∷_ 115 (L._∷_ 116 (L._∷_ 101 (L._∷_ 112 (L._∷_ 58 (L._∷_ 58 (L._∷_ 67 (L._∷_ 104 (L._∷_ 97 (L._∷_ 110 (L._∷_ 103 (L._∷_ 101 L.[])))))))))))) (Syntax.tcons (Syntax.tyStruct (L._∷_ 110 (L._∷_ 101 (L._∷_ 116 (L._∷_ 119 (L._∷_ 111 (L._∷_ 114 (L._∷_ 107 (L._∷_ 58 (L._∷_ 58 (L._∷_ 69 (L._∷_ 100 (L._∷_ 105 (L._∷_ 116 L.[]))))))))))))) (Syntax.tcons q9 (Syntax.tcons q9 (Syntax.tcons q9 (Syntax.tcons q9 (Syntax.tcons q3 (Syntax.tcons q3 (Syntax.tcons (Syntax.tyInt Syntax.w64) Syntax.tnil)))))))) (Syntax.tcons (Syntax.tyStruct (L._∷_ 115 (L._∷_ 116 (L._∷_ 101 (L._∷_ 112 (L._∷_ 58 (L._∷_ 58 (L._∷_ 79 (L._∷_ 108 (L._∷_ 100 L.[]))))))))) (Syntax.tcons (Syntax.tyInt Syntax.w64) (Syntax.tcons q8 (Syntax.tcons q9 (Syntax.tcons q9 (Syntax.tcons q9 (Syntax.tcons q9 (Syntax.tcons q5 Syntax.tnil)))))))) Syntax.tnil))) Syntax.tnil)))) Syntax.tnil))))) (L._∷_ q25 (L._∷_ q36 (L._∷_ q39 (L._∷_ q40 (L._∷_ q26 L.[])))))))))))))))
+t21 = L._∷_ (0, Rows.any-gone (Syntax.tyStruct (L._∷_ 114 (L._∷_ 117 (L._∷_ 108 (L._∷_ 101 (L._∷_ 115 (L._∷_ 58 (L._∷_ 58 (L._∷_ 102 (L._∷_ 111 (L._∷_ 117 (L._∷_ 110 (L._∷_ 100 (L._∷_ 58 (L._∷_ 58 (L._∷_ 70 (L._∷_ 111 (L._∷_ 117 (L._∷_ 110 (L._∷_ 100 L.[]))))))))))))))))))) (Syntax.tcons Syntax.tyBool (Syntax.tcons Syntax.tyBool (Syntax.tcons (Syntax.tyStruct (L._∷_ 115 (L._∷_ 116 (L._∷_ 101 (L._∷_ 112 (L._∷_ 58 (L._∷_ 58 (L._∷_ 83 (L._∷_ 116 (L._∷_ 101 (L._∷_ 112 L.[])))))))))) (Syntax.tcons (Syntax.tyInt Syntax.w64) (Syntax.tcons (Syntax.tyInt Syntax.w64) (Syntax.tcons (Syntax.tyStruct (L._∷_ 115 (L._∷_ 116 (L._∷_ 101 (L._∷_ 112 (L._∷_ 58 (L._∷_ 58 (L._∷_ 67 (L._∷_ 104 (L._∷_ 97 (L._∷_ 110 (L._∷_ 103 (L._∷_ 101 L.[])))))))))))) (Syntax.tcons (Syntax.tyStruct (L._∷_ 110 (L._∷_ 101 (L._∷_ 116 (L._∷_ 119 (L._∷_ 111 (L._∷_ 114 (L._∷_ 107 (L._∷_ 58 (L._∷_ 58 (L._∷_ 69 (L._∷_ 100 (L._∷_ 105 (L._∷_ 116 L.[]))))))))))))) (Syntax.tcons q9 (Syntax.tcons q9 (Syntax.tcons q9 (Syntax.tcons q9 (Syntax.tcons q3 (Syntax.tcons q3 (Syntax.tcons (Syntax.tyInt Syntax.w64) Syntax.tnil)))))))) (Syntax.tcons (Syntax.tyStruct (L._∷_ 115 (L._∷_ 116 (L._∷_ 101 (L._∷_ 112 (L._∷_ 58 (L._∷_ 58 (L._∷_ 79 (L._∷_ 108 (L._∷_ 100 L.[]))))))))) (Syntax.tcons (Syntax.tyInt Syntax.w64) (Syntax.tcons q8 (Syntax.tcons q9 (Syntax.tcons q9 (Syntax.tcons q9 (Syntax.tcons q9 (Syntax.tcons q5 Syntax.tnil)))))))) Syntax.tnil))) Syntax.tnil)))) Syntax.tnil))))) (L._∷_ q1 (L._∷_ q13 (L._∷_ q11 (L._∷_ q31 (L._∷_ q20 (L._∷_ q17 (L._∷_ q32 (L._∷_ q33 (L._∷_ (9, Rows.any-gone (Syntax.tyStruct (L._∷_ 114 (L._∷_ 117 (L._∷_ 108 (L._∷_ 101 (L._∷_ 115 (L._∷_ 58 (L._∷_ 58 (L._∷_ 116 (L._∷_ 114 (L._∷_ 105 (L._∷_ 101 (L._∷_ 100 (L._∷_ 58 (L._∷_ 58 (L._∷_ 65 (L._∷_ 114 (L._∷_ 111 (L._∷_ 117 (L._∷_ 110 (L._∷_ 100 L.[])))))))))))))))))))) (Syntax.tcons q9 (Syntax.tcons q9 (Syntax.tcons q9 (Syntax.tcons q9 Syntax.tnil)))))) (L._∷_ (10, Rows.any-gone (Syntax.tyStruct (L._∷_ 114 (L._∷_ 117 (L._∷_ 108 (L._∷_ 101 (L._∷_ 115 (L._∷_ 58 (L._∷_ 58 (L._∷_ 102 (L._∷_ 111 (L._∷_ 117 (L._∷_ 110 (L._∷_ 100 (L._∷_ 58 (L._∷_ 58 (L._∷_ 70 (L._∷_ 111 (L._∷_ 117 (L._∷_ 110 (L._∷_ 100 L.[]))))))))))))))))))) (Syntax.tcons Syntax.tyBool (Syntax.tcons Syntax.tyBool (Syntax.tcons (Syntax.tyStruct (L._∷_ 115 (L._∷_ 116 (L._∷_ 101 (L._∷_ 112 (L._∷_ 58 (L._∷_ 58 (L._∷_ 83 (L._∷_ 116 (L._∷_ 101 (L._∷_ 112 L.[])))))))))) (Syntax.tcons (Syntax.tyInt Syntax.w64) (Syntax.tcons (Syntax.tyInt Syntax.w64) (Syntax.tcons (Syntax.tyStruct (L._∷_ 115 (L._∷_ 116 (L._∷_ 101 (L._∷_ 112 (L._∷_ 58 (L._∷_ 58 (L._∷_ 67 (L._∷_ 104 (L._∷_ 97 (L._∷_ 110 (L._∷_ 103 (L._∷_ 101 L.[])))))))))))) (Syntax.tcons (Syntax.tyStruct (L._∷_ 110 (L._∷_ 101 (L._∷_ 116 (L._∷_ 119 (L._∷_ 111 (L._∷_ 114 (L._∷_ 107 (L._∷_ 58 (L._∷_ 58 (L._∷_ 69 (L._∷_ 100 (L._∷_ 105 (L._∷_ 116 L.[]))))))))))))) (Syntax.tcons q9 (Syntax.tcons q9 (Syntax.tcons q9 (Syntax.tcons q9 (Syntax.tcons q3 (Syntax.tcons q3 (Syntax.tcons (Syntax.tyInt Syntax.w64) Syntax.tnil)))))))) (Syntax.tcons (Syntax.tyStruct (L._∷_ 115 (L._∷_ 116 (L._∷_ 101 (L._∷_ 112 (L._∷_ 58 (L._∷_ 58 (L._∷_ 79 (L._∷_ 108 (L._∷_ 100 L.[]))))))))) (Syntax.tcons (Syntax.tyInt Syntax.w64) (Syntax.tcons q8 (Syntax.tcons q9 (Syntax.tcons q9 (Syntax.tcons q9 (Syntax.tcons q9 (Syntax.tcons q5 Syntax.tnil)))))))) Syntax.tnil))) Syntax.tnil)))) Syntax.tnil))))) (L._∷_ q25 (L._∷_ q36 (L._∷_ q39 (L._∷_ q40 (L._∷_ q26 L.[])))))))))))))))
 
 abbrev pub t22 : L.List Row.Entry
 t22 = L._∷_ q37 (L._∷_ (17, Rows.sc-here Row.sPtr) (L._∷_ q42 (L._∷_ q43 (L._∷_ q44 (L._∷_ q7 (L._∷_ q4 (L._∷_ q38 L.[])))))))
@@ -518,10 +518,10 @@ abbrev pub t24 : L.List Row.Entry
 t24 = L._∷_ q37 (L._∷_ q41 (L._∷_ (18, Rows.sc-here Row.sPtr) (L._∷_ q43 (L._∷_ q44 (L._∷_ q7 (L._∷_ q4 (L._∷_ q38 L.[])))))))
 
 abbrev pub t25 : L.List Row.Entry
-t25 = L._∷_ (0, Rows.any-gone (Syntax.tyStruct (L._∷_ 115 (L._∷_ 101 (L._∷_ 97 (L._∷_ 114 (L._∷_ 99 (L._∷_ 104 (L._∷_ 58 (L._∷_ 58 (L._∷_ 115 (L._∷_ 99 (L._∷_ 97 (L._∷_ 110 (L._∷_ 58 (L._∷_ 58 (L._∷_ 70 (L._∷_ 111 (L._∷_ 117 (L._∷_ 110 (L._∷_ 100 L.[]))))))))))))))))))) (Syntax.tcons Syntax.tyBool (Syntax.tcons Syntax.tyBool (Syntax.tcons (Syntax.tyStruct (L._∷_ 115 (L._∷_ 116 (L._∷_ 101 (L._∷_ 112 (L._∷_ 58 (L._∷_ 58 (L._∷_ 83 (L._∷_ 116 (L._∷_ 101 (L._∷_ 112 L.[])))))))))) (Syntax.tcons (Syntax.tyInt Syntax.w64) (Syntax.tcons (Syntax.tyInt Syntax.w64) (Syntax.tcons (Syntax.tyStruct (L._∷_ 115 (L._∷_ 116 (L._∷_ 101 (L._∷_ 112 (L._∷_ 58 (L._∷_ 58 (L._∷_ 67 (L._∷_ 104 (L._∷_ 97 (L._∷_ 110 (L._∷_ 103 (L._∷_ 101 L.[])))))))))))) (Syntax.tcons (Syntax.tyStruct (L._∷_ 110 (L._∷_ 101 (L._∷_ 116 (L._∷_ 119 (L._∷_ 111 (L._∷_ 114 (L._∷_ 107 (L._∷_ 58 (L._∷_ 58 (L._∷_ 69 (L._∷_ 100 (L._∷_ 105 (L._∷_ 116 L.[]))))))))))))) (Syntax.tcons q9 (Syntax.tcons q9 (Syntax.tcons q9 (Syntax.tcons q9 (Syntax.tcons q3 (Syntax.tcons q3 (Syntax.tcons (Syntax.tyInt Syntax.w64) Syntax.tnil)))))))) (Syntax.tcons (Syntax.tyStruct (L._∷_ 115 (L._∷_ 116 (L._∷_ 101 (L._∷_ 112 (L._∷_ 58 (L._∷_ 58 (L._∷_ 79 (L._∷_ 108 (L._∷_ 100 L.[]))))))))) (Syntax.tcons (Syntax.tyInt Syntax.w64) (Syntax.tcons q8 (Syntax.tcons q9 (Syntax.tcons q9 (Syntax.tcons q9 (Syntax.tcons q9 (Syntax.tcons q5 Syntax.tnil)))))))) Syntax.tnil))) Syntax.tnil)))) Syntax.tnil))))) (L._∷_ q1 (L._∷_ q13 (L._∷_ q11 (L._∷_ q31 (L._∷_ q17 (L._∷_ q15 (L._∷_ q32 (L._∷_ q33 (L._∷_ (9, Rows.any-gone (Syntax.tyStruct (L._∷_ 115 (L._∷_ 101 (L._∷_ 97 (L._∷_ 114 (L._∷_ 99 (L._∷_ 104 (L._∷_ 58 (L._∷_ 58 (L._∷_ 115 (L._∷_ 99 (L._∷_ 97 (L._∷_ 110 (L._∷_ 58 (L._∷_ 58 (L._∷_ 65 (L._∷_ 114 (L._∷_ 111 (L._∷_ 117 (L._∷_ 110 (L._∷_ 100 L.[])))))))))))))))))))) (Syntax.tcons q9 (Syntax.tcons q9 (Syntax.tcons q9 (Syntax.tcons q9 Syntax.tnil)))))) (L._∷_ (10, Rows.any-gone (Syntax.tyStruct (L._∷_ 115 (L._∷_ 101 (L._∷_ 97 (L._∷_ 114 (L._∷_ 99 (L._∷_ 104 (L._∷_ 58 (L._∷_ 58 (L._∷_ 115 (L._∷_ 99 (L._∷_ 97 (L._∷_ 110 (L._∷_ 58 (L._∷_ 58 (L._∷_ 70 (L._∷_ 111 (L._∷_ 117 (L._∷_ 110 (L._∷_ 100 L.[]))))))))))))))))))) (Syntax.tcons Syntax.tyBool (Syntax.tcons Syntax.tyBool (Syntax.tcons (Syntax.tyStruct (L._∷_ 115 (L._∷_ 116 (L._∷_ 101 (L._∷_ 112 (L._∷_ 58 (L._∷_ 58 (L._∷_ 83 (L._∷_ 116 (L._∷_ 101 (L._∷_ 112 L.[])))))))))) (Syntax.tcons (Syntax.tyInt Syntax.w64) (Syntax.tcons (Syntax.tyInt Syntax.w64) (Syntax.tcons (Syntax.tyStruct (L._∷_ 115 (L._∷_ 116 (L._∷_ 101 (L._∷_ 112 (L._∷_ 58 (L._∷_ 58 (L._∷_ 67 (L._∷_ 104 (L._∷_ 97 (L._∷_ 110 (L._∷_ 103 (L._∷_ 101 L.[])))))))))))) (Syntax.tcons (Syntax.tyStruct (L._∷_ 110 (L._∷_ 101 (L._∷_ 116 (L._∷_ 119 (L._∷_ 111 (L._∷_ 114 (L._∷_ 107 (L._∷_ 58 (L._∷_ 58 (L._∷_ 69 (L._∷_ 100 (L._∷_ 105 (L._∷_ 116 L.[]))))))))))))) (Syntax.tcons q9 (Syntax.tcons q9 (Syntax.tcons q9 (Syntax.tcons q9 (Syntax.tcons q3 (Syntax.tcons q3 (Syntax.tcons (Syntax.tyInt Syntax.w64) Syntax.tnil)))))))) (Syntax.tcons (Syntax.tyStruct (L._∷_ 115 (L._∷_ 116 (L._∷_ 101 (L._∷_ 112 (L._∷_ 58 (L._∷_ 58 (L._∷_ 79 (L._∷_ 108 (L._∷_ 100 L.[]))))))))) (Syntax.tcons (Syntax.tyInt Syntax.w64) (Syntax.tcons q8 (Syntax.tcons q9 (Syntax.tcons q9 (Syntax.tcons q9 (Syntax.tcons q9 (Syntax.tcons q5 Syntax.tnil)))))))) Syntax.tnil))) Syntax.tnil)))) Syntax.tnil))))) (L._∷_ q25 (L._∷_ (12, Rows.sc-here Row.sBool) (L._∷_ q39 (L._∷_ q40 (L._∷_ q26 L.[])))))))))))))))
+t25 = L._∷_ (0, Rows.any-gone (Syntax.tyStruct (L._∷_ 114 (L._∷_ 117 (L._∷_ 108 (L._∷_ 101 (L._∷_ 115 (L._∷_ 58 (L._∷_ 58 (L._∷_ 102 (L._∷_ 111 (L._∷_ 117 (L._∷_ 110 (L._∷_ 100 (L._∷_ 58 (L._∷_ 58 (L._∷_ 70 (L._∷_ 111 (L._∷_ 117 (L._∷_ 110 (L._∷_ 100 L.[]))))))))))))))))))) (Syntax.tcons Syntax.tyBool (Syntax.tcons Syntax.tyBool (Syntax.tcons (Syntax.tyStruct (L._∷_ 115 (L._∷_ 116 (L._∷_ 101 (L._∷_ 112 (L._∷_ 58 (L._∷_ 58 (L._∷_ 83 (L._∷_ 116 (L._∷_ 101 (L._∷_ 112 L.[])))))))))) (Syntax.tcons (Syntax.tyInt Syntax.w64) (Syntax.tcons (Syntax.tyInt Syntax.w64) (Syntax.tcons (Syntax.tyStruct (L._∷_ 115 (L._∷_ 116 (L._∷_ 101 (L._∷_ 112 (L._∷_ 58 (L._∷_ 58 (L._∷_ 67 (L._∷_ 104 (L._∷_ 97 (L._∷_ 110 (L._∷_ 103 (L._∷_ 101 L.[])))))))))))) (Syntax.tcons (Syntax.tyStruct (L._∷_ 110 (L._∷_ 101 (L._∷_ 116 (L._∷_ 119 (L._∷_ 111 (L._∷_ 114 (L._∷_ 107 (L._∷_ 58 (L._∷_ 58 (L._∷_ 69 (L._∷_ 100 (L._∷_ 105 (L._∷_ 116 L.[]))))))))))))) (Syntax.tcons q9 (Syntax.tcons q9 (Syntax.tcons q9 (Syntax.tcons q9 (Syntax.tcons q3 (Syntax.tcons q3 (Syntax.tcons (Syntax.tyInt Syntax.w64) Syntax.tnil)))))))) (Syntax.tcons (Syntax.tyStruct (L._∷_ 115 (L._∷_ 116 (L._∷_ 101 (L._∷_ 112 (L._∷_ 58 (L._∷_ 58 (L._∷_ 79 (L._∷_ 108 (L._∷_ 100 L.[]))))))))) (Syntax.tcons (Syntax.tyInt Syntax.w64) (Syntax.tcons q8 (Syntax.tcons q9 (Syntax.tcons q9 (Syntax.tcons q9 (Syntax.tcons q9 (Syntax.tcons q5 Syntax.tnil)))))))) Syntax.tnil))) Syntax.tnil)))) Syntax.tnil))))) (L._∷_ q1 (L._∷_ q13 (L._∷_ q11 (L._∷_ q31 (L._∷_ q20 (L._∷_ q17 (L._∷_ q32 (L._∷_ q33 (L._∷_ (9, Rows.any-gone (Syntax.tyStruct (L._∷_ 114 (L._∷_ 117 (L._∷_ 108 (L._∷_ 101 (L._∷_ 115 (L._∷_ 58 (L._∷_ 58 (L._∷_ 116 (L._∷_ 114 (L._∷_ 105 (L._∷_ 101 (L._∷_ 100 (L._∷_ 58 (L._∷_ 58 (L._∷_ 65 (L._∷_ 114 (L._∷_ 111 (L._∷_ 117 (L._∷_ 110 (L._∷_ 100 L.[])))))))))))))))))))) (Syntax.tcons q9 (Syntax.tcons q9 (Syntax.tcons q9 (Syntax.tcons q9 Syntax.tnil)))))) (L._∷_ (10, Rows.any-gone (Syntax.tyStruct (L._∷_ 114 (L._∷_ 117 (L._∷_ 108 (L._∷_ 101 (L._∷_ 115 (L._∷_ 58 (L._∷_ 58 (L._∷_ 102 (L._∷_ 111 (L._∷_ 117 (L._∷_ 110 (L._∷_ 100 (L._∷_ 58 (L._∷_ 58 (L._∷_ 70 (L._∷_ 111 (L._∷_ 117 (L._∷_ 110 (L._∷_ 100 L.[]))))))))))))))))))) (Syntax.tcons Syntax.tyBool (Syntax.tcons Syntax.tyBool (Syntax.tcons (Syntax.tyStruct (L._∷_ 115 (L._∷_ 116 (L._∷_ 101 (L._∷_ 112 (L._∷_ 58 (L._∷_ 58 (L._∷_ 83 (L._∷_ 116 (L._∷_ 101 (L._∷_ 112 L.[])))))))))) (Syntax.tcons (Syntax.tyInt Syntax.w64) (Syntax.tcons (Syntax.tyInt Syntax.w64) (Syntax.tcons (Syntax.tyStruct (L._∷_ 115 (L._∷_ 116 (L._∷_ 101 (L._∷_ 112 (L._∷_ 58 (L._∷_ 58 (L._∷_ 67 (L._∷_ 104 (L._∷_ 97 (L._∷_ 110 (L._∷_ 103 (L._∷_ 101 L.[])))))))))))) (Syntax.tcons (Syntax.tyStruct (L._∷_ 110 (L._∷_ 101 (L._∷_ 116 (L._∷_ 119 (L._∷_ 111 (L._∷_ 114 (L._∷_ 107 (L._∷_ 58 (L._∷_ 58 (L._∷_ 69 (L._∷_ 100 (L._∷_ 105 (L._∷_ 116 L.[]))))))))))))) (Syntax.tcons q9 (Syntax.tcons q9 (Syntax.tcons q9 (Syntax.tcons q9 (Syntax.tcons q3 (Syntax.tcons q3 (Syntax.tcons (Syntax.tyInt Syntax.w64) Syntax.tnil)))))))) (Syntax.tcons (Syntax.tyStruct (L._∷_ 115 (L._∷_ 116 (L._∷_ 101 (L._∷_ 112 (L._∷_ 58 (L._∷_ 58 (L._∷_ 79 (L._∷_ 108 (L._∷_ 100 L.[]))))))))) (Syntax.tcons (Syntax.tyInt Syntax.w64) (Syntax.tcons q8 (Syntax.tcons q9 (Syntax.tcons q9 (Syntax.tcons q9 (Syntax.tcons q9 (Syntax.tcons q5 Syntax.tnil)))))))) Syntax.tnil))) Syntax.tnil)))) Syntax.tnil))))) (L._∷_ q25 (L._∷_ (12, Rows.sc-here Row.sBool) (L._∷_ q39 (L._∷_ q40 (L._∷_ q26 L.[])))))))))))))))
 
 abbrev pub t26 : L.List Row.Entry
-t26 = L._∷_ (0, Rows.any-gone (Syntax.tyStruct (L._∷_ 115 (L._∷_ 101 (L._∷_ 97 (L._∷_ 114 (L._∷_ 99 (L._∷_ 104 (L._∷_ 58 (L._∷_ 58 (L._∷_ 115 (L._∷_ 99 (L._∷_ 97 (L._∷_ 110 (L._∷_ 58 (L._∷_ 58 (L._∷_ 70 (L._∷_ 111 (L._∷_ 117 (L._∷_ 110 (L._∷_ 100 L.[]))))))))))))))))))) (Syntax.tcons Syntax.tyBool (Syntax.tcons Syntax.tyBool (Syntax.tcons (Syntax.tyStruct (L._∷_ 115 (L._∷_ 116 (L._∷_ 101 (L._∷_ 112 (L._∷_ 58 (L._∷_ 58 (L._∷_ 83 (L._∷_ 116 (L._∷_ 101 (L._∷_ 112 L.[])))))))))) (Syntax.tcons (Syntax.tyInt Syntax.w64) (Syntax.tcons (Syntax.tyInt Syntax.w64) (Syntax.tcons (Syntax.tyStruct (L._∷_ 115 (L._∷_ 116 (L._∷_ 101 (L._∷_ 112 (L._∷_ 58 (L._∷_ 58 (L._∷_ 67 (L._∷_ 104 (L._∷_ 97 (L._∷_ 110 (L._∷_ 103 (L._∷_ 101 L.[])))))))))))) (Syntax.tcons (Syntax.tyStruct (L._∷_ 110 (L._∷_ 101 (L._∷_ 116 (L._∷_ 119 (L._∷_ 111 (L._∷_ 114 (L._∷_ 107 (L._∷_ 58 (L._∷_ 58 (L._∷_ 69 (L._∷_ 100 (L._∷_ 105 (L._∷_ 116 L.[]))))))))))))) (Syntax.tcons q9 (Syntax.tcons q9 (Syntax.tcons q9 (Syntax.tcons q9 (Syntax.tcons q3 (Syntax.tcons q3 (Syntax.tcons (Syntax.tyInt Syntax.w64) Syntax.tnil)))))))) (Syntax.tcons (Syntax.tyStruct (L._∷_ 115 (L._∷_ 116 (L._∷_ 101 (L._∷_ 112 (L._∷_ 58 (L._∷_ 58 (L._∷_ 79 (L._∷_ 108 (L._∷_ 100 L.[]))))))))) (Syntax.tcons (Syntax.tyInt Syntax.w64) (Syntax.tcons q8 (Syntax.tcons q9 (Syntax.tcons q9 (Syntax.tcons q9 (Syntax.tcons q9 (Syntax.tcons q5 Syntax.tnil)))))))) Syntax.tnil))) Syntax.tnil)))) Syntax.tnil))))) (L._∷_ q1 (L._∷_ q13 (L._∷_ q11 (L._∷_ q31 (L._∷_ q17 (L._∷_ q15 (L._∷_ q32 (L._∷_ q33 (L._∷_ (9, Rows.any-gone (Syntax.tyStruct (L._∷_ 115 (L._∷_ 101 (L._∷_ 97 (L._∷_ 114 (L._∷_ 99 (L._∷_ 104 (L._∷_ 58 (L._∷_ 58 (L._∷_ 115 (L._∷_ 99 (L._∷_ 97 (L._∷_ 110 (L._∷_ 58 (L._∷_ 58 (L._∷_ 65 (L._∷_ 114 (L._∷_ 111 (L._∷_ 117 (L._∷_ 110 (L._∷_ 100 L.[])))))))))))))))))))) (Syntax.tcons q9 (Syntax.tcons q9 (Syntax.tcons q9 (Syntax.tcons q9 Syntax.tnil)))))) (L._∷_ (10, Rows.any-gone (Syntax.tyStruct (L._∷_ 115 (L._∷_ 101 (L._∷_ 97 (L._∷_ 114 (L._∷_ 99 (L._∷_ 104 (L._∷_ 58 (L._∷_ 58 (L._∷_ 115 (L._∷_ 99 (L._∷_ 97 (L._∷_ 110 (L._∷_ 58 (L._∷_ 58 (L._∷_ 70 (L._∷_ 111 (L._∷_ 117 (L._∷_ 110 (L._∷_ 100 L.[]))))))))))))))))))) (Syntax.tcons Syntax.tyBool (Syntax.tcons Syntax.tyBool (Syntax.tcons (Syntax.tyStruct (L._∷_ 115 (L._∷_ 116 (L._∷_ 101 (L._∷_ 112 (L._∷_ 58 (L._∷_ 58 (L._∷_ 83 (L._∷_ 116 (L._∷_ 101 (L._∷_ 112 L.[])))))))))) (Syntax.tcons (Syntax.tyInt Syntax.w64) (Syntax.tcons (Syntax.tyInt Syntax.w64) (Syntax.tcons (Syntax.tyStruct (L._∷_ 115 (L._∷_ 116 (L._∷_ 101 (L._∷_ 112 (L._∷_ 58 (L._∷_ 58 (L._∷_ 67 (L._∷_ 104 (L._∷_ 97 (L._∷_ 110 (L._∷_ 103 (L._∷_ 101 L.[])))))))))))) (Syntax.tcons (Syntax.tyStruct (L._∷_ 110 (L._∷_ 101 (L._∷_ 116 (L._∷_ 119 (L._∷_ 111 (L._∷_ 114 (L._∷_ 107 (L._∷_ 58 (L._∷_ 58 (L._∷_ 69 (L._∷_ 100 (L._∷_ 105 (L._∷_ 116 L.[]))))))))))))) (Syntax.tcons q9 (Syntax.tcons q9 (Syntax.tcons q9 (Syntax.tcons q9 (Syntax.tcons q3 (Syntax.tcons q3 (Syntax.tcons (Syntax.tyInt Syntax.w64) Syntax.tnil)))))))) (Syntax.tcons (Syntax.tyStruct (L._∷_ 115 (L._∷_ 116 (L._∷_ 101 (L._∷_ 112 (L._∷_ 58 (L._∷_ 58 (L._∷_ 79 (L._∷_ 108 (L._∷_ 100 L.[]))))))))) (Syntax.tcons (Syntax.tyInt Syntax.w64) (Syntax.tcons q8 (Syntax.tcons q9 (Syntax.tcons q9 (Syntax.tcons q9 (Syntax.tcons q9 (Syntax.tcons q5 Syntax.tnil)))))))) Syntax.tnil))) Syntax.tnil)))) Syntax.tnil))))) (L._∷_ q25 (L._∷_ (12, Rows.sc-here Row.sBool) (L._∷_ q39 (L._∷_ q40 (L._∷_ q30 L.[])))))))))))))))
+t26 = L._∷_ (0, Rows.any-gone (Syntax.tyStruct (L._∷_ 114 (L._∷_ 117 (L._∷_ 108 (L._∷_ 101 (L._∷_ 115 (L._∷_ 58 (L._∷_ 58 (L._∷_ 102 (L._∷_ 111 (L._∷_ 117 (L._∷_ 110 (L._∷_ 100 (L._∷_ 58 (L._∷_ 58 (L._∷_ 70 (L._∷_ 111 (L._∷_ 117 (L._∷_ 110 (L._∷_ 100 L.[]))))))))))))))))))) (Syntax.tcons Syntax.tyBool (Syntax.tcons Syntax.tyBool (Syntax.tcons (Syntax.tyStruct (L._∷_ 115 (L._∷_ 116 (L._∷_ 101 (L._∷_ 112 (L._∷_ 58 (L._∷_ 58 (L._∷_ 83 (L._∷_ 116 (L._∷_ 101 (L._∷_ 112 L.[])))))))))) (Syntax.tcons (Syntax.tyInt Syntax.w64) (Syntax.tcons (Syntax.tyInt Syntax.w64) (Syntax.tcons (Syntax.tyStruct (L._∷_ 115 (L._∷_ 116 (L._∷_ 101 (L._∷_ 112 (L._∷_ 58 (L._∷_ 58 (L._∷_ 67 (L._∷_ 104 (L._∷_ 97 (L._∷_ 110 (L._∷_ 103 (L._∷_ 101 L.[])))))))))))) (Syntax.tcons (Syntax.tyStruct (L._∷_ 110 (L._∷_ 101 (L._∷_ 116 (L._∷_ 119 (L._∷_ 111 (L._∷_ 114 (L._∷_ 107 (L._∷_ 58 (L._∷_ 58 (L._∷_ 69 (L._∷_ 100 (L._∷_ 105 (L._∷_ 116 L.[]))))))))))))) (Syntax.tcons q9 (Syntax.tcons q9 (Syntax.tcons q9 (Syntax.tcons q9 (Syntax.tcons q3 (Syntax.tcons q3 (Syntax.tcons (Syntax.tyInt Syntax.w64) Syntax.tnil)))))))) (Syntax.tcons (Syntax.tyStruct (L._∷_ 115 (L._∷_ 116 (L._∷_ 101 (L._∷_ 112 (L._∷_ 58 (L._∷_ 58 (L._∷_ 79 (L._∷_ 108 (L._∷_ 100 L.[]))))))))) (Syntax.tcons (Syntax.tyInt Syntax.w64) (Syntax.tcons q8 (Syntax.tcons q9 (Syntax.tcons q9 (Syntax.tcons q9 (Syntax.tcons q9 (Syntax.tcons q5 Syntax.tnil)))))))) Syntax.tnil))) Syntax.tnil)))) Syntax.tnil))))) (L._∷_ q1 (L._∷_ q13 (L._∷_ q11 (L._∷_ q31 (L._∷_ q20 (L._∷_ q17 (L._∷_ q32 (L._∷_ q33 (L._∷_ (9, Rows.any-gone (Syntax.tyStruct (L._∷_ 114 (L._∷_ 117 (L._∷_ 108 (L._∷_ 101 (L._∷_ 115 (L._∷_ 58 (L._∷_ 58 (L._∷_ 116 (L._∷_ 114 (L._∷_ 105 (L._∷_ 101 (L._∷_ 100 (L._∷_ 58 (L._∷_ 58 (L._∷_ 65 (L._∷_ 114 (L._∷_ 111 (L._∷_ 117 (L._∷_ 110 (L._∷_ 100 L.[])))))))))))))))))))) (Syntax.tcons q9 (Syntax.tcons q9 (Syntax.tcons q9 (Syntax.tcons q9 Syntax.tnil)))))) (L._∷_ (10, Rows.any-gone (Syntax.tyStruct (L._∷_ 114 (L._∷_ 117 (L._∷_ 108 (L._∷_ 101 (L._∷_ 115 (L._∷_ 58 (L._∷_ 58 (L._∷_ 102 (L._∷_ 111 (L._∷_ 117 (L._∷_ 110 (L._∷_ 100 (L._∷_ 58 (L._∷_ 58 (L._∷_ 70 (L._∷_ 111 (L._∷_ 117 (L._∷_ 110 (L._∷_ 100 L.[]))))))))))))))))))) (Syntax.tcons Syntax.tyBool (Syntax.tcons Syntax.tyBool (Syntax.tcons (Syntax.tyStruct (L._∷_ 115 (L._∷_ 116 (L._∷_ 101 (L._∷_ 112 (L._∷_ 58 (L._∷_ 58 (L._∷_ 83 (L._∷_ 116 (L._∷_ 101 (L._∷_ 112 L.[])))))))))) (Syntax.tcons (Syntax.tyInt Syntax.w64) (Syntax.tcons (Syntax.tyInt Syntax.w64) (Syntax.tcons (Syntax.tyStruct (L._∷_ 115 (L._∷_ 116 (L._∷_ 101 (L._∷_ 112 (L._∷_ 58 (L._∷_ 58 (L._∷_ 67 (L._∷_ 104 (L._∷_ 97 (L._∷_ 110 (L._∷_ 103 (L._∷_ 101 L.[])))))))))))) (Syntax.tcons (Syntax.tyStruct (L._∷_ 110 (L._∷_ 101 (L._∷_ 116 (L._∷_ 119 (L._∷_ 111 (L._∷_ 114 (L._∷_ 107 (L._∷_ 58 (L._∷_ 58 (L._∷_ 69 (L._∷_ 100 (L._∷_ 105 (L._∷_ 116 L.[]))))))))))))) (Syntax.tcons q9 (Syntax.tcons q9 (Syntax.tcons q9 (Syntax.tcons q9 (Syntax.tcons q3 (Syntax.tcons q3 (Syntax.tcons (Syntax.tyInt Syntax.w64) Syntax.tnil)))))))) (Syntax.tcons (Syntax.tyStruct (L._∷_ 115 (L._∷_ 116 (L._∷_ 101 (L._∷_ 112 (L._∷_ 58 (L._∷_ 58 (L._∷_ 79 (L._∷_ 108 (L._∷_ 100 L.[]))))))))) (Syntax.tcons (Syntax.tyInt Syntax.w64) (Syntax.tcons q8 (Syntax.tcons q9 (Syntax.tcons q9 (Syntax.tcons q9 (Syntax.tcons q9 (Syntax.tcons q5 Syntax.tnil)))))))) Syntax.tnil))) Syntax.tnil)))) Syntax.tnil))))) (L._∷_ q25 (L._∷_ (12, Rows.sc-here Row.sBool) (L._∷_ q39 (L._∷_ q40 (L._∷_ q30 L.[])))))))))))))))
 
 abbrev pub t27 : L.List Row.Entry
 t27 = L._∷_ q37 (L._∷_ q41 (L._∷_ q42 (L._∷_ (19, Rows.sc-here Row.sPtr) (L._∷_ q44 (L._∷_ q7 (L._∷_ q4 (L._∷_ q38 L.[])))))))
@@ -545,43 +545,43 @@ abbrev pub t33 : L.List Row.Entry
 t33 = L._∷_ (16, Rows.sc-here Row.sBool) (L._∷_ q41 (L._∷_ q42 (L._∷_ q43 (L._∷_ q44 (L._∷_ q7 (L._∷_ q4 (L._∷_ q38 L.[])))))))
 
 abbrev pub t34 : L.List Row.Entry
-t34 = L._∷_ (0, Rows.any-gone (Syntax.tyStruct (L._∷_ 115 (L._∷_ 101 (L._∷_ 97 (L._∷_ 114 (L._∷_ 99 (L._∷_ 104 (L._∷_ 58 (L._∷_ 58 (L._∷_ 115 (L._∷_ 99 (L._∷_ 97 (L._∷_ 110 (L._∷_ 58 (L._∷_ 58 (L._∷_ 70 (L._∷_ 111 (L._∷_ 117 (L._∷_ 110 (L._∷_ 100 L.[]))))))))))))))))))) (Syntax.tcons Syntax.tyBool (Syntax.tcons Syntax.tyBool (Syntax.tcons (Syntax.tyStruct (L._∷_ 115 (L._∷_ 116 (L._∷_ 101 (L._∷_ 112 (L._∷_ 58 (L._∷_ 58 (L._∷_ 83 (L._∷_ 116 (L._∷_ 101 (L._∷_ 112 L.[])))))))))) (Syntax.tcons (Syntax.tyInt Syntax.w64) (Syntax.tcons (Syntax.tyInt Syntax.w64) (Syntax.tcons (Syntax.tyStruct (L._∷_ 115 (L._∷_ 116 (L._∷_ 101 (L._∷_ 112 (L._∷_ 58 (L._∷_ 58 (L._∷_ 67 (L._∷_ 104 (L._∷_ 97 (L._∷_ 110 (L._∷_ 103 (L._∷_ 101 L.[])))))))))))) (Syntax.tcons (Syntax.tyStruct (L._∷_ 110 (L._∷_ 101 (L._∷_ 116 (L._∷_ 119 (L._∷_ 111 (L._∷_ 114 (L._∷_ 107 (L._∷_ 58 (L._∷_ 58 (L._∷_ 69 (L._∷_ 100 (L._∷_ 105 (L._∷_ 116 L.[]))))))))))))) (Syntax.tcons q9 (Syntax.tcons q9 (Syntax.tcons q9 (Syntax.tcons q9 (Syntax.tcons q3 (Syntax.tcons q3 (Syntax.tcons (Syntax.tyInt Syntax.w64) Syntax.tnil)))))))) (Syntax.tcons (Syntax.tyStruct (L._∷_ 115 (L._∷_ 116 (L._∷_ 101 (L._∷_ 112 (L._∷_ 58 (L._∷_ 58 (L._∷_ 79 (L._∷_ 108 (L._∷_ 100 L.[]))))))))) (Syntax.tcons (Syntax.tyInt Syntax.w64) (Syntax.tcons q8 (Syntax.tcons q9 (Syntax.tcons q9 (Syntax.tcons q9 (Syntax.tcons q9 (Syntax.tcons q5 Syntax.tnil)))))))) Syntax.tnil))) Syntax.tnil)))) Syntax.tnil))))) (L._∷_ q1 (L._∷_ q13 (L._∷_ q11 (L._∷_ q31 (L._∷_ q17 (L._∷_ q15 (L._∷_ q32 (L._∷_ q33 (L._∷_ (9, Rows.whole (Declared.row scan-Around·.the-type)) (L._∷_ (10, Rows.any-gone (Syntax.tyStruct (L._∷_ 115 (L._∷_ 101 (L._∷_ 97 (L._∷_ 114 (L._∷_ 99 (L._∷_ 104 (L._∷_ 58 (L._∷_ 58 (L._∷_ 115 (L._∷_ 99 (L._∷_ 97 (L._∷_ 110 (L._∷_ 58 (L._∷_ 58 (L._∷_ 70 (L._∷_ 111 (L._∷_ 117 (L._∷_ 110 (L._∷_ 100 L.[]))))))))))))))))))) (Syntax.tcons Syntax.tyBool (Syntax.tcons Syntax.tyBool (Syntax.tcons (Syntax.tyStruct (L._∷_ 115 (L._∷_ 116 (L._∷_ 101 (L._∷_ 112 (L._∷_ 58 (L._∷_ 58 (L._∷_ 83 (L._∷_ 116 (L._∷_ 101 (L._∷_ 112 L.[])))))))))) (Syntax.tcons (Syntax.tyInt Syntax.w64) (Syntax.tcons (Syntax.tyInt Syntax.w64) (Syntax.tcons (Syntax.tyStruct (L._∷_ 115 (L._∷_ 116 (L._∷_ 101 (L._∷_ 112 (L._∷_ 58 (L._∷_ 58 (L._∷_ 67 (L._∷_ 104 (L._∷_ 97 (L._∷_ 110 (L._∷_ 103 (L._∷_ 101 L.[])))))))))))) (Syntax.tcons (Syntax.tyStruct (L._∷_ 110 (L._∷_ 101 (L._∷_ 116 (L._∷_ 119 (L._∷_ 111 (L._∷_ 114 (L._∷_ 107 (L._∷_ 58 (L._∷_ 58 (L._∷_ 69 (L._∷_ 100 (L._∷_ 105 (L._∷_ 116 L.[]))))))))))))) (Syntax.tcons q9 (Syntax.tcons q9 (Syntax.tcons q9 (Syntax.tcons q9 (Syntax.tcons q3 (Syntax.tcons q3 (Syntax.tcons (Syntax.tyInt Syntax.w64) Syntax.tnil)))))))) (Syntax.tcons (Syntax.tyStruct (L._∷_ 115 (L._∷_ 116 (L._∷_ 101 (L._∷_ 112 (L._∷_ 58 (L._∷_ 58 (L._∷_ 79 (L._∷_ 108 (L._∷_ 100 L.[]))))))))) (Syntax.tcons (Syntax.tyInt Syntax.w64) (Syntax.tcons q8 (Syntax.tcons q9 (Syntax.tcons q9 (Syntax.tcons q9 (Syntax.tcons q9 (Syntax.tcons q5 Syntax.tnil)))))))) Syntax.tnil))) Syntax.tnil)))) Syntax.tnil))))) (L._∷_ q25 (L._∷_ q36 (L._∷_ q39 (L._∷_ q40 (L._∷_ q26 L.[])))))))))))))))
+t34 = L._∷_ (0, Rows.any-gone (Syntax.tyStruct (L._∷_ 114 (L._∷_ 117 (L._∷_ 108 (L._∷_ 101 (L._∷_ 115 (L._∷_ 58 (L._∷_ 58 (L._∷_ 102 (L._∷_ 111 (L._∷_ 117 (L._∷_ 110 (L._∷_ 100 (L._∷_ 58 (L._∷_ 58 (L._∷_ 70 (L._∷_ 111 (L._∷_ 117 (L._∷_ 110 (L._∷_ 100 L.[]))))))))))))))))))) (Syntax.tcons Syntax.tyBool (Syntax.tcons Syntax.tyBool (Syntax.tcons (Syntax.tyStruct (L._∷_ 115 (L._∷_ 116 (L._∷_ 101 (L._∷_ 112 (L._∷_ 58 (L._∷_ 58 (L._∷_ 83 (L._∷_ 116 (L._∷_ 101 (L._∷_ 112 L.[])))))))))) (Syntax.tcons (Syntax.tyInt Syntax.w64) (Syntax.tcons (Syntax.tyInt Syntax.w64) (Syntax.tcons (Syntax.tyStruct (L._∷_ 115 (L._∷_ 116 (L._∷_ 101 (L._∷_ 112 (L._∷_ 58 (L._∷_ 58 (L._∷_ 67 (L._∷_ 104 (L._∷_ 97 (L._∷_ 110 (L._∷_ 103 (L._∷_ 101 L.[])))))))))))) (Syntax.tcons (Syntax.tyStruct (L._∷_ 110 (L._∷_ 101 (L._∷_ 116 (L._∷_ 119 (L._∷_ 111 (L._∷_ 114 (L._∷_ 107 (L._∷_ 58 (L._∷_ 58 (L._∷_ 69 (L._∷_ 100 (L._∷_ 105 (L._∷_ 116 L.[]))))))))))))) (Syntax.tcons q9 (Syntax.tcons q9 (Syntax.tcons q9 (Syntax.tcons q9 (Syntax.tcons q3 (Syntax.tcons q3 (Syntax.tcons (Syntax.tyInt Syntax.w64) Syntax.tnil)))))))) (Syntax.tcons (Syntax.tyStruct (L._∷_ 115 (L._∷_ 116 (L._∷_ 101 (L._∷_ 112 (L._∷_ 58 (L._∷_ 58 (L._∷_ 79 (L._∷_ 108 (L._∷_ 100 L.[]))))))))) (Syntax.tcons (Syntax.tyInt Syntax.w64) (Syntax.tcons q8 (Syntax.tcons q9 (Syntax.tcons q9 (Syntax.tcons q9 (Syntax.tcons q9 (Syntax.tcons q5 Syntax.tnil)))))))) Syntax.tnil))) Syntax.tnil)))) Syntax.tnil))))) (L._∷_ q1 (L._∷_ q13 (L._∷_ q11 (L._∷_ q31 (L._∷_ q20 (L._∷_ q17 (L._∷_ q32 (L._∷_ q33 (L._∷_ (9, Rows.whole (Declared.row rules-proofs-tried-Around·.the-type)) (L._∷_ (10, Rows.any-gone (Syntax.tyStruct (L._∷_ 114 (L._∷_ 117 (L._∷_ 108 (L._∷_ 101 (L._∷_ 115 (L._∷_ 58 (L._∷_ 58 (L._∷_ 102 (L._∷_ 111 (L._∷_ 117 (L._∷_ 110 (L._∷_ 100 (L._∷_ 58 (L._∷_ 58 (L._∷_ 70 (L._∷_ 111 (L._∷_ 117 (L._∷_ 110 (L._∷_ 100 L.[]))))))))))))))))))) (Syntax.tcons Syntax.tyBool (Syntax.tcons Syntax.tyBool (Syntax.tcons (Syntax.tyStruct (L._∷_ 115 (L._∷_ 116 (L._∷_ 101 (L._∷_ 112 (L._∷_ 58 (L._∷_ 58 (L._∷_ 83 (L._∷_ 116 (L._∷_ 101 (L._∷_ 112 L.[])))))))))) (Syntax.tcons (Syntax.tyInt Syntax.w64) (Syntax.tcons (Syntax.tyInt Syntax.w64) (Syntax.tcons (Syntax.tyStruct (L._∷_ 115 (L._∷_ 116 (L._∷_ 101 (L._∷_ 112 (L._∷_ 58 (L._∷_ 58 (L._∷_ 67 (L._∷_ 104 (L._∷_ 97 (L._∷_ 110 (L._∷_ 103 (L._∷_ 101 L.[])))))))))))) (Syntax.tcons (Syntax.tyStruct (L._∷_ 110 (L._∷_ 101 (L._∷_ 116 (L._∷_ 119 (L._∷_ 111 (L._∷_ 114 (L._∷_ 107 (L._∷_ 58 (L._∷_ 58 (L._∷_ 69 (L._∷_ 100 (L._∷_ 105 (L._∷_ 116 L.[]))))))))))))) (Syntax.tcons q9 (Syntax.tcons q9 (Syntax.tcons q9 (Syntax.tcons q9 (Syntax.tcons q3 (Syntax.tcons q3 (Syntax.tcons (Syntax.tyInt Syntax.w64) Syntax.tnil)))))))) (Syntax.tcons (Syntax.tyStruct (L._∷_ 115 (L._∷_ 116 (L._∷_ 101 (L._∷_ 112 (L._∷_ 58 (L._∷_ 58 (L._∷_ 79 (L._∷_ 108 (L._∷_ 100 L.[]))))))))) (Syntax.tcons (Syntax.tyInt Syntax.w64) (Syntax.tcons q8 (Syntax.tcons q9 (Syntax.tcons q9 (Syntax.tcons q9 (Syntax.tcons q9 (Syntax.tcons q5 Syntax.tnil)))))))) Syntax.tnil))) Syntax.tnil)))) Syntax.tnil))))) (L._∷_ q25 (L._∷_ q36 (L._∷_ q39 (L._∷_ q40 (L._∷_ q26 L.[])))))))))))))))
 
 abbrev pub t35 : L.List Row.Entry
 t35 = L._∷_ q37 (L._∷_ q41 (L._∷_ q42 (L._∷_ q43 (L._∷_ q44 (L._∷_ q7 (L._∷_ (22, ARows.arrF (Declared.row fraction-proofs-Fraction·.the-type) 33 0) (L._∷_ q38 L.[])))))))
 
 abbrev pub t36 : L.List Row.Entry
-t36 = L._∷_ (0, Rows.any-gone (Syntax.tyStruct (L._∷_ 115 (L._∷_ 101 (L._∷_ 97 (L._∷_ 114 (L._∷_ 99 (L._∷_ 104 (L._∷_ 58 (L._∷_ 58 (L._∷_ 115 (L._∷_ 99 (L._∷_ 97 (L._∷_ 110 (L._∷_ 58 (L._∷_ 58 (L._∷_ 70 (L._∷_ 111 (L._∷_ 117 (L._∷_ 110 (L._∷_ 100 L.[]))))))))))))))))))) (Syntax.tcons Syntax.tyBool (Syntax.tcons Syntax.tyBool (Syntax.tcons (Syntax.tyStruct (L._∷_ 115 (L._∷_ 116 (L._∷_ 101 (L._∷_ 112 (L._∷_ 58 (L._∷_ 58 (L._∷_ 83 (L._∷_ 116 (L._∷_ 101 (L._∷_ 112 L.[])))))))))) (Syntax.tcons (Syntax.tyInt Syntax.w64) (Syntax.tcons (Syntax.tyInt Syntax.w64) (Syntax.tcons (Syntax.tyStruct (L._∷_ 115 (L._∷_ 116 (L._∷_ 101 (L._∷_ 112 (L._∷_ 58 (L._∷_ 58 (L._∷_ 67 (L._∷_ 104 (L._∷_ 97 (L._∷_ 110 (L._∷_ 103 (L._∷_ 101 L.[])))))))))))) (Syntax.tcons (Syntax.tyStruct (L._∷_ 110 (L._∷_ 101 (L._∷_ 116 (L._∷_ 119 (L._∷_ 111 (L._∷_ 114 (L._∷_ 107 (L._∷_ 58 (L._∷_ 58 (L._∷_ 69 (L._∷_ 100 (L._∷_ 105 (L._∷_ 116 L.[]))))))))))))) (Syntax.tcons q9 (Syntax.tcons q9 (Syntax.tcons q9 (Syntax.tcons q9 (Syntax.tcons q3 (Syntax.tcons q3 (Syntax.tcons (Syntax.tyInt Syntax.w64) Syntax.tnil)))))))) (Syntax.tcons (Syntax.tyStruct (L._∷_ 115 (L._∷_ 116 (L._∷_ 101 (L._∷_ 112 (L._∷_ 58 (L._∷_ 58 (L._∷_ 79 (L._∷_ 108 (L._∷_ 100 L.[]))))))))) (Syntax.tcons (Syntax.tyInt Syntax.w64) (Syntax.tcons q8 (Syntax.tcons q9 (Syntax.tcons q9 (Syntax.tcons q9 (Syntax.tcons q9 (Syntax.tcons q5 Syntax.tnil)))))))) Syntax.tnil))) Syntax.tnil)))) Syntax.tnil))))) (L._∷_ q1 (L._∷_ q13 (L._∷_ q11 (L._∷_ q31 (L._∷_ q17 (L._∷_ q15 (L._∷_ q32 (L._∷_ q33 (L._∷_ (9, Rows.whole (Declared.row scan-Around·.the-type)) (L._∷_ q21 (L._∷_ q25 (L._∷_ q36 (L._∷_ q39 (L._∷_ q40 (L._∷_ q26 L.[])))))))))))))))
+t36 = L._∷_ (0, Rows.any-gone (Syntax.tyStruct (L._∷_ 114 (L._∷_ 117 (L._∷_ 108 (L._∷_ 101 (L._∷_ 115 (L._∷_ 58 (L._∷_ 58 (L._∷_ 102 (L._∷_ 111 (L._∷_ 117 (L._∷_ 110 (L._∷_ 100 (L._∷_ 58 (L._∷_ 58 (L._∷_ 70 (L._∷_ 111 (L._∷_ 117 (L._∷_ 110 (L._∷_ 100 L.[]))))))))))))))))))) (Syntax.tcons Syntax.tyBool (Syntax.tcons Syntax.tyBool (Syntax.tcons (Syntax.tyStruct (L._∷_ 115 (L._∷_ 116 (L._∷_ 101 (L._∷_ 112 (L._∷_ 58 (L._∷_ 58 (L._∷_ 83 (L._∷_ 116 (L._∷_ 101 (L._∷_ 112 L.[])))))))))) (Syntax.tcons (Syntax.tyInt Syntax.w64) (Syntax.tcons (Syntax.tyInt Syntax.w64) (Syntax.tcons (Syntax.tyStruct (L._∷_ 115 (L._∷_ 116 (L._∷_ 101 (L._∷_ 112 (L._∷_ 58 (L._∷_ 58 (L._∷_ 67 (L._∷_ 104 (L._∷_ 97 (L._∷_ 110 (L._∷_ 103 (L._∷_ 101 L.[])))))))))))) (Syntax.tcons (Syntax.tyStruct (L._∷_ 110 (L._∷_ 101 (L._∷_ 116 (L._∷_ 119 (L._∷_ 111 (L._∷_ 114 (L._∷_ 107 (L._∷_ 58 (L._∷_ 58 (L._∷_ 69 (L._∷_ 100 (L._∷_ 105 (L._∷_ 116 L.[]))))))))))))) (Syntax.tcons q9 (Syntax.tcons q9 (Syntax.tcons q9 (Syntax.tcons q9 (Syntax.tcons q3 (Syntax.tcons q3 (Syntax.tcons (Syntax.tyInt Syntax.w64) Syntax.tnil)))))))) (Syntax.tcons (Syntax.tyStruct (L._∷_ 115 (L._∷_ 116 (L._∷_ 101 (L._∷_ 112 (L._∷_ 58 (L._∷_ 58 (L._∷_ 79 (L._∷_ 108 (L._∷_ 100 L.[]))))))))) (Syntax.tcons (Syntax.tyInt Syntax.w64) (Syntax.tcons q8 (Syntax.tcons q9 (Syntax.tcons q9 (Syntax.tcons q9 (Syntax.tcons q9 (Syntax.tcons q5 Syntax.tnil)))))))) Syntax.tnil))) Syntax.tnil)))) Syntax.tnil))))) (L._∷_ q1 (L._∷_ q13 (L._∷_ q11 (L._∷_ q31 (L._∷_ q20 (L._∷_ q17 (L._∷_ q32 (L._∷_ q33 (L._∷_ (9, Rows.whole (Declared.row rules-proofs-tried-Around·.the-type)) (L._∷_ q14 (L._∷_ q25 (L._∷_ q36 (L._∷_ q39 (L._∷_ q40 (L._∷_ q26 L.[])))))))))))))))
 
 abbrev pub t37 : L.List Row.Entry
-t37 = L._∷_ (0, Rows.any-gone (Syntax.tyStruct (L._∷_ 115 (L._∷_ 101 (L._∷_ 97 (L._∷_ 114 (L._∷_ 99 (L._∷_ 104 (L._∷_ 58 (L._∷_ 58 (L._∷_ 115 (L._∷_ 99 (L._∷_ 97 (L._∷_ 110 (L._∷_ 58 (L._∷_ 58 (L._∷_ 70 (L._∷_ 111 (L._∷_ 117 (L._∷_ 110 (L._∷_ 100 L.[]))))))))))))))))))) (Syntax.tcons Syntax.tyBool (Syntax.tcons Syntax.tyBool (Syntax.tcons (Syntax.tyStruct (L._∷_ 115 (L._∷_ 116 (L._∷_ 101 (L._∷_ 112 (L._∷_ 58 (L._∷_ 58 (L._∷_ 83 (L._∷_ 116 (L._∷_ 101 (L._∷_ 112 L.[])))))))))) (Syntax.tcons (Syntax.tyInt Syntax.w64) (Syntax.tcons (Syntax.tyInt Syntax.w64) (Syntax.tcons (Syntax.tyStruct (L._∷_ 115 (L._∷_ 116 (L._∷_ 101 (L._∷_ 112 (L._∷_ 58 (L._∷_ 58 (L._∷_ 67 (L._∷_ 104 (L._∷_ 97 (L._∷_ 110 (L._∷_ 103 (L._∷_ 101 L.[])))))))))))) (Syntax.tcons (Syntax.tyStruct (L._∷_ 110 (L._∷_ 101 (L._∷_ 116 (L._∷_ 119 (L._∷_ 111 (L._∷_ 114 (L._∷_ 107 (L._∷_ 58 (L._∷_ 58 (L._∷_ 69 (L._∷_ 100 (L._∷_ 105 (L._∷_ 116 L.[]))))))))))))) (Syntax.tcons q9 (Syntax.tcons q9 (Syntax.tcons q9 (Syntax.tcons q9 (Syntax.tcons q3 (Syntax.tcons q3 (Syntax.tcons (Syntax.tyInt Syntax.w64) Syntax.tnil)))))))) (Syntax.tcons (Syntax.tyStruct (L._∷_ 115 (L._∷_ 116 (L._∷_ 101 (L._∷_ 112 (L._∷_ 58 (L._∷_ 58 (L._∷_ 79 (L._∷_ 108 (L._∷_ 100 L.[]))))))))) (Syntax.tcons (Syntax.tyInt Syntax.w64) (Syntax.tcons q8 (Syntax.tcons q9 (Syntax.tcons q9 (Syntax.tcons q9 (Syntax.tcons q9 (Syntax.tcons q5 Syntax.tnil)))))))) Syntax.tnil))) Syntax.tnil)))) Syntax.tnil))))) (L._∷_ q1 (L._∷_ q13 (L._∷_ q11 (L._∷_ q31 (L._∷_ q17 (L._∷_ q15 (L._∷_ q32 (L._∷_ q33 (L._∷_ (9, Rows.any-gone (Syntax.tyStruct (L._∷_ 115 (L._∷_ 101 (L._∷_ 97 (L._∷_ 114 (L._∷_ 99 (L._∷_ 104 (L._∷_ 58 (L._∷_ 58 (L._∷_ 115 (L._∷_ 99 (L._∷_ 97 (L._∷_ 110 (L._∷_ 58 (L._∷_ 58 (L._∷_ 65 (L._∷_ 114 (L._∷_ 111 (L._∷_ 117 (L._∷_ 110 (L._∷_ 100 L.[])))))))))))))))))))) (Syntax.tcons q9 (Syntax.tcons q9 (Syntax.tcons q9 (Syntax.tcons q9 Syntax.tnil)))))) (L._∷_ q21 (L._∷_ q25 (L._∷_ q36 (L._∷_ q39 (L._∷_ q40 (L._∷_ q26 L.[])))))))))))))))
+t37 = L._∷_ (0, Rows.any-gone (Syntax.tyStruct (L._∷_ 114 (L._∷_ 117 (L._∷_ 108 (L._∷_ 101 (L._∷_ 115 (L._∷_ 58 (L._∷_ 58 (L._∷_ 102 (L._∷_ 111 (L._∷_ 117 (L._∷_ 110 (L._∷_ 100 (L._∷_ 58 (L._∷_ 58 (L._∷_ 70 (L._∷_ 111 (L._∷_ 117 (L._∷_ 110 (L._∷_ 100 L.[]))))))))))))))))))) (Syntax.tcons Syntax.tyBool (Syntax.tcons Syntax.tyBool (Syntax.tcons (Syntax.tyStruct (L._∷_ 115 (L._∷_ 116 (L._∷_ 101 (L._∷_ 112 (L._∷_ 58 (L._∷_ 58 (L._∷_ 83 (L._∷_ 116 (L._∷_ 101 (L._∷_ 112 L.[])))))))))) (Syntax.tcons (Syntax.tyInt Syntax.w64) (Syntax.tcons (Syntax.tyInt Syntax.w64) (Syntax.tcons (Syntax.tyStruct (L._∷_ 115 (L._∷_ 116 (L._∷_ 101 (L._∷_ 112 (L._∷_ 58 (L._∷_ 58 (L._∷_ 67 (L._∷_ 104 (L._∷_ 97 (L._∷_ 110 (L._∷_ 103 (L._∷_ 101 L.[])))))))))))) (Syntax.tcons (Syntax.tyStruct (L._∷_ 110 (L._∷_ 101 (L._∷_ 116 (L._∷_ 119 (L._∷_ 111 (L._∷_ 114 (L._∷_ 107 (L._∷_ 58 (L._∷_ 58 (L._∷_ 69 (L._∷_ 100 (L._∷_ 105 (L._∷_ 116 L.[]))))))))))))) (Syntax.tcons q9 (Syntax.tcons q9 (Syntax.tcons q9 (Syntax.tcons q9 (Syntax.tcons q3 (Syntax.tcons q3 (Syntax.tcons (Syntax.tyInt Syntax.w64) Syntax.tnil)))))))) (Syntax.tcons (Syntax.tyStruct (L._∷_ 115 (L._∷_ 116 (L._∷_ 101 (L._∷_ 112 (L._∷_ 58 (L._∷_ 58 (L._∷_ 79 (L._∷_ 108 (L._∷_ 100 L.[]))))))))) (Syntax.tcons (Syntax.tyInt Syntax.w64) (Syntax.tcons q8 (Syntax.tcons q9 (Syntax.tcons q9 (Syntax.tcons q9 (Syntax.tcons q9 (Syntax.tcons q5 Syntax.tnil)))))))) Syntax.tnil))) Syntax.tnil)))) Syntax.tnil))))) (L._∷_ q1 (L._∷_ q13 (L._∷_ q11 (L._∷_ q31 (L._∷_ q20 (L._∷_ q17 (L._∷_ q32 (L._∷_ q33 (L._∷_ (9, Rows.any-gone (Syntax.tyStruct (L._∷_ 114 (L._∷_ 117 (L._∷_ 108 (L._∷_ 101 (L._∷_ 115 (L._∷_ 58 (L._∷_ 58 (L._∷_ 116 (L._∷_ 114 (L._∷_ 105 (L._∷_ 101 (L._∷_ 100 (L._∷_ 58 (L._∷_ 58 (L._∷_ 65 (L._∷_ 114 (L._∷_ 111 (L._∷_ 117 (L._∷_ 110 (L._∷_ 100 L.[])))))))))))))))))))) (Syntax.tcons q9 (Syntax.tcons q9 (Syntax.tcons q9 (Syntax.tcons q9 Syntax.tnil)))))) (L._∷_ q14 (L._∷_ q25 (L._∷_ q36 (L._∷_ q39 (L._∷_ q40 (L._∷_ q26 L.[])))))))))))))))
 
 abbrev pub t38 : L.List Row.Entry
 t38 = L._∷_ q37 (L._∷_ q41 (L._∷_ q42 (L._∷_ q43 (L._∷_ q44 (L._∷_ q7 (L._∷_ q4 (L._∷_ (23, Rows.sc-here Row.sBool) L.[])))))))
 
 abbrev pub t39 : L.List Row.Entry
-t39 = L._∷_ (0, Rows.any-gone (Syntax.tyStruct (L._∷_ 115 (L._∷_ 101 (L._∷_ 97 (L._∷_ 114 (L._∷_ 99 (L._∷_ 104 (L._∷_ 58 (L._∷_ 58 (L._∷_ 115 (L._∷_ 99 (L._∷_ 97 (L._∷_ 110 (L._∷_ 58 (L._∷_ 58 (L._∷_ 70 (L._∷_ 111 (L._∷_ 117 (L._∷_ 110 (L._∷_ 100 L.[]))))))))))))))))))) (Syntax.tcons Syntax.tyBool (Syntax.tcons Syntax.tyBool (Syntax.tcons (Syntax.tyStruct (L._∷_ 115 (L._∷_ 116 (L._∷_ 101 (L._∷_ 112 (L._∷_ 58 (L._∷_ 58 (L._∷_ 83 (L._∷_ 116 (L._∷_ 101 (L._∷_ 112 L.[])))))))))) (Syntax.tcons (Syntax.tyInt Syntax.w64) (Syntax.tcons (Syntax.tyInt Syntax.w64) (Syntax.tcons (Syntax.tyStruct (L._∷_ 115 (L._∷_ 116 (L._∷_ 101 (L._∷_ 112 (L._∷_ 58 (L._∷_ 58 (L._∷_ 67 (L._∷_ 104 (L._∷_ 97 (L._∷_ 110 (L._∷_ 103 (L._∷_ 101 L.[])))))))))))) (Syntax.tcons (Syntax.tyStruct (L._∷_ 110 (L._∷_ 101 (L._∷_ 116 (L._∷_ 119 (L._∷_ 111 (L._∷_ 114 (L._∷_ 107 (L._∷_ 58 (L._∷_ 58 (L._∷_ 69 (L._∷_ 100 (L._∷_ 105 (L._∷_ 116 L.[]))))))))))))) (Syntax.tcons q9 (Syntax.tcons q9 (Syntax.tcons q9 (Syntax.tcons q9 (Syntax.tcons q3 (Syntax.tcons q3 (Syntax.tcons (Syntax.tyInt Syntax.w64) Syntax.tnil)))))))) (Syntax.tcons (Syntax.tyStruct (L._∷_ 115 (L._∷_ 116 (L._∷_ 101 (L._∷_ 112 (L._∷_ 58 (L._∷_ 58 (L._∷_ 79 (L._∷_ 108 (L._∷_ 100 L.[]))))))))) (Syntax.tcons (Syntax.tyInt Syntax.w64) (Syntax.tcons q8 (Syntax.tcons q9 (Syntax.tcons q9 (Syntax.tcons q9 (Syntax.tcons q9 (Syntax.tcons q5 Syntax.tnil)))))))) Syntax.tnil))) Syntax.tnil)))) Syntax.tnil))))) (L._∷_ q1 (L._∷_ q13 (L._∷_ q11 (L._∷_ q31 (L._∷_ q0 (L._∷_ q15 (L._∷_ q32 (L._∷_ q33 (L._∷_ (9, Rows.any-gone (Syntax.tyStruct (L._∷_ 115 (L._∷_ 101 (L._∷_ 97 (L._∷_ 114 (L._∷_ 99 (L._∷_ 104 (L._∷_ 58 (L._∷_ 58 (L._∷_ 115 (L._∷_ 99 (L._∷_ 97 (L._∷_ 110 (L._∷_ 58 (L._∷_ 58 (L._∷_ 65 (L._∷_ 114 (L._∷_ 111 (L._∷_ 117 (L._∷_ 110 (L._∷_ 100 L.[])))))))))))))))))))) (Syntax.tcons q9 (Syntax.tcons q9 (Syntax.tcons q9 (Syntax.tcons q9 Syntax.tnil)))))) (L._∷_ q21 (L._∷_ q25 (L._∷_ q36 (L._∷_ q39 (L._∷_ q40 (L._∷_ q26 L.[])))))))))))))))
+t39 = L._∷_ (0, Rows.any-gone (Syntax.tyStruct (L._∷_ 114 (L._∷_ 117 (L._∷_ 108 (L._∷_ 101 (L._∷_ 115 (L._∷_ 58 (L._∷_ 58 (L._∷_ 102 (L._∷_ 111 (L._∷_ 117 (L._∷_ 110 (L._∷_ 100 (L._∷_ 58 (L._∷_ 58 (L._∷_ 70 (L._∷_ 111 (L._∷_ 117 (L._∷_ 110 (L._∷_ 100 L.[]))))))))))))))))))) (Syntax.tcons Syntax.tyBool (Syntax.tcons Syntax.tyBool (Syntax.tcons (Syntax.tyStruct (L._∷_ 115 (L._∷_ 116 (L._∷_ 101 (L._∷_ 112 (L._∷_ 58 (L._∷_ 58 (L._∷_ 83 (L._∷_ 116 (L._∷_ 101 (L._∷_ 112 L.[])))))))))) (Syntax.tcons (Syntax.tyInt Syntax.w64) (Syntax.tcons (Syntax.tyInt Syntax.w64) (Syntax.tcons (Syntax.tyStruct (L._∷_ 115 (L._∷_ 116 (L._∷_ 101 (L._∷_ 112 (L._∷_ 58 (L._∷_ 58 (L._∷_ 67 (L._∷_ 104 (L._∷_ 97 (L._∷_ 110 (L._∷_ 103 (L._∷_ 101 L.[])))))))))))) (Syntax.tcons (Syntax.tyStruct (L._∷_ 110 (L._∷_ 101 (L._∷_ 116 (L._∷_ 119 (L._∷_ 111 (L._∷_ 114 (L._∷_ 107 (L._∷_ 58 (L._∷_ 58 (L._∷_ 69 (L._∷_ 100 (L._∷_ 105 (L._∷_ 116 L.[]))))))))))))) (Syntax.tcons q9 (Syntax.tcons q9 (Syntax.tcons q9 (Syntax.tcons q9 (Syntax.tcons q3 (Syntax.tcons q3 (Syntax.tcons (Syntax.tyInt Syntax.w64) Syntax.tnil)))))))) (Syntax.tcons (Syntax.tyStruct (L._∷_ 115 (L._∷_ 116 (L._∷_ 101 (L._∷_ 112 (L._∷_ 58 (L._∷_ 58 (L._∷_ 79 (L._∷_ 108 (L._∷_ 100 L.[]))))))))) (Syntax.tcons (Syntax.tyInt Syntax.w64) (Syntax.tcons q8 (Syntax.tcons q9 (Syntax.tcons q9 (Syntax.tcons q9 (Syntax.tcons q9 (Syntax.tcons q5 Syntax.tnil)))))))) Syntax.tnil))) Syntax.tnil)))) Syntax.tnil))))) (L._∷_ q1 (L._∷_ q13 (L._∷_ q11 (L._∷_ q31 (L._∷_ q0 (L._∷_ q17 (L._∷_ q32 (L._∷_ q33 (L._∷_ (9, Rows.any-gone (Syntax.tyStruct (L._∷_ 114 (L._∷_ 117 (L._∷_ 108 (L._∷_ 101 (L._∷_ 115 (L._∷_ 58 (L._∷_ 58 (L._∷_ 116 (L._∷_ 114 (L._∷_ 105 (L._∷_ 101 (L._∷_ 100 (L._∷_ 58 (L._∷_ 58 (L._∷_ 65 (L._∷_ 114 (L._∷_ 111 (L._∷_ 117 (L._∷_ 110 (L._∷_ 100 L.[])))))))))))))))))))) (Syntax.tcons q9 (Syntax.tcons q9 (Syntax.tcons q9 (Syntax.tcons q9 Syntax.tnil)))))) (L._∷_ q14 (L._∷_ q25 (L._∷_ q36 (L._∷_ q39 (L._∷_ q40 (L._∷_ q26 L.[])))))))))))))))
 
 abbrev pub t40 : L.List Row.Entry
-t40 = L._∷_ (0, Rows.any-gone (Syntax.tyStruct (L._∷_ 115 (L._∷_ 101 (L._∷_ 97 (L._∷_ 114 (L._∷_ 99 (L._∷_ 104 (L._∷_ 58 (L._∷_ 58 (L._∷_ 115 (L._∷_ 99 (L._∷_ 97 (L._∷_ 110 (L._∷_ 58 (L._∷_ 58 (L._∷_ 70 (L._∷_ 111 (L._∷_ 117 (L._∷_ 110 (L._∷_ 100 L.[]))))))))))))))))))) (Syntax.tcons Syntax.tyBool (Syntax.tcons Syntax.tyBool (Syntax.tcons (Syntax.tyStruct (L._∷_ 115 (L._∷_ 116 (L._∷_ 101 (L._∷_ 112 (L._∷_ 58 (L._∷_ 58 (L._∷_ 83 (L._∷_ 116 (L._∷_ 101 (L._∷_ 112 L.[])))))))))) (Syntax.tcons (Syntax.tyInt Syntax.w64) (Syntax.tcons (Syntax.tyInt Syntax.w64) (Syntax.tcons (Syntax.tyStruct (L._∷_ 115 (L._∷_ 116 (L._∷_ 101 (L._∷_ 112 (L._∷_ 58 (L._∷_ 58 (L._∷_ 67 (L._∷_ 104 (L._∷_ 97 (L._∷_ 110 (L._∷_ 103 (L._∷_ 101 L.[])))))))))))) (Syntax.tcons (Syntax.tyStruct (L._∷_ 110 (L._∷_ 101 (L._∷_ 116 (L._∷_ 119 (L._∷_ 111 (L._∷_ 114 (L._∷_ 107 (L._∷_ 58 (L._∷_ 58 (L._∷_ 69 (L._∷_ 100 (L._∷_ 105 (L._∷_ 116 L.[]))))))))))))) (Syntax.tcons q9 (Syntax.tcons q9 (Syntax.tcons q9 (Syntax.tcons q9 (Syntax.tcons q3 (Syntax.tcons q3 (Syntax.tcons (Syntax.tyInt Syntax.w64) Syntax.tnil)))))))) (Syntax.tcons (Syntax.tyStruct (L._∷_ 115 (L._∷_ 116 (L._∷_ 101 (L._∷_ 112 (L._∷_ 58 (L._∷_ 58 (L._∷_ 79 (L._∷_ 108 (L._∷_ 100 L.[]))))))))) (Syntax.tcons (Syntax.tyInt Syntax.w64) (Syntax.tcons q8 (Syntax.tcons q9 (Syntax.tcons q9 (Syntax.tcons q9 (Syntax.tcons q9 (Syntax.tcons q5 Syntax.tnil)))))))) Syntax.tnil))) Syntax.tnil)))) Syntax.tnil))))) (L._∷_ q1 (L._∷_ q13 (L._∷_ q11 (L._∷_ q31 (L._∷_ q0 (L._∷_ q10 (L._∷_ q32 (L._∷_ q33 (L._∷_ (9, Rows.any-gone (Syntax.tyStruct (L._∷_ 115 (L._∷_ 101 (L._∷_ 97 (L._∷_ 114 (L._∷_ 99 (L._∷_ 104 (L._∷_ 58 (L._∷_ 58 (L._∷_ 115 (L._∷_ 99 (L._∷_ 97 (L._∷_ 110 (L._∷_ 58 (L._∷_ 58 (L._∷_ 65 (L._∷_ 114 (L._∷_ 111 (L._∷_ 117 (L._∷_ 110 (L._∷_ 100 L.[])))))))))))))))))))) (Syntax.tcons q9 (Syntax.tcons q9 (Syntax.tcons q9 (Syntax.tcons q9 Syntax.tnil)))))) (L._∷_ q21 (L._∷_ q25 (L._∷_ q36 (L._∷_ q39 (L._∷_ q40 (L._∷_ q26 L.[])))))))))))))))
+t40 = L._∷_ (0, Rows.any-gone (Syntax.tyStruct (L._∷_ 114 (L._∷_ 117 (L._∷_ 108 (L._∷_ 101 (L._∷_ 115 (L._∷_ 58 (L._∷_ 58 (L._∷_ 102 (L._∷_ 111 (L._∷_ 117 (L._∷_ 110 (L._∷_ 100 (L._∷_ 58 (L._∷_ 58 (L._∷_ 70 (L._∷_ 111 (L._∷_ 117 (L._∷_ 110 (L._∷_ 100 L.[]))))))))))))))))))) (Syntax.tcons Syntax.tyBool (Syntax.tcons Syntax.tyBool (Syntax.tcons (Syntax.tyStruct (L._∷_ 115 (L._∷_ 116 (L._∷_ 101 (L._∷_ 112 (L._∷_ 58 (L._∷_ 58 (L._∷_ 83 (L._∷_ 116 (L._∷_ 101 (L._∷_ 112 L.[])))))))))) (Syntax.tcons (Syntax.tyInt Syntax.w64) (Syntax.tcons (Syntax.tyInt Syntax.w64) (Syntax.tcons (Syntax.tyStruct (L._∷_ 115 (L._∷_ 116 (L._∷_ 101 (L._∷_ 112 (L._∷_ 58 (L._∷_ 58 (L._∷_ 67 (L._∷_ 104 (L._∷_ 97 (L._∷_ 110 (L._∷_ 103 (L._∷_ 101 L.[])))))))))))) (Syntax.tcons (Syntax.tyStruct (L._∷_ 110 (L._∷_ 101 (L._∷_ 116 (L._∷_ 119 (L._∷_ 111 (L._∷_ 114 (L._∷_ 107 (L._∷_ 58 (L._∷_ 58 (L._∷_ 69 (L._∷_ 100 (L._∷_ 105 (L._∷_ 116 L.[]))))))))))))) (Syntax.tcons q9 (Syntax.tcons q9 (Syntax.tcons q9 (Syntax.tcons q9 (Syntax.tcons q3 (Syntax.tcons q3 (Syntax.tcons (Syntax.tyInt Syntax.w64) Syntax.tnil)))))))) (Syntax.tcons (Syntax.tyStruct (L._∷_ 115 (L._∷_ 116 (L._∷_ 101 (L._∷_ 112 (L._∷_ 58 (L._∷_ 58 (L._∷_ 79 (L._∷_ 108 (L._∷_ 100 L.[]))))))))) (Syntax.tcons (Syntax.tyInt Syntax.w64) (Syntax.tcons q8 (Syntax.tcons q9 (Syntax.tcons q9 (Syntax.tcons q9 (Syntax.tcons q9 (Syntax.tcons q5 Syntax.tnil)))))))) Syntax.tnil))) Syntax.tnil)))) Syntax.tnil))))) (L._∷_ q1 (L._∷_ q13 (L._∷_ q11 (L._∷_ q31 (L._∷_ q0 (L._∷_ q10 (L._∷_ q32 (L._∷_ q33 (L._∷_ (9, Rows.any-gone (Syntax.tyStruct (L._∷_ 114 (L._∷_ 117 (L._∷_ 108 (L._∷_ 101 (L._∷_ 115 (L._∷_ 58 (L._∷_ 58 (L._∷_ 116 (L._∷_ 114 (L._∷_ 105 (L._∷_ 101 (L._∷_ 100 (L._∷_ 58 (L._∷_ 58 (L._∷_ 65 (L._∷_ 114 (L._∷_ 111 (L._∷_ 117 (L._∷_ 110 (L._∷_ 100 L.[])))))))))))))))))))) (Syntax.tcons q9 (Syntax.tcons q9 (Syntax.tcons q9 (Syntax.tcons q9 Syntax.tnil)))))) (L._∷_ q14 (L._∷_ q25 (L._∷_ q36 (L._∷_ q39 (L._∷_ q40 (L._∷_ q26 L.[])))))))))))))))
 
 abbrev pub t41 : L.List Row.Entry
-t41 = L._∷_ q22 (L._∷_ q1 (L._∷_ q13 (L._∷_ q11 (L._∷_ q31 (L._∷_ q0 (L._∷_ q10 (L._∷_ q32 (L._∷_ q33 (L._∷_ (9, Rows.any-gone (Syntax.tyStruct (L._∷_ 115 (L._∷_ 101 (L._∷_ 97 (L._∷_ 114 (L._∷_ 99 (L._∷_ 104 (L._∷_ 58 (L._∷_ 58 (L._∷_ 115 (L._∷_ 99 (L._∷_ 97 (L._∷_ 110 (L._∷_ 58 (L._∷_ 58 (L._∷_ 65 (L._∷_ 114 (L._∷_ 111 (L._∷_ 117 (L._∷_ 110 (L._∷_ 100 L.[])))))))))))))))))))) (Syntax.tcons q9 (Syntax.tcons q9 (Syntax.tcons q9 (Syntax.tcons q9 Syntax.tnil)))))) (L._∷_ q21 (L._∷_ q25 (L._∷_ q36 (L._∷_ q39 (L._∷_ q40 (L._∷_ q26 L.[])))))))))))))))
+t41 = L._∷_ q15 (L._∷_ q1 (L._∷_ q13 (L._∷_ q11 (L._∷_ q31 (L._∷_ q0 (L._∷_ q10 (L._∷_ q32 (L._∷_ q33 (L._∷_ (9, Rows.any-gone (Syntax.tyStruct (L._∷_ 114 (L._∷_ 117 (L._∷_ 108 (L._∷_ 101 (L._∷_ 115 (L._∷_ 58 (L._∷_ 58 (L._∷_ 116 (L._∷_ 114 (L._∷_ 105 (L._∷_ 101 (L._∷_ 100 (L._∷_ 58 (L._∷_ 58 (L._∷_ 65 (L._∷_ 114 (L._∷_ 111 (L._∷_ 117 (L._∷_ 110 (L._∷_ 100 L.[])))))))))))))))))))) (Syntax.tcons q9 (Syntax.tcons q9 (Syntax.tcons q9 (Syntax.tcons q9 Syntax.tnil)))))) (L._∷_ q14 (L._∷_ q25 (L._∷_ q36 (L._∷_ q39 (L._∷_ q40 (L._∷_ q26 L.[])))))))))))))))
 
 abbrev pub t42 : L.List Row.Entry
-t42 = L._∷_ q22 (L._∷_ q1 (L._∷_ q13 (L._∷_ q11 (L._∷_ q31 (L._∷_ q0 (L._∷_ q10 (L._∷_ q32 (L._∷_ q33 (L._∷_ (9, Rows.any-gone (Syntax.tyStruct (L._∷_ 115 (L._∷_ 101 (L._∷_ 97 (L._∷_ 114 (L._∷_ 99 (L._∷_ 104 (L._∷_ 58 (L._∷_ 58 (L._∷_ 115 (L._∷_ 99 (L._∷_ 97 (L._∷_ 110 (L._∷_ 58 (L._∷_ 58 (L._∷_ 65 (L._∷_ 114 (L._∷_ 111 (L._∷_ 117 (L._∷_ 110 (L._∷_ 100 L.[])))))))))))))))))))) (Syntax.tcons q9 (Syntax.tcons q9 (Syntax.tcons q9 (Syntax.tcons q9 Syntax.tnil)))))) (L._∷_ (10, Rows.any-gone (Syntax.tyStruct (L._∷_ 115 (L._∷_ 101 (L._∷_ 97 (L._∷_ 114 (L._∷_ 99 (L._∷_ 104 (L._∷_ 58 (L._∷_ 58 (L._∷_ 115 (L._∷_ 99 (L._∷_ 97 (L._∷_ 110 (L._∷_ 58 (L._∷_ 58 (L._∷_ 70 (L._∷_ 111 (L._∷_ 117 (L._∷_ 110 (L._∷_ 100 L.[]))))))))))))))))))) (Syntax.tcons Syntax.tyBool (Syntax.tcons Syntax.tyBool (Syntax.tcons (Syntax.tyStruct (L._∷_ 115 (L._∷_ 116 (L._∷_ 101 (L._∷_ 112 (L._∷_ 58 (L._∷_ 58 (L._∷_ 83 (L._∷_ 116 (L._∷_ 101 (L._∷_ 112 L.[])))))))))) (Syntax.tcons (Syntax.tyInt Syntax.w64) (Syntax.tcons (Syntax.tyInt Syntax.w64) (Syntax.tcons (Syntax.tyStruct (L._∷_ 115 (L._∷_ 116 (L._∷_ 101 (L._∷_ 112 (L._∷_ 58 (L._∷_ 58 (L._∷_ 67 (L._∷_ 104 (L._∷_ 97 (L._∷_ 110 (L._∷_ 103 (L._∷_ 101 L.[])))))))))))) (Syntax.tcons (Syntax.tyStruct (L._∷_ 110 (L._∷_ 101 (L._∷_ 116 (L._∷_ 119 (L._∷_ 111 (L._∷_ 114 (L._∷_ 107 (L._∷_ 58 (L._∷_ 58 (L._∷_ 69 (L._∷_ 100 (L._∷_ 105 (L._∷_ 116 L.[]))))))))))))) (Syntax.tcons q9 (Syntax.tcons q9 (Syntax.tcons q9 (Syntax.tcons q9 (Syntax.tcons q3 (Syntax.tcons q3 (Syntax.tcons (Syntax.tyInt Syntax.w64) Syntax.tnil)))))))) (Syntax.tcons (Syntax.tyStruct (L._∷_ 115 (L._∷_ 116 (L._∷_ 101 (L._∷_ 112 (L._∷_ 58 (L._∷_ 58 (L._∷_ 79 (L._∷_ 108 (L._∷_ 100 L.[]))))))))) (Syntax.tcons (Syntax.tyInt Syntax.w64) (Syntax.tcons q8 (Syntax.tcons q9 (Syntax.tcons q9 (Syntax.tcons q9 (Syntax.tcons q9 (Syntax.tcons q5 Syntax.tnil)))))))) Syntax.tnil))) Syntax.tnil)))) Syntax.tnil))))) (L._∷_ q25 (L._∷_ q36 (L._∷_ q39 (L._∷_ q40 (L._∷_ q26 L.[])))))))))))))))
+t42 = L._∷_ q15 (L._∷_ q1 (L._∷_ q13 (L._∷_ q11 (L._∷_ q31 (L._∷_ q0 (L._∷_ q10 (L._∷_ q32 (L._∷_ q33 (L._∷_ (9, Rows.any-gone (Syntax.tyStruct (L._∷_ 114 (L._∷_ 117 (L._∷_ 108 (L._∷_ 101 (L._∷_ 115 (L._∷_ 58 (L._∷_ 58 (L._∷_ 116 (L._∷_ 114 (L._∷_ 105 (L._∷_ 101 (L._∷_ 100 (L._∷_ 58 (L._∷_ 58 (L._∷_ 65 (L._∷_ 114 (L._∷_ 111 (L._∷_ 117 (L._∷_ 110 (L._∷_ 100 L.[])))))))))))))))))))) (Syntax.tcons q9 (Syntax.tcons q9 (Syntax.tcons q9 (Syntax.tcons q9 Syntax.tnil)))))) (L._∷_ (10, Rows.any-gone (Syntax.tyStruct (L._∷_ 114 (L._∷_ 117 (L._∷_ 108 (L._∷_ 101 (L._∷_ 115 (L._∷_ 58 (L._∷_ 58 (L._∷_ 102 (L._∷_ 111 (L._∷_ 117 (L._∷_ 110 (L._∷_ 100 (L._∷_ 58 (L._∷_ 58 (L._∷_ 70 (L._∷_ 111 (L._∷_ 117 (L._∷_ 110 (L._∷_ 100 L.[]))))))))))))))))))) (Syntax.tcons Syntax.tyBool (Syntax.tcons Syntax.tyBool (Syntax.tcons (Syntax.tyStruct (L._∷_ 115 (L._∷_ 116 (L._∷_ 101 (L._∷_ 112 (L._∷_ 58 (L._∷_ 58 (L._∷_ 83 (L._∷_ 116 (L._∷_ 101 (L._∷_ 112 L.[])))))))))) (Syntax.tcons (Syntax.tyInt Syntax.w64) (Syntax.tcons (Syntax.tyInt Syntax.w64) (Syntax.tcons (Syntax.tyStruct (L._∷_ 115 (L._∷_ 116 (L._∷_ 101 (L._∷_ 112 (L._∷_ 58 (L._∷_ 58 (L._∷_ 67 (L._∷_ 104 (L._∷_ 97 (L._∷_ 110 (L._∷_ 103 (L._∷_ 101 L.[])))))))))))) (Syntax.tcons (Syntax.tyStruct (L._∷_ 110 (L._∷_ 101 (L._∷_ 116 (L._∷_ 119 (L._∷_ 111 (L._∷_ 114 (L._∷_ 107 (L._∷_ 58 (L._∷_ 58 (L._∷_ 69 (L._∷_ 100 (L._∷_ 105 (L._∷_ 116 L.[]))))))))))))) (Syntax.tcons q9 (Syntax.tcons q9 (Syntax.tcons q9 (Syntax.tcons q9 (Syntax.tcons q3 (Syntax.tcons q3 (Syntax.tcons (Syntax.tyInt Syntax.w64) Syntax.tnil)))))))) (Syntax.tcons (Syntax.tyStruct (L._∷_ 115 (L._∷_ 116 (L._∷_ 101 (L._∷_ 112 (L._∷_ 58 (L._∷_ 58 (L._∷_ 79 (L._∷_ 108 (L._∷_ 100 L.[]))))))))) (Syntax.tcons (Syntax.tyInt Syntax.w64) (Syntax.tcons q8 (Syntax.tcons q9 (Syntax.tcons q9 (Syntax.tcons q9 (Syntax.tcons q9 (Syntax.tcons q5 Syntax.tnil)))))))) Syntax.tnil))) Syntax.tnil)))) Syntax.tnil))))) (L._∷_ q25 (L._∷_ q36 (L._∷_ q39 (L._∷_ q40 (L._∷_ q26 L.[])))))))))))))))
 
 abbrev pub t43 : L.List Row.Entry
-t43 = L._∷_ q22 (L._∷_ q1 (L._∷_ q13 (L._∷_ q11 (L._∷_ (4, Rows.any-gone (Syntax.tyInt Syntax.w64)) (L._∷_ q0 (L._∷_ q10 (L._∷_ q32 (L._∷_ q33 (L._∷_ (9, Rows.any-gone (Syntax.tyStruct (L._∷_ 115 (L._∷_ 101 (L._∷_ 97 (L._∷_ 114 (L._∷_ 99 (L._∷_ 104 (L._∷_ 58 (L._∷_ 58 (L._∷_ 115 (L._∷_ 99 (L._∷_ 97 (L._∷_ 110 (L._∷_ 58 (L._∷_ 58 (L._∷_ 65 (L._∷_ 114 (L._∷_ 111 (L._∷_ 117 (L._∷_ 110 (L._∷_ 100 L.[])))))))))))))))))))) (Syntax.tcons q9 (Syntax.tcons q9 (Syntax.tcons q9 (Syntax.tcons q9 Syntax.tnil)))))) (L._∷_ (10, Rows.any-gone (Syntax.tyStruct (L._∷_ 115 (L._∷_ 101 (L._∷_ 97 (L._∷_ 114 (L._∷_ 99 (L._∷_ 104 (L._∷_ 58 (L._∷_ 58 (L._∷_ 115 (L._∷_ 99 (L._∷_ 97 (L._∷_ 110 (L._∷_ 58 (L._∷_ 58 (L._∷_ 70 (L._∷_ 111 (L._∷_ 117 (L._∷_ 110 (L._∷_ 100 L.[]))))))))))))))))))) (Syntax.tcons Syntax.tyBool (Syntax.tcons Syntax.tyBool (Syntax.tcons (Syntax.tyStruct (L._∷_ 115 (L._∷_ 116 (L._∷_ 101 (L._∷_ 112 (L._∷_ 58 (L._∷_ 58 (L._∷_ 83 (L._∷_ 116 (L._∷_ 101 (L._∷_ 112 L.[])))))))))) (Syntax.tcons (Syntax.tyInt Syntax.w64) (Syntax.tcons (Syntax.tyInt Syntax.w64) (Syntax.tcons (Syntax.tyStruct (L._∷_ 115 (L._∷_ 116 (L._∷_ 101 (L._∷_ 112 (L._∷_ 58 (L._∷_ 58 (L._∷_ 67 (L._∷_ 104 (L._∷_ 97 (L._∷_ 110 (L._∷_ 103 (L._∷_ 101 L.[])))))))))))) (Syntax.tcons (Syntax.tyStruct (L._∷_ 110 (L._∷_ 101 (L._∷_ 116 (L._∷_ 119 (L._∷_ 111 (L._∷_ 114 (L._∷_ 107 (L._∷_ 58 (L._∷_ 58 (L._∷_ 69 (L._∷_ 100 (L._∷_ 105 (L._∷_ 116 L.[]))))))))))))) (Syntax.tcons q9 (Syntax.tcons q9 (Syntax.tcons q9 (Syntax.tcons q9 (Syntax.tcons q3 (Syntax.tcons q3 (Syntax.tcons (Syntax.tyInt Syntax.w64) Syntax.tnil)))))))) (Syntax.tcons (Syntax.tyStruct (L._∷_ 115 (L._∷_ 116 (L._∷_ 101 (L._∷_ 112 (L._∷_ 58 (L._∷_ 58 (L._∷_ 79 (L._∷_ 108 (L._∷_ 100 L.[]))))))))) (Syntax.tcons (Syntax.tyInt Syntax.w64) (Syntax.tcons q8 (Syntax.tcons q9 (Syntax.tcons q9 (Syntax.tcons q9 (Syntax.tcons q9 (Syntax.tcons q5 Syntax.tnil)))))))) Syntax.tnil))) Syntax.tnil)))) Syntax.tnil))))) (L._∷_ q25 (L._∷_ q36 (L._∷_ q39 (L._∷_ q40 (L._∷_ q26 L.[])))))))))))))))
+t43 = L._∷_ q15 (L._∷_ q1 (L._∷_ q13 (L._∷_ q11 (L._∷_ (4, Rows.any-gone (Syntax.tyInt Syntax.w64)) (L._∷_ q0 (L._∷_ q10 (L._∷_ q32 (L._∷_ q33 (L._∷_ (9, Rows.any-gone (Syntax.tyStruct (L._∷_ 114 (L._∷_ 117 (L._∷_ 108 (L._∷_ 101 (L._∷_ 115 (L._∷_ 58 (L._∷_ 58 (L._∷_ 116 (L._∷_ 114 (L._∷_ 105 (L._∷_ 101 (L._∷_ 100 (L._∷_ 58 (L._∷_ 58 (L._∷_ 65 (L._∷_ 114 (L._∷_ 111 (L._∷_ 117 (L._∷_ 110 (L._∷_ 100 L.[])))))))))))))))))))) (Syntax.tcons q9 (Syntax.tcons q9 (Syntax.tcons q9 (Syntax.tcons q9 Syntax.tnil)))))) (L._∷_ (10, Rows.any-gone (Syntax.tyStruct (L._∷_ 114 (L._∷_ 117 (L._∷_ 108 (L._∷_ 101 (L._∷_ 115 (L._∷_ 58 (L._∷_ 58 (L._∷_ 102 (L._∷_ 111 (L._∷_ 117 (L._∷_ 110 (L._∷_ 100 (L._∷_ 58 (L._∷_ 58 (L._∷_ 70 (L._∷_ 111 (L._∷_ 117 (L._∷_ 110 (L._∷_ 100 L.[]))))))))))))))))))) (Syntax.tcons Syntax.tyBool (Syntax.tcons Syntax.tyBool (Syntax.tcons (Syntax.tyStruct (L._∷_ 115 (L._∷_ 116 (L._∷_ 101 (L._∷_ 112 (L._∷_ 58 (L._∷_ 58 (L._∷_ 83 (L._∷_ 116 (L._∷_ 101 (L._∷_ 112 L.[])))))))))) (Syntax.tcons (Syntax.tyInt Syntax.w64) (Syntax.tcons (Syntax.tyInt Syntax.w64) (Syntax.tcons (Syntax.tyStruct (L._∷_ 115 (L._∷_ 116 (L._∷_ 101 (L._∷_ 112 (L._∷_ 58 (L._∷_ 58 (L._∷_ 67 (L._∷_ 104 (L._∷_ 97 (L._∷_ 110 (L._∷_ 103 (L._∷_ 101 L.[])))))))))))) (Syntax.tcons (Syntax.tyStruct (L._∷_ 110 (L._∷_ 101 (L._∷_ 116 (L._∷_ 119 (L._∷_ 111 (L._∷_ 114 (L._∷_ 107 (L._∷_ 58 (L._∷_ 58 (L._∷_ 69 (L._∷_ 100 (L._∷_ 105 (L._∷_ 116 L.[]))))))))))))) (Syntax.tcons q9 (Syntax.tcons q9 (Syntax.tcons q9 (Syntax.tcons q9 (Syntax.tcons q3 (Syntax.tcons q3 (Syntax.tcons (Syntax.tyInt Syntax.w64) Syntax.tnil)))))))) (Syntax.tcons (Syntax.tyStruct (L._∷_ 115 (L._∷_ 116 (L._∷_ 101 (L._∷_ 112 (L._∷_ 58 (L._∷_ 58 (L._∷_ 79 (L._∷_ 108 (L._∷_ 100 L.[]))))))))) (Syntax.tcons (Syntax.tyInt Syntax.w64) (Syntax.tcons q8 (Syntax.tcons q9 (Syntax.tcons q9 (Syntax.tcons q9 (Syntax.tcons q9 (Syntax.tcons q5 Syntax.tnil)))))))) Syntax.tnil))) Syntax.tnil)))) Syntax.tnil))))) (L._∷_ q25 (L._∷_ q36 (L._∷_ q39 (L._∷_ q40 (L._∷_ q26 L.[])))))))))))))))
 
 abbrev pub t44 : L.List Row.Entry
-t44 = L._∷_ q22 (L._∷_ q1 (L._∷_ q13 (L._∷_ q11 (L._∷_ (4, Rows.any-gone (Syntax.tyInt Syntax.w64)) (L._∷_ q0 (L._∷_ q10 (L._∷_ q27 (L._∷_ q33 (L._∷_ (9, Rows.any-gone (Syntax.tyStruct (L._∷_ 115 (L._∷_ 101 (L._∷_ 97 (L._∷_ 114 (L._∷_ 99 (L._∷_ 104 (L._∷_ 58 (L._∷_ 58 (L._∷_ 115 (L._∷_ 99 (L._∷_ 97 (L._∷_ 110 (L._∷_ 58 (L._∷_ 58 (L._∷_ 65 (L._∷_ 114 (L._∷_ 111 (L._∷_ 117 (L._∷_ 110 (L._∷_ 100 L.[])))))))))))))))))))) (Syntax.tcons q9 (Syntax.tcons q9 (Syntax.tcons q9 (Syntax.tcons q9 Syntax.tnil)))))) (L._∷_ (10, Rows.any-gone (Syntax.tyStruct (L._∷_ 115 (L._∷_ 101 (L._∷_ 97 (L._∷_ 114 (L._∷_ 99 (L._∷_ 104 (L._∷_ 58 (L._∷_ 58 (L._∷_ 115 (L._∷_ 99 (L._∷_ 97 (L._∷_ 110 (L._∷_ 58 (L._∷_ 58 (L._∷_ 70 (L._∷_ 111 (L._∷_ 117 (L._∷_ 110 (L._∷_ 100 L.[]))))))))))))))))))) (Syntax.tcons Syntax.tyBool (Syntax.tcons Syntax.tyBool (Syntax.tcons (Syntax.tyStruct (L._∷_ 115 (L._∷_ 116 (L._∷_ 101 (L._∷_ 112 (L._∷_ 58 (L._∷_ 58 (L._∷_ 83 (L._∷_ 116 (L._∷_ 101 (L._∷_ 112 L.[])))))))))) (Syntax.tcons (Syntax.tyInt Syntax.w64) (Syntax.tcons (Syntax.tyInt Syntax.w64) (Syntax.tcons (Syntax.tyStruct (L._∷_ 115 (L._∷_ 116 (L._∷_ 101 (L._∷_ 112 (L._∷_ 58 (L._∷_ 58 (L._∷_ 67 (L._∷_ 104 (L._∷_ 97 (L._∷_ 110 (L._∷_ 103 (L._∷_ 101 L.[])))))))))))) (Syntax.tcons (Syntax.tyStruct (L._∷_ 110 (L._∷_ 101 (L._∷_ 116 (L._∷_ 119 (L._∷_ 111 (L._∷_ 114 (L._∷_ 107 (L._∷_ 58 (L._∷_ 58 (L._∷_ 69 (L._∷_ 100 (L._∷_ 105 (L._∷_ 116 L.[]))))))))))))) (Syntax.tcons q9 (Syntax.tcons q9 (Syntax.tcons q9 (Syntax.tcons q9 (Syntax.tcons q3 (Syntax.tcons q3 (Syntax.tcons (Syntax.tyInt Syntax.w64) Syntax.tnil)))))))) (Syntax.tcons (Syntax.tyStruct (L._∷_ 115 (L._∷_ 116 (L._∷_ 101 (L._∷_ 112 (L._∷_ 58 (L._∷_ 58 (L._∷_ 79 (L._∷_ 108 (L._∷_ 100 L.[]))))))))) (Syntax.tcons (Syntax.tyInt Syntax.w64) (Syntax.tcons q8 (Syntax.tcons q9 (Syntax.tcons q9 (Syntax.tcons q9 (Syntax.tcons q9 (Syntax.tcons q5 Syntax.tnil)))))))) Syntax.tnil))) Syntax.tnil)))) Syntax.tnil))))) (L._∷_ q25 (L._∷_ q36 (L._∷_ q39 (L._∷_ q40 (L._∷_ q26 L.[])))))))))))))))
+t44 = L._∷_ q15 (L._∷_ q1 (L._∷_ q13 (L._∷_ q11 (L._∷_ (4, Rows.any-gone (Syntax.tyInt Syntax.w64)) (L._∷_ q0 (L._∷_ q10 (L._∷_ q27 (L._∷_ q33 (L._∷_ (9, Rows.any-gone (Syntax.tyStruct (L._∷_ 114 (L._∷_ 117 (L._∷_ 108 (L._∷_ 101 (L._∷_ 115 (L._∷_ 58 (L._∷_ 58 (L._∷_ 116 (L._∷_ 114 (L._∷_ 105 (L._∷_ 101 (L._∷_ 100 (L._∷_ 58 (L._∷_ 58 (L._∷_ 65 (L._∷_ 114 (L._∷_ 111 (L._∷_ 117 (L._∷_ 110 (L._∷_ 100 L.[])))))))))))))))))))) (Syntax.tcons q9 (Syntax.tcons q9 (Syntax.tcons q9 (Syntax.tcons q9 Syntax.tnil)))))) (L._∷_ (10, Rows.any-gone (Syntax.tyStruct (L._∷_ 114 (L._∷_ 117 (L._∷_ 108 (L._∷_ 101 (L._∷_ 115 (L._∷_ 58 (L._∷_ 58 (L._∷_ 102 (L._∷_ 111 (L._∷_ 117 (L._∷_ 110 (L._∷_ 100 (L._∷_ 58 (L._∷_ 58 (L._∷_ 70 (L._∷_ 111 (L._∷_ 117 (L._∷_ 110 (L._∷_ 100 L.[]))))))))))))))))))) (Syntax.tcons Syntax.tyBool (Syntax.tcons Syntax.tyBool (Syntax.tcons (Syntax.tyStruct (L._∷_ 115 (L._∷_ 116 (L._∷_ 101 (L._∷_ 112 (L._∷_ 58 (L._∷_ 58 (L._∷_ 83 (L._∷_ 116 (L._∷_ 101 (L._∷_ 112 L.[])))))))))) (Syntax.tcons (Syntax.tyInt Syntax.w64) (Syntax.tcons (Syntax.tyInt Syntax.w64) (Syntax.tcons (Syntax.tyStruct (L._∷_ 115 (L._∷_ 116 (L._∷_ 101 (L._∷_ 112 (L._∷_ 58 (L._∷_ 58 (L._∷_ 67 (L._∷_ 104 (L._∷_ 97 (L._∷_ 110 (L._∷_ 103 (L._∷_ 101 L.[])))))))))))) (Syntax.tcons (Syntax.tyStruct (L._∷_ 110 (L._∷_ 101 (L._∷_ 116 (L._∷_ 119 (L._∷_ 111 (L._∷_ 114 (L._∷_ 107 (L._∷_ 58 (L._∷_ 58 (L._∷_ 69 (L._∷_ 100 (L._∷_ 105 (L._∷_ 116 L.[]))))))))))))) (Syntax.tcons q9 (Syntax.tcons q9 (Syntax.tcons q9 (Syntax.tcons q9 (Syntax.tcons q3 (Syntax.tcons q3 (Syntax.tcons (Syntax.tyInt Syntax.w64) Syntax.tnil)))))))) (Syntax.tcons (Syntax.tyStruct (L._∷_ 115 (L._∷_ 116 (L._∷_ 101 (L._∷_ 112 (L._∷_ 58 (L._∷_ 58 (L._∷_ 79 (L._∷_ 108 (L._∷_ 100 L.[]))))))))) (Syntax.tcons (Syntax.tyInt Syntax.w64) (Syntax.tcons q8 (Syntax.tcons q9 (Syntax.tcons q9 (Syntax.tcons q9 (Syntax.tcons q9 (Syntax.tcons q5 Syntax.tnil)))))))) Syntax.tnil))) Syntax.tnil)))) Syntax.tnil))))) (L._∷_ q25 (L._∷_ q36 (L._∷_ q39 (L._∷_ q40 (L._∷_ q26 L.[])))))))))))))))
 
 abbrev pub t45 : L.List Row.Entry
-t45 = L._∷_ q22 (L._∷_ q1 (L._∷_ q13 (L._∷_ q11 (L._∷_ q31 (L._∷_ q0 (L._∷_ q10 (L._∷_ q32 (L._∷_ q28 (L._∷_ (9, Rows.any-gone (Syntax.tyStruct (L._∷_ 115 (L._∷_ 101 (L._∷_ 97 (L._∷_ 114 (L._∷_ 99 (L._∷_ 104 (L._∷_ 58 (L._∷_ 58 (L._∷_ 115 (L._∷_ 99 (L._∷_ 97 (L._∷_ 110 (L._∷_ 58 (L._∷_ 58 (L._∷_ 65 (L._∷_ 114 (L._∷_ 111 (L._∷_ 117 (L._∷_ 110 (L._∷_ 100 L.[])))))))))))))))))))) (Syntax.tcons q9 (Syntax.tcons q9 (Syntax.tcons q9 (Syntax.tcons q9 Syntax.tnil)))))) (L._∷_ (10, Rows.any-gone (Syntax.tyStruct (L._∷_ 115 (L._∷_ 101 (L._∷_ 97 (L._∷_ 114 (L._∷_ 99 (L._∷_ 104 (L._∷_ 58 (L._∷_ 58 (L._∷_ 115 (L._∷_ 99 (L._∷_ 97 (L._∷_ 110 (L._∷_ 58 (L._∷_ 58 (L._∷_ 70 (L._∷_ 111 (L._∷_ 117 (L._∷_ 110 (L._∷_ 100 L.[]))))))))))))))))))) (Syntax.tcons Syntax.tyBool (Syntax.tcons Syntax.tyBool (Syntax.tcons (Syntax.tyStruct (L._∷_ 115 (L._∷_ 116 (L._∷_ 101 (L._∷_ 112 (L._∷_ 58 (L._∷_ 58 (L._∷_ 83 (L._∷_ 116 (L._∷_ 101 (L._∷_ 112 L.[])))))))))) (Syntax.tcons (Syntax.tyInt Syntax.w64) (Syntax.tcons (Syntax.tyInt Syntax.w64) (Syntax.tcons (Syntax.tyStruct (L._∷_ 115 (L._∷_ 116 (L._∷_ 101 (L._∷_ 112 (L._∷_ 58 (L._∷_ 58 (L._∷_ 67 (L._∷_ 104 (L._∷_ 97 (L._∷_ 110 (L._∷_ 103 (L._∷_ 101 L.[])))))))))))) (Syntax.tcons (Syntax.tyStruct (L._∷_ 110 (L._∷_ 101 (L._∷_ 116 (L._∷_ 119 (L._∷_ 111 (L._∷_ 114 (L._∷_ 107 (L._∷_ 58 (L._∷_ 58 (L._∷_ 69 (L._∷_ 100 (L._∷_ 105 (L._∷_ 116 L.[]))))))))))))) (Syntax.tcons q9 (Syntax.tcons q9 (Syntax.tcons q9 (Syntax.tcons q9 (Syntax.tcons q3 (Syntax.tcons q3 (Syntax.tcons (Syntax.tyInt Syntax.w64) Syntax.tnil)))))))) (Syntax.tcons (Syntax.tyStruct (L._∷_ 115 (L._∷_ 116 (L._∷_ 101 (L._∷_ 112 (L._∷_ 58 (L._∷_ 58 (L._∷_ 79 (L._∷_ 108 (L._∷_ 100 L.[]))))))))) (Syntax.tcons (Syntax.tyInt Syntax.w64) (Syntax.tcons q8 (Syntax.tcons q9 (Syntax.tcons q9 (Syntax.tcons q9 (Syntax.tcons q9 (Syntax.tcons q5 Syntax.tnil)))))))) Syntax.tnil))) Syntax.tnil)))) Syntax.tnil))))) (L._∷_ q25 (L._∷_ q36 (L._∷_ q39 (L._∷_ q40 (L._∷_ q26 L.[])))))))))))))))
+t45 = L._∷_ q15 (L._∷_ q1 (L._∷_ q13 (L._∷_ q11 (L._∷_ q31 (L._∷_ q0 (L._∷_ q10 (L._∷_ q32 (L._∷_ q28 (L._∷_ (9, Rows.any-gone (Syntax.tyStruct (L._∷_ 114 (L._∷_ 117 (L._∷_ 108 (L._∷_ 101 (L._∷_ 115 (L._∷_ 58 (L._∷_ 58 (L._∷_ 116 (L._∷_ 114 (L._∷_ 105 (L._∷_ 101 (L._∷_ 100 (L._∷_ 58 (L._∷_ 58 (L._∷_ 65 (L._∷_ 114 (L._∷_ 111 (L._∷_ 117 (L._∷_ 110 (L._∷_ 100 L.[])))))))))))))))))))) (Syntax.tcons q9 (Syntax.tcons q9 (Syntax.tcons q9 (Syntax.tcons q9 Syntax.tnil)))))) (L._∷_ (10, Rows.any-gone (Syntax.tyStruct (L._∷_ 114 (L._∷_ 117 (L._∷_ 108 (L._∷_ 101 (L._∷_ 115 (L._∷_ 58 (L._∷_ 58 (L._∷_ 102 (L._∷_ 111 (L._∷_ 117 (L._∷_ 110 (L._∷_ 100 (L._∷_ 58 (L._∷_ 58 (L._∷_ 70 (L._∷_ 111 (L._∷_ 117 (L._∷_ 110 (L._∷_ 100 L.[]))))))))))))))))))) (Syntax.tcons Syntax.tyBool (Syntax.tcons Syntax.tyBool (Syntax.tcons (Syntax.tyStruct (L._∷_ 115 (L._∷_ 116 (L._∷_ 101 (L._∷_ 112 (L._∷_ 58 (L._∷_ 58 (L._∷_ 83 (L._∷_ 116 (L._∷_ 101 (L._∷_ 112 L.[])))))))))) (Syntax.tcons (Syntax.tyInt Syntax.w64) (Syntax.tcons (Syntax.tyInt Syntax.w64) (Syntax.tcons (Syntax.tyStruct (L._∷_ 115 (L._∷_ 116 (L._∷_ 101 (L._∷_ 112 (L._∷_ 58 (L._∷_ 58 (L._∷_ 67 (L._∷_ 104 (L._∷_ 97 (L._∷_ 110 (L._∷_ 103 (L._∷_ 101 L.[])))))))))))) (Syntax.tcons (Syntax.tyStruct (L._∷_ 110 (L._∷_ 101 (L._∷_ 116 (L._∷_ 119 (L._∷_ 111 (L._∷_ 114 (L._∷_ 107 (L._∷_ 58 (L._∷_ 58 (L._∷_ 69 (L._∷_ 100 (L._∷_ 105 (L._∷_ 116 L.[]))))))))))))) (Syntax.tcons q9 (Syntax.tcons q9 (Syntax.tcons q9 (Syntax.tcons q9 (Syntax.tcons q3 (Syntax.tcons q3 (Syntax.tcons (Syntax.tyInt Syntax.w64) Syntax.tnil)))))))) (Syntax.tcons (Syntax.tyStruct (L._∷_ 115 (L._∷_ 116 (L._∷_ 101 (L._∷_ 112 (L._∷_ 58 (L._∷_ 58 (L._∷_ 79 (L._∷_ 108 (L._∷_ 100 L.[]))))))))) (Syntax.tcons (Syntax.tyInt Syntax.w64) (Syntax.tcons q8 (Syntax.tcons q9 (Syntax.tcons q9 (Syntax.tcons q9 (Syntax.tcons q9 (Syntax.tcons q5 Syntax.tnil)))))))) Syntax.tnil))) Syntax.tnil)))) Syntax.tnil))))) (L._∷_ q25 (L._∷_ q36 (L._∷_ q39 (L._∷_ q40 (L._∷_ q26 L.[])))))))))))))))
 
 abbrev pub t46 : L.List Row.Entry
-t46 = L._∷_ q22 (L._∷_ q1 (L._∷_ q13 (L._∷_ q11 (L._∷_ q31 (L._∷_ q0 (L._∷_ q10 (L._∷_ q27 (L._∷_ q28 (L._∷_ (9, Rows.any-gone (Syntax.tyStruct (L._∷_ 115 (L._∷_ 101 (L._∷_ 97 (L._∷_ 114 (L._∷_ 99 (L._∷_ 104 (L._∷_ 58 (L._∷_ 58 (L._∷_ 115 (L._∷_ 99 (L._∷_ 97 (L._∷_ 110 (L._∷_ 58 (L._∷_ 58 (L._∷_ 65 (L._∷_ 114 (L._∷_ 111 (L._∷_ 117 (L._∷_ 110 (L._∷_ 100 L.[])))))))))))))))))))) (Syntax.tcons q9 (Syntax.tcons q9 (Syntax.tcons q9 (Syntax.tcons q9 Syntax.tnil)))))) (L._∷_ (10, Rows.any-gone (Syntax.tyStruct (L._∷_ 115 (L._∷_ 101 (L._∷_ 97 (L._∷_ 114 (L._∷_ 99 (L._∷_ 104 (L._∷_ 58 (L._∷_ 58 (L._∷_ 115 (L._∷_ 99 (L._∷_ 97 (L._∷_ 110 (L._∷_ 58 (L._∷_ 58 (L._∷_ 70 (L._∷_ 111 (L._∷_ 117 (L._∷_ 110 (L._∷_ 100 L.[]))))))))))))))))))) (Syntax.tcons Syntax.tyBool (Syntax.tcons Syntax.tyBool (Syntax.tcons (Syntax.tyStruct (L._∷_ 115 (L._∷_ 116 (L._∷_ 101 (L._∷_ 112 (L._∷_ 58 (L._∷_ 58 (L._∷_ 83 (L._∷_ 116 (L._∷_ 101 (L._∷_ 112 L.[])))))))))) (Syntax.tcons (Syntax.tyInt Syntax.w64) (Syntax.tcons (Syntax.tyInt Syntax.w64) (Syntax.tcons (Syntax.tyStruct (L._∷_ 115 (L._∷_ 116 (L._∷_ 101 (L._∷_ 112 (L._∷_ 58 (L._∷_ 58 (L._∷_ 67 (L._∷_ 104 (L._∷_ 97 (L._∷_ 110 (L._∷_ 103 (L._∷_ 101 L.[])))))))))))) (Syntax.tcons (Syntax.tyStruct (L._∷_ 110 (L._∷_ 101 (L._∷_ 116 (L._∷_ 119 (L._∷_ 111 (L._∷_ 114 (L._∷_ 107 (L._∷_ 58 (L._∷_ 58 (L._∷_ 69 (L._∷_ 100 (L._∷_ 105 (L._∷_ 116 L.[]))))))))))))) (Syntax.tcons q9 (Syntax.tcons q9 (Syntax.tcons q9 (Syntax.tcons q9 (Syntax.tcons q3 (Syntax.tcons q3 (Syntax.tcons (Syntax.tyInt Syntax.w64) Syntax.tnil)))))))) (Syntax.tcons (Syntax.tyStruct (L._∷_ 115 (L._∷_ 116 (L._∷_ 101 (L._∷_ 112 (L._∷_ 58 (L._∷_ 58 (L._∷_ 79 (L._∷_ 108 (L._∷_ 100 L.[]))))))))) (Syntax.tcons (Syntax.tyInt Syntax.w64) (Syntax.tcons q8 (Syntax.tcons q9 (Syntax.tcons q9 (Syntax.tcons q9 (Syntax.tcons q9 (Syntax.tcons q5 Syntax.tnil)))))))) Syntax.tnil))) Syntax.tnil)))) Syntax.tnil))))) (L._∷_ q25 (L._∷_ q36 (L._∷_ q39 (L._∷_ q40 (L._∷_ q26 L.[])))))))))))))))
+t46 = L._∷_ q15 (L._∷_ q1 (L._∷_ q13 (L._∷_ q11 (L._∷_ q31 (L._∷_ q0 (L._∷_ q10 (L._∷_ q27 (L._∷_ q28 (L._∷_ (9, Rows.any-gone (Syntax.tyStruct (L._∷_ 114 (L._∷_ 117 (L._∷_ 108 (L._∷_ 101 (L._∷_ 115 (L._∷_ 58 (L._∷_ 58 (L._∷_ 116 (L._∷_ 114 (L._∷_ 105 (L._∷_ 101 (L._∷_ 100 (L._∷_ 58 (L._∷_ 58 (L._∷_ 65 (L._∷_ 114 (L._∷_ 111 (L._∷_ 117 (L._∷_ 110 (L._∷_ 100 L.[])))))))))))))))))))) (Syntax.tcons q9 (Syntax.tcons q9 (Syntax.tcons q9 (Syntax.tcons q9 Syntax.tnil)))))) (L._∷_ (10, Rows.any-gone (Syntax.tyStruct (L._∷_ 114 (L._∷_ 117 (L._∷_ 108 (L._∷_ 101 (L._∷_ 115 (L._∷_ 58 (L._∷_ 58 (L._∷_ 102 (L._∷_ 111 (L._∷_ 117 (L._∷_ 110 (L._∷_ 100 (L._∷_ 58 (L._∷_ 58 (L._∷_ 70 (L._∷_ 111 (L._∷_ 117 (L._∷_ 110 (L._∷_ 100 L.[]))))))))))))))))))) (Syntax.tcons Syntax.tyBool (Syntax.tcons Syntax.tyBool (Syntax.tcons (Syntax.tyStruct (L._∷_ 115 (L._∷_ 116 (L._∷_ 101 (L._∷_ 112 (L._∷_ 58 (L._∷_ 58 (L._∷_ 83 (L._∷_ 116 (L._∷_ 101 (L._∷_ 112 L.[])))))))))) (Syntax.tcons (Syntax.tyInt Syntax.w64) (Syntax.tcons (Syntax.tyInt Syntax.w64) (Syntax.tcons (Syntax.tyStruct (L._∷_ 115 (L._∷_ 116 (L._∷_ 101 (L._∷_ 112 (L._∷_ 58 (L._∷_ 58 (L._∷_ 67 (L._∷_ 104 (L._∷_ 97 (L._∷_ 110 (L._∷_ 103 (L._∷_ 101 L.[])))))))))))) (Syntax.tcons (Syntax.tyStruct (L._∷_ 110 (L._∷_ 101 (L._∷_ 116 (L._∷_ 119 (L._∷_ 111 (L._∷_ 114 (L._∷_ 107 (L._∷_ 58 (L._∷_ 58 (L._∷_ 69 (L._∷_ 100 (L._∷_ 105 (L._∷_ 116 L.[]))))))))))))) (Syntax.tcons q9 (Syntax.tcons q9 (Syntax.tcons q9 (Syntax.tcons q9 (Syntax.tcons q3 (Syntax.tcons q3 (Syntax.tcons (Syntax.tyInt Syntax.w64) Syntax.tnil)))))))) (Syntax.tcons (Syntax.tyStruct (L._∷_ 115 (L._∷_ 116 (L._∷_ 101 (L._∷_ 112 (L._∷_ 58 (L._∷_ 58 (L._∷_ 79 (L._∷_ 108 (L._∷_ 100 L.[]))))))))) (Syntax.tcons (Syntax.tyInt Syntax.w64) (Syntax.tcons q8 (Syntax.tcons q9 (Syntax.tcons q9 (Syntax.tcons q9 (Syntax.tcons q9 (Syntax.tcons q5 Syntax.tnil)))))))) Syntax.tnil))) Syntax.tnil)))) Syntax.tnil))))) (L._∷_ q25 (L._∷_ q36 (L._∷_ q39 (L._∷_ q40 (L._∷_ q26 L.[])))))))))))))))
 
 abbrev pub T0 : Row.Cx
 T0 = record { locals = L._++_ t0 t1; slots = L.[] }
@@ -801,13 +801,13 @@ MeasureT-loop = L.List (Rec.row .Denot) → Rows.sc-here (Row.sInt Syntax.w64) .
 
 module _ (claims· : Claims) where
   abbrev s0 : (bs : L.List Nat.ℕ) → Typed.Mo T0 → Typed.Mo T2
-  s0 = λ bs. LocalCopy.n-val-copy T0 1 5 (Declared.row network-proofs-Nodes·.the-type) q19 q19 (λ x. x) (λ x. x) λ x. x
+  s0 = λ bs. LocalCopy.n-val-copy T0 1 5 (Declared.row network-proofs-Nodes·.the-type) q22 q22 (λ x. x) (λ x. x) λ x. x
 
   abbrev s1 : (bs : L.List Nat.ℕ) → Typed.Mo T2 → Typed.Mo T3
   s1 = λ bs. Scalar.n-room T2 1 q2
 
   abbrev s2 : (bs : L.List Nat.ℕ) → Typed.Mo T3 → Typed.Mo T4
-  s2 = λ bs. LocalCopy.n-val-copy T3 3 6 (Declared.row network-proofs-Degrees·.the-type) q18 q18 (λ x. x) (λ x. x) λ x. x
+  s2 = λ bs. LocalCopy.n-val-copy T3 3 6 (Declared.row network-proofs-Degrees·.the-type) q21 q21 (λ x. x) (λ x. x) λ x. x
 
   abbrev s3 : (bs : L.List Nat.ℕ) → Typed.Mo T4 → Typed.Mo T5
   s3 = λ bs. Scalar.n-room T4 3 q12
@@ -849,7 +849,7 @@ module _ (claims· : Claims) where
   s15 = λ bs. Scalar.n-room T18 13 Syntax.tyPtr
 
   abbrev s16 : (bs : L.List Nat.ℕ) → Typed.Both T19 T20
-  s16 = λ bs. WayStmt.k-way-copy-out T19 (Row.out 14 (Row.out 6 (T19 .locals))) (λ u. Row.drop 14 (Row.out 6 (T19 .locals)) (Row.drop 6 (T19 .locals) u)) 15 q34 (λ u. ListN.getD (At.getAt (network-proofs-Degrees·.the-type .parts) 0 (network-proofs-Degrees·.struct .as-values (u .1 .1 .1 .1 .1 .1 .0))) (u .1 .1 .1 .1 .1 .1 .1 .0) 0) (λ T′. record { locals = Row.setRow 6 q15 (Row.setRow 14 (14, Rows.sc-here Row.sPtr) T′); slots = L.[] }) (λ u T′ m′. Row.set 6 q15 (u .1 .1 .1 .1 .1 .1 .0) (Row.setRow 14 (14, Rows.sc-here Row.sPtr) T′) (Row.set 14 (14, Rows.sc-here Row.sPtr) (u .1 .1 .1 .1 .1 .1 .1 .1 .1 .1 .1 .1 .1 .1 .0) T′ m′)) (λ u. Path._≡_ (u .1 .1 .1 .1 .1 .1 .1 .1 .1 .1 .1 .1 .1 .1 .0 .0) (Row.hd 0 (Row.tl (Row.tl (Row.tl (Row.tl (Row.tl (Row.tl bs))))))) × Path._≡_ (u .1 .1 .1 .1 .1 .1 .1 .1 .1 .1 .1 .1 .1 .1 .0 .1) (Shared.bySize 8 (u .1 .1 .1 .1 .1 .1 .1 .0) (Nat._+_ Nat.zero 0)) × Asked.InArray T19 (λ u. u .1 .1 .1 .1 .1 .1 .1 .0) 33 u) λ u. Unit
+  s16 = λ bs. WayStmt.k-way-copy-out T19 (Row.out 14 (Row.out 6 (T19 .locals))) (λ u. Row.drop 14 (Row.out 6 (T19 .locals)) (Row.drop 6 (T19 .locals) u)) 15 q34 (λ u. ListN.getD (At.getAt (network-proofs-Degrees·.the-type .parts) 0 (network-proofs-Degrees·.struct .as-values (u .1 .1 .1 .1 .1 .1 .0))) (u .1 .1 .1 .1 .1 .1 .1 .0) 0) (λ T′. record { locals = Row.setRow 6 q17 (Row.setRow 14 (14, Rows.sc-here Row.sPtr) T′); slots = L.[] }) (λ u T′ m′. Row.set 6 q17 (u .1 .1 .1 .1 .1 .1 .0) (Row.setRow 14 (14, Rows.sc-here Row.sPtr) T′) (Row.set 14 (14, Rows.sc-here Row.sPtr) (u .1 .1 .1 .1 .1 .1 .1 .1 .1 .1 .1 .1 .1 .1 .0) T′ m′)) (λ u. Path._≡_ (u .1 .1 .1 .1 .1 .1 .1 .1 .1 .1 .1 .1 .1 .1 .0 .0) (Row.hd 0 (Row.tl (Row.tl (Row.tl (Row.tl (Row.tl (Row.tl bs))))))) × Path._≡_ (u .1 .1 .1 .1 .1 .1 .1 .1 .1 .1 .1 .1 .1 .1 .0 .1) (Shared.bySize 8 (u .1 .1 .1 .1 .1 .1 .1 .0) (Nat._+_ Nat.zero 0)) × Asked.InArray T19 (λ u. u .1 .1 .1 .1 .1 .1 .1 .0) 33 u) λ u. Unit
 
   abbrev s17 : (bs : L.List Nat.ℕ) → Typed.Mo T20 → Typed.Mo T21
   s17 = λ bs. Scalar.n-room T20 11 (Syntax.tyInt Syntax.w64)
@@ -873,7 +873,7 @@ module _ (claims· : Claims) where
   s23 = λ bs. Scalar.n-room T26 17 Syntax.tyPtr
 
   abbrev s24 : (bs : L.List Nat.ℕ) → Typed.Both T27 T28
-  s24 = λ bs. WayStmt.k-way-copy-out T27 (Row.out 18 (Row.out 5 (T27 .locals))) (λ u. Row.drop 18 (Row.out 5 (T27 .locals)) (Row.drop 5 (T27 .locals) u)) 12 (Rows.sc-here Row.sBool) (λ u. ListN.getD (At.getAt (network-proofs-Nodes·.the-type .parts) 2 (network-proofs-Nodes·.struct .as-values (u .1 .1 .1 .1 .1 .0))) (u .1 .1 .1 .1 .1 .1 .1 .0) Bool.false) (λ T′. record { locals = Row.setRow 5 q17 (Row.setRow 18 (18, Rows.sc-here Row.sPtr) T′); slots = L.[] }) (λ u T′ m′. Row.set 5 q17 (u .1 .1 .1 .1 .1 .0) (Row.setRow 18 (18, Rows.sc-here Row.sPtr) T′) (Row.set 18 (18, Rows.sc-here Row.sPtr) (u .1 .1 .1 .1 .1 .1 .1 .1 .1 .1 .1 .1 .1 .1 .1 .1 .1 .1 .0) T′ m′)) (λ u. Path._≡_ (u .1 .1 .1 .1 .1 .1 .1 .1 .1 .1 .1 .1 .1 .1 .1 .1 .1 .1 .0 .0) (Row.hd 0 (Row.tl (Row.tl (Row.tl (Row.tl (Row.tl bs)))))) × Path._≡_ (u .1 .1 .1 .1 .1 .1 .1 .1 .1 .1 .1 .1 .1 .1 .1 .1 .1 .1 .0 .1) (Shared.byByte (u .1 .1 .1 .1 .1 .1 .1 .0) (Nat._+_ Nat.zero 16)) × Asked.InArray T27 (λ u. u .1 .1 .1 .1 .1 .1 .1 .0) 33 u) λ u. Unit
+  s24 = λ bs. WayStmt.k-way-copy-out T27 (Row.out 18 (Row.out 5 (T27 .locals))) (λ u. Row.drop 18 (Row.out 5 (T27 .locals)) (Row.drop 5 (T27 .locals) u)) 12 (Rows.sc-here Row.sBool) (λ u. ListN.getD (At.getAt (network-proofs-Nodes·.the-type .parts) 2 (network-proofs-Nodes·.struct .as-values (u .1 .1 .1 .1 .1 .0))) (u .1 .1 .1 .1 .1 .1 .1 .0) Bool.false) (λ T′. record { locals = Row.setRow 5 q20 (Row.setRow 18 (18, Rows.sc-here Row.sPtr) T′); slots = L.[] }) (λ u T′ m′. Row.set 5 q20 (u .1 .1 .1 .1 .1 .0) (Row.setRow 18 (18, Rows.sc-here Row.sPtr) T′) (Row.set 18 (18, Rows.sc-here Row.sPtr) (u .1 .1 .1 .1 .1 .1 .1 .1 .1 .1 .1 .1 .1 .1 .1 .1 .1 .1 .0) T′ m′)) (λ u. Path._≡_ (u .1 .1 .1 .1 .1 .1 .1 .1 .1 .1 .1 .1 .1 .1 .1 .1 .1 .1 .0 .0) (Row.hd 0 (Row.tl (Row.tl (Row.tl (Row.tl (Row.tl bs)))))) × Path._≡_ (u .1 .1 .1 .1 .1 .1 .1 .1 .1 .1 .1 .1 .1 .1 .1 .1 .1 .1 .0 .1) (Shared.byByte (u .1 .1 .1 .1 .1 .1 .1 .0) (Nat._+_ Nat.zero 16)) × Asked.InArray T27 (λ u. u .1 .1 .1 .1 .1 .1 .1 .0) 33 u) λ u. Unit
 
   abbrev s25 : (bs : L.List Nat.ℕ) → Typed.Mo T28 → Typed.Mo T29
   s25 = λ bs. Scalar.n-room T28 18 Syntax.tyPtr
@@ -891,7 +891,7 @@ module _ (claims· : Claims) where
   s29 = λ bs. Scalar.n-room T32 19 Syntax.tyPtr
 
   abbrev s30 : (bs : L.List Nat.ℕ) → Typed.Both T33 T34
-  s30 = λ bs. WayStmt.k-way-copy-out T33 (Row.out 20 (Row.out 5 (T33 .locals))) (λ u. Row.drop 20 (Row.out 5 (T33 .locals)) (Row.drop 5 (T33 .locals) u)) 21 q16 (λ u. ListN.getD (At.getAt (network-proofs-Nodes·.the-type .parts) 3 (network-proofs-Nodes·.struct .as-values (u .1 .1 .1 .1 .1 .0))) (u .1 .1 .1 .1 .1 .1 .1 .0) (fraction-proofs-Fraction·.struct .make (IntN.pos 0, (0, tt)) tt)) (λ T′. record { locals = Row.setRow 5 q17 (Row.setRow 20 (20, Rows.sc-here Row.sPtr) T′); slots = L.[] }) (λ u T′ m′. Row.set 5 q17 (u .1 .1 .1 .1 .1 .0) (Row.setRow 20 (20, Rows.sc-here Row.sPtr) T′) (Row.set 20 (20, Rows.sc-here Row.sPtr) (u .1 .1 .1 .1 .1 .1 .1 .1 .1 .1 .1 .1 .1 .1 .1 .1 .1 .1 .1 .1 .0) T′ m′)) (λ u. Path._≡_ (u .1 .1 .1 .1 .1 .1 .1 .1 .1 .1 .1 .1 .1 .1 .1 .1 .1 .1 .1 .1 .0 .0) (Row.hd 0 (Row.tl (Row.tl (Row.tl (Row.tl (Row.tl bs)))))) × Path._≡_ (u .1 .1 .1 .1 .1 .1 .1 .1 .1 .1 .1 .1 .1 .1 .1 .1 .1 .1 .1 .1 .0 .1) (Shared.bySize 8 (u .1 .1 .1 .1 .1 .1 .1 .0) (Nat._+_ Nat.zero 52)) × Asked.InArray T33 (λ u. u .1 .1 .1 .1 .1 .1 .1 .0) 33 u) λ u. Unit
+  s30 = λ bs. WayStmt.k-way-copy-out T33 (Row.out 20 (Row.out 5 (T33 .locals))) (λ u. Row.drop 20 (Row.out 5 (T33 .locals)) (Row.drop 5 (T33 .locals) u)) 21 q18 (λ u. ListN.getD (At.getAt (network-proofs-Nodes·.the-type .parts) 3 (network-proofs-Nodes·.struct .as-values (u .1 .1 .1 .1 .1 .0))) (u .1 .1 .1 .1 .1 .1 .1 .0) (fraction-proofs-Fraction·.struct .make (IntN.pos 0, (0, tt)) tt)) (λ T′. record { locals = Row.setRow 5 q20 (Row.setRow 20 (20, Rows.sc-here Row.sPtr) T′); slots = L.[] }) (λ u T′ m′. Row.set 5 q20 (u .1 .1 .1 .1 .1 .0) (Row.setRow 20 (20, Rows.sc-here Row.sPtr) T′) (Row.set 20 (20, Rows.sc-here Row.sPtr) (u .1 .1 .1 .1 .1 .1 .1 .1 .1 .1 .1 .1 .1 .1 .1 .1 .1 .1 .1 .1 .0) T′ m′)) (λ u. Path._≡_ (u .1 .1 .1 .1 .1 .1 .1 .1 .1 .1 .1 .1 .1 .1 .1 .1 .1 .1 .1 .1 .0 .0) (Row.hd 0 (Row.tl (Row.tl (Row.tl (Row.tl (Row.tl bs)))))) × Path._≡_ (u .1 .1 .1 .1 .1 .1 .1 .1 .1 .1 .1 .1 .1 .1 .1 .1 .1 .1 .1 .1 .0 .1) (Shared.bySize 8 (u .1 .1 .1 .1 .1 .1 .1 .0) (Nat._+_ Nat.zero 52)) × Asked.InArray T33 (λ u. u .1 .1 .1 .1 .1 .1 .1 .0) 33 u) λ u. Unit
 
   abbrev s31 : (bs : L.List Nat.ℕ) → Typed.Mo T34 → Typed.Mo T35
   s31 = λ bs. Scalar.n-room T34 15 (Syntax.tyInt Syntax.w64)
@@ -912,22 +912,22 @@ module _ (claims· : Claims) where
   s36 = λ bs. Scalar.n-room T40 16 Syntax.tyBool
 
   abbrev s37 : (bs : L.List Nat.ℕ) → Typed.Both T41 T42
-  s37 = λ bs. Call.callB ps·1 r·1 (claims· .2) (claims· .3) T41 (record { pos = 2; ty = Syntax.tyRef (Syntax.named 0) Syntax.imm Rec.named; ref = λ x. x }, (Num.vAt 7 λ x. x, (Num.vAt 8 λ x. x, tt))) 9 (L._∷_ 0 L.[]) (Syntax.tyStruct (L._∷_ 115 (L._∷_ 101 (L._∷_ 97 (L._∷_ 114 (L._∷_ 99 (L._∷_ 104 (L._∷_ 58 (L._∷_ 58 (L._∷_ 115 (L._∷_ 99 (L._∷_ 97 (L._∷_ 110 (L._∷_ 58 (L._∷_ 58 (L._∷_ 65 (L._∷_ 114 (L._∷_ 111 (L._∷_ 117 (L._∷_ 110 (L._∷_ 100 L.[])))))))))))))))))))) (Syntax.tcons q9 (Syntax.tcons q9 (Syntax.tcons q9 (Syntax.tcons q9 Syntax.tnil)))))
+  s37 = λ bs. Call.callB ps·1 r·1 (claims· .2) (claims· .3) T41 (record { pos = 2; ty = Syntax.tyRef (Syntax.named 0) Syntax.imm Rec.named; ref = λ x. x }, (Num.vAt 7 λ x. x, (Num.vAt 8 λ x. x, tt))) 9 (L._∷_ 0 L.[]) (Syntax.tyStruct (L._∷_ 114 (L._∷_ 117 (L._∷_ 108 (L._∷_ 101 (L._∷_ 115 (L._∷_ 58 (L._∷_ 58 (L._∷_ 116 (L._∷_ 114 (L._∷_ 105 (L._∷_ 101 (L._∷_ 100 (L._∷_ 58 (L._∷_ 58 (L._∷_ 65 (L._∷_ 114 (L._∷_ 111 (L._∷_ 117 (L._∷_ 110 (L._∷_ 100 L.[])))))))))))))))))))) (Syntax.tcons q9 (Syntax.tcons q9 (Syntax.tcons q9 (Syntax.tcons q9 Syntax.tnil)))))
 
   abbrev s38 : (bs : L.List Nat.ℕ) → Typed.Both T42 T43
-  s38 = λ bs. WayStmt.k-way-copy-out T42 (Row.out 5 (T42 .locals)) (λ u. Row.drop 5 (T42 .locals) u) 22 (ARows.arrF (Declared.row fraction-proofs-Fraction·.the-type) 33 0) (λ u. At.getAt (network-proofs-Nodes·.the-type .parts) 3 (network-proofs-Nodes·.struct .as-values (u .1 .1 .1 .1 .1 .0))) (λ T′. record { locals = Row.setRow 5 q17 T′; slots = L.[] }) (λ u T′ m′. Row.set 5 q17 (u .1 .1 .1 .1 .1 .0) T′ m′) (λ u. Unit) λ u. Unit
+  s38 = λ bs. WayStmt.k-way-copy-out T42 (Row.out 5 (T42 .locals)) (λ u. Row.drop 5 (T42 .locals) u) 22 (ARows.arrF (Declared.row fraction-proofs-Fraction·.the-type) 33 0) (λ u. At.getAt (network-proofs-Nodes·.the-type .parts) 3 (network-proofs-Nodes·.struct .as-values (u .1 .1 .1 .1 .1 .0))) (λ T′. record { locals = Row.setRow 5 q20 T′; slots = L.[] }) (λ u T′ m′. Row.set 5 q20 (u .1 .1 .1 .1 .1 .0) T′ m′) (λ u. Unit) λ u. Unit
 
   abbrev s39 : (bs : L.List Nat.ℕ) → Typed.Both T43 T44
-  s39 = λ bs. Call.callB ps·2 r·2 (claims· .4) (claims· .5) T43 (record { pos = 22; st = L.[]; d = 0; at = λ x. x }, (Num.vAt 4 λ x. x, (Num.vAt 7 λ x. x, (record { pos = 9; st = L.[]; d = 0; at = λ x. x }, tt)))) 10 L.[] (Syntax.tyStruct (L._∷_ 115 (L._∷_ 101 (L._∷_ 97 (L._∷_ 114 (L._∷_ 99 (L._∷_ 104 (L._∷_ 58 (L._∷_ 58 (L._∷_ 115 (L._∷_ 99 (L._∷_ 97 (L._∷_ 110 (L._∷_ 58 (L._∷_ 58 (L._∷_ 70 (L._∷_ 111 (L._∷_ 117 (L._∷_ 110 (L._∷_ 100 L.[]))))))))))))))))))) (Syntax.tcons Syntax.tyBool (Syntax.tcons Syntax.tyBool (Syntax.tcons (Syntax.tyStruct (L._∷_ 115 (L._∷_ 116 (L._∷_ 101 (L._∷_ 112 (L._∷_ 58 (L._∷_ 58 (L._∷_ 83 (L._∷_ 116 (L._∷_ 101 (L._∷_ 112 L.[])))))))))) (Syntax.tcons (Syntax.tyInt Syntax.w64) (Syntax.tcons (Syntax.tyInt Syntax.w64) (Syntax.tcons (Syntax.tyStruct (L._∷_ 115 (L._∷_ 116 (L._∷_ 101 (L._∷_ 112 (L._∷_ 58 (L._∷_ 58 (L._∷_ 67 (L._∷_ 104 (L._∷_ 97 (L._∷_ 110 (L._∷_ 103 (L._∷_ 101 L.[])))))))))))) (Syntax.tcons (Syntax.tyStruct (L._∷_ 110 (L._∷_ 101 (L._∷_ 116 (L._∷_ 119 (L._∷_ 111 (L._∷_ 114 (L._∷_ 107 (L._∷_ 58 (L._∷_ 58 (L._∷_ 69 (L._∷_ 100 (L._∷_ 105 (L._∷_ 116 L.[]))))))))))))) (Syntax.tcons q9 (Syntax.tcons q9 (Syntax.tcons q9 (Syntax.tcons q9 (Syntax.tcons q3 (Syntax.tcons q3 (Syntax.tcons (Syntax.tyInt Syntax.w64) Syntax.tnil)))))))) (Syntax.tcons (Syntax.tyStruct (L._∷_ 115 (L._∷_ 116 (L._∷_ 101 (L._∷_ 112 (L._∷_ 58 (L._∷_ 58 (L._∷_ 79 (L._∷_ 108 (L._∷_ 100 L.[]))))))))) (Syntax.tcons (Syntax.tyInt Syntax.w64) (Syntax.tcons q8 (Syntax.tcons q9 (Syntax.tcons q9 (Syntax.tcons q9 (Syntax.tcons q9 (Syntax.tcons q5 Syntax.tnil)))))))) Syntax.tnil))) Syntax.tnil)))) Syntax.tnil))))
+  s39 = λ bs. Call.callB ps·2 r·2 (claims· .4) (claims· .5) T43 (record { pos = 22; st = L.[]; d = 0; at = λ x. x }, (Num.vAt 4 λ x. x, (Num.vAt 7 λ x. x, (record { pos = 9; st = L.[]; d = 0; at = λ x. x }, tt)))) 10 L.[] (Syntax.tyStruct (L._∷_ 114 (L._∷_ 117 (L._∷_ 108 (L._∷_ 101 (L._∷_ 115 (L._∷_ 58 (L._∷_ 58 (L._∷_ 102 (L._∷_ 111 (L._∷_ 117 (L._∷_ 110 (L._∷_ 100 (L._∷_ 58 (L._∷_ 58 (L._∷_ 70 (L._∷_ 111 (L._∷_ 117 (L._∷_ 110 (L._∷_ 100 L.[]))))))))))))))))))) (Syntax.tcons Syntax.tyBool (Syntax.tcons Syntax.tyBool (Syntax.tcons (Syntax.tyStruct (L._∷_ 115 (L._∷_ 116 (L._∷_ 101 (L._∷_ 112 (L._∷_ 58 (L._∷_ 58 (L._∷_ 83 (L._∷_ 116 (L._∷_ 101 (L._∷_ 112 L.[])))))))))) (Syntax.tcons (Syntax.tyInt Syntax.w64) (Syntax.tcons (Syntax.tyInt Syntax.w64) (Syntax.tcons (Syntax.tyStruct (L._∷_ 115 (L._∷_ 116 (L._∷_ 101 (L._∷_ 112 (L._∷_ 58 (L._∷_ 58 (L._∷_ 67 (L._∷_ 104 (L._∷_ 97 (L._∷_ 110 (L._∷_ 103 (L._∷_ 101 L.[])))))))))))) (Syntax.tcons (Syntax.tyStruct (L._∷_ 110 (L._∷_ 101 (L._∷_ 116 (L._∷_ 119 (L._∷_ 111 (L._∷_ 114 (L._∷_ 107 (L._∷_ 58 (L._∷_ 58 (L._∷_ 69 (L._∷_ 100 (L._∷_ 105 (L._∷_ 116 L.[]))))))))))))) (Syntax.tcons q9 (Syntax.tcons q9 (Syntax.tcons q9 (Syntax.tcons q9 (Syntax.tcons q3 (Syntax.tcons q3 (Syntax.tcons (Syntax.tyInt Syntax.w64) Syntax.tnil)))))))) (Syntax.tcons (Syntax.tyStruct (L._∷_ 115 (L._∷_ 116 (L._∷_ 101 (L._∷_ 112 (L._∷_ 58 (L._∷_ 58 (L._∷_ 79 (L._∷_ 108 (L._∷_ 100 L.[]))))))))) (Syntax.tcons (Syntax.tyInt Syntax.w64) (Syntax.tcons q8 (Syntax.tcons q9 (Syntax.tcons q9 (Syntax.tcons q9 (Syntax.tcons q9 (Syntax.tcons q5 Syntax.tnil)))))))) Syntax.tnil))) Syntax.tnil)))) Syntax.tnil))))
 
   abbrev s40 : (bs : L.List Nat.ℕ) → Typed.Mo T44 → Typed.Mo T45
-  s40 = λ bs. Scalar.n-room T44 9 (Syntax.tyStruct (L._∷_ 115 (L._∷_ 101 (L._∷_ 97 (L._∷_ 114 (L._∷_ 99 (L._∷_ 104 (L._∷_ 58 (L._∷_ 58 (L._∷_ 115 (L._∷_ 99 (L._∷_ 97 (L._∷_ 110 (L._∷_ 58 (L._∷_ 58 (L._∷_ 65 (L._∷_ 114 (L._∷_ 111 (L._∷_ 117 (L._∷_ 110 (L._∷_ 100 L.[])))))))))))))))))))) (Syntax.tcons q9 (Syntax.tcons q9 (Syntax.tcons q9 (Syntax.tcons q9 Syntax.tnil)))))
+  s40 = λ bs. Scalar.n-room T44 9 (Syntax.tyStruct (L._∷_ 114 (L._∷_ 117 (L._∷_ 108 (L._∷_ 101 (L._∷_ 115 (L._∷_ 58 (L._∷_ 58 (L._∷_ 116 (L._∷_ 114 (L._∷_ 105 (L._∷_ 101 (L._∷_ 100 (L._∷_ 58 (L._∷_ 58 (L._∷_ 65 (L._∷_ 114 (L._∷_ 111 (L._∷_ 117 (L._∷_ 110 (L._∷_ 100 L.[])))))))))))))))))))) (Syntax.tcons q9 (Syntax.tcons q9 (Syntax.tcons q9 (Syntax.tcons q9 Syntax.tnil)))))
 
   abbrev s41 : (bs : L.List Nat.ℕ) → Typed.Mo T45 → Typed.Mo T46
   s41 = λ bs. Scalar.n-room T45 22 q6
 
   abbrev s42 : (bs : L.List Nat.ℕ) → Typed.Mo T46 → Typed.Mo T47
-  s42 = λ bs. Scalar.n-use T46 (Scalar.oFld 10 (L._∷_ (Syntax.field 0) L.[]) Syntax.tyBool 0 (Reads.fieldV scan-Found·.the-type scan-Found-Laws·.the-laws 0)) 23 (Rows.sc-here Row.sBool) (Row.sBool .of)
+  s42 = λ bs. Scalar.n-use T46 (Scalar.oFld 10 (L._∷_ (Syntax.field 0) L.[]) Syntax.tyBool 0 (Reads.fieldV rules-proofs-found-Found·.the-type rules-proofs-found-Found-Laws·.the-laws 0)) 23 (Rows.sc-here Row.sBool) (Row.sBool .of)
 
   abbrev s43 : (bs : L.List Nat.ℕ) → Typed.Mo T47 → Typed.Mo T48
   s43 = λ bs. Scalar.n-room T47 5 q2
@@ -939,10 +939,10 @@ module _ (claims· : Claims) where
   s45 = λ bs. Scalar.n-room T49 23 Syntax.tyBool
 
   abbrev s46 : (bs : L.List Nat.ℕ) → Typed.Mo T50 → Typed.Mo T51
-  s46 = λ bs. LocalCopy.n-val-copy T50 10 0 (Declared.row scan-Found·.the-type) q23 q23 (λ x. x) (λ x. x) λ x. x
+  s46 = λ bs. LocalCopy.n-val-copy T50 10 0 (Declared.row rules-proofs-found-Found·.the-type) q19 q19 (λ x. x) (λ x. x) λ x. x
 
   abbrev s47 : (bs : L.List Nat.ℕ) → Typed.Mo T51 → Typed.Mo T52
-  s47 = λ bs. Scalar.n-room T51 10 (Syntax.tyStruct (L._∷_ 115 (L._∷_ 101 (L._∷_ 97 (L._∷_ 114 (L._∷_ 99 (L._∷_ 104 (L._∷_ 58 (L._∷_ 58 (L._∷_ 115 (L._∷_ 99 (L._∷_ 97 (L._∷_ 110 (L._∷_ 58 (L._∷_ 58 (L._∷_ 70 (L._∷_ 111 (L._∷_ 117 (L._∷_ 110 (L._∷_ 100 L.[]))))))))))))))))))) (Syntax.tcons Syntax.tyBool (Syntax.tcons Syntax.tyBool (Syntax.tcons (Syntax.tyStruct (L._∷_ 115 (L._∷_ 116 (L._∷_ 101 (L._∷_ 112 (L._∷_ 58 (L._∷_ 58 (L._∷_ 83 (L._∷_ 116 (L._∷_ 101 (L._∷_ 112 L.[])))))))))) (Syntax.tcons (Syntax.tyInt Syntax.w64) (Syntax.tcons (Syntax.tyInt Syntax.w64) (Syntax.tcons (Syntax.tyStruct (L._∷_ 115 (L._∷_ 116 (L._∷_ 101 (L._∷_ 112 (L._∷_ 58 (L._∷_ 58 (L._∷_ 67 (L._∷_ 104 (L._∷_ 97 (L._∷_ 110 (L._∷_ 103 (L._∷_ 101 L.[])))))))))))) (Syntax.tcons (Syntax.tyStruct (L._∷_ 110 (L._∷_ 101 (L._∷_ 116 (L._∷_ 119 (L._∷_ 111 (L._∷_ 114 (L._∷_ 107 (L._∷_ 58 (L._∷_ 58 (L._∷_ 69 (L._∷_ 100 (L._∷_ 105 (L._∷_ 116 L.[]))))))))))))) (Syntax.tcons q9 (Syntax.tcons q9 (Syntax.tcons q9 (Syntax.tcons q9 (Syntax.tcons q3 (Syntax.tcons q3 (Syntax.tcons (Syntax.tyInt Syntax.w64) Syntax.tnil)))))))) (Syntax.tcons (Syntax.tyStruct (L._∷_ 115 (L._∷_ 116 (L._∷_ 101 (L._∷_ 112 (L._∷_ 58 (L._∷_ 58 (L._∷_ 79 (L._∷_ 108 (L._∷_ 100 L.[]))))))))) (Syntax.tcons (Syntax.tyInt Syntax.w64) (Syntax.tcons q8 (Syntax.tcons q9 (Syntax.tcons q9 (Syntax.tcons q9 (Syntax.tcons q9 (Syntax.tcons q5 Syntax.tnil)))))))) Syntax.tnil))) Syntax.tnil)))) Syntax.tnil))))
+  s47 = λ bs. Scalar.n-room T51 10 (Syntax.tyStruct (L._∷_ 114 (L._∷_ 117 (L._∷_ 108 (L._∷_ 101 (L._∷_ 115 (L._∷_ 58 (L._∷_ 58 (L._∷_ 102 (L._∷_ 111 (L._∷_ 117 (L._∷_ 110 (L._∷_ 100 (L._∷_ 58 (L._∷_ 58 (L._∷_ 70 (L._∷_ 111 (L._∷_ 117 (L._∷_ 110 (L._∷_ 100 L.[]))))))))))))))))))) (Syntax.tcons Syntax.tyBool (Syntax.tcons Syntax.tyBool (Syntax.tcons (Syntax.tyStruct (L._∷_ 115 (L._∷_ 116 (L._∷_ 101 (L._∷_ 112 (L._∷_ 58 (L._∷_ 58 (L._∷_ 83 (L._∷_ 116 (L._∷_ 101 (L._∷_ 112 L.[])))))))))) (Syntax.tcons (Syntax.tyInt Syntax.w64) (Syntax.tcons (Syntax.tyInt Syntax.w64) (Syntax.tcons (Syntax.tyStruct (L._∷_ 115 (L._∷_ 116 (L._∷_ 101 (L._∷_ 112 (L._∷_ 58 (L._∷_ 58 (L._∷_ 67 (L._∷_ 104 (L._∷_ 97 (L._∷_ 110 (L._∷_ 103 (L._∷_ 101 L.[])))))))))))) (Syntax.tcons (Syntax.tyStruct (L._∷_ 110 (L._∷_ 101 (L._∷_ 116 (L._∷_ 119 (L._∷_ 111 (L._∷_ 114 (L._∷_ 107 (L._∷_ 58 (L._∷_ 58 (L._∷_ 69 (L._∷_ 100 (L._∷_ 105 (L._∷_ 116 L.[]))))))))))))) (Syntax.tcons q9 (Syntax.tcons q9 (Syntax.tcons q9 (Syntax.tcons q9 (Syntax.tcons q3 (Syntax.tcons q3 (Syntax.tcons (Syntax.tyInt Syntax.w64) Syntax.tnil)))))))) (Syntax.tcons (Syntax.tyStruct (L._∷_ 115 (L._∷_ 116 (L._∷_ 101 (L._∷_ 112 (L._∷_ 58 (L._∷_ 58 (L._∷_ 79 (L._∷_ 108 (L._∷_ 100 L.[]))))))))) (Syntax.tcons (Syntax.tyInt Syntax.w64) (Syntax.tcons q8 (Syntax.tcons q9 (Syntax.tcons q9 (Syntax.tcons q9 (Syntax.tcons q9 (Syntax.tcons q5 Syntax.tnil)))))))) Syntax.tnil))) Syntax.tnil)))) Syntax.tnil))))
 
   abbrev s48 : (bs : L.List Nat.ℕ) → Typed.Mo T52 → Typed.Mo T53
   s48 = λ bs. Scalar.n-room T52 4 (Syntax.tyInt Syntax.w64)
@@ -954,7 +954,7 @@ module _ (claims· : Claims) where
   s50 = λ bs. Scalar.n-room T54 8 (Syntax.tyInt Syntax.w64)
 
   abbrev s51 : (bs : L.List Nat.ℕ) → Typed.Mo T47 → Typed.Mo T56
-  s51 = λ bs. Scalar.n-room T47 10 (Syntax.tyStruct (L._∷_ 115 (L._∷_ 101 (L._∷_ 97 (L._∷_ 114 (L._∷_ 99 (L._∷_ 104 (L._∷_ 58 (L._∷_ 58 (L._∷_ 115 (L._∷_ 99 (L._∷_ 97 (L._∷_ 110 (L._∷_ 58 (L._∷_ 58 (L._∷_ 70 (L._∷_ 111 (L._∷_ 117 (L._∷_ 110 (L._∷_ 100 L.[]))))))))))))))))))) (Syntax.tcons Syntax.tyBool (Syntax.tcons Syntax.tyBool (Syntax.tcons (Syntax.tyStruct (L._∷_ 115 (L._∷_ 116 (L._∷_ 101 (L._∷_ 112 (L._∷_ 58 (L._∷_ 58 (L._∷_ 83 (L._∷_ 116 (L._∷_ 101 (L._∷_ 112 L.[])))))))))) (Syntax.tcons (Syntax.tyInt Syntax.w64) (Syntax.tcons (Syntax.tyInt Syntax.w64) (Syntax.tcons (Syntax.tyStruct (L._∷_ 115 (L._∷_ 116 (L._∷_ 101 (L._∷_ 112 (L._∷_ 58 (L._∷_ 58 (L._∷_ 67 (L._∷_ 104 (L._∷_ 97 (L._∷_ 110 (L._∷_ 103 (L._∷_ 101 L.[])))))))))))) (Syntax.tcons (Syntax.tyStruct (L._∷_ 110 (L._∷_ 101 (L._∷_ 116 (L._∷_ 119 (L._∷_ 111 (L._∷_ 114 (L._∷_ 107 (L._∷_ 58 (L._∷_ 58 (L._∷_ 69 (L._∷_ 100 (L._∷_ 105 (L._∷_ 116 L.[]))))))))))))) (Syntax.tcons q9 (Syntax.tcons q9 (Syntax.tcons q9 (Syntax.tcons q9 (Syntax.tcons q3 (Syntax.tcons q3 (Syntax.tcons (Syntax.tyInt Syntax.w64) Syntax.tnil)))))))) (Syntax.tcons (Syntax.tyStruct (L._∷_ 115 (L._∷_ 116 (L._∷_ 101 (L._∷_ 112 (L._∷_ 58 (L._∷_ 58 (L._∷_ 79 (L._∷_ 108 (L._∷_ 100 L.[]))))))))) (Syntax.tcons (Syntax.tyInt Syntax.w64) (Syntax.tcons q8 (Syntax.tcons q9 (Syntax.tcons q9 (Syntax.tcons q9 (Syntax.tcons q9 (Syntax.tcons q5 Syntax.tnil)))))))) Syntax.tnil))) Syntax.tnil)))) Syntax.tnil))))
+  s51 = λ bs. Scalar.n-room T47 10 (Syntax.tyStruct (L._∷_ 114 (L._∷_ 117 (L._∷_ 108 (L._∷_ 101 (L._∷_ 115 (L._∷_ 58 (L._∷_ 58 (L._∷_ 102 (L._∷_ 111 (L._∷_ 117 (L._∷_ 110 (L._∷_ 100 (L._∷_ 58 (L._∷_ 58 (L._∷_ 70 (L._∷_ 111 (L._∷_ 117 (L._∷_ 110 (L._∷_ 100 L.[]))))))))))))))))))) (Syntax.tcons Syntax.tyBool (Syntax.tcons Syntax.tyBool (Syntax.tcons (Syntax.tyStruct (L._∷_ 115 (L._∷_ 116 (L._∷_ 101 (L._∷_ 112 (L._∷_ 58 (L._∷_ 58 (L._∷_ 83 (L._∷_ 116 (L._∷_ 101 (L._∷_ 112 L.[])))))))))) (Syntax.tcons (Syntax.tyInt Syntax.w64) (Syntax.tcons (Syntax.tyInt Syntax.w64) (Syntax.tcons (Syntax.tyStruct (L._∷_ 115 (L._∷_ 116 (L._∷_ 101 (L._∷_ 112 (L._∷_ 58 (L._∷_ 58 (L._∷_ 67 (L._∷_ 104 (L._∷_ 97 (L._∷_ 110 (L._∷_ 103 (L._∷_ 101 L.[])))))))))))) (Syntax.tcons (Syntax.tyStruct (L._∷_ 110 (L._∷_ 101 (L._∷_ 116 (L._∷_ 119 (L._∷_ 111 (L._∷_ 114 (L._∷_ 107 (L._∷_ 58 (L._∷_ 58 (L._∷_ 69 (L._∷_ 100 (L._∷_ 105 (L._∷_ 116 L.[]))))))))))))) (Syntax.tcons q9 (Syntax.tcons q9 (Syntax.tcons q9 (Syntax.tcons q9 (Syntax.tcons q3 (Syntax.tcons q3 (Syntax.tcons (Syntax.tyInt Syntax.w64) Syntax.tnil)))))))) (Syntax.tcons (Syntax.tyStruct (L._∷_ 115 (L._∷_ 116 (L._∷_ 101 (L._∷_ 112 (L._∷_ 58 (L._∷_ 58 (L._∷_ 79 (L._∷_ 108 (L._∷_ 100 L.[]))))))))) (Syntax.tcons (Syntax.tyInt Syntax.w64) (Syntax.tcons q8 (Syntax.tcons q9 (Syntax.tcons q9 (Syntax.tcons q9 (Syntax.tcons q9 (Syntax.tcons q5 Syntax.tnil)))))))) Syntax.tnil))) Syntax.tnil)))) Syntax.tnil))))
 
   abbrev s52 : (bs : L.List Nat.ℕ) → Typed.Mo T56 → Typed.Mo T57
   s52 = λ bs. Scalar.n-room T56 23 Syntax.tyBool
@@ -969,7 +969,7 @@ module _ (claims· : Claims) where
   s55 = λ bs. Scalar.n-room T59 8 (Syntax.tyInt Syntax.w64)
 
   abbrev s56 : (bs : L.List Nat.ℕ) → Typed.Both T7 T61
-  s56 = λ bs. Call.callB ps·3 r·3 (claims· .6) (claims· .7) T7 tt 0 L.[] (Syntax.tyStruct (L._∷_ 115 (L._∷_ 101 (L._∷_ 97 (L._∷_ 114 (L._∷_ 99 (L._∷_ 104 (L._∷_ 58 (L._∷_ 58 (L._∷_ 115 (L._∷_ 99 (L._∷_ 97 (L._∷_ 110 (L._∷_ 58 (L._∷_ 58 (L._∷_ 70 (L._∷_ 111 (L._∷_ 117 (L._∷_ 110 (L._∷_ 100 L.[]))))))))))))))))))) (Syntax.tcons Syntax.tyBool (Syntax.tcons Syntax.tyBool (Syntax.tcons (Syntax.tyStruct (L._∷_ 115 (L._∷_ 116 (L._∷_ 101 (L._∷_ 112 (L._∷_ 58 (L._∷_ 58 (L._∷_ 83 (L._∷_ 116 (L._∷_ 101 (L._∷_ 112 L.[])))))))))) (Syntax.tcons (Syntax.tyInt Syntax.w64) (Syntax.tcons (Syntax.tyInt Syntax.w64) (Syntax.tcons (Syntax.tyStruct (L._∷_ 115 (L._∷_ 116 (L._∷_ 101 (L._∷_ 112 (L._∷_ 58 (L._∷_ 58 (L._∷_ 67 (L._∷_ 104 (L._∷_ 97 (L._∷_ 110 (L._∷_ 103 (L._∷_ 101 L.[])))))))))))) (Syntax.tcons (Syntax.tyStruct (L._∷_ 110 (L._∷_ 101 (L._∷_ 116 (L._∷_ 119 (L._∷_ 111 (L._∷_ 114 (L._∷_ 107 (L._∷_ 58 (L._∷_ 58 (L._∷_ 69 (L._∷_ 100 (L._∷_ 105 (L._∷_ 116 L.[]))))))))))))) (Syntax.tcons q9 (Syntax.tcons q9 (Syntax.tcons q9 (Syntax.tcons q9 (Syntax.tcons q3 (Syntax.tcons q3 (Syntax.tcons (Syntax.tyInt Syntax.w64) Syntax.tnil)))))))) (Syntax.tcons (Syntax.tyStruct (L._∷_ 115 (L._∷_ 116 (L._∷_ 101 (L._∷_ 112 (L._∷_ 58 (L._∷_ 58 (L._∷_ 79 (L._∷_ 108 (L._∷_ 100 L.[]))))))))) (Syntax.tcons (Syntax.tyInt Syntax.w64) (Syntax.tcons q8 (Syntax.tcons q9 (Syntax.tcons q9 (Syntax.tcons q9 (Syntax.tcons q9 (Syntax.tcons q5 Syntax.tnil)))))))) Syntax.tnil))) Syntax.tnil)))) Syntax.tnil))))
+  s56 = λ bs. Call.callB ps·3 r·3 (claims· .6) (claims· .7) T7 tt 0 L.[] (Syntax.tyStruct (L._∷_ 114 (L._∷_ 117 (L._∷_ 108 (L._∷_ 101 (L._∷_ 115 (L._∷_ 58 (L._∷_ 58 (L._∷_ 102 (L._∷_ 111 (L._∷_ 117 (L._∷_ 110 (L._∷_ 100 (L._∷_ 58 (L._∷_ 58 (L._∷_ 70 (L._∷_ 111 (L._∷_ 117 (L._∷_ 110 (L._∷_ 100 L.[]))))))))))))))))))) (Syntax.tcons Syntax.tyBool (Syntax.tcons Syntax.tyBool (Syntax.tcons (Syntax.tyStruct (L._∷_ 115 (L._∷_ 116 (L._∷_ 101 (L._∷_ 112 (L._∷_ 58 (L._∷_ 58 (L._∷_ 83 (L._∷_ 116 (L._∷_ 101 (L._∷_ 112 L.[])))))))))) (Syntax.tcons (Syntax.tyInt Syntax.w64) (Syntax.tcons (Syntax.tyInt Syntax.w64) (Syntax.tcons (Syntax.tyStruct (L._∷_ 115 (L._∷_ 116 (L._∷_ 101 (L._∷_ 112 (L._∷_ 58 (L._∷_ 58 (L._∷_ 67 (L._∷_ 104 (L._∷_ 97 (L._∷_ 110 (L._∷_ 103 (L._∷_ 101 L.[])))))))))))) (Syntax.tcons (Syntax.tyStruct (L._∷_ 110 (L._∷_ 101 (L._∷_ 116 (L._∷_ 119 (L._∷_ 111 (L._∷_ 114 (L._∷_ 107 (L._∷_ 58 (L._∷_ 58 (L._∷_ 69 (L._∷_ 100 (L._∷_ 105 (L._∷_ 116 L.[]))))))))))))) (Syntax.tcons q9 (Syntax.tcons q9 (Syntax.tcons q9 (Syntax.tcons q9 (Syntax.tcons q3 (Syntax.tcons q3 (Syntax.tcons (Syntax.tyInt Syntax.w64) Syntax.tnil)))))))) (Syntax.tcons (Syntax.tyStruct (L._∷_ 115 (L._∷_ 116 (L._∷_ 101 (L._∷_ 112 (L._∷_ 58 (L._∷_ 58 (L._∷_ 79 (L._∷_ 108 (L._∷_ 100 L.[]))))))))) (Syntax.tcons (Syntax.tyInt Syntax.w64) (Syntax.tcons q8 (Syntax.tcons q9 (Syntax.tcons q9 (Syntax.tcons q9 (Syntax.tcons q9 (Syntax.tcons q5 Syntax.tnil)))))))) Syntax.tnil))) Syntax.tnil)))) Syntax.tnil))))
 
   abbrev s57 : (bs : L.List Nat.ℕ) → Typed.Mo T61 → Typed.Mo T62
   s57 = λ bs. Scalar.n-room T61 7 (Syntax.tyInt Syntax.w64)
@@ -983,7 +983,7 @@ module _ (claims· : Claims) where
   module _ (Pre· : (κs : Lifetimes.Lfts 1) → FnKinds.Dens κs ps → Type 0) (Post· : (κs : Lifetimes.Lfts 1) → (a : FnKinds.Dens κs ps) → FnKinds.Plain 1 ps r κs) where
     module _ (M : Type 1) where
       abbrev pub Closed : Type 2
-      Closed = (𝓤 : URA.URA M) (H : Wp.Heap 𝓤) (A : Atoms.Atoms 𝓤) (W : Kit.Given 𝓤 H A) (𝓣 : Wp.Tables 𝓤 H) (known0 : Plain.Known 𝓤 H A W 𝓣 0 ps·0 r·0 (claims· .0) (claims· .1) "search::scan::is_wanted") (known1 : Plain.Known 𝓤 H A W 𝓣 1 ps·1 r·1 (claims· .2) (claims· .3) "search::scan::gather") (known2 : Plain.Known 𝓤 H A W 𝓣 0 ps·2 r·2 (claims· .4) (claims· .5) "search::scan::at_node") (known3 : Plain.Known 𝓤 H A W 𝓣 0 ps·3 r·3 (claims· .6) (claims· .7) "search::scan::nothing") → Statement.Triple 𝓤 (Wp.WpFn 𝓤 H (𝓣 .C) (𝓣 .Λ) (Function.fnOf 1 ps r xs m hs body)) (Function.plainOf 𝓤 H A 1 ps r Pre· Post·)
+      Closed = (𝓤 : URA.URA M) (H : Wp.Heap 𝓤) (A : Atoms.Atoms 𝓤) (W : Kit.Given 𝓤 H A) (𝓣 : Wp.Tables 𝓤 H) (known0 : Plain.Known 𝓤 H A W 𝓣 0 ps·0 r·0 (claims· .0) (claims· .1) "rules::tried::is_wanted") (known1 : Plain.Known 𝓤 H A W 𝓣 1 ps·1 r·1 (claims· .2) (claims· .3) "search::scan::gather") (known2 : Plain.Known 𝓤 H A W 𝓣 0 ps·2 r·2 (claims· .4) (claims· .5) "rules::tried::at_node") (known3 : Plain.Known 𝓤 H A W 𝓣 0 ps·3 r·3 (claims· .6) (claims· .7) "rules::found::nothing") → Statement.Triple 𝓤 (Wp.WpFn 𝓤 H (𝓣 .C) (𝓣 .Λ) (Function.fnOf 1 ps r xs m hs body)) (Function.plainOf 𝓤 H A 1 ps r Pre· Post·)
 
     module _ (Inv·0 : InvT-loop) (μ·0 : MeasureT-loop) where
       abbrev at0 : (bs : L.List Nat.ℕ) → Typed.TF T12 O4
@@ -1207,7 +1207,7 @@ module _ (claims· : Claims) where
 
       module _ {M : Type 1} (𝓤 : URA.URA M) (H : Wp.Heap 𝓤) (A : Atoms.Atoms 𝓤) (W : Kit.Given 𝓤 H A) (𝓣 : Wp.Tables 𝓤 H) where
         abbrev Knowns : Type 1
-        Knowns = Plain.Known 𝓤 H A W 𝓣 0 ps·0 r·0 (claims· .0) (claims· .1) "search::scan::is_wanted" × Plain.Known 𝓤 H A W 𝓣 1 ps·1 r·1 (claims· .2) (claims· .3) "search::scan::gather" × Plain.Known 𝓤 H A W 𝓣 0 ps·2 r·2 (claims· .4) (claims· .5) "search::scan::at_node" × Plain.Known 𝓤 H A W 𝓣 0 ps·3 r·3 (claims· .6) (claims· .7) "search::scan::nothing"
+        Knowns = Plain.Known 𝓤 H A W 𝓣 0 ps·0 r·0 (claims· .0) (claims· .1) "rules::tried::is_wanted" × Plain.Known 𝓤 H A W 𝓣 1 ps·1 r·1 (claims· .2) (claims· .3) "search::scan::gather" × Plain.Known 𝓤 H A W 𝓣 0 ps·2 r·2 (claims· .4) (claims· .5) "rules::tried::at_node" × Plain.Known 𝓤 H A W 𝓣 0 ps·3 r·3 (claims· .6) (claims· .7) "rules::found::nothing"
 
       module _ (κs : Lifetimes.Lfts 1) (qs : Lifetimes.Shares 1) where
         abbrev G0 : Row.Cx
@@ -1461,10 +1461,10 @@ module _ (claims· : Claims) where
           d11 = Typed.g-pre 𝓤 H A W 𝓣 E G52 G53 b26 Δ5 (Typed.pass T52 T53 (s48 bs)) (at10 bs) (Scalar.g-room 𝓤 H A W E G52 4 (Syntax.tyInt Syntax.w64) (Scalar.room-sc 𝓤 H A W (Row.sInt Syntax.w64))) d10
 
           d12 : Typed.Typed 𝓤 H A 𝓣 E G51 b26 Δ5 (at12 bs)
-          d12 = Typed.g-pre 𝓤 H A W 𝓣 E G51 G52 b26 Δ5 (Typed.pass T51 T52 (s47 bs)) (at11 bs) (Scalar.g-room 𝓤 H A W E G51 10 (Syntax.tyStruct (L._∷_ 115 (L._∷_ 101 (L._∷_ 97 (L._∷_ 114 (L._∷_ 99 (L._∷_ 104 (L._∷_ 58 (L._∷_ 58 (L._∷_ 115 (L._∷_ 99 (L._∷_ 97 (L._∷_ 110 (L._∷_ 58 (L._∷_ 58 (L._∷_ 70 (L._∷_ 111 (L._∷_ 117 (L._∷_ 110 (L._∷_ 100 L.[]))))))))))))))))))) (Syntax.tcons Syntax.tyBool (Syntax.tcons Syntax.tyBool (Syntax.tcons (Syntax.tyStruct (L._∷_ 115 (L._∷_ 116 (L._∷_ 101 (L._∷_ 112 (L._∷_ 58 (L._∷_ 58 (L._∷_ 83 (L._∷_ 116 (L._∷_ 101 (L._∷_ 112 L.[])))))))))) (Syntax.tcons (Syntax.tyInt Syntax.w64) (Syntax.tcons (Syntax.tyInt Syntax.w64) (Syntax.tcons (Syntax.tyStruct (L._∷_ 115 (L._∷_ 116 (L._∷_ 101 (L._∷_ 112 (L._∷_ 58 (L._∷_ 58 (L._∷_ 67 (L._∷_ 104 (L._∷_ 97 (L._∷_ 110 (L._∷_ 103 (L._∷_ 101 L.[])))))))))))) (Syntax.tcons (Syntax.tyStruct (L._∷_ 110 (L._∷_ 101 (L._∷_ 116 (L._∷_ 119 (L._∷_ 111 (L._∷_ 114 (L._∷_ 107 (L._∷_ 58 (L._∷_ 58 (L._∷_ 69 (L._∷_ 100 (L._∷_ 105 (L._∷_ 116 L.[]))))))))))))) (Syntax.tcons q9 (Syntax.tcons q9 (Syntax.tcons q9 (Syntax.tcons q9 (Syntax.tcons q3 (Syntax.tcons q3 (Syntax.tcons (Syntax.tyInt Syntax.w64) Syntax.tnil)))))))) (Syntax.tcons (Syntax.tyStruct (L._∷_ 115 (L._∷_ 116 (L._∷_ 101 (L._∷_ 112 (L._∷_ 58 (L._∷_ 58 (L._∷_ 79 (L._∷_ 108 (L._∷_ 100 L.[]))))))))) (Syntax.tcons (Syntax.tyInt Syntax.w64) (Syntax.tcons q8 (Syntax.tcons q9 (Syntax.tcons q9 (Syntax.tcons q9 (Syntax.tcons q9 (Syntax.tcons q5 Syntax.tnil)))))))) Syntax.tnil))) Syntax.tnil)))) Syntax.tnil)))) (Local.room-whole 𝓤 H A W (Declared.row scan-Found·.the-type) (Syntax.tyStruct (L._∷_ 115 (L._∷_ 101 (L._∷_ 97 (L._∷_ 114 (L._∷_ 99 (L._∷_ 104 (L._∷_ 58 (L._∷_ 58 (L._∷_ 115 (L._∷_ 99 (L._∷_ 97 (L._∷_ 110 (L._∷_ 58 (L._∷_ 58 (L._∷_ 70 (L._∷_ 111 (L._∷_ 117 (L._∷_ 110 (L._∷_ 100 L.[]))))))))))))))))))) (Syntax.tcons Syntax.tyBool (Syntax.tcons Syntax.tyBool (Syntax.tcons (Syntax.tyStruct (L._∷_ 115 (L._∷_ 116 (L._∷_ 101 (L._∷_ 112 (L._∷_ 58 (L._∷_ 58 (L._∷_ 83 (L._∷_ 116 (L._∷_ 101 (L._∷_ 112 L.[])))))))))) (Syntax.tcons (Syntax.tyInt Syntax.w64) (Syntax.tcons (Syntax.tyInt Syntax.w64) (Syntax.tcons (Syntax.tyStruct (L._∷_ 115 (L._∷_ 116 (L._∷_ 101 (L._∷_ 112 (L._∷_ 58 (L._∷_ 58 (L._∷_ 67 (L._∷_ 104 (L._∷_ 97 (L._∷_ 110 (L._∷_ 103 (L._∷_ 101 L.[])))))))))))) (Syntax.tcons (Syntax.tyStruct (L._∷_ 110 (L._∷_ 101 (L._∷_ 116 (L._∷_ 119 (L._∷_ 111 (L._∷_ 114 (L._∷_ 107 (L._∷_ 58 (L._∷_ 58 (L._∷_ 69 (L._∷_ 100 (L._∷_ 105 (L._∷_ 116 L.[]))))))))))))) (Syntax.tcons q9 (Syntax.tcons q9 (Syntax.tcons q9 (Syntax.tcons q9 (Syntax.tcons q3 (Syntax.tcons q3 (Syntax.tcons (Syntax.tyInt Syntax.w64) Syntax.tnil)))))))) (Syntax.tcons (Syntax.tyStruct (L._∷_ 115 (L._∷_ 116 (L._∷_ 101 (L._∷_ 112 (L._∷_ 58 (L._∷_ 58 (L._∷_ 79 (L._∷_ 108 (L._∷_ 100 L.[]))))))))) (Syntax.tcons (Syntax.tyInt Syntax.w64) (Syntax.tcons q8 (Syntax.tcons q9 (Syntax.tcons q9 (Syntax.tcons q9 (Syntax.tcons q9 (Syntax.tcons q5 Syntax.tnil)))))))) Syntax.tnil))) Syntax.tnil)))) Syntax.tnil)))) Path.refl)) d11
+          d12 = Typed.g-pre 𝓤 H A W 𝓣 E G51 G52 b26 Δ5 (Typed.pass T51 T52 (s47 bs)) (at11 bs) (Scalar.g-room 𝓤 H A W E G51 10 (Syntax.tyStruct (L._∷_ 114 (L._∷_ 117 (L._∷_ 108 (L._∷_ 101 (L._∷_ 115 (L._∷_ 58 (L._∷_ 58 (L._∷_ 102 (L._∷_ 111 (L._∷_ 117 (L._∷_ 110 (L._∷_ 100 (L._∷_ 58 (L._∷_ 58 (L._∷_ 70 (L._∷_ 111 (L._∷_ 117 (L._∷_ 110 (L._∷_ 100 L.[]))))))))))))))))))) (Syntax.tcons Syntax.tyBool (Syntax.tcons Syntax.tyBool (Syntax.tcons (Syntax.tyStruct (L._∷_ 115 (L._∷_ 116 (L._∷_ 101 (L._∷_ 112 (L._∷_ 58 (L._∷_ 58 (L._∷_ 83 (L._∷_ 116 (L._∷_ 101 (L._∷_ 112 L.[])))))))))) (Syntax.tcons (Syntax.tyInt Syntax.w64) (Syntax.tcons (Syntax.tyInt Syntax.w64) (Syntax.tcons (Syntax.tyStruct (L._∷_ 115 (L._∷_ 116 (L._∷_ 101 (L._∷_ 112 (L._∷_ 58 (L._∷_ 58 (L._∷_ 67 (L._∷_ 104 (L._∷_ 97 (L._∷_ 110 (L._∷_ 103 (L._∷_ 101 L.[])))))))))))) (Syntax.tcons (Syntax.tyStruct (L._∷_ 110 (L._∷_ 101 (L._∷_ 116 (L._∷_ 119 (L._∷_ 111 (L._∷_ 114 (L._∷_ 107 (L._∷_ 58 (L._∷_ 58 (L._∷_ 69 (L._∷_ 100 (L._∷_ 105 (L._∷_ 116 L.[]))))))))))))) (Syntax.tcons q9 (Syntax.tcons q9 (Syntax.tcons q9 (Syntax.tcons q9 (Syntax.tcons q3 (Syntax.tcons q3 (Syntax.tcons (Syntax.tyInt Syntax.w64) Syntax.tnil)))))))) (Syntax.tcons (Syntax.tyStruct (L._∷_ 115 (L._∷_ 116 (L._∷_ 101 (L._∷_ 112 (L._∷_ 58 (L._∷_ 58 (L._∷_ 79 (L._∷_ 108 (L._∷_ 100 L.[]))))))))) (Syntax.tcons (Syntax.tyInt Syntax.w64) (Syntax.tcons q8 (Syntax.tcons q9 (Syntax.tcons q9 (Syntax.tcons q9 (Syntax.tcons q9 (Syntax.tcons q5 Syntax.tnil)))))))) Syntax.tnil))) Syntax.tnil)))) Syntax.tnil)))) (Local.room-whole 𝓤 H A W (Declared.row rules-proofs-found-Found·.the-type) (Syntax.tyStruct (L._∷_ 114 (L._∷_ 117 (L._∷_ 108 (L._∷_ 101 (L._∷_ 115 (L._∷_ 58 (L._∷_ 58 (L._∷_ 102 (L._∷_ 111 (L._∷_ 117 (L._∷_ 110 (L._∷_ 100 (L._∷_ 58 (L._∷_ 58 (L._∷_ 70 (L._∷_ 111 (L._∷_ 117 (L._∷_ 110 (L._∷_ 100 L.[]))))))))))))))))))) (Syntax.tcons Syntax.tyBool (Syntax.tcons Syntax.tyBool (Syntax.tcons (Syntax.tyStruct (L._∷_ 115 (L._∷_ 116 (L._∷_ 101 (L._∷_ 112 (L._∷_ 58 (L._∷_ 58 (L._∷_ 83 (L._∷_ 116 (L._∷_ 101 (L._∷_ 112 L.[])))))))))) (Syntax.tcons (Syntax.tyInt Syntax.w64) (Syntax.tcons (Syntax.tyInt Syntax.w64) (Syntax.tcons (Syntax.tyStruct (L._∷_ 115 (L._∷_ 116 (L._∷_ 101 (L._∷_ 112 (L._∷_ 58 (L._∷_ 58 (L._∷_ 67 (L._∷_ 104 (L._∷_ 97 (L._∷_ 110 (L._∷_ 103 (L._∷_ 101 L.[])))))))))))) (Syntax.tcons (Syntax.tyStruct (L._∷_ 110 (L._∷_ 101 (L._∷_ 116 (L._∷_ 119 (L._∷_ 111 (L._∷_ 114 (L._∷_ 107 (L._∷_ 58 (L._∷_ 58 (L._∷_ 69 (L._∷_ 100 (L._∷_ 105 (L._∷_ 116 L.[]))))))))))))) (Syntax.tcons q9 (Syntax.tcons q9 (Syntax.tcons q9 (Syntax.tcons q9 (Syntax.tcons q3 (Syntax.tcons q3 (Syntax.tcons (Syntax.tyInt Syntax.w64) Syntax.tnil)))))))) (Syntax.tcons (Syntax.tyStruct (L._∷_ 115 (L._∷_ 116 (L._∷_ 101 (L._∷_ 112 (L._∷_ 58 (L._∷_ 58 (L._∷_ 79 (L._∷_ 108 (L._∷_ 100 L.[]))))))))) (Syntax.tcons (Syntax.tyInt Syntax.w64) (Syntax.tcons q8 (Syntax.tcons q9 (Syntax.tcons q9 (Syntax.tcons q9 (Syntax.tcons q9 (Syntax.tcons q5 Syntax.tnil)))))))) Syntax.tnil))) Syntax.tnil)))) Syntax.tnil)))) Path.refl)) d11
 
           d13 : Typed.Typed 𝓤 H A 𝓣 E G50 b27 Δ5 (at13 bs)
-          d13 = Typed.s-seq 𝓤 H A W 𝓣 E G50 G51 b25 b26 Δ5 (Typed.pass T50 T51 (s46 bs)) (at12 bs) (LocalCopy.t-val-copy 𝓤 H A W E 𝓣 (λ ρ. Unit) G50 10 0 (Declared.row scan-Found·.the-type) (Syntax.tyStruct (L._∷_ 115 (L._∷_ 101 (L._∷_ 97 (L._∷_ 114 (L._∷_ 99 (L._∷_ 104 (L._∷_ 58 (L._∷_ 58 (L._∷_ 115 (L._∷_ 99 (L._∷_ 97 (L._∷_ 110 (L._∷_ 58 (L._∷_ 58 (L._∷_ 70 (L._∷_ 111 (L._∷_ 117 (L._∷_ 110 (L._∷_ 100 L.[]))))))))))))))))))) (Syntax.tcons Syntax.tyBool (Syntax.tcons Syntax.tyBool (Syntax.tcons (Syntax.tyStruct (L._∷_ 115 (L._∷_ 116 (L._∷_ 101 (L._∷_ 112 (L._∷_ 58 (L._∷_ 58 (L._∷_ 83 (L._∷_ 116 (L._∷_ 101 (L._∷_ 112 L.[])))))))))) (Syntax.tcons (Syntax.tyInt Syntax.w64) (Syntax.tcons (Syntax.tyInt Syntax.w64) (Syntax.tcons (Syntax.tyStruct (L._∷_ 115 (L._∷_ 116 (L._∷_ 101 (L._∷_ 112 (L._∷_ 58 (L._∷_ 58 (L._∷_ 67 (L._∷_ 104 (L._∷_ 97 (L._∷_ 110 (L._∷_ 103 (L._∷_ 101 L.[])))))))))))) (Syntax.tcons (Syntax.tyStruct (L._∷_ 110 (L._∷_ 101 (L._∷_ 116 (L._∷_ 119 (L._∷_ 111 (L._∷_ 114 (L._∷_ 107 (L._∷_ 58 (L._∷_ 58 (L._∷_ 69 (L._∷_ 100 (L._∷_ 105 (L._∷_ 116 L.[]))))))))))))) (Syntax.tcons q9 (Syntax.tcons q9 (Syntax.tcons q9 (Syntax.tcons q9 (Syntax.tcons q3 (Syntax.tcons q3 (Syntax.tcons (Syntax.tyInt Syntax.w64) Syntax.tnil)))))))) (Syntax.tcons (Syntax.tyStruct (L._∷_ 115 (L._∷_ 116 (L._∷_ 101 (L._∷_ 112 (L._∷_ 58 (L._∷_ 58 (L._∷_ 79 (L._∷_ 108 (L._∷_ 100 L.[]))))))))) (Syntax.tcons (Syntax.tyInt Syntax.w64) (Syntax.tcons q8 (Syntax.tcons q9 (Syntax.tcons q9 (Syntax.tcons q9 (Syntax.tcons q9 (Syntax.tcons q5 Syntax.tnil)))))))) Syntax.tnil))) Syntax.tnil)))) Syntax.tnil)))) (Syntax.tyStruct (L._∷_ 115 (L._∷_ 101 (L._∷_ 97 (L._∷_ 114 (L._∷_ 99 (L._∷_ 104 (L._∷_ 58 (L._∷_ 58 (L._∷_ 115 (L._∷_ 99 (L._∷_ 97 (L._∷_ 110 (L._∷_ 58 (L._∷_ 58 (L._∷_ 70 (L._∷_ 111 (L._∷_ 117 (L._∷_ 110 (L._∷_ 100 L.[]))))))))))))))))))) (Syntax.tcons Syntax.tyBool (Syntax.tcons Syntax.tyBool (Syntax.tcons (Syntax.tyStruct (L._∷_ 115 (L._∷_ 116 (L._∷_ 101 (L._∷_ 112 (L._∷_ 58 (L._∷_ 58 (L._∷_ 83 (L._∷_ 116 (L._∷_ 101 (L._∷_ 112 L.[])))))))))) (Syntax.tcons (Syntax.tyInt Syntax.w64) (Syntax.tcons (Syntax.tyInt Syntax.w64) (Syntax.tcons (Syntax.tyStruct (L._∷_ 115 (L._∷_ 116 (L._∷_ 101 (L._∷_ 112 (L._∷_ 58 (L._∷_ 58 (L._∷_ 67 (L._∷_ 104 (L._∷_ 97 (L._∷_ 110 (L._∷_ 103 (L._∷_ 101 L.[])))))))))))) (Syntax.tcons (Syntax.tyStruct (L._∷_ 110 (L._∷_ 101 (L._∷_ 116 (L._∷_ 119 (L._∷_ 111 (L._∷_ 114 (L._∷_ 107 (L._∷_ 58 (L._∷_ 58 (L._∷_ 69 (L._∷_ 100 (L._∷_ 105 (L._∷_ 116 L.[]))))))))))))) (Syntax.tcons q9 (Syntax.tcons q9 (Syntax.tcons q9 (Syntax.tcons q9 (Syntax.tcons q3 (Syntax.tcons q3 (Syntax.tcons (Syntax.tyInt Syntax.w64) Syntax.tnil)))))))) (Syntax.tcons (Syntax.tyStruct (L._∷_ 115 (L._∷_ 116 (L._∷_ 101 (L._∷_ 112 (L._∷_ 58 (L._∷_ 58 (L._∷_ 79 (L._∷_ 108 (L._∷_ 100 L.[]))))))))) (Syntax.tcons (Syntax.tyInt Syntax.w64) (Syntax.tcons q8 (Syntax.tcons q9 (Syntax.tcons q9 (Syntax.tcons q9 (Syntax.tcons q9 (Syntax.tcons q5 Syntax.tnil)))))))) Syntax.tnil))) Syntax.tnil)))) Syntax.tnil)))) q23 q23 (λ x. x) (λ x. x) (λ x. x) Path.refl (Own.told-none 𝓤 H A (G50 .slots)) (Yields.yields-copy 𝓤 H A W (λ ρ. Unit) (Declared.row scan-Found·.the-type) Path.refl (Copies.cStruct scan-Found·.the-type scan-Found-Laws·.the-laws scan-Found-Laws·.the-copy .copy 𝓤 H A W) q23 (λ x. x) (λ x. x) (λ ρ told. Local.mem-whole 𝓤 H A W (Declared.row scan-Found·.the-type) ρ) λ ρ told. Local.whole-mem 𝓤 H A W (Declared.row scan-Found·.the-type) ρ) (TReads.room-gone 𝓤 H A (Syntax.tyStruct (L._∷_ 115 (L._∷_ 101 (L._∷_ 97 (L._∷_ 114 (L._∷_ 99 (L._∷_ 104 (L._∷_ 58 (L._∷_ 58 (L._∷_ 115 (L._∷_ 99 (L._∷_ 97 (L._∷_ 110 (L._∷_ 58 (L._∷_ 58 (L._∷_ 70 (L._∷_ 111 (L._∷_ 117 (L._∷_ 110 (L._∷_ 100 L.[]))))))))))))))))))) (Syntax.tcons Syntax.tyBool (Syntax.tcons Syntax.tyBool (Syntax.tcons (Syntax.tyStruct (L._∷_ 115 (L._∷_ 116 (L._∷_ 101 (L._∷_ 112 (L._∷_ 58 (L._∷_ 58 (L._∷_ 83 (L._∷_ 116 (L._∷_ 101 (L._∷_ 112 L.[])))))))))) (Syntax.tcons (Syntax.tyInt Syntax.w64) (Syntax.tcons (Syntax.tyInt Syntax.w64) (Syntax.tcons (Syntax.tyStruct (L._∷_ 115 (L._∷_ 116 (L._∷_ 101 (L._∷_ 112 (L._∷_ 58 (L._∷_ 58 (L._∷_ 67 (L._∷_ 104 (L._∷_ 97 (L._∷_ 110 (L._∷_ 103 (L._∷_ 101 L.[])))))))))))) (Syntax.tcons (Syntax.tyStruct (L._∷_ 110 (L._∷_ 101 (L._∷_ 116 (L._∷_ 119 (L._∷_ 111 (L._∷_ 114 (L._∷_ 107 (L._∷_ 58 (L._∷_ 58 (L._∷_ 69 (L._∷_ 100 (L._∷_ 105 (L._∷_ 116 L.[]))))))))))))) (Syntax.tcons q9 (Syntax.tcons q9 (Syntax.tcons q9 (Syntax.tcons q9 (Syntax.tcons q3 (Syntax.tcons q3 (Syntax.tcons (Syntax.tyInt Syntax.w64) Syntax.tnil)))))))) (Syntax.tcons (Syntax.tyStruct (L._∷_ 115 (L._∷_ 116 (L._∷_ 101 (L._∷_ 112 (L._∷_ 58 (L._∷_ 58 (L._∷_ 79 (L._∷_ 108 (L._∷_ 100 L.[]))))))))) (Syntax.tcons (Syntax.tyInt Syntax.w64) (Syntax.tcons q8 (Syntax.tcons q9 (Syntax.tcons q9 (Syntax.tcons q9 (Syntax.tcons q9 (Syntax.tcons q5 Syntax.tnil)))))))) Syntax.tnil))) Syntax.tnil)))) Syntax.tnil))))) (Yields.makes-mem 𝓤 H A W (λ ρ. Unit) (Declared.row scan-Found·.the-type) Path.refl q23 (λ x. x) λ ρ told. Local.whole-mem 𝓤 H A W (Declared.row scan-Found·.the-type) ρ) Path.refl Path.refl) d12
+          d13 = Typed.s-seq 𝓤 H A W 𝓣 E G50 G51 b25 b26 Δ5 (Typed.pass T50 T51 (s46 bs)) (at12 bs) (LocalCopy.t-val-copy 𝓤 H A W E 𝓣 (λ ρ. Unit) G50 10 0 (Declared.row rules-proofs-found-Found·.the-type) (Syntax.tyStruct (L._∷_ 114 (L._∷_ 117 (L._∷_ 108 (L._∷_ 101 (L._∷_ 115 (L._∷_ 58 (L._∷_ 58 (L._∷_ 102 (L._∷_ 111 (L._∷_ 117 (L._∷_ 110 (L._∷_ 100 (L._∷_ 58 (L._∷_ 58 (L._∷_ 70 (L._∷_ 111 (L._∷_ 117 (L._∷_ 110 (L._∷_ 100 L.[]))))))))))))))))))) (Syntax.tcons Syntax.tyBool (Syntax.tcons Syntax.tyBool (Syntax.tcons (Syntax.tyStruct (L._∷_ 115 (L._∷_ 116 (L._∷_ 101 (L._∷_ 112 (L._∷_ 58 (L._∷_ 58 (L._∷_ 83 (L._∷_ 116 (L._∷_ 101 (L._∷_ 112 L.[])))))))))) (Syntax.tcons (Syntax.tyInt Syntax.w64) (Syntax.tcons (Syntax.tyInt Syntax.w64) (Syntax.tcons (Syntax.tyStruct (L._∷_ 115 (L._∷_ 116 (L._∷_ 101 (L._∷_ 112 (L._∷_ 58 (L._∷_ 58 (L._∷_ 67 (L._∷_ 104 (L._∷_ 97 (L._∷_ 110 (L._∷_ 103 (L._∷_ 101 L.[])))))))))))) (Syntax.tcons (Syntax.tyStruct (L._∷_ 110 (L._∷_ 101 (L._∷_ 116 (L._∷_ 119 (L._∷_ 111 (L._∷_ 114 (L._∷_ 107 (L._∷_ 58 (L._∷_ 58 (L._∷_ 69 (L._∷_ 100 (L._∷_ 105 (L._∷_ 116 L.[]))))))))))))) (Syntax.tcons q9 (Syntax.tcons q9 (Syntax.tcons q9 (Syntax.tcons q9 (Syntax.tcons q3 (Syntax.tcons q3 (Syntax.tcons (Syntax.tyInt Syntax.w64) Syntax.tnil)))))))) (Syntax.tcons (Syntax.tyStruct (L._∷_ 115 (L._∷_ 116 (L._∷_ 101 (L._∷_ 112 (L._∷_ 58 (L._∷_ 58 (L._∷_ 79 (L._∷_ 108 (L._∷_ 100 L.[]))))))))) (Syntax.tcons (Syntax.tyInt Syntax.w64) (Syntax.tcons q8 (Syntax.tcons q9 (Syntax.tcons q9 (Syntax.tcons q9 (Syntax.tcons q9 (Syntax.tcons q5 Syntax.tnil)))))))) Syntax.tnil))) Syntax.tnil)))) Syntax.tnil)))) (Syntax.tyStruct (L._∷_ 114 (L._∷_ 117 (L._∷_ 108 (L._∷_ 101 (L._∷_ 115 (L._∷_ 58 (L._∷_ 58 (L._∷_ 102 (L._∷_ 111 (L._∷_ 117 (L._∷_ 110 (L._∷_ 100 (L._∷_ 58 (L._∷_ 58 (L._∷_ 70 (L._∷_ 111 (L._∷_ 117 (L._∷_ 110 (L._∷_ 100 L.[]))))))))))))))))))) (Syntax.tcons Syntax.tyBool (Syntax.tcons Syntax.tyBool (Syntax.tcons (Syntax.tyStruct (L._∷_ 115 (L._∷_ 116 (L._∷_ 101 (L._∷_ 112 (L._∷_ 58 (L._∷_ 58 (L._∷_ 83 (L._∷_ 116 (L._∷_ 101 (L._∷_ 112 L.[])))))))))) (Syntax.tcons (Syntax.tyInt Syntax.w64) (Syntax.tcons (Syntax.tyInt Syntax.w64) (Syntax.tcons (Syntax.tyStruct (L._∷_ 115 (L._∷_ 116 (L._∷_ 101 (L._∷_ 112 (L._∷_ 58 (L._∷_ 58 (L._∷_ 67 (L._∷_ 104 (L._∷_ 97 (L._∷_ 110 (L._∷_ 103 (L._∷_ 101 L.[])))))))))))) (Syntax.tcons (Syntax.tyStruct (L._∷_ 110 (L._∷_ 101 (L._∷_ 116 (L._∷_ 119 (L._∷_ 111 (L._∷_ 114 (L._∷_ 107 (L._∷_ 58 (L._∷_ 58 (L._∷_ 69 (L._∷_ 100 (L._∷_ 105 (L._∷_ 116 L.[]))))))))))))) (Syntax.tcons q9 (Syntax.tcons q9 (Syntax.tcons q9 (Syntax.tcons q9 (Syntax.tcons q3 (Syntax.tcons q3 (Syntax.tcons (Syntax.tyInt Syntax.w64) Syntax.tnil)))))))) (Syntax.tcons (Syntax.tyStruct (L._∷_ 115 (L._∷_ 116 (L._∷_ 101 (L._∷_ 112 (L._∷_ 58 (L._∷_ 58 (L._∷_ 79 (L._∷_ 108 (L._∷_ 100 L.[]))))))))) (Syntax.tcons (Syntax.tyInt Syntax.w64) (Syntax.tcons q8 (Syntax.tcons q9 (Syntax.tcons q9 (Syntax.tcons q9 (Syntax.tcons q9 (Syntax.tcons q5 Syntax.tnil)))))))) Syntax.tnil))) Syntax.tnil)))) Syntax.tnil)))) q19 q19 (λ x. x) (λ x. x) (λ x. x) Path.refl (Own.told-none 𝓤 H A (G50 .slots)) (Yields.yields-copy 𝓤 H A W (λ ρ. Unit) (Declared.row rules-proofs-found-Found·.the-type) Path.refl (Copies.cStruct rules-proofs-found-Found·.the-type rules-proofs-found-Found-Laws·.the-laws rules-proofs-found-Found-Laws·.the-copy .copy 𝓤 H A W) q19 (λ x. x) (λ x. x) (λ ρ told. Local.mem-whole 𝓤 H A W (Declared.row rules-proofs-found-Found·.the-type) ρ) λ ρ told. Local.whole-mem 𝓤 H A W (Declared.row rules-proofs-found-Found·.the-type) ρ) (TReads.room-gone 𝓤 H A (Syntax.tyStruct (L._∷_ 114 (L._∷_ 117 (L._∷_ 108 (L._∷_ 101 (L._∷_ 115 (L._∷_ 58 (L._∷_ 58 (L._∷_ 102 (L._∷_ 111 (L._∷_ 117 (L._∷_ 110 (L._∷_ 100 (L._∷_ 58 (L._∷_ 58 (L._∷_ 70 (L._∷_ 111 (L._∷_ 117 (L._∷_ 110 (L._∷_ 100 L.[]))))))))))))))))))) (Syntax.tcons Syntax.tyBool (Syntax.tcons Syntax.tyBool (Syntax.tcons (Syntax.tyStruct (L._∷_ 115 (L._∷_ 116 (L._∷_ 101 (L._∷_ 112 (L._∷_ 58 (L._∷_ 58 (L._∷_ 83 (L._∷_ 116 (L._∷_ 101 (L._∷_ 112 L.[])))))))))) (Syntax.tcons (Syntax.tyInt Syntax.w64) (Syntax.tcons (Syntax.tyInt Syntax.w64) (Syntax.tcons (Syntax.tyStruct (L._∷_ 115 (L._∷_ 116 (L._∷_ 101 (L._∷_ 112 (L._∷_ 58 (L._∷_ 58 (L._∷_ 67 (L._∷_ 104 (L._∷_ 97 (L._∷_ 110 (L._∷_ 103 (L._∷_ 101 L.[])))))))))))) (Syntax.tcons (Syntax.tyStruct (L._∷_ 110 (L._∷_ 101 (L._∷_ 116 (L._∷_ 119 (L._∷_ 111 (L._∷_ 114 (L._∷_ 107 (L._∷_ 58 (L._∷_ 58 (L._∷_ 69 (L._∷_ 100 (L._∷_ 105 (L._∷_ 116 L.[]))))))))))))) (Syntax.tcons q9 (Syntax.tcons q9 (Syntax.tcons q9 (Syntax.tcons q9 (Syntax.tcons q3 (Syntax.tcons q3 (Syntax.tcons (Syntax.tyInt Syntax.w64) Syntax.tnil)))))))) (Syntax.tcons (Syntax.tyStruct (L._∷_ 115 (L._∷_ 116 (L._∷_ 101 (L._∷_ 112 (L._∷_ 58 (L._∷_ 58 (L._∷_ 79 (L._∷_ 108 (L._∷_ 100 L.[]))))))))) (Syntax.tcons (Syntax.tyInt Syntax.w64) (Syntax.tcons q8 (Syntax.tcons q9 (Syntax.tcons q9 (Syntax.tcons q9 (Syntax.tcons q9 (Syntax.tcons q5 Syntax.tnil)))))))) Syntax.tnil))) Syntax.tnil)))) Syntax.tnil))))) (Yields.makes-mem 𝓤 H A W (λ ρ. Unit) (Declared.row rules-proofs-found-Found·.the-type) Path.refl q19 (λ x. x) λ ρ told. Local.whole-mem 𝓤 H A W (Declared.row rules-proofs-found-Found·.the-type) ρ) Path.refl Path.refl) d12
 
           d14 : Typed.Typed 𝓤 H A 𝓣 E G49 b27 Δ5 (at14 bs)
           d14 = Typed.g-pre 𝓤 H A W 𝓣 E G49 G50 b27 Δ5 (Typed.pass T49 T50 (s45 bs)) (at13 bs) (Scalar.g-room 𝓤 H A W E G49 23 Syntax.tyBool (Scalar.room-sc 𝓤 H A W Row.sBool)) d13
@@ -1482,28 +1482,28 @@ module _ (claims· : Claims) where
           d18 = Typed.g-pre 𝓤 H A W 𝓣 E G56 G57 b28 Δ5 (Typed.pass T56 T57 (s52 bs)) (at17 bs) (Scalar.g-room 𝓤 H A W E G56 23 Syntax.tyBool (Scalar.room-sc 𝓤 H A W Row.sBool)) d17
 
           d19 : Typed.Typed 𝓤 H A 𝓣 E G47 b28 Δ5 (at19 bs)
-          d19 = Typed.g-pre 𝓤 H A W 𝓣 E G47 G56 b28 Δ5 (Typed.pass T47 T56 (s51 bs)) (at18 bs) (Scalar.g-room 𝓤 H A W E G47 10 (Syntax.tyStruct (L._∷_ 115 (L._∷_ 101 (L._∷_ 97 (L._∷_ 114 (L._∷_ 99 (L._∷_ 104 (L._∷_ 58 (L._∷_ 58 (L._∷_ 115 (L._∷_ 99 (L._∷_ 97 (L._∷_ 110 (L._∷_ 58 (L._∷_ 58 (L._∷_ 70 (L._∷_ 111 (L._∷_ 117 (L._∷_ 110 (L._∷_ 100 L.[]))))))))))))))))))) (Syntax.tcons Syntax.tyBool (Syntax.tcons Syntax.tyBool (Syntax.tcons (Syntax.tyStruct (L._∷_ 115 (L._∷_ 116 (L._∷_ 101 (L._∷_ 112 (L._∷_ 58 (L._∷_ 58 (L._∷_ 83 (L._∷_ 116 (L._∷_ 101 (L._∷_ 112 L.[])))))))))) (Syntax.tcons (Syntax.tyInt Syntax.w64) (Syntax.tcons (Syntax.tyInt Syntax.w64) (Syntax.tcons (Syntax.tyStruct (L._∷_ 115 (L._∷_ 116 (L._∷_ 101 (L._∷_ 112 (L._∷_ 58 (L._∷_ 58 (L._∷_ 67 (L._∷_ 104 (L._∷_ 97 (L._∷_ 110 (L._∷_ 103 (L._∷_ 101 L.[])))))))))))) (Syntax.tcons (Syntax.tyStruct (L._∷_ 110 (L._∷_ 101 (L._∷_ 116 (L._∷_ 119 (L._∷_ 111 (L._∷_ 114 (L._∷_ 107 (L._∷_ 58 (L._∷_ 58 (L._∷_ 69 (L._∷_ 100 (L._∷_ 105 (L._∷_ 116 L.[]))))))))))))) (Syntax.tcons q9 (Syntax.tcons q9 (Syntax.tcons q9 (Syntax.tcons q9 (Syntax.tcons q3 (Syntax.tcons q3 (Syntax.tcons (Syntax.tyInt Syntax.w64) Syntax.tnil)))))))) (Syntax.tcons (Syntax.tyStruct (L._∷_ 115 (L._∷_ 116 (L._∷_ 101 (L._∷_ 112 (L._∷_ 58 (L._∷_ 58 (L._∷_ 79 (L._∷_ 108 (L._∷_ 100 L.[]))))))))) (Syntax.tcons (Syntax.tyInt Syntax.w64) (Syntax.tcons q8 (Syntax.tcons q9 (Syntax.tcons q9 (Syntax.tcons q9 (Syntax.tcons q9 (Syntax.tcons q5 Syntax.tnil)))))))) Syntax.tnil))) Syntax.tnil)))) Syntax.tnil)))) (Local.room-whole 𝓤 H A W (Declared.row scan-Found·.the-type) (Syntax.tyStruct (L._∷_ 115 (L._∷_ 101 (L._∷_ 97 (L._∷_ 114 (L._∷_ 99 (L._∷_ 104 (L._∷_ 58 (L._∷_ 58 (L._∷_ 115 (L._∷_ 99 (L._∷_ 97 (L._∷_ 110 (L._∷_ 58 (L._∷_ 58 (L._∷_ 70 (L._∷_ 111 (L._∷_ 117 (L._∷_ 110 (L._∷_ 100 L.[]))))))))))))))))))) (Syntax.tcons Syntax.tyBool (Syntax.tcons Syntax.tyBool (Syntax.tcons (Syntax.tyStruct (L._∷_ 115 (L._∷_ 116 (L._∷_ 101 (L._∷_ 112 (L._∷_ 58 (L._∷_ 58 (L._∷_ 83 (L._∷_ 116 (L._∷_ 101 (L._∷_ 112 L.[])))))))))) (Syntax.tcons (Syntax.tyInt Syntax.w64) (Syntax.tcons (Syntax.tyInt Syntax.w64) (Syntax.tcons (Syntax.tyStruct (L._∷_ 115 (L._∷_ 116 (L._∷_ 101 (L._∷_ 112 (L._∷_ 58 (L._∷_ 58 (L._∷_ 67 (L._∷_ 104 (L._∷_ 97 (L._∷_ 110 (L._∷_ 103 (L._∷_ 101 L.[])))))))))))) (Syntax.tcons (Syntax.tyStruct (L._∷_ 110 (L._∷_ 101 (L._∷_ 116 (L._∷_ 119 (L._∷_ 111 (L._∷_ 114 (L._∷_ 107 (L._∷_ 58 (L._∷_ 58 (L._∷_ 69 (L._∷_ 100 (L._∷_ 105 (L._∷_ 116 L.[]))))))))))))) (Syntax.tcons q9 (Syntax.tcons q9 (Syntax.tcons q9 (Syntax.tcons q9 (Syntax.tcons q3 (Syntax.tcons q3 (Syntax.tcons (Syntax.tyInt Syntax.w64) Syntax.tnil)))))))) (Syntax.tcons (Syntax.tyStruct (L._∷_ 115 (L._∷_ 116 (L._∷_ 101 (L._∷_ 112 (L._∷_ 58 (L._∷_ 58 (L._∷_ 79 (L._∷_ 108 (L._∷_ 100 L.[]))))))))) (Syntax.tcons (Syntax.tyInt Syntax.w64) (Syntax.tcons q8 (Syntax.tcons q9 (Syntax.tcons q9 (Syntax.tcons q9 (Syntax.tcons q9 (Syntax.tcons q5 Syntax.tnil)))))))) Syntax.tnil))) Syntax.tnil)))) Syntax.tnil)))) Path.refl)) d18
+          d19 = Typed.g-pre 𝓤 H A W 𝓣 E G47 G56 b28 Δ5 (Typed.pass T47 T56 (s51 bs)) (at18 bs) (Scalar.g-room 𝓤 H A W E G47 10 (Syntax.tyStruct (L._∷_ 114 (L._∷_ 117 (L._∷_ 108 (L._∷_ 101 (L._∷_ 115 (L._∷_ 58 (L._∷_ 58 (L._∷_ 102 (L._∷_ 111 (L._∷_ 117 (L._∷_ 110 (L._∷_ 100 (L._∷_ 58 (L._∷_ 58 (L._∷_ 70 (L._∷_ 111 (L._∷_ 117 (L._∷_ 110 (L._∷_ 100 L.[]))))))))))))))))))) (Syntax.tcons Syntax.tyBool (Syntax.tcons Syntax.tyBool (Syntax.tcons (Syntax.tyStruct (L._∷_ 115 (L._∷_ 116 (L._∷_ 101 (L._∷_ 112 (L._∷_ 58 (L._∷_ 58 (L._∷_ 83 (L._∷_ 116 (L._∷_ 101 (L._∷_ 112 L.[])))))))))) (Syntax.tcons (Syntax.tyInt Syntax.w64) (Syntax.tcons (Syntax.tyInt Syntax.w64) (Syntax.tcons (Syntax.tyStruct (L._∷_ 115 (L._∷_ 116 (L._∷_ 101 (L._∷_ 112 (L._∷_ 58 (L._∷_ 58 (L._∷_ 67 (L._∷_ 104 (L._∷_ 97 (L._∷_ 110 (L._∷_ 103 (L._∷_ 101 L.[])))))))))))) (Syntax.tcons (Syntax.tyStruct (L._∷_ 110 (L._∷_ 101 (L._∷_ 116 (L._∷_ 119 (L._∷_ 111 (L._∷_ 114 (L._∷_ 107 (L._∷_ 58 (L._∷_ 58 (L._∷_ 69 (L._∷_ 100 (L._∷_ 105 (L._∷_ 116 L.[]))))))))))))) (Syntax.tcons q9 (Syntax.tcons q9 (Syntax.tcons q9 (Syntax.tcons q9 (Syntax.tcons q3 (Syntax.tcons q3 (Syntax.tcons (Syntax.tyInt Syntax.w64) Syntax.tnil)))))))) (Syntax.tcons (Syntax.tyStruct (L._∷_ 115 (L._∷_ 116 (L._∷_ 101 (L._∷_ 112 (L._∷_ 58 (L._∷_ 58 (L._∷_ 79 (L._∷_ 108 (L._∷_ 100 L.[]))))))))) (Syntax.tcons (Syntax.tyInt Syntax.w64) (Syntax.tcons q8 (Syntax.tcons q9 (Syntax.tcons q9 (Syntax.tcons q9 (Syntax.tcons q9 (Syntax.tcons q5 Syntax.tnil)))))))) Syntax.tnil))) Syntax.tnil)))) Syntax.tnil)))) (Local.room-whole 𝓤 H A W (Declared.row rules-proofs-found-Found·.the-type) (Syntax.tyStruct (L._∷_ 114 (L._∷_ 117 (L._∷_ 108 (L._∷_ 101 (L._∷_ 115 (L._∷_ 58 (L._∷_ 58 (L._∷_ 102 (L._∷_ 111 (L._∷_ 117 (L._∷_ 110 (L._∷_ 100 (L._∷_ 58 (L._∷_ 58 (L._∷_ 70 (L._∷_ 111 (L._∷_ 117 (L._∷_ 110 (L._∷_ 100 L.[]))))))))))))))))))) (Syntax.tcons Syntax.tyBool (Syntax.tcons Syntax.tyBool (Syntax.tcons (Syntax.tyStruct (L._∷_ 115 (L._∷_ 116 (L._∷_ 101 (L._∷_ 112 (L._∷_ 58 (L._∷_ 58 (L._∷_ 83 (L._∷_ 116 (L._∷_ 101 (L._∷_ 112 L.[])))))))))) (Syntax.tcons (Syntax.tyInt Syntax.w64) (Syntax.tcons (Syntax.tyInt Syntax.w64) (Syntax.tcons (Syntax.tyStruct (L._∷_ 115 (L._∷_ 116 (L._∷_ 101 (L._∷_ 112 (L._∷_ 58 (L._∷_ 58 (L._∷_ 67 (L._∷_ 104 (L._∷_ 97 (L._∷_ 110 (L._∷_ 103 (L._∷_ 101 L.[])))))))))))) (Syntax.tcons (Syntax.tyStruct (L._∷_ 110 (L._∷_ 101 (L._∷_ 116 (L._∷_ 119 (L._∷_ 111 (L._∷_ 114 (L._∷_ 107 (L._∷_ 58 (L._∷_ 58 (L._∷_ 69 (L._∷_ 100 (L._∷_ 105 (L._∷_ 116 L.[]))))))))))))) (Syntax.tcons q9 (Syntax.tcons q9 (Syntax.tcons q9 (Syntax.tcons q9 (Syntax.tcons q3 (Syntax.tcons q3 (Syntax.tcons (Syntax.tyInt Syntax.w64) Syntax.tnil)))))))) (Syntax.tcons (Syntax.tyStruct (L._∷_ 115 (L._∷_ 116 (L._∷_ 101 (L._∷_ 112 (L._∷_ 58 (L._∷_ 58 (L._∷_ 79 (L._∷_ 108 (L._∷_ 100 L.[]))))))))) (Syntax.tcons (Syntax.tyInt Syntax.w64) (Syntax.tcons q8 (Syntax.tcons q9 (Syntax.tcons q9 (Syntax.tcons q9 (Syntax.tcons q9 (Syntax.tcons q5 Syntax.tnil)))))))) Syntax.tnil))) Syntax.tnil)))) Syntax.tnil)))) Path.refl)) d18
 
           d20 : Typed.Typed 𝓤 H A 𝓣 E G47 b29 Δ5 (at20 bs)
           d20 = Scalar.t-cond 𝓤 H A W E 𝓣 G47 23 (λ x. x) b27 b28 Δ5 (at16 bs) (at19 bs) (Scalar.reads-sc 𝓤 H A W Row.sBool) Path.refl d16 d19
 
           d21 : Typed.Typed 𝓤 H A 𝓣 E G46 b30 Δ5 (at21 bs)
-          d21 = Typed.s-seq 𝓤 H A W 𝓣 E G46 G47 b24 b29 Δ5 (Typed.pass T46 T47 (s42 bs)) (at20 bs) (Scalar.t-use 𝓤 H A W E 𝓣 G46 (Scalar.oFld 10 (L._∷_ (Syntax.field 0) L.[]) Syntax.tyBool 0 (Reads.fieldV scan-Found·.the-type scan-Found-Laws·.the-laws 0)) 23 (Rows.sc-here Row.sBool) Syntax.tyBool (Row.valS Row.sBool) (Row.sBool .of) (Reads.reads-field 𝓤 H A W scan-Found·.the-type scan-Found-Laws·.the-laws 0 Syntax.tyBool 0 Path.refl, Path.refl) (TReads.room-gone 𝓤 H A Syntax.tyBool) (Scalar.holds-sc 𝓤 H A W Row.sBool) Path.refl (λ u. Path.refl) λ u. tt) d20
+          d21 = Typed.s-seq 𝓤 H A W 𝓣 E G46 G47 b24 b29 Δ5 (Typed.pass T46 T47 (s42 bs)) (at20 bs) (Scalar.t-use 𝓤 H A W E 𝓣 G46 (Scalar.oFld 10 (L._∷_ (Syntax.field 0) L.[]) Syntax.tyBool 0 (Reads.fieldV rules-proofs-found-Found·.the-type rules-proofs-found-Found-Laws·.the-laws 0)) 23 (Rows.sc-here Row.sBool) Syntax.tyBool (Row.valS Row.sBool) (Row.sBool .of) (Reads.reads-field 𝓤 H A W rules-proofs-found-Found·.the-type rules-proofs-found-Found-Laws·.the-laws 0 Syntax.tyBool 0 Path.refl, Path.refl) (TReads.room-gone 𝓤 H A Syntax.tyBool) (Scalar.holds-sc 𝓤 H A W Row.sBool) Path.refl (λ u. Path.refl) λ u. tt) d20
 
           d22 : Typed.Typed 𝓤 H A 𝓣 E G45 b30 Δ5 (at22 bs)
           d22 = Typed.g-pre 𝓤 H A W 𝓣 E G45 G46 b30 Δ5 (Typed.pass T45 T46 (s41 bs)) (at21 bs) (Scalar.g-room 𝓤 H A W E G45 22 q6 (Init.room-arr 𝓤 H A W (Declared.row fraction-proofs-Fraction·.the-type) 33 0 33 Path.refl)) d21
 
           d23 : Typed.Typed 𝓤 H A 𝓣 E G44 b30 Δ5 (at23 bs)
-          d23 = Typed.g-pre 𝓤 H A W 𝓣 E G44 G45 b30 Δ5 (Typed.pass T44 T45 (s40 bs)) (at22 bs) (Scalar.g-room 𝓤 H A W E G44 9 (Syntax.tyStruct (L._∷_ 115 (L._∷_ 101 (L._∷_ 97 (L._∷_ 114 (L._∷_ 99 (L._∷_ 104 (L._∷_ 58 (L._∷_ 58 (L._∷_ 115 (L._∷_ 99 (L._∷_ 97 (L._∷_ 110 (L._∷_ 58 (L._∷_ 58 (L._∷_ 65 (L._∷_ 114 (L._∷_ 111 (L._∷_ 117 (L._∷_ 110 (L._∷_ 100 L.[])))))))))))))))))))) (Syntax.tcons q9 (Syntax.tcons q9 (Syntax.tcons q9 (Syntax.tcons q9 Syntax.tnil))))) (Local.room-whole 𝓤 H A W (Declared.row scan-Around·.the-type) (Syntax.tyStruct (L._∷_ 115 (L._∷_ 101 (L._∷_ 97 (L._∷_ 114 (L._∷_ 99 (L._∷_ 104 (L._∷_ 58 (L._∷_ 58 (L._∷_ 115 (L._∷_ 99 (L._∷_ 97 (L._∷_ 110 (L._∷_ 58 (L._∷_ 58 (L._∷_ 65 (L._∷_ 114 (L._∷_ 111 (L._∷_ 117 (L._∷_ 110 (L._∷_ 100 L.[])))))))))))))))))))) (Syntax.tcons q9 (Syntax.tcons q9 (Syntax.tcons q9 (Syntax.tcons q9 Syntax.tnil))))) Path.refl)) d22
+          d23 = Typed.g-pre 𝓤 H A W 𝓣 E G44 G45 b30 Δ5 (Typed.pass T44 T45 (s40 bs)) (at22 bs) (Scalar.g-room 𝓤 H A W E G44 9 (Syntax.tyStruct (L._∷_ 114 (L._∷_ 117 (L._∷_ 108 (L._∷_ 101 (L._∷_ 115 (L._∷_ 58 (L._∷_ 58 (L._∷_ 116 (L._∷_ 114 (L._∷_ 105 (L._∷_ 101 (L._∷_ 100 (L._∷_ 58 (L._∷_ 58 (L._∷_ 65 (L._∷_ 114 (L._∷_ 111 (L._∷_ 117 (L._∷_ 110 (L._∷_ 100 L.[])))))))))))))))))))) (Syntax.tcons q9 (Syntax.tcons q9 (Syntax.tcons q9 (Syntax.tcons q9 Syntax.tnil))))) (Local.room-whole 𝓤 H A W (Declared.row rules-proofs-tried-Around·.the-type) (Syntax.tyStruct (L._∷_ 114 (L._∷_ 117 (L._∷_ 108 (L._∷_ 101 (L._∷_ 115 (L._∷_ 58 (L._∷_ 58 (L._∷_ 116 (L._∷_ 114 (L._∷_ 105 (L._∷_ 101 (L._∷_ 100 (L._∷_ 58 (L._∷_ 58 (L._∷_ 65 (L._∷_ 114 (L._∷_ 111 (L._∷_ 117 (L._∷_ 110 (L._∷_ 100 L.[])))))))))))))))))))) (Syntax.tcons q9 (Syntax.tcons q9 (Syntax.tcons q9 (Syntax.tcons q9 Syntax.tnil))))) Path.refl)) d22
 
           d24 : Typed.Typed 𝓤 H A 𝓣 E G43 b31 Δ5 (at24 bs)
-          d24 = Typed.s-seq 𝓤 H A W 𝓣 E G43 G44 b23 b30 Δ5 (Typed.both (s39 bs)) (at23 bs) (Plain.t-call-plain 𝓤 H A W 𝓣 0 ps·2 r·2 (claims· .4) (claims· .5) "search::scan::at_node" (known .2) E (λ pos β. β) G43 (record { pos = 22; st = L.[]; d = 0; at = λ x. x }, (Num.vAt 4 λ x. x, (Num.vAt 7 λ x. x, (record { pos = 9; st = L.[]; d = 0; at = λ x. x }, tt)))) 10 L.[] (Call.sub-id 𝓤 H A W (G43 .slots)) ((KArray.arr-yields 𝓤 H A W (KArray.eStruct fraction-proofs-Fraction·.the-type fraction-proofs-Fraction-Laws·.the-laws fraction-proofs-Fraction-Laws·.the-copy) (KArray.eStruct-laws fraction-proofs-Fraction·.the-type fraction-proofs-Fraction-Laws·.the-laws fraction-proofs-Fraction-Laws·.the-copy fraction-proofs-Fraction-Laws·.the-plain) 33, Path.refl), ((Scalar.reads-sc 𝓤 H A W (Row.sInt Syntax.w64), Path.refl), ((Scalar.reads-sc 𝓤 H A W (Row.sInt Syntax.w64), Path.refl), ((Yields.yields-copy 𝓤 H A W (λ ρ. Unit) (Declared.row scan-Around·.the-type) Path.refl (Copies.cStruct scan-Around·.the-type scan-Around-Laws·.the-laws scan-Around-Laws·.the-copy .copy 𝓤 H A W) (Rows.whole (Declared.row scan-Around·.the-type)) (λ x. x) (λ x. x) (λ ρ told. Local.mem-whole 𝓤 H A W (Declared.row scan-Around·.the-type) ρ) λ ρ told. Local.whole-mem 𝓤 H A W (Declared.row scan-Around·.the-type) ρ, Path.refl), tt)))) (TReads.room-gone 𝓤 H A (Syntax.tyStruct (L._∷_ 115 (L._∷_ 101 (L._∷_ 97 (L._∷_ 114 (L._∷_ 99 (L._∷_ 104 (L._∷_ 58 (L._∷_ 58 (L._∷_ 115 (L._∷_ 99 (L._∷_ 97 (L._∷_ 110 (L._∷_ 58 (L._∷_ 58 (L._∷_ 70 (L._∷_ 111 (L._∷_ 117 (L._∷_ 110 (L._∷_ 100 L.[]))))))))))))))))))) (Syntax.tcons Syntax.tyBool (Syntax.tcons Syntax.tyBool (Syntax.tcons (Syntax.tyStruct (L._∷_ 115 (L._∷_ 116 (L._∷_ 101 (L._∷_ 112 (L._∷_ 58 (L._∷_ 58 (L._∷_ 83 (L._∷_ 116 (L._∷_ 101 (L._∷_ 112 L.[])))))))))) (Syntax.tcons (Syntax.tyInt Syntax.w64) (Syntax.tcons (Syntax.tyInt Syntax.w64) (Syntax.tcons (Syntax.tyStruct (L._∷_ 115 (L._∷_ 116 (L._∷_ 101 (L._∷_ 112 (L._∷_ 58 (L._∷_ 58 (L._∷_ 67 (L._∷_ 104 (L._∷_ 97 (L._∷_ 110 (L._∷_ 103 (L._∷_ 101 L.[])))))))))))) (Syntax.tcons (Syntax.tyStruct (L._∷_ 110 (L._∷_ 101 (L._∷_ 116 (L._∷_ 119 (L._∷_ 111 (L._∷_ 114 (L._∷_ 107 (L._∷_ 58 (L._∷_ 58 (L._∷_ 69 (L._∷_ 100 (L._∷_ 105 (L._∷_ 116 L.[]))))))))))))) (Syntax.tcons q9 (Syntax.tcons q9 (Syntax.tcons q9 (Syntax.tcons q9 (Syntax.tcons q3 (Syntax.tcons q3 (Syntax.tcons (Syntax.tyInt Syntax.w64) Syntax.tnil)))))))) (Syntax.tcons (Syntax.tyStruct (L._∷_ 115 (L._∷_ 116 (L._∷_ 101 (L._∷_ 112 (L._∷_ 58 (L._∷_ 58 (L._∷_ 79 (L._∷_ 108 (L._∷_ 100 L.[]))))))))) (Syntax.tcons (Syntax.tyInt Syntax.w64) (Syntax.tcons q8 (Syntax.tcons q9 (Syntax.tcons q9 (Syntax.tcons q9 (Syntax.tcons q9 (Syntax.tcons q5 Syntax.tnil)))))))) Syntax.tnil))) Syntax.tnil)))) Syntax.tnil))))) tt Path.refl) d23
+          d24 = Typed.s-seq 𝓤 H A W 𝓣 E G43 G44 b23 b30 Δ5 (Typed.both (s39 bs)) (at23 bs) (Plain.t-call-plain 𝓤 H A W 𝓣 0 ps·2 r·2 (claims· .4) (claims· .5) "rules::tried::at_node" (known .2) E (λ pos β. β) G43 (record { pos = 22; st = L.[]; d = 0; at = λ x. x }, (Num.vAt 4 λ x. x, (Num.vAt 7 λ x. x, (record { pos = 9; st = L.[]; d = 0; at = λ x. x }, tt)))) 10 L.[] (Call.sub-id 𝓤 H A W (G43 .slots)) ((KArray.arr-yields 𝓤 H A W (KArray.eStruct fraction-proofs-Fraction·.the-type fraction-proofs-Fraction-Laws·.the-laws fraction-proofs-Fraction-Laws·.the-copy) (KArray.eStruct-laws fraction-proofs-Fraction·.the-type fraction-proofs-Fraction-Laws·.the-laws fraction-proofs-Fraction-Laws·.the-copy fraction-proofs-Fraction-Laws·.the-plain) 33, Path.refl), ((Scalar.reads-sc 𝓤 H A W (Row.sInt Syntax.w64), Path.refl), ((Scalar.reads-sc 𝓤 H A W (Row.sInt Syntax.w64), Path.refl), ((Yields.yields-copy 𝓤 H A W (λ ρ. Unit) (Declared.row rules-proofs-tried-Around·.the-type) Path.refl (Copies.cStruct rules-proofs-tried-Around·.the-type rules-proofs-tried-Around-Laws·.the-laws rules-proofs-tried-Around-Laws·.the-copy .copy 𝓤 H A W) (Rows.whole (Declared.row rules-proofs-tried-Around·.the-type)) (λ x. x) (λ x. x) (λ ρ told. Local.mem-whole 𝓤 H A W (Declared.row rules-proofs-tried-Around·.the-type) ρ) λ ρ told. Local.whole-mem 𝓤 H A W (Declared.row rules-proofs-tried-Around·.the-type) ρ, Path.refl), tt)))) (TReads.room-gone 𝓤 H A (Syntax.tyStruct (L._∷_ 114 (L._∷_ 117 (L._∷_ 108 (L._∷_ 101 (L._∷_ 115 (L._∷_ 58 (L._∷_ 58 (L._∷_ 102 (L._∷_ 111 (L._∷_ 117 (L._∷_ 110 (L._∷_ 100 (L._∷_ 58 (L._∷_ 58 (L._∷_ 70 (L._∷_ 111 (L._∷_ 117 (L._∷_ 110 (L._∷_ 100 L.[]))))))))))))))))))) (Syntax.tcons Syntax.tyBool (Syntax.tcons Syntax.tyBool (Syntax.tcons (Syntax.tyStruct (L._∷_ 115 (L._∷_ 116 (L._∷_ 101 (L._∷_ 112 (L._∷_ 58 (L._∷_ 58 (L._∷_ 83 (L._∷_ 116 (L._∷_ 101 (L._∷_ 112 L.[])))))))))) (Syntax.tcons (Syntax.tyInt Syntax.w64) (Syntax.tcons (Syntax.tyInt Syntax.w64) (Syntax.tcons (Syntax.tyStruct (L._∷_ 115 (L._∷_ 116 (L._∷_ 101 (L._∷_ 112 (L._∷_ 58 (L._∷_ 58 (L._∷_ 67 (L._∷_ 104 (L._∷_ 97 (L._∷_ 110 (L._∷_ 103 (L._∷_ 101 L.[])))))))))))) (Syntax.tcons (Syntax.tyStruct (L._∷_ 110 (L._∷_ 101 (L._∷_ 116 (L._∷_ 119 (L._∷_ 111 (L._∷_ 114 (L._∷_ 107 (L._∷_ 58 (L._∷_ 58 (L._∷_ 69 (L._∷_ 100 (L._∷_ 105 (L._∷_ 116 L.[]))))))))))))) (Syntax.tcons q9 (Syntax.tcons q9 (Syntax.tcons q9 (Syntax.tcons q9 (Syntax.tcons q3 (Syntax.tcons q3 (Syntax.tcons (Syntax.tyInt Syntax.w64) Syntax.tnil)))))))) (Syntax.tcons (Syntax.tyStruct (L._∷_ 115 (L._∷_ 116 (L._∷_ 101 (L._∷_ 112 (L._∷_ 58 (L._∷_ 58 (L._∷_ 79 (L._∷_ 108 (L._∷_ 100 L.[]))))))))) (Syntax.tcons (Syntax.tyInt Syntax.w64) (Syntax.tcons q8 (Syntax.tcons q9 (Syntax.tcons q9 (Syntax.tcons q9 (Syntax.tcons q9 (Syntax.tcons q5 Syntax.tnil)))))))) Syntax.tnil))) Syntax.tnil)))) Syntax.tnil))))) tt Path.refl) d23
 
           d25 : Typed.Typed 𝓤 H A 𝓣 E G42 b32 Δ5 (at25 bs)
-          d25 = Typed.s-seq 𝓤 H A W 𝓣 E G42 G43 b22 b31 Δ5 (Typed.both (s38 bs)) (at24 bs) (WayStmt.t-way-copy-out 𝓤 H A W E 𝓣 (DArray.Array (Declared.row fraction-proofs-Fraction·.the-type) 33) Path.refl (Copies.cArr (Declared.row fraction-proofs-Fraction·.the-type) (Copies.cStruct fraction-proofs-Fraction·.the-type fraction-proofs-Fraction-Laws·.the-laws fraction-proofs-Fraction-Laws·.the-copy) 33 .copy 𝓤 H A W) (λ ρ. Unit) G42 (Row.out 5 (G42 .locals)) (λ u. Row.drop 5 (G42 .locals) u) (G42 .slots) 5 (λ t. L._∷_ (Syntax.field 3) t) q6 q6 22 (ARows.arrF (Declared.row fraction-proofs-Fraction·.the-type) 33 0) (λ x. x) (λ u. At.getAt (network-proofs-Nodes·.the-type .parts) 3 (network-proofs-Nodes·.struct .as-values (u .1 .1 .1 .1 .1 .0))) (λ u. (Row.hd 0 (Row.tl (Row.tl (Row.tl (Row.tl (Row.tl bs))))), Nat._+_ 0 52)) (λ T′. record { locals = Row.setRow 5 q17 T′; slots = G42 .slots }) (λ u T′ m′. Row.set 5 q17 (u .1 .1 .1 .1 .1 .0) T′ m′) (λ u. Unit) (λ x. Unit) (Own.told-none 𝓤 H A (G42 .slots)) (DerefMove.learns-nothing 𝓤 H A (DArray.Array (Declared.row fraction-proofs-Fraction·.the-type) 33)) (λ ρ told u asked. StructWay.w-partˢ 𝓤 H A W E (Declared.row network-proofs-Nodes·.the-type) (DArray.Array (Declared.row fraction-proofs-Fraction·.the-type) 33) q2 q6 3 52 (u .1 .1 .1 .1 .1 .0) (At.getAt (network-proofs-Nodes·.the-type .parts) 3 (network-proofs-Nodes·.struct .as-values (u .1 .1 .1 .1 .1 .0))) (Row.hd 0 (Row.tl (Row.tl (Row.tl (Row.tl (Row.tl bs))))), 0) (RuleWay.w-look 𝓤 H A W E (RuleWay.w-local 𝓤 H A W E G42 ρ u (G42 .slots) 5 (Declared.row network-proofs-Nodes·.the-type) q19 (λ x. x) (λ x. x) (u .1 .1 .1 .1 .1 .0) (Local.mem-whole 𝓤 H A W (Declared.row network-proofs-Nodes·.the-type) ρ (u .1 .1 .1 .1 .1 .0) (Row.hd 0 (Row.tl (Row.tl (Row.tl (Row.tl (Row.tl bs))))))) (Local.whole-mem 𝓤 H A W (Declared.row network-proofs-Nodes·.the-type) ρ (u .1 .1 .1 .1 .1 .0) (Row.hd 0 (Row.tl (Row.tl (Row.tl (Row.tl (Row.tl bs))))))))) Path.refl λ q. Items.cut-records 𝓤 H A q (Declared.row network-proofs-Nodes·.the-type) fraction-proofs-Fraction·.the-type 33 52 (u .1 .1 .1 .1 .1 .0) (u .1 .1 .1 .1 .1 .0) (At.getAt (network-proofs-Nodes·.the-type .parts) 3 (network-proofs-Nodes·.struct .as-values (u .1 .1 .1 .1 .1 .0))) (At.getAt (network-proofs-Nodes·.the-type .parts) 3 (network-proofs-Nodes·.struct .as-values (u .1 .1 .1 .1 .1 .0))) (Row.hd 0 (Row.tl (Row.tl (Row.tl (Row.tl (Row.tl bs))))), 0) (Behind.look-at 𝓤 H A W q network-proofs-Nodes·.the-type network-proofs-Nodes-Laws·.the-laws 3 52 Path.refl Path.refl (Row.hd 0 (Row.tl (Row.tl (Row.tl (Row.tl (Row.tl bs))))), 0) (u .1 .1 .1 .1 .1 .0) (network-proofs-Nodes·.struct .as-values (u .1 .1 .1 .1 .1 .0)) Path.refl)) (TReads.room-gone 𝓤 H A q6) (Yields.makes-mem 𝓤 H A W (λ ρ. Unit) (DArray.Array (Declared.row fraction-proofs-Fraction·.the-type) 33) Path.refl (ARows.arrF (Declared.row fraction-proofs-Fraction·.the-type) 33 0) (λ x. x) λ ρ told. Whole.arr-mem 𝓤 H A W (Declared.row fraction-proofs-Fraction·.the-type) 33 tt ρ) Path.refl Path.refl Path.refl) d24
+          d25 = Typed.s-seq 𝓤 H A W 𝓣 E G42 G43 b22 b31 Δ5 (Typed.both (s38 bs)) (at24 bs) (WayStmt.t-way-copy-out 𝓤 H A W E 𝓣 (DArray.Array (Declared.row fraction-proofs-Fraction·.the-type) 33) Path.refl (Copies.cArr (Declared.row fraction-proofs-Fraction·.the-type) (Copies.cStruct fraction-proofs-Fraction·.the-type fraction-proofs-Fraction-Laws·.the-laws fraction-proofs-Fraction-Laws·.the-copy) 33 .copy 𝓤 H A W) (λ ρ. Unit) G42 (Row.out 5 (G42 .locals)) (λ u. Row.drop 5 (G42 .locals) u) (G42 .slots) 5 (λ t. L._∷_ (Syntax.field 3) t) q6 q6 22 (ARows.arrF (Declared.row fraction-proofs-Fraction·.the-type) 33 0) (λ x. x) (λ u. At.getAt (network-proofs-Nodes·.the-type .parts) 3 (network-proofs-Nodes·.struct .as-values (u .1 .1 .1 .1 .1 .0))) (λ u. (Row.hd 0 (Row.tl (Row.tl (Row.tl (Row.tl (Row.tl bs))))), Nat._+_ 0 52)) (λ T′. record { locals = Row.setRow 5 q20 T′; slots = G42 .slots }) (λ u T′ m′. Row.set 5 q20 (u .1 .1 .1 .1 .1 .0) T′ m′) (λ u. Unit) (λ x. Unit) (Own.told-none 𝓤 H A (G42 .slots)) (DerefMove.learns-nothing 𝓤 H A (DArray.Array (Declared.row fraction-proofs-Fraction·.the-type) 33)) (λ ρ told u asked. StructWay.w-partˢ 𝓤 H A W E (Declared.row network-proofs-Nodes·.the-type) (DArray.Array (Declared.row fraction-proofs-Fraction·.the-type) 33) q2 q6 3 52 (u .1 .1 .1 .1 .1 .0) (At.getAt (network-proofs-Nodes·.the-type .parts) 3 (network-proofs-Nodes·.struct .as-values (u .1 .1 .1 .1 .1 .0))) (Row.hd 0 (Row.tl (Row.tl (Row.tl (Row.tl (Row.tl bs))))), 0) (RuleWay.w-look 𝓤 H A W E (RuleWay.w-local 𝓤 H A W E G42 ρ u (G42 .slots) 5 (Declared.row network-proofs-Nodes·.the-type) q22 (λ x. x) (λ x. x) (u .1 .1 .1 .1 .1 .0) (Local.mem-whole 𝓤 H A W (Declared.row network-proofs-Nodes·.the-type) ρ (u .1 .1 .1 .1 .1 .0) (Row.hd 0 (Row.tl (Row.tl (Row.tl (Row.tl (Row.tl bs))))))) (Local.whole-mem 𝓤 H A W (Declared.row network-proofs-Nodes·.the-type) ρ (u .1 .1 .1 .1 .1 .0) (Row.hd 0 (Row.tl (Row.tl (Row.tl (Row.tl (Row.tl bs))))))))) Path.refl λ q. Items.cut-records 𝓤 H A q (Declared.row network-proofs-Nodes·.the-type) fraction-proofs-Fraction·.the-type 33 52 (u .1 .1 .1 .1 .1 .0) (u .1 .1 .1 .1 .1 .0) (At.getAt (network-proofs-Nodes·.the-type .parts) 3 (network-proofs-Nodes·.struct .as-values (u .1 .1 .1 .1 .1 .0))) (At.getAt (network-proofs-Nodes·.the-type .parts) 3 (network-proofs-Nodes·.struct .as-values (u .1 .1 .1 .1 .1 .0))) (Row.hd 0 (Row.tl (Row.tl (Row.tl (Row.tl (Row.tl bs))))), 0) (Behind.look-at 𝓤 H A W q network-proofs-Nodes·.the-type network-proofs-Nodes-Laws·.the-laws 3 52 Path.refl Path.refl (Row.hd 0 (Row.tl (Row.tl (Row.tl (Row.tl (Row.tl bs))))), 0) (u .1 .1 .1 .1 .1 .0) (network-proofs-Nodes·.struct .as-values (u .1 .1 .1 .1 .1 .0)) Path.refl)) (TReads.room-gone 𝓤 H A q6) (Yields.makes-mem 𝓤 H A W (λ ρ. Unit) (DArray.Array (Declared.row fraction-proofs-Fraction·.the-type) 33) Path.refl (ARows.arrF (Declared.row fraction-proofs-Fraction·.the-type) 33 0) (λ x. x) λ ρ told. Whole.arr-mem 𝓤 H A W (Declared.row fraction-proofs-Fraction·.the-type) 33 tt ρ) Path.refl Path.refl Path.refl) d24
 
           d26 : Typed.Typed 𝓤 H A 𝓣 E G41 b33 Δ5 (at26 bs)
-          d26 = Typed.s-seq 𝓤 H A W 𝓣 E G41 G42 b21 b32 Δ5 (Typed.both (s37 bs)) (at25 bs) (Plain.t-call-plain 𝓤 H A W 𝓣 1 ps·1 r·1 (claims· .2) (claims· .3) "search::scan::gather" (known .1) E (λ pos β. β) G41 (record { pos = 2; ty = Syntax.tyRef (Syntax.named 0) Syntax.imm Rec.named; ref = λ x. x }, (Num.vAt 7 λ x. x, (Num.vAt 8 λ x. x, tt))) 9 (L._∷_ 0 L.[]) (Call.sub-id 𝓤 H A W (G41 .slots)) (ShrSlice.spares-sslice 𝓤 H A W Rec.row q20 0, Shared.reads-sslice 𝓤 H A W Rec.row q20 0, Path.refl, ((Scalar.reads-sc 𝓤 H A W (Row.sInt Syntax.w64), Path.refl), ((Scalar.reads-sc 𝓤 H A W (Row.sInt Syntax.w64), Path.refl), tt))) (TReads.room-gone 𝓤 H A (Syntax.tyStruct (L._∷_ 115 (L._∷_ 101 (L._∷_ 97 (L._∷_ 114 (L._∷_ 99 (L._∷_ 104 (L._∷_ 58 (L._∷_ 58 (L._∷_ 115 (L._∷_ 99 (L._∷_ 97 (L._∷_ 110 (L._∷_ 58 (L._∷_ 58 (L._∷_ 65 (L._∷_ 114 (L._∷_ 111 (L._∷_ 117 (L._∷_ 110 (L._∷_ 100 L.[])))))))))))))))))))) (Syntax.tcons q9 (Syntax.tcons q9 (Syntax.tcons q9 (Syntax.tcons q9 Syntax.tnil)))))) (tt, tt) Path.refl) d25
+          d26 = Typed.s-seq 𝓤 H A W 𝓣 E G41 G42 b21 b32 Δ5 (Typed.both (s37 bs)) (at25 bs) (Plain.t-call-plain 𝓤 H A W 𝓣 1 ps·1 r·1 (claims· .2) (claims· .3) "search::scan::gather" (known .1) E (λ pos β. β) G41 (record { pos = 2; ty = Syntax.tyRef (Syntax.named 0) Syntax.imm Rec.named; ref = λ x. x }, (Num.vAt 7 λ x. x, (Num.vAt 8 λ x. x, tt))) 9 (L._∷_ 0 L.[]) (Call.sub-id 𝓤 H A W (G41 .slots)) (ShrSlice.spares-sslice 𝓤 H A W Rec.row q23 0, Shared.reads-sslice 𝓤 H A W Rec.row q23 0, Path.refl, ((Scalar.reads-sc 𝓤 H A W (Row.sInt Syntax.w64), Path.refl), ((Scalar.reads-sc 𝓤 H A W (Row.sInt Syntax.w64), Path.refl), tt))) (TReads.room-gone 𝓤 H A (Syntax.tyStruct (L._∷_ 114 (L._∷_ 117 (L._∷_ 108 (L._∷_ 101 (L._∷_ 115 (L._∷_ 58 (L._∷_ 58 (L._∷_ 116 (L._∷_ 114 (L._∷_ 105 (L._∷_ 101 (L._∷_ 100 (L._∷_ 58 (L._∷_ 58 (L._∷_ 65 (L._∷_ 114 (L._∷_ 111 (L._∷_ 117 (L._∷_ 110 (L._∷_ 100 L.[])))))))))))))))))))) (Syntax.tcons q9 (Syntax.tcons q9 (Syntax.tcons q9 (Syntax.tcons q9 Syntax.tnil)))))) (tt, tt) Path.refl) d25
 
           d27 : Typed.Typed 𝓤 H A 𝓣 E G40 b33 Δ5 (at27 bs)
           d27 = Typed.g-pre 𝓤 H A W 𝓣 E G40 G41 b33 Δ5 (Typed.pass T40 T41 (s36 bs)) (at26 bs) (Scalar.g-room 𝓤 H A W E G40 16 Syntax.tyBool (Scalar.room-sc 𝓤 H A W Row.sBool)) d26
@@ -1531,7 +1531,7 @@ module _ (claims· : Claims) where
           d34 = Typed.t-seq 𝓤 H A W 𝓣 E G37 G38 b35 b36 Δ3 (at32 bs) (at33 bs) d32 d33
 
           d35 : Typed.Typed 𝓤 H A 𝓣 E G36 b38 Δ3 (at35 bs)
-          d35 = Typed.s-seq 𝓤 H A W 𝓣 E G36 G37 b20 b37 Δ3 (Typed.both (s33 bs)) (at34 bs) (Plain.t-call-plain 𝓤 H A W 𝓣 0 ps·0 r·0 (claims· .0) (claims· .1) "search::scan::is_wanted" (known .0) E (λ pos β. β) G36 (Num.vAt 4 λ x. x, (KBool.bAt 12 λ x. x, (Num.vAt 8 λ x. x, (record { pos = 21; st = L.[]; d = 0; at = λ x. x }, tt)))) 16 L.[] (Call.sub-id 𝓤 H A W (G36 .slots)) ((Scalar.reads-sc 𝓤 H A W (Row.sInt Syntax.w64), Path.refl), ((Scalar.reads-sc 𝓤 H A W Row.sBool, Path.refl), ((Scalar.reads-sc 𝓤 H A W (Row.sInt Syntax.w64), Path.refl), ((Yields.yields-copy 𝓤 H A W (λ ρ. Unit) (Declared.row fraction-proofs-Fraction·.the-type) Path.refl (Copies.cStruct fraction-proofs-Fraction·.the-type fraction-proofs-Fraction-Laws·.the-laws fraction-proofs-Fraction-Laws·.the-copy .copy 𝓤 H A W) q16 (λ x. x) (λ x. x) (λ ρ told. Local.mem-whole 𝓤 H A W (Declared.row fraction-proofs-Fraction·.the-type) ρ) λ ρ told. Local.whole-mem 𝓤 H A W (Declared.row fraction-proofs-Fraction·.the-type) ρ, Path.refl), tt)))) (TReads.room-gone 𝓤 H A Syntax.tyBool) tt Path.refl) d34
+          d35 = Typed.s-seq 𝓤 H A W 𝓣 E G36 G37 b20 b37 Δ3 (Typed.both (s33 bs)) (at34 bs) (Plain.t-call-plain 𝓤 H A W 𝓣 0 ps·0 r·0 (claims· .0) (claims· .1) "rules::tried::is_wanted" (known .0) E (λ pos β. β) G36 (Num.vAt 4 λ x. x, (KBool.bAt 12 λ x. x, (Num.vAt 8 λ x. x, (record { pos = 21; st = L.[]; d = 0; at = λ x. x }, tt)))) 16 L.[] (Call.sub-id 𝓤 H A W (G36 .slots)) ((Scalar.reads-sc 𝓤 H A W (Row.sInt Syntax.w64), Path.refl), ((Scalar.reads-sc 𝓤 H A W Row.sBool, Path.refl), ((Scalar.reads-sc 𝓤 H A W (Row.sInt Syntax.w64), Path.refl), ((Yields.yields-copy 𝓤 H A W (λ ρ. Unit) (Declared.row fraction-proofs-Fraction·.the-type) Path.refl (Copies.cStruct fraction-proofs-Fraction·.the-type fraction-proofs-Fraction-Laws·.the-laws fraction-proofs-Fraction-Laws·.the-copy .copy 𝓤 H A W) q18 (λ x. x) (λ x. x) (λ ρ told. Local.mem-whole 𝓤 H A W (Declared.row fraction-proofs-Fraction·.the-type) ρ) λ ρ told. Local.whole-mem 𝓤 H A W (Declared.row fraction-proofs-Fraction·.the-type) ρ, Path.refl), tt)))) (TReads.room-gone 𝓤 H A Syntax.tyBool) tt Path.refl) d34
 
           d36 : Typed.Typed 𝓤 H A 𝓣 E G35 b38 Δ3 (at36 bs)
           d36 = Typed.g-pre 𝓤 H A W 𝓣 E G35 G36 b38 Δ3 (Typed.pass T35 T36 (s32 bs)) (at35 bs) (Scalar.g-room 𝓤 H A W E G35 20 Syntax.tyPtr (Scalar.room-sc 𝓤 H A W Row.sPtr)) d35
@@ -1540,7 +1540,7 @@ module _ (claims· : Claims) where
           d37 = Typed.g-pre 𝓤 H A W 𝓣 E G34 G35 b38 Δ3 (Typed.pass T34 T35 (s31 bs)) (at36 bs) (Scalar.g-room 𝓤 H A W E G34 15 (Syntax.tyInt Syntax.w64) (Scalar.room-sc 𝓤 H A W (Row.sInt Syntax.w64))) d36
 
           d38 : Typed.Typed 𝓤 H A 𝓣 E G33 b39 Δ3 (at38 bs)
-          d38 = Typed.s-seq 𝓤 H A W 𝓣 E G33 G34 b19 b38 Δ3 (Typed.both (s30 bs)) (at37 bs) (WayStmt.t-way-copy-out 𝓤 H A W E 𝓣 (Declared.row fraction-proofs-Fraction·.the-type) Path.refl (Copies.cStruct fraction-proofs-Fraction·.the-type fraction-proofs-Fraction-Laws·.the-laws fraction-proofs-Fraction-Laws·.the-copy .copy 𝓤 H A W) (λ ρ. Unit) G33 (Row.out 20 (Row.out 5 (G33 .locals))) (λ u. Row.drop 20 (Row.out 5 (G33 .locals)) (Row.drop 5 (G33 .locals) u)) (G33 .slots) 20 (λ t. L._∷_ (Syntax.deref q8) t) q8 q8 21 q16 (λ x. x) (λ u. ListN.getD (At.getAt (network-proofs-Nodes·.the-type .parts) 3 (network-proofs-Nodes·.struct .as-values (u .1 .1 .1 .1 .1 .0))) (u .1 .1 .1 .1 .1 .1 .1 .0) (fraction-proofs-Fraction·.struct .make (IntN.pos 0, (0, tt)) tt)) (λ u. (Row.hd 0 (Row.tl (Row.tl (Row.tl (Row.tl (Row.tl bs))))), Shared.bySize 8 (u .1 .1 .1 .1 .1 .1 .1 .0) (Nat._+_ Nat.zero 52))) (λ T′. record { locals = Row.setRow 5 q17 (Row.setRow 20 (20, Rows.sc-here Row.sPtr) T′); slots = G33 .slots }) (λ u T′ m′. Row.set 5 q17 (u .1 .1 .1 .1 .1 .0) (Row.setRow 20 (20, Rows.sc-here Row.sPtr) T′) (Row.set 20 (20, Rows.sc-here Row.sPtr) (u .1 .1 .1 .1 .1 .1 .1 .1 .1 .1 .1 .1 .1 .1 .1 .1 .1 .1 .1 .1 .0) T′ m′)) (λ u. Path._≡_ (u .1 .1 .1 .1 .1 .1 .1 .1 .1 .1 .1 .1 .1 .1 .1 .1 .1 .1 .1 .1 .0 .0) (Row.hd 0 (Row.tl (Row.tl (Row.tl (Row.tl (Row.tl bs)))))) × Path._≡_ (u .1 .1 .1 .1 .1 .1 .1 .1 .1 .1 .1 .1 .1 .1 .1 .1 .1 .1 .1 .1 .0 .1) (Shared.bySize 8 (u .1 .1 .1 .1 .1 .1 .1 .0) (Nat._+_ Nat.zero 52)) × Asked.InArray G33 (λ u. u .1 .1 .1 .1 .1 .1 .1 .0) 33 u) (λ x. Unit) (Own.told-none 𝓤 H A (G33 .slots)) (DerefMove.learns-nothing 𝓤 H A (Declared.row fraction-proofs-Fraction·.the-type)) (λ ρ told u asked. RuleWay.w-look 𝓤 H A W E (ItemWay.w-item-look 𝓤 H A W E (Declared.row network-proofs-Nodes·.the-type) (Declared.row fraction-proofs-Fraction·.the-type) 33 tt q6 q8 3 52 (λ x. At.getAt (network-proofs-Nodes·.the-type .parts) 3 (network-proofs-Nodes·.struct .as-values x)) (λ x ys. x) (Shared.bySize 8) (λ i o. Elements.at-mul o 8 i) G33 ρ u (G33 .slots) 5 20 (u .1 .1 .1 .1 .1 .1 .1 .0) (fraction-proofs-Fraction·.struct .make (IntN.pos 0, (0, tt)) tt) (λ x. x) (λ x. x) (TReads.as-is 𝓤 H A q19) (TReads.as-is 𝓤 H A (Rows.sc-here Row.sPtr)) Path.refl (asked .0) (asked .1) (asked .2) Path.refl λ a. Items.cut-records 𝓤 H A TreeShare.fullShare (Declared.row network-proofs-Nodes·.the-type) fraction-proofs-Fraction·.the-type 33 52 (u .1 .1 .1 .1 .1 .0) (u .1 .1 .1 .1 .1 .0) (At.getAt (network-proofs-Nodes·.the-type .parts) 3 (network-proofs-Nodes·.struct .as-values (u .1 .1 .1 .1 .1 .0))) (At.getAt (network-proofs-Nodes·.the-type .parts) 3 (network-proofs-Nodes·.struct .as-values (u .1 .1 .1 .1 .1 .0))) a (Behind.look-at 𝓤 H A W TreeShare.fullShare network-proofs-Nodes·.the-type network-proofs-Nodes-Laws·.the-laws 3 52 Path.refl Path.refl a (u .1 .1 .1 .1 .1 .0) (network-proofs-Nodes·.struct .as-values (u .1 .1 .1 .1 .1 .0)) Path.refl))) (TReads.room-gone 𝓤 H A q8) (Yields.makes-mem 𝓤 H A W (λ ρ. Unit) (Declared.row fraction-proofs-Fraction·.the-type) Path.refl q16 (λ x. x) λ ρ told. Local.whole-mem 𝓤 H A W (Declared.row fraction-proofs-Fraction·.the-type) ρ) Path.refl Path.refl Path.refl) d37
+          d38 = Typed.s-seq 𝓤 H A W 𝓣 E G33 G34 b19 b38 Δ3 (Typed.both (s30 bs)) (at37 bs) (WayStmt.t-way-copy-out 𝓤 H A W E 𝓣 (Declared.row fraction-proofs-Fraction·.the-type) Path.refl (Copies.cStruct fraction-proofs-Fraction·.the-type fraction-proofs-Fraction-Laws·.the-laws fraction-proofs-Fraction-Laws·.the-copy .copy 𝓤 H A W) (λ ρ. Unit) G33 (Row.out 20 (Row.out 5 (G33 .locals))) (λ u. Row.drop 20 (Row.out 5 (G33 .locals)) (Row.drop 5 (G33 .locals) u)) (G33 .slots) 20 (λ t. L._∷_ (Syntax.deref q8) t) q8 q8 21 q18 (λ x. x) (λ u. ListN.getD (At.getAt (network-proofs-Nodes·.the-type .parts) 3 (network-proofs-Nodes·.struct .as-values (u .1 .1 .1 .1 .1 .0))) (u .1 .1 .1 .1 .1 .1 .1 .0) (fraction-proofs-Fraction·.struct .make (IntN.pos 0, (0, tt)) tt)) (λ u. (Row.hd 0 (Row.tl (Row.tl (Row.tl (Row.tl (Row.tl bs))))), Shared.bySize 8 (u .1 .1 .1 .1 .1 .1 .1 .0) (Nat._+_ Nat.zero 52))) (λ T′. record { locals = Row.setRow 5 q20 (Row.setRow 20 (20, Rows.sc-here Row.sPtr) T′); slots = G33 .slots }) (λ u T′ m′. Row.set 5 q20 (u .1 .1 .1 .1 .1 .0) (Row.setRow 20 (20, Rows.sc-here Row.sPtr) T′) (Row.set 20 (20, Rows.sc-here Row.sPtr) (u .1 .1 .1 .1 .1 .1 .1 .1 .1 .1 .1 .1 .1 .1 .1 .1 .1 .1 .1 .1 .0) T′ m′)) (λ u. Path._≡_ (u .1 .1 .1 .1 .1 .1 .1 .1 .1 .1 .1 .1 .1 .1 .1 .1 .1 .1 .1 .1 .0 .0) (Row.hd 0 (Row.tl (Row.tl (Row.tl (Row.tl (Row.tl bs)))))) × Path._≡_ (u .1 .1 .1 .1 .1 .1 .1 .1 .1 .1 .1 .1 .1 .1 .1 .1 .1 .1 .1 .1 .0 .1) (Shared.bySize 8 (u .1 .1 .1 .1 .1 .1 .1 .0) (Nat._+_ Nat.zero 52)) × Asked.InArray G33 (λ u. u .1 .1 .1 .1 .1 .1 .1 .0) 33 u) (λ x. Unit) (Own.told-none 𝓤 H A (G33 .slots)) (DerefMove.learns-nothing 𝓤 H A (Declared.row fraction-proofs-Fraction·.the-type)) (λ ρ told u asked. RuleWay.w-look 𝓤 H A W E (ItemWay.w-item-look 𝓤 H A W E (Declared.row network-proofs-Nodes·.the-type) (Declared.row fraction-proofs-Fraction·.the-type) 33 tt q6 q8 3 52 (λ x. At.getAt (network-proofs-Nodes·.the-type .parts) 3 (network-proofs-Nodes·.struct .as-values x)) (λ x ys. x) (Shared.bySize 8) (λ i o. Elements.at-mul o 8 i) G33 ρ u (G33 .slots) 5 20 (u .1 .1 .1 .1 .1 .1 .1 .0) (fraction-proofs-Fraction·.struct .make (IntN.pos 0, (0, tt)) tt) (λ x. x) (λ x. x) (TReads.as-is 𝓤 H A q22) (TReads.as-is 𝓤 H A (Rows.sc-here Row.sPtr)) Path.refl (asked .0) (asked .1) (asked .2) Path.refl λ a. Items.cut-records 𝓤 H A TreeShare.fullShare (Declared.row network-proofs-Nodes·.the-type) fraction-proofs-Fraction·.the-type 33 52 (u .1 .1 .1 .1 .1 .0) (u .1 .1 .1 .1 .1 .0) (At.getAt (network-proofs-Nodes·.the-type .parts) 3 (network-proofs-Nodes·.struct .as-values (u .1 .1 .1 .1 .1 .0))) (At.getAt (network-proofs-Nodes·.the-type .parts) 3 (network-proofs-Nodes·.struct .as-values (u .1 .1 .1 .1 .1 .0))) a (Behind.look-at 𝓤 H A W TreeShare.fullShare network-proofs-Nodes·.the-type network-proofs-Nodes-Laws·.the-laws 3 52 Path.refl Path.refl a (u .1 .1 .1 .1 .1 .0) (network-proofs-Nodes·.struct .as-values (u .1 .1 .1 .1 .1 .0)) Path.refl))) (TReads.room-gone 𝓤 H A q8) (Yields.makes-mem 𝓤 H A W (λ ρ. Unit) (Declared.row fraction-proofs-Fraction·.the-type) Path.refl q18 (λ x. x) λ ρ told. Local.whole-mem 𝓤 H A W (Declared.row fraction-proofs-Fraction·.the-type) ρ) Path.refl Path.refl Path.refl) d37
 
           d39 : Typed.Typed 𝓤 H A 𝓣 E G32 b39 Δ3 (at39 bs)
           d39 = Typed.g-pre 𝓤 H A W 𝓣 E G32 G33 b39 Δ3 (Typed.pass T32 T33 (s29 bs)) (at38 bs) (Scalar.g-room 𝓤 H A W E G32 19 Syntax.tyPtr (Scalar.room-sc 𝓤 H A W Row.sPtr)) d38
@@ -1558,7 +1558,7 @@ module _ (claims· : Claims) where
           d43 = Typed.g-pre 𝓤 H A W 𝓣 E G28 G29 b42 Δ3 (Typed.pass T28 T29 (s25 bs)) (at42 bs) (Scalar.g-room 𝓤 H A W E G28 18 Syntax.tyPtr (Scalar.room-sc 𝓤 H A W Row.sPtr)) d42
 
           d44 : Typed.Typed 𝓤 H A 𝓣 E G27 b43 Δ3 (at44 bs)
-          d44 = Typed.s-seq 𝓤 H A W 𝓣 E G27 G28 b15 b42 Δ3 (Typed.both (s24 bs)) (at43 bs) (WayStmt.t-way-copy-out 𝓤 H A W E 𝓣 (Referent.rtF Referent.fBool) Path.refl (Copies.cRf Referent.fBool .copy 𝓤 H A W) (λ ρ. Unit) G27 (Row.out 18 (Row.out 5 (G27 .locals))) (λ u. Row.drop 18 (Row.out 5 (G27 .locals)) (Row.drop 5 (G27 .locals) u)) (G27 .slots) 18 (λ t. L._∷_ (Syntax.deref Syntax.tyBool) t) Syntax.tyBool Syntax.tyBool 12 (Rows.sc-here Row.sBool) (λ x. x) (λ u. ListN.getD (At.getAt (network-proofs-Nodes·.the-type .parts) 2 (network-proofs-Nodes·.struct .as-values (u .1 .1 .1 .1 .1 .0))) (u .1 .1 .1 .1 .1 .1 .1 .0) Bool.false) (λ u. (Row.hd 0 (Row.tl (Row.tl (Row.tl (Row.tl (Row.tl bs))))), Shared.byByte (u .1 .1 .1 .1 .1 .1 .1 .0) (Nat._+_ Nat.zero 16))) (λ T′. record { locals = Row.setRow 5 q17 (Row.setRow 18 (18, Rows.sc-here Row.sPtr) T′); slots = G27 .slots }) (λ u T′ m′. Row.set 5 q17 (u .1 .1 .1 .1 .1 .0) (Row.setRow 18 (18, Rows.sc-here Row.sPtr) T′) (Row.set 18 (18, Rows.sc-here Row.sPtr) (u .1 .1 .1 .1 .1 .1 .1 .1 .1 .1 .1 .1 .1 .1 .1 .1 .1 .1 .0) T′ m′)) (λ u. Path._≡_ (u .1 .1 .1 .1 .1 .1 .1 .1 .1 .1 .1 .1 .1 .1 .1 .1 .1 .1 .0 .0) (Row.hd 0 (Row.tl (Row.tl (Row.tl (Row.tl (Row.tl bs)))))) × Path._≡_ (u .1 .1 .1 .1 .1 .1 .1 .1 .1 .1 .1 .1 .1 .1 .1 .1 .1 .1 .0 .1) (Shared.byByte (u .1 .1 .1 .1 .1 .1 .1 .0) (Nat._+_ Nat.zero 16)) × Asked.InArray G27 (λ u. u .1 .1 .1 .1 .1 .1 .1 .0) 33 u) (λ x. Unit) (Own.told-none 𝓤 H A (G27 .slots)) (DerefMove.learns-nothing 𝓤 H A (Referent.rtF Referent.fBool)) (λ ρ told u asked. RuleWay.w-look 𝓤 H A W E (ItemWay.w-item-look 𝓤 H A W E (Declared.row network-proofs-Nodes·.the-type) (Referent.rtF Referent.fBool) 33 tt q35 Syntax.tyBool 2 16 (λ x. At.getAt (network-proofs-Nodes·.the-type .parts) 2 (network-proofs-Nodes·.struct .as-values x)) (λ x ys. x) Shared.byByte (λ i o. Elements.at-byte o i) G27 ρ u (G27 .slots) 5 18 (u .1 .1 .1 .1 .1 .1 .1 .0) Bool.false (λ x. x) (λ x. x) (TReads.as-is 𝓤 H A q19) (TReads.as-is 𝓤 H A (Rows.sc-here Row.sPtr)) Path.refl (asked .0) (asked .1) (asked .2) Path.refl λ a. Items.cut-array 𝓤 H A TreeShare.fullShare (Declared.row network-proofs-Nodes·.the-type) (Referent.rtF Referent.fBool) 33 16 (u .1 .1 .1 .1 .1 .0) (u .1 .1 .1 .1 .1 .0) (At.getAt (network-proofs-Nodes·.the-type .parts) 2 (network-proofs-Nodes·.struct .as-values (u .1 .1 .1 .1 .1 .0))) (At.getAt (network-proofs-Nodes·.the-type .parts) 2 (network-proofs-Nodes·.struct .as-values (u .1 .1 .1 .1 .1 .0))) a (Behind.look-at 𝓤 H A W TreeShare.fullShare network-proofs-Nodes·.the-type network-proofs-Nodes-Laws·.the-laws 2 16 Path.refl Path.refl a (u .1 .1 .1 .1 .1 .0) (network-proofs-Nodes·.struct .as-values (u .1 .1 .1 .1 .1 .0)) Path.refl))) (TReads.room-gone 𝓤 H A Syntax.tyBool) (Yields.makes-mem 𝓤 H A W (λ ρ. Unit) (Referent.rtF Referent.fBool) Path.refl (Rows.sc-here Row.sBool) (λ x. x) λ ρ told. Local.sc-mem 𝓤 H A W Referent.fBool ρ) Path.refl Path.refl Path.refl) d43
+          d44 = Typed.s-seq 𝓤 H A W 𝓣 E G27 G28 b15 b42 Δ3 (Typed.both (s24 bs)) (at43 bs) (WayStmt.t-way-copy-out 𝓤 H A W E 𝓣 (Referent.rtF Referent.fBool) Path.refl (Copies.cRf Referent.fBool .copy 𝓤 H A W) (λ ρ. Unit) G27 (Row.out 18 (Row.out 5 (G27 .locals))) (λ u. Row.drop 18 (Row.out 5 (G27 .locals)) (Row.drop 5 (G27 .locals) u)) (G27 .slots) 18 (λ t. L._∷_ (Syntax.deref Syntax.tyBool) t) Syntax.tyBool Syntax.tyBool 12 (Rows.sc-here Row.sBool) (λ x. x) (λ u. ListN.getD (At.getAt (network-proofs-Nodes·.the-type .parts) 2 (network-proofs-Nodes·.struct .as-values (u .1 .1 .1 .1 .1 .0))) (u .1 .1 .1 .1 .1 .1 .1 .0) Bool.false) (λ u. (Row.hd 0 (Row.tl (Row.tl (Row.tl (Row.tl (Row.tl bs))))), Shared.byByte (u .1 .1 .1 .1 .1 .1 .1 .0) (Nat._+_ Nat.zero 16))) (λ T′. record { locals = Row.setRow 5 q20 (Row.setRow 18 (18, Rows.sc-here Row.sPtr) T′); slots = G27 .slots }) (λ u T′ m′. Row.set 5 q20 (u .1 .1 .1 .1 .1 .0) (Row.setRow 18 (18, Rows.sc-here Row.sPtr) T′) (Row.set 18 (18, Rows.sc-here Row.sPtr) (u .1 .1 .1 .1 .1 .1 .1 .1 .1 .1 .1 .1 .1 .1 .1 .1 .1 .1 .0) T′ m′)) (λ u. Path._≡_ (u .1 .1 .1 .1 .1 .1 .1 .1 .1 .1 .1 .1 .1 .1 .1 .1 .1 .1 .0 .0) (Row.hd 0 (Row.tl (Row.tl (Row.tl (Row.tl (Row.tl bs)))))) × Path._≡_ (u .1 .1 .1 .1 .1 .1 .1 .1 .1 .1 .1 .1 .1 .1 .1 .1 .1 .1 .0 .1) (Shared.byByte (u .1 .1 .1 .1 .1 .1 .1 .0) (Nat._+_ Nat.zero 16)) × Asked.InArray G27 (λ u. u .1 .1 .1 .1 .1 .1 .1 .0) 33 u) (λ x. Unit) (Own.told-none 𝓤 H A (G27 .slots)) (DerefMove.learns-nothing 𝓤 H A (Referent.rtF Referent.fBool)) (λ ρ told u asked. RuleWay.w-look 𝓤 H A W E (ItemWay.w-item-look 𝓤 H A W E (Declared.row network-proofs-Nodes·.the-type) (Referent.rtF Referent.fBool) 33 tt q35 Syntax.tyBool 2 16 (λ x. At.getAt (network-proofs-Nodes·.the-type .parts) 2 (network-proofs-Nodes·.struct .as-values x)) (λ x ys. x) Shared.byByte (λ i o. Elements.at-byte o i) G27 ρ u (G27 .slots) 5 18 (u .1 .1 .1 .1 .1 .1 .1 .0) Bool.false (λ x. x) (λ x. x) (TReads.as-is 𝓤 H A q22) (TReads.as-is 𝓤 H A (Rows.sc-here Row.sPtr)) Path.refl (asked .0) (asked .1) (asked .2) Path.refl λ a. Items.cut-array 𝓤 H A TreeShare.fullShare (Declared.row network-proofs-Nodes·.the-type) (Referent.rtF Referent.fBool) 33 16 (u .1 .1 .1 .1 .1 .0) (u .1 .1 .1 .1 .1 .0) (At.getAt (network-proofs-Nodes·.the-type .parts) 2 (network-proofs-Nodes·.struct .as-values (u .1 .1 .1 .1 .1 .0))) (At.getAt (network-proofs-Nodes·.the-type .parts) 2 (network-proofs-Nodes·.struct .as-values (u .1 .1 .1 .1 .1 .0))) a (Behind.look-at 𝓤 H A W TreeShare.fullShare network-proofs-Nodes·.the-type network-proofs-Nodes-Laws·.the-laws 2 16 Path.refl Path.refl a (u .1 .1 .1 .1 .1 .0) (network-proofs-Nodes·.struct .as-values (u .1 .1 .1 .1 .1 .0)) Path.refl))) (TReads.room-gone 𝓤 H A Syntax.tyBool) (Yields.makes-mem 𝓤 H A W (λ ρ. Unit) (Referent.rtF Referent.fBool) Path.refl (Rows.sc-here Row.sBool) (λ x. x) λ ρ told. Local.sc-mem 𝓤 H A W Referent.fBool ρ) Path.refl Path.refl Path.refl) d43
 
           d45 : Typed.Typed 𝓤 H A 𝓣 E G26 b43 Δ3 (at45 bs)
           d45 = Typed.g-pre 𝓤 H A W 𝓣 E G26 G27 b43 Δ3 (Typed.pass T26 T27 (s23 bs)) (at44 bs) (Scalar.g-room 𝓤 H A W E G26 17 Syntax.tyPtr (Scalar.room-sc 𝓤 H A W Row.sPtr)) d44
@@ -1582,7 +1582,7 @@ module _ (claims· : Claims) where
           d51 = Typed.g-pre 𝓤 H A W 𝓣 E G20 G21 b46 Δ3 (Typed.pass T20 T21 (s17 bs)) (at50 bs) (Scalar.g-room 𝓤 H A W E G20 11 (Syntax.tyInt Syntax.w64) (Scalar.room-sc 𝓤 H A W (Row.sInt Syntax.w64))) d50
 
           d52 : Typed.Typed 𝓤 H A 𝓣 E G19 b47 Δ3 (at52 bs)
-          d52 = Typed.s-seq 𝓤 H A W 𝓣 E G19 G20 b11 b46 Δ3 (Typed.both (s16 bs)) (at51 bs) (WayStmt.t-way-copy-out 𝓤 H A W E 𝓣 (Referent.rtF (Referent.fInt Syntax.w64)) Path.refl (Copies.cRf (Referent.fInt Syntax.w64) .copy 𝓤 H A W) (λ ρ. Unit) G19 (Row.out 14 (Row.out 6 (G19 .locals))) (λ u. Row.drop 14 (Row.out 6 (G19 .locals)) (Row.drop 6 (G19 .locals) u)) (G19 .slots) 14 (λ t. L._∷_ (Syntax.deref (Syntax.tyInt Syntax.w64)) t) (Syntax.tyInt Syntax.w64) (Syntax.tyInt Syntax.w64) 15 q34 (λ x. x) (λ u. ListN.getD (At.getAt (network-proofs-Degrees·.the-type .parts) 0 (network-proofs-Degrees·.struct .as-values (u .1 .1 .1 .1 .1 .1 .0))) (u .1 .1 .1 .1 .1 .1 .1 .0) 0) (λ u. (Row.hd 0 (Row.tl (Row.tl (Row.tl (Row.tl (Row.tl (Row.tl bs)))))), Shared.bySize 8 (u .1 .1 .1 .1 .1 .1 .1 .0) (Nat._+_ Nat.zero 0))) (λ T′. record { locals = Row.setRow 6 q15 (Row.setRow 14 (14, Rows.sc-here Row.sPtr) T′); slots = G19 .slots }) (λ u T′ m′. Row.set 6 q15 (u .1 .1 .1 .1 .1 .1 .0) (Row.setRow 14 (14, Rows.sc-here Row.sPtr) T′) (Row.set 14 (14, Rows.sc-here Row.sPtr) (u .1 .1 .1 .1 .1 .1 .1 .1 .1 .1 .1 .1 .1 .1 .0) T′ m′)) (λ u. Path._≡_ (u .1 .1 .1 .1 .1 .1 .1 .1 .1 .1 .1 .1 .1 .1 .0 .0) (Row.hd 0 (Row.tl (Row.tl (Row.tl (Row.tl (Row.tl (Row.tl bs))))))) × Path._≡_ (u .1 .1 .1 .1 .1 .1 .1 .1 .1 .1 .1 .1 .1 .1 .0 .1) (Shared.bySize 8 (u .1 .1 .1 .1 .1 .1 .1 .0) (Nat._+_ Nat.zero 0)) × Asked.InArray G19 (λ u. u .1 .1 .1 .1 .1 .1 .1 .0) 33 u) (λ x. Unit) (Own.told-none 𝓤 H A (G19 .slots)) (DerefMove.learns-nothing 𝓤 H A (Referent.rtF (Referent.fInt Syntax.w64))) (λ ρ told u asked. RuleWay.w-look 𝓤 H A W E (ItemWay.w-item-look 𝓤 H A W E (Declared.row network-proofs-Degrees·.the-type) (Referent.rtF (Referent.fInt Syntax.w64)) 33 tt q24 (Syntax.tyInt Syntax.w64) 0 0 (λ x. At.getAt (network-proofs-Degrees·.the-type .parts) 0 (network-proofs-Degrees·.struct .as-values x)) (λ x ys. x) (Shared.bySize 8) (λ i o. Elements.at-mul o 8 i) G19 ρ u (G19 .slots) 6 14 (u .1 .1 .1 .1 .1 .1 .1 .0) 0 (λ x. x) (λ x. x) (TReads.as-is 𝓤 H A q18) (TReads.as-is 𝓤 H A (Rows.sc-here Row.sPtr)) Path.refl (asked .0) (asked .1) (asked .2) Path.refl λ a. Items.cut-array 𝓤 H A TreeShare.fullShare (Declared.row network-proofs-Degrees·.the-type) (Referent.rtF (Referent.fInt Syntax.w64)) 33 0 (u .1 .1 .1 .1 .1 .1 .0) (u .1 .1 .1 .1 .1 .1 .0) (At.getAt (network-proofs-Degrees·.the-type .parts) 0 (network-proofs-Degrees·.struct .as-values (u .1 .1 .1 .1 .1 .1 .0))) (At.getAt (network-proofs-Degrees·.the-type .parts) 0 (network-proofs-Degrees·.struct .as-values (u .1 .1 .1 .1 .1 .1 .0))) a (Behind.look-at 𝓤 H A W TreeShare.fullShare network-proofs-Degrees·.the-type network-proofs-Degrees-Laws·.the-laws 0 0 Path.refl Path.refl a (u .1 .1 .1 .1 .1 .1 .0) (network-proofs-Degrees·.struct .as-values (u .1 .1 .1 .1 .1 .1 .0)) Path.refl))) (TReads.room-gone 𝓤 H A (Syntax.tyInt Syntax.w64)) (Yields.makes-mem 𝓤 H A W (λ ρ. Unit) (Referent.rtF (Referent.fInt Syntax.w64)) Path.refl q34 (λ x. x) λ ρ told. Local.sc-mem 𝓤 H A W (Referent.fInt Syntax.w64) ρ) Path.refl Path.refl Path.refl) d51
+          d52 = Typed.s-seq 𝓤 H A W 𝓣 E G19 G20 b11 b46 Δ3 (Typed.both (s16 bs)) (at51 bs) (WayStmt.t-way-copy-out 𝓤 H A W E 𝓣 (Referent.rtF (Referent.fInt Syntax.w64)) Path.refl (Copies.cRf (Referent.fInt Syntax.w64) .copy 𝓤 H A W) (λ ρ. Unit) G19 (Row.out 14 (Row.out 6 (G19 .locals))) (λ u. Row.drop 14 (Row.out 6 (G19 .locals)) (Row.drop 6 (G19 .locals) u)) (G19 .slots) 14 (λ t. L._∷_ (Syntax.deref (Syntax.tyInt Syntax.w64)) t) (Syntax.tyInt Syntax.w64) (Syntax.tyInt Syntax.w64) 15 q34 (λ x. x) (λ u. ListN.getD (At.getAt (network-proofs-Degrees·.the-type .parts) 0 (network-proofs-Degrees·.struct .as-values (u .1 .1 .1 .1 .1 .1 .0))) (u .1 .1 .1 .1 .1 .1 .1 .0) 0) (λ u. (Row.hd 0 (Row.tl (Row.tl (Row.tl (Row.tl (Row.tl (Row.tl bs)))))), Shared.bySize 8 (u .1 .1 .1 .1 .1 .1 .1 .0) (Nat._+_ Nat.zero 0))) (λ T′. record { locals = Row.setRow 6 q17 (Row.setRow 14 (14, Rows.sc-here Row.sPtr) T′); slots = G19 .slots }) (λ u T′ m′. Row.set 6 q17 (u .1 .1 .1 .1 .1 .1 .0) (Row.setRow 14 (14, Rows.sc-here Row.sPtr) T′) (Row.set 14 (14, Rows.sc-here Row.sPtr) (u .1 .1 .1 .1 .1 .1 .1 .1 .1 .1 .1 .1 .1 .1 .0) T′ m′)) (λ u. Path._≡_ (u .1 .1 .1 .1 .1 .1 .1 .1 .1 .1 .1 .1 .1 .1 .0 .0) (Row.hd 0 (Row.tl (Row.tl (Row.tl (Row.tl (Row.tl (Row.tl bs))))))) × Path._≡_ (u .1 .1 .1 .1 .1 .1 .1 .1 .1 .1 .1 .1 .1 .1 .0 .1) (Shared.bySize 8 (u .1 .1 .1 .1 .1 .1 .1 .0) (Nat._+_ Nat.zero 0)) × Asked.InArray G19 (λ u. u .1 .1 .1 .1 .1 .1 .1 .0) 33 u) (λ x. Unit) (Own.told-none 𝓤 H A (G19 .slots)) (DerefMove.learns-nothing 𝓤 H A (Referent.rtF (Referent.fInt Syntax.w64))) (λ ρ told u asked. RuleWay.w-look 𝓤 H A W E (ItemWay.w-item-look 𝓤 H A W E (Declared.row network-proofs-Degrees·.the-type) (Referent.rtF (Referent.fInt Syntax.w64)) 33 tt q24 (Syntax.tyInt Syntax.w64) 0 0 (λ x. At.getAt (network-proofs-Degrees·.the-type .parts) 0 (network-proofs-Degrees·.struct .as-values x)) (λ x ys. x) (Shared.bySize 8) (λ i o. Elements.at-mul o 8 i) G19 ρ u (G19 .slots) 6 14 (u .1 .1 .1 .1 .1 .1 .1 .0) 0 (λ x. x) (λ x. x) (TReads.as-is 𝓤 H A q21) (TReads.as-is 𝓤 H A (Rows.sc-here Row.sPtr)) Path.refl (asked .0) (asked .1) (asked .2) Path.refl λ a. Items.cut-array 𝓤 H A TreeShare.fullShare (Declared.row network-proofs-Degrees·.the-type) (Referent.rtF (Referent.fInt Syntax.w64)) 33 0 (u .1 .1 .1 .1 .1 .1 .0) (u .1 .1 .1 .1 .1 .1 .0) (At.getAt (network-proofs-Degrees·.the-type .parts) 0 (network-proofs-Degrees·.struct .as-values (u .1 .1 .1 .1 .1 .1 .0))) (At.getAt (network-proofs-Degrees·.the-type .parts) 0 (network-proofs-Degrees·.struct .as-values (u .1 .1 .1 .1 .1 .1 .0))) a (Behind.look-at 𝓤 H A W TreeShare.fullShare network-proofs-Degrees·.the-type network-proofs-Degrees-Laws·.the-laws 0 0 Path.refl Path.refl a (u .1 .1 .1 .1 .1 .1 .0) (network-proofs-Degrees·.struct .as-values (u .1 .1 .1 .1 .1 .1 .0)) Path.refl))) (TReads.room-gone 𝓤 H A (Syntax.tyInt Syntax.w64)) (Yields.makes-mem 𝓤 H A W (λ ρ. Unit) (Referent.rtF (Referent.fInt Syntax.w64)) Path.refl q34 (λ x. x) λ ρ told. Local.sc-mem 𝓤 H A W (Referent.fInt Syntax.w64) ρ) Path.refl Path.refl Path.refl) d51
 
           d53 : Typed.Typed 𝓤 H A 𝓣 E G18 b47 Δ3 (at53 bs)
           d53 = Typed.g-pre 𝓤 H A W 𝓣 E G18 G19 b47 Δ3 (Typed.pass T18 T19 (s15 bs)) (at52 bs) (Scalar.g-room 𝓤 H A W E G18 13 Syntax.tyPtr (Scalar.room-sc 𝓤 H A W Row.sPtr)) d52
@@ -1621,7 +1621,7 @@ module _ (claims· : Claims) where
           d64 = Typed.g-pre 𝓤 H A W 𝓣 E G61 G62 b57 Δ0 (Typed.pass T61 T62 (s57 bs)) (at63 bs) (Scalar.g-room 𝓤 H A W E G61 7 (Syntax.tyInt Syntax.w64) (Scalar.room-sc 𝓤 H A W (Row.sInt Syntax.w64))) d63
 
           d65 : Typed.Typed 𝓤 H A 𝓣 E G7 b58 Δ0 (at65 bs)
-          d65 = Typed.s-seq 𝓤 H A W 𝓣 E G7 G61 b56 b57 Δ0 (Typed.both (s56 bs)) (at64 bs) (Plain.t-call-plain 𝓤 H A W 𝓣 0 ps·3 r·3 (claims· .6) (claims· .7) "search::scan::nothing" (known .3) E (λ pos β. β) G7 tt 0 L.[] (Call.sub-id 𝓤 H A W (G7 .slots)) tt (TReads.room-gone 𝓤 H A (Syntax.tyStruct (L._∷_ 115 (L._∷_ 101 (L._∷_ 97 (L._∷_ 114 (L._∷_ 99 (L._∷_ 104 (L._∷_ 58 (L._∷_ 58 (L._∷_ 115 (L._∷_ 99 (L._∷_ 97 (L._∷_ 110 (L._∷_ 58 (L._∷_ 58 (L._∷_ 70 (L._∷_ 111 (L._∷_ 117 (L._∷_ 110 (L._∷_ 100 L.[]))))))))))))))))))) (Syntax.tcons Syntax.tyBool (Syntax.tcons Syntax.tyBool (Syntax.tcons (Syntax.tyStruct (L._∷_ 115 (L._∷_ 116 (L._∷_ 101 (L._∷_ 112 (L._∷_ 58 (L._∷_ 58 (L._∷_ 83 (L._∷_ 116 (L._∷_ 101 (L._∷_ 112 L.[])))))))))) (Syntax.tcons (Syntax.tyInt Syntax.w64) (Syntax.tcons (Syntax.tyInt Syntax.w64) (Syntax.tcons (Syntax.tyStruct (L._∷_ 115 (L._∷_ 116 (L._∷_ 101 (L._∷_ 112 (L._∷_ 58 (L._∷_ 58 (L._∷_ 67 (L._∷_ 104 (L._∷_ 97 (L._∷_ 110 (L._∷_ 103 (L._∷_ 101 L.[])))))))))))) (Syntax.tcons (Syntax.tyStruct (L._∷_ 110 (L._∷_ 101 (L._∷_ 116 (L._∷_ 119 (L._∷_ 111 (L._∷_ 114 (L._∷_ 107 (L._∷_ 58 (L._∷_ 58 (L._∷_ 69 (L._∷_ 100 (L._∷_ 105 (L._∷_ 116 L.[]))))))))))))) (Syntax.tcons q9 (Syntax.tcons q9 (Syntax.tcons q9 (Syntax.tcons q9 (Syntax.tcons q3 (Syntax.tcons q3 (Syntax.tcons (Syntax.tyInt Syntax.w64) Syntax.tnil)))))))) (Syntax.tcons (Syntax.tyStruct (L._∷_ 115 (L._∷_ 116 (L._∷_ 101 (L._∷_ 112 (L._∷_ 58 (L._∷_ 58 (L._∷_ 79 (L._∷_ 108 (L._∷_ 100 L.[]))))))))) (Syntax.tcons (Syntax.tyInt Syntax.w64) (Syntax.tcons q8 (Syntax.tcons q9 (Syntax.tcons q9 (Syntax.tcons q9 (Syntax.tcons q9 (Syntax.tcons q5 Syntax.tnil)))))))) Syntax.tnil))) Syntax.tnil)))) Syntax.tnil))))) tt Path.refl) d64
+          d65 = Typed.s-seq 𝓤 H A W 𝓣 E G7 G61 b56 b57 Δ0 (Typed.both (s56 bs)) (at64 bs) (Plain.t-call-plain 𝓤 H A W 𝓣 0 ps·3 r·3 (claims· .6) (claims· .7) "rules::found::nothing" (known .3) E (λ pos β. β) G7 tt 0 L.[] (Call.sub-id 𝓤 H A W (G7 .slots)) tt (TReads.room-gone 𝓤 H A (Syntax.tyStruct (L._∷_ 114 (L._∷_ 117 (L._∷_ 108 (L._∷_ 101 (L._∷_ 115 (L._∷_ 58 (L._∷_ 58 (L._∷_ 102 (L._∷_ 111 (L._∷_ 117 (L._∷_ 110 (L._∷_ 100 (L._∷_ 58 (L._∷_ 58 (L._∷_ 70 (L._∷_ 111 (L._∷_ 117 (L._∷_ 110 (L._∷_ 100 L.[]))))))))))))))))))) (Syntax.tcons Syntax.tyBool (Syntax.tcons Syntax.tyBool (Syntax.tcons (Syntax.tyStruct (L._∷_ 115 (L._∷_ 116 (L._∷_ 101 (L._∷_ 112 (L._∷_ 58 (L._∷_ 58 (L._∷_ 83 (L._∷_ 116 (L._∷_ 101 (L._∷_ 112 L.[])))))))))) (Syntax.tcons (Syntax.tyInt Syntax.w64) (Syntax.tcons (Syntax.tyInt Syntax.w64) (Syntax.tcons (Syntax.tyStruct (L._∷_ 115 (L._∷_ 116 (L._∷_ 101 (L._∷_ 112 (L._∷_ 58 (L._∷_ 58 (L._∷_ 67 (L._∷_ 104 (L._∷_ 97 (L._∷_ 110 (L._∷_ 103 (L._∷_ 101 L.[])))))))))))) (Syntax.tcons (Syntax.tyStruct (L._∷_ 110 (L._∷_ 101 (L._∷_ 116 (L._∷_ 119 (L._∷_ 111 (L._∷_ 114 (L._∷_ 107 (L._∷_ 58 (L._∷_ 58 (L._∷_ 69 (L._∷_ 100 (L._∷_ 105 (L._∷_ 116 L.[]))))))))))))) (Syntax.tcons q9 (Syntax.tcons q9 (Syntax.tcons q9 (Syntax.tcons q9 (Syntax.tcons q3 (Syntax.tcons q3 (Syntax.tcons (Syntax.tyInt Syntax.w64) Syntax.tnil)))))))) (Syntax.tcons (Syntax.tyStruct (L._∷_ 115 (L._∷_ 116 (L._∷_ 101 (L._∷_ 112 (L._∷_ 58 (L._∷_ 58 (L._∷_ 79 (L._∷_ 108 (L._∷_ 100 L.[]))))))))) (Syntax.tcons (Syntax.tyInt Syntax.w64) (Syntax.tcons q8 (Syntax.tcons q9 (Syntax.tcons q9 (Syntax.tcons q9 (Syntax.tcons q9 (Syntax.tcons q5 Syntax.tnil)))))))) Syntax.tnil))) Syntax.tnil)))) Syntax.tnil))))) tt Path.refl) d64
 
           d66 : Typed.Typed 𝓤 H A 𝓣 E G6 b59 Δ0 (at66 bs)
           d66 = Typed.t-seq 𝓤 H A W 𝓣 E G6 G7 b55 b58 Δ0 (at61 bs) (at65 bs) d61 d65
@@ -1633,13 +1633,13 @@ module _ (claims· : Claims) where
           d68 = Typed.g-pre 𝓤 H A W 𝓣 E G4 G5 b60 Δ0 (Typed.pass T4 T5 (s3 bs)) (at67 bs) (Scalar.g-room 𝓤 H A W E G4 3 q12 (Local.room-whole 𝓤 H A W (Declared.row network-proofs-Degrees·.the-type) q12 Path.refl)) d67
 
           d69 : Typed.Typed 𝓤 H A 𝓣 E G3 b61 Δ0 (at69 bs)
-          d69 = Typed.s-seq 𝓤 H A W 𝓣 E G3 G4 b1 b60 Δ0 (Typed.pass T3 T4 (s2 bs)) (at68 bs) (LocalCopy.t-val-copy 𝓤 H A W E 𝓣 (λ ρ. Unit) G3 3 6 (Declared.row network-proofs-Degrees·.the-type) q12 q12 q18 q18 (λ x. x) (λ x. x) (λ x. x) Path.refl (Own.told-none 𝓤 H A (G3 .slots)) (Yields.yields-copy 𝓤 H A W (λ ρ. Unit) (Declared.row network-proofs-Degrees·.the-type) Path.refl (Copies.cStruct network-proofs-Degrees·.the-type network-proofs-Degrees-Laws·.the-laws network-proofs-Degrees-Laws·.the-copy .copy 𝓤 H A W) q18 (λ x. x) (λ x. x) (λ ρ told. Local.mem-whole 𝓤 H A W (Declared.row network-proofs-Degrees·.the-type) ρ) λ ρ told. Local.whole-mem 𝓤 H A W (Declared.row network-proofs-Degrees·.the-type) ρ) (TReads.room-gone 𝓤 H A q12) (Yields.makes-mem 𝓤 H A W (λ ρ. Unit) (Declared.row network-proofs-Degrees·.the-type) Path.refl q18 (λ x. x) λ ρ told. Local.whole-mem 𝓤 H A W (Declared.row network-proofs-Degrees·.the-type) ρ) Path.refl Path.refl) d68
+          d69 = Typed.s-seq 𝓤 H A W 𝓣 E G3 G4 b1 b60 Δ0 (Typed.pass T3 T4 (s2 bs)) (at68 bs) (LocalCopy.t-val-copy 𝓤 H A W E 𝓣 (λ ρ. Unit) G3 3 6 (Declared.row network-proofs-Degrees·.the-type) q12 q12 q21 q21 (λ x. x) (λ x. x) (λ x. x) Path.refl (Own.told-none 𝓤 H A (G3 .slots)) (Yields.yields-copy 𝓤 H A W (λ ρ. Unit) (Declared.row network-proofs-Degrees·.the-type) Path.refl (Copies.cStruct network-proofs-Degrees·.the-type network-proofs-Degrees-Laws·.the-laws network-proofs-Degrees-Laws·.the-copy .copy 𝓤 H A W) q21 (λ x. x) (λ x. x) (λ ρ told. Local.mem-whole 𝓤 H A W (Declared.row network-proofs-Degrees·.the-type) ρ) λ ρ told. Local.whole-mem 𝓤 H A W (Declared.row network-proofs-Degrees·.the-type) ρ) (TReads.room-gone 𝓤 H A q12) (Yields.makes-mem 𝓤 H A W (λ ρ. Unit) (Declared.row network-proofs-Degrees·.the-type) Path.refl q21 (λ x. x) λ ρ told. Local.whole-mem 𝓤 H A W (Declared.row network-proofs-Degrees·.the-type) ρ) Path.refl Path.refl) d68
 
           d70 : Typed.Typed 𝓤 H A 𝓣 E G2 b61 Δ0 (at70 bs)
           d70 = Typed.g-pre 𝓤 H A W 𝓣 E G2 G3 b61 Δ0 (Typed.pass T2 T3 (s1 bs)) (at69 bs) (Scalar.g-room 𝓤 H A W E G2 1 q2 (Local.room-whole 𝓤 H A W (Declared.row network-proofs-Nodes·.the-type) q2 Path.refl)) d69
 
           d71 : Typed.Typed 𝓤 H A 𝓣 E G0 b62 Δ0 (at71 bs)
-          d71 = Typed.s-seq 𝓤 H A W 𝓣 E G0 G2 b0 b61 Δ0 (Typed.pass T0 T2 (s0 bs)) (at70 bs) (LocalCopy.t-val-copy 𝓤 H A W E 𝓣 (λ ρ. Unit) G0 1 5 (Declared.row network-proofs-Nodes·.the-type) q2 q2 q19 q19 (λ x. x) (λ x. x) (λ x. x) Path.refl (Own.told-none 𝓤 H A (G0 .slots)) (Yields.yields-copy 𝓤 H A W (λ ρ. Unit) (Declared.row network-proofs-Nodes·.the-type) Path.refl (Copies.cStruct network-proofs-Nodes·.the-type network-proofs-Nodes-Laws·.the-laws network-proofs-Nodes-Laws·.the-copy .copy 𝓤 H A W) q19 (λ x. x) (λ x. x) (λ ρ told. Local.mem-whole 𝓤 H A W (Declared.row network-proofs-Nodes·.the-type) ρ) λ ρ told. Local.whole-mem 𝓤 H A W (Declared.row network-proofs-Nodes·.the-type) ρ) (TReads.room-gone 𝓤 H A q2) (Yields.makes-mem 𝓤 H A W (λ ρ. Unit) (Declared.row network-proofs-Nodes·.the-type) Path.refl q19 (λ x. x) λ ρ told. Local.whole-mem 𝓤 H A W (Declared.row network-proofs-Nodes·.the-type) ρ) Path.refl Path.refl) d70
+          d71 = Typed.s-seq 𝓤 H A W 𝓣 E G0 G2 b0 b61 Δ0 (Typed.pass T0 T2 (s0 bs)) (at70 bs) (LocalCopy.t-val-copy 𝓤 H A W E 𝓣 (λ ρ. Unit) G0 1 5 (Declared.row network-proofs-Nodes·.the-type) q2 q2 q22 q22 (λ x. x) (λ x. x) (λ x. x) Path.refl (Own.told-none 𝓤 H A (G0 .slots)) (Yields.yields-copy 𝓤 H A W (λ ρ. Unit) (Declared.row network-proofs-Nodes·.the-type) Path.refl (Copies.cStruct network-proofs-Nodes·.the-type network-proofs-Nodes-Laws·.the-laws network-proofs-Nodes-Laws·.the-copy .copy 𝓤 H A W) q22 (λ x. x) (λ x. x) (λ ρ told. Local.mem-whole 𝓤 H A W (Declared.row network-proofs-Nodes·.the-type) ρ) λ ρ told. Local.whole-mem 𝓤 H A W (Declared.row network-proofs-Nodes·.the-type) ρ) (TReads.room-gone 𝓤 H A q2) (Yields.makes-mem 𝓤 H A W (λ ρ. Unit) (Declared.row network-proofs-Nodes·.the-type) Path.refl q22 (λ x. x) λ ρ told. Local.whole-mem 𝓤 H A W (Declared.row network-proofs-Nodes·.the-type) ρ) Path.refl Path.refl) d70
 
           pub typed : Typed.Typed 𝓤 H A 𝓣 E (Function.Γin 1 ps r xs m κs qs) b62 (Function.Δret 1 ps r xs m κs qs) (Φ bs)
           typed = d71
@@ -2005,7 +2005,7 @@ module _ (claims· : Claims) where
         pub if1 : Else1·own before
 
       abbrev pub m56 : (before : After-is-wanted) → Typed.Mo T38
-      m56 = λ before. Row.set 23 q38 tt (Row.setRow 22 q4 (Row.setRow 16 q37 (Row.setRow 10 (10, Rows.any-gone (Syntax.tyStruct (L._∷_ 115 (L._∷_ 101 (L._∷_ 97 (L._∷_ 114 (L._∷_ 99 (L._∷_ 104 (L._∷_ 58 (L._∷_ 58 (L._∷_ 115 (L._∷_ 99 (L._∷_ 97 (L._∷_ 110 (L._∷_ 58 (L._∷_ 58 (L._∷_ 70 (L._∷_ 111 (L._∷_ 117 (L._∷_ 110 (L._∷_ 100 L.[]))))))))))))))))))) (Syntax.tcons Syntax.tyBool (Syntax.tcons Syntax.tyBool (Syntax.tcons (Syntax.tyStruct (L._∷_ 115 (L._∷_ 116 (L._∷_ 101 (L._∷_ 112 (L._∷_ 58 (L._∷_ 58 (L._∷_ 83 (L._∷_ 116 (L._∷_ 101 (L._∷_ 112 L.[])))))))))) (Syntax.tcons (Syntax.tyInt Syntax.w64) (Syntax.tcons (Syntax.tyInt Syntax.w64) (Syntax.tcons (Syntax.tyStruct (L._∷_ 115 (L._∷_ 116 (L._∷_ 101 (L._∷_ 112 (L._∷_ 58 (L._∷_ 58 (L._∷_ 67 (L._∷_ 104 (L._∷_ 97 (L._∷_ 110 (L._∷_ 103 (L._∷_ 101 L.[])))))))))))) (Syntax.tcons (Syntax.tyStruct (L._∷_ 110 (L._∷_ 101 (L._∷_ 116 (L._∷_ 119 (L._∷_ 111 (L._∷_ 114 (L._∷_ 107 (L._∷_ 58 (L._∷_ 58 (L._∷_ 69 (L._∷_ 100 (L._∷_ 105 (L._∷_ 116 L.[]))))))))))))) (Syntax.tcons q9 (Syntax.tcons q9 (Syntax.tcons q9 (Syntax.tcons q9 (Syntax.tcons q3 (Syntax.tcons q3 (Syntax.tcons (Syntax.tyInt Syntax.w64) Syntax.tnil)))))))) (Syntax.tcons (Syntax.tyStruct (L._∷_ 115 (L._∷_ 116 (L._∷_ 101 (L._∷_ 112 (L._∷_ 58 (L._∷_ 58 (L._∷_ 79 (L._∷_ 108 (L._∷_ 100 L.[]))))))))) (Syntax.tcons (Syntax.tyInt Syntax.w64) (Syntax.tcons q8 (Syntax.tcons q9 (Syntax.tcons q9 (Syntax.tcons q9 (Syntax.tcons q9 (Syntax.tcons q5 Syntax.tnil)))))))) Syntax.tnil))) Syntax.tnil)))) Syntax.tnil))))) (Row.setRow 9 (9, Rows.any-gone (Syntax.tyStruct (L._∷_ 115 (L._∷_ 101 (L._∷_ 97 (L._∷_ 114 (L._∷_ 99 (L._∷_ 104 (L._∷_ 58 (L._∷_ 58 (L._∷_ 115 (L._∷_ 99 (L._∷_ 97 (L._∷_ 110 (L._∷_ 58 (L._∷_ 58 (L._∷_ 65 (L._∷_ 114 (L._∷_ 111 (L._∷_ 117 (L._∷_ 110 (L._∷_ 100 L.[])))))))))))))))))))) (Syntax.tcons q9 (Syntax.tcons q9 (Syntax.tcons q9 (Syntax.tcons q9 Syntax.tnil)))))) (T40 .locals))))) (Row.set 22 q4 tt (Row.setRow 16 q37 (Row.setRow 10 (10, Rows.any-gone (Syntax.tyStruct (L._∷_ 115 (L._∷_ 101 (L._∷_ 97 (L._∷_ 114 (L._∷_ 99 (L._∷_ 104 (L._∷_ 58 (L._∷_ 58 (L._∷_ 115 (L._∷_ 99 (L._∷_ 97 (L._∷_ 110 (L._∷_ 58 (L._∷_ 58 (L._∷_ 70 (L._∷_ 111 (L._∷_ 117 (L._∷_ 110 (L._∷_ 100 L.[]))))))))))))))))))) (Syntax.tcons Syntax.tyBool (Syntax.tcons Syntax.tyBool (Syntax.tcons (Syntax.tyStruct (L._∷_ 115 (L._∷_ 116 (L._∷_ 101 (L._∷_ 112 (L._∷_ 58 (L._∷_ 58 (L._∷_ 83 (L._∷_ 116 (L._∷_ 101 (L._∷_ 112 L.[])))))))))) (Syntax.tcons (Syntax.tyInt Syntax.w64) (Syntax.tcons (Syntax.tyInt Syntax.w64) (Syntax.tcons (Syntax.tyStruct (L._∷_ 115 (L._∷_ 116 (L._∷_ 101 (L._∷_ 112 (L._∷_ 58 (L._∷_ 58 (L._∷_ 67 (L._∷_ 104 (L._∷_ 97 (L._∷_ 110 (L._∷_ 103 (L._∷_ 101 L.[])))))))))))) (Syntax.tcons (Syntax.tyStruct (L._∷_ 110 (L._∷_ 101 (L._∷_ 116 (L._∷_ 119 (L._∷_ 111 (L._∷_ 114 (L._∷_ 107 (L._∷_ 58 (L._∷_ 58 (L._∷_ 69 (L._∷_ 100 (L._∷_ 105 (L._∷_ 116 L.[]))))))))))))) (Syntax.tcons q9 (Syntax.tcons q9 (Syntax.tcons q9 (Syntax.tcons q9 (Syntax.tcons q3 (Syntax.tcons q3 (Syntax.tcons (Syntax.tyInt Syntax.w64) Syntax.tnil)))))))) (Syntax.tcons (Syntax.tyStruct (L._∷_ 115 (L._∷_ 116 (L._∷_ 101 (L._∷_ 112 (L._∷_ 58 (L._∷_ 58 (L._∷_ 79 (L._∷_ 108 (L._∷_ 100 L.[]))))))))) (Syntax.tcons (Syntax.tyInt Syntax.w64) (Syntax.tcons q8 (Syntax.tcons q9 (Syntax.tcons q9 (Syntax.tcons q9 (Syntax.tcons q9 (Syntax.tcons q5 Syntax.tnil)))))))) Syntax.tnil))) Syntax.tnil)))) Syntax.tnil))))) (Row.setRow 9 (9, Rows.any-gone (Syntax.tyStruct (L._∷_ 115 (L._∷_ 101 (L._∷_ 97 (L._∷_ 114 (L._∷_ 99 (L._∷_ 104 (L._∷_ 58 (L._∷_ 58 (L._∷_ 115 (L._∷_ 99 (L._∷_ 97 (L._∷_ 110 (L._∷_ 58 (L._∷_ 58 (L._∷_ 65 (L._∷_ 114 (L._∷_ 111 (L._∷_ 117 (L._∷_ 110 (L._∷_ 100 L.[])))))))))))))))))))) (Syntax.tcons q9 (Syntax.tcons q9 (Syntax.tcons q9 (Syntax.tcons q9 Syntax.tnil)))))) (T40 .locals)))) (Row.set 16 q37 tt (Row.setRow 10 (10, Rows.any-gone (Syntax.tyStruct (L._∷_ 115 (L._∷_ 101 (L._∷_ 97 (L._∷_ 114 (L._∷_ 99 (L._∷_ 104 (L._∷_ 58 (L._∷_ 58 (L._∷_ 115 (L._∷_ 99 (L._∷_ 97 (L._∷_ 110 (L._∷_ 58 (L._∷_ 58 (L._∷_ 70 (L._∷_ 111 (L._∷_ 117 (L._∷_ 110 (L._∷_ 100 L.[]))))))))))))))))))) (Syntax.tcons Syntax.tyBool (Syntax.tcons Syntax.tyBool (Syntax.tcons (Syntax.tyStruct (L._∷_ 115 (L._∷_ 116 (L._∷_ 101 (L._∷_ 112 (L._∷_ 58 (L._∷_ 58 (L._∷_ 83 (L._∷_ 116 (L._∷_ 101 (L._∷_ 112 L.[])))))))))) (Syntax.tcons (Syntax.tyInt Syntax.w64) (Syntax.tcons (Syntax.tyInt Syntax.w64) (Syntax.tcons (Syntax.tyStruct (L._∷_ 115 (L._∷_ 116 (L._∷_ 101 (L._∷_ 112 (L._∷_ 58 (L._∷_ 58 (L._∷_ 67 (L._∷_ 104 (L._∷_ 97 (L._∷_ 110 (L._∷_ 103 (L._∷_ 101 L.[])))))))))))) (Syntax.tcons (Syntax.tyStruct (L._∷_ 110 (L._∷_ 101 (L._∷_ 116 (L._∷_ 119 (L._∷_ 111 (L._∷_ 114 (L._∷_ 107 (L._∷_ 58 (L._∷_ 58 (L._∷_ 69 (L._∷_ 100 (L._∷_ 105 (L._∷_ 116 L.[]))))))))))))) (Syntax.tcons q9 (Syntax.tcons q9 (Syntax.tcons q9 (Syntax.tcons q9 (Syntax.tcons q3 (Syntax.tcons q3 (Syntax.tcons (Syntax.tyInt Syntax.w64) Syntax.tnil)))))))) (Syntax.tcons (Syntax.tyStruct (L._∷_ 115 (L._∷_ 116 (L._∷_ 101 (L._∷_ 112 (L._∷_ 58 (L._∷_ 58 (L._∷_ 79 (L._∷_ 108 (L._∷_ 100 L.[]))))))))) (Syntax.tcons (Syntax.tyInt Syntax.w64) (Syntax.tcons q8 (Syntax.tcons q9 (Syntax.tcons q9 (Syntax.tcons q9 (Syntax.tcons q9 (Syntax.tcons q5 Syntax.tnil)))))))) Syntax.tnil))) Syntax.tnil)))) Syntax.tnil))))) (Row.setRow 9 (9, Rows.any-gone (Syntax.tyStruct (L._∷_ 115 (L._∷_ 101 (L._∷_ 97 (L._∷_ 114 (L._∷_ 99 (L._∷_ 104 (L._∷_ 58 (L._∷_ 58 (L._∷_ 115 (L._∷_ 99 (L._∷_ 97 (L._∷_ 110 (L._∷_ 58 (L._∷_ 58 (L._∷_ 65 (L._∷_ 114 (L._∷_ 111 (L._∷_ 117 (L._∷_ 110 (L._∷_ 100 L.[])))))))))))))))))))) (Syntax.tcons q9 (Syntax.tcons q9 (Syntax.tcons q9 (Syntax.tcons q9 Syntax.tnil)))))) (T40 .locals))) (Row.set 10 (10, Rows.any-gone (Syntax.tyStruct (L._∷_ 115 (L._∷_ 101 (L._∷_ 97 (L._∷_ 114 (L._∷_ 99 (L._∷_ 104 (L._∷_ 58 (L._∷_ 58 (L._∷_ 115 (L._∷_ 99 (L._∷_ 97 (L._∷_ 110 (L._∷_ 58 (L._∷_ 58 (L._∷_ 70 (L._∷_ 111 (L._∷_ 117 (L._∷_ 110 (L._∷_ 100 L.[]))))))))))))))))))) (Syntax.tcons Syntax.tyBool (Syntax.tcons Syntax.tyBool (Syntax.tcons (Syntax.tyStruct (L._∷_ 115 (L._∷_ 116 (L._∷_ 101 (L._∷_ 112 (L._∷_ 58 (L._∷_ 58 (L._∷_ 83 (L._∷_ 116 (L._∷_ 101 (L._∷_ 112 L.[])))))))))) (Syntax.tcons (Syntax.tyInt Syntax.w64) (Syntax.tcons (Syntax.tyInt Syntax.w64) (Syntax.tcons (Syntax.tyStruct (L._∷_ 115 (L._∷_ 116 (L._∷_ 101 (L._∷_ 112 (L._∷_ 58 (L._∷_ 58 (L._∷_ 67 (L._∷_ 104 (L._∷_ 97 (L._∷_ 110 (L._∷_ 103 (L._∷_ 101 L.[])))))))))))) (Syntax.tcons (Syntax.tyStruct (L._∷_ 110 (L._∷_ 101 (L._∷_ 116 (L._∷_ 119 (L._∷_ 111 (L._∷_ 114 (L._∷_ 107 (L._∷_ 58 (L._∷_ 58 (L._∷_ 69 (L._∷_ 100 (L._∷_ 105 (L._∷_ 116 L.[]))))))))))))) (Syntax.tcons q9 (Syntax.tcons q9 (Syntax.tcons q9 (Syntax.tcons q9 (Syntax.tcons q3 (Syntax.tcons q3 (Syntax.tcons (Syntax.tyInt Syntax.w64) Syntax.tnil)))))))) (Syntax.tcons (Syntax.tyStruct (L._∷_ 115 (L._∷_ 116 (L._∷_ 101 (L._∷_ 112 (L._∷_ 58 (L._∷_ 58 (L._∷_ 79 (L._∷_ 108 (L._∷_ 100 L.[]))))))))) (Syntax.tcons (Syntax.tyInt Syntax.w64) (Syntax.tcons q8 (Syntax.tcons q9 (Syntax.tcons q9 (Syntax.tcons q9 (Syntax.tcons q9 (Syntax.tcons q5 Syntax.tnil)))))))) Syntax.tnil))) Syntax.tnil)))) Syntax.tnil))))) tt (Row.setRow 9 (9, Rows.any-gone (Syntax.tyStruct (L._∷_ 115 (L._∷_ 101 (L._∷_ 97 (L._∷_ 114 (L._∷_ 99 (L._∷_ 104 (L._∷_ 58 (L._∷_ 58 (L._∷_ 115 (L._∷_ 99 (L._∷_ 97 (L._∷_ 110 (L._∷_ 58 (L._∷_ 58 (L._∷_ 65 (L._∷_ 114 (L._∷_ 111 (L._∷_ 117 (L._∷_ 110 (L._∷_ 100 L.[])))))))))))))))))))) (Syntax.tcons q9 (Syntax.tcons q9 (Syntax.tcons q9 (Syntax.tcons q9 Syntax.tnil)))))) (T40 .locals)) (Row.set 9 (9, Rows.any-gone (Syntax.tyStruct (L._∷_ 115 (L._∷_ 101 (L._∷_ 97 (L._∷_ 114 (L._∷_ 99 (L._∷_ 104 (L._∷_ 58 (L._∷_ 58 (L._∷_ 115 (L._∷_ 99 (L._∷_ 97 (L._∷_ 110 (L._∷_ 58 (L._∷_ 58 (L._∷_ 65 (L._∷_ 114 (L._∷_ 111 (L._∷_ 117 (L._∷_ 110 (L._∷_ 100 L.[])))))))))))))))))))) (Syntax.tcons q9 (Syntax.tcons q9 (Syntax.tcons q9 (Syntax.tcons q9 Syntax.tnil)))))) tt (T40 .locals) (m37 (before .before) (After-is-wanted·gave before))))))
+      m56 = λ before. Row.set 23 q38 tt (Row.setRow 22 q4 (Row.setRow 16 q37 (Row.setRow 10 (10, Rows.any-gone (Syntax.tyStruct (L._∷_ 114 (L._∷_ 117 (L._∷_ 108 (L._∷_ 101 (L._∷_ 115 (L._∷_ 58 (L._∷_ 58 (L._∷_ 102 (L._∷_ 111 (L._∷_ 117 (L._∷_ 110 (L._∷_ 100 (L._∷_ 58 (L._∷_ 58 (L._∷_ 70 (L._∷_ 111 (L._∷_ 117 (L._∷_ 110 (L._∷_ 100 L.[]))))))))))))))))))) (Syntax.tcons Syntax.tyBool (Syntax.tcons Syntax.tyBool (Syntax.tcons (Syntax.tyStruct (L._∷_ 115 (L._∷_ 116 (L._∷_ 101 (L._∷_ 112 (L._∷_ 58 (L._∷_ 58 (L._∷_ 83 (L._∷_ 116 (L._∷_ 101 (L._∷_ 112 L.[])))))))))) (Syntax.tcons (Syntax.tyInt Syntax.w64) (Syntax.tcons (Syntax.tyInt Syntax.w64) (Syntax.tcons (Syntax.tyStruct (L._∷_ 115 (L._∷_ 116 (L._∷_ 101 (L._∷_ 112 (L._∷_ 58 (L._∷_ 58 (L._∷_ 67 (L._∷_ 104 (L._∷_ 97 (L._∷_ 110 (L._∷_ 103 (L._∷_ 101 L.[])))))))))))) (Syntax.tcons (Syntax.tyStruct (L._∷_ 110 (L._∷_ 101 (L._∷_ 116 (L._∷_ 119 (L._∷_ 111 (L._∷_ 114 (L._∷_ 107 (L._∷_ 58 (L._∷_ 58 (L._∷_ 69 (L._∷_ 100 (L._∷_ 105 (L._∷_ 116 L.[]))))))))))))) (Syntax.tcons q9 (Syntax.tcons q9 (Syntax.tcons q9 (Syntax.tcons q9 (Syntax.tcons q3 (Syntax.tcons q3 (Syntax.tcons (Syntax.tyInt Syntax.w64) Syntax.tnil)))))))) (Syntax.tcons (Syntax.tyStruct (L._∷_ 115 (L._∷_ 116 (L._∷_ 101 (L._∷_ 112 (L._∷_ 58 (L._∷_ 58 (L._∷_ 79 (L._∷_ 108 (L._∷_ 100 L.[]))))))))) (Syntax.tcons (Syntax.tyInt Syntax.w64) (Syntax.tcons q8 (Syntax.tcons q9 (Syntax.tcons q9 (Syntax.tcons q9 (Syntax.tcons q9 (Syntax.tcons q5 Syntax.tnil)))))))) Syntax.tnil))) Syntax.tnil)))) Syntax.tnil))))) (Row.setRow 9 (9, Rows.any-gone (Syntax.tyStruct (L._∷_ 114 (L._∷_ 117 (L._∷_ 108 (L._∷_ 101 (L._∷_ 115 (L._∷_ 58 (L._∷_ 58 (L._∷_ 116 (L._∷_ 114 (L._∷_ 105 (L._∷_ 101 (L._∷_ 100 (L._∷_ 58 (L._∷_ 58 (L._∷_ 65 (L._∷_ 114 (L._∷_ 111 (L._∷_ 117 (L._∷_ 110 (L._∷_ 100 L.[])))))))))))))))))))) (Syntax.tcons q9 (Syntax.tcons q9 (Syntax.tcons q9 (Syntax.tcons q9 Syntax.tnil)))))) (T40 .locals))))) (Row.set 22 q4 tt (Row.setRow 16 q37 (Row.setRow 10 (10, Rows.any-gone (Syntax.tyStruct (L._∷_ 114 (L._∷_ 117 (L._∷_ 108 (L._∷_ 101 (L._∷_ 115 (L._∷_ 58 (L._∷_ 58 (L._∷_ 102 (L._∷_ 111 (L._∷_ 117 (L._∷_ 110 (L._∷_ 100 (L._∷_ 58 (L._∷_ 58 (L._∷_ 70 (L._∷_ 111 (L._∷_ 117 (L._∷_ 110 (L._∷_ 100 L.[]))))))))))))))))))) (Syntax.tcons Syntax.tyBool (Syntax.tcons Syntax.tyBool (Syntax.tcons (Syntax.tyStruct (L._∷_ 115 (L._∷_ 116 (L._∷_ 101 (L._∷_ 112 (L._∷_ 58 (L._∷_ 58 (L._∷_ 83 (L._∷_ 116 (L._∷_ 101 (L._∷_ 112 L.[])))))))))) (Syntax.tcons (Syntax.tyInt Syntax.w64) (Syntax.tcons (Syntax.tyInt Syntax.w64) (Syntax.tcons (Syntax.tyStruct (L._∷_ 115 (L._∷_ 116 (L._∷_ 101 (L._∷_ 112 (L._∷_ 58 (L._∷_ 58 (L._∷_ 67 (L._∷_ 104 (L._∷_ 97 (L._∷_ 110 (L._∷_ 103 (L._∷_ 101 L.[])))))))))))) (Syntax.tcons (Syntax.tyStruct (L._∷_ 110 (L._∷_ 101 (L._∷_ 116 (L._∷_ 119 (L._∷_ 111 (L._∷_ 114 (L._∷_ 107 (L._∷_ 58 (L._∷_ 58 (L._∷_ 69 (L._∷_ 100 (L._∷_ 105 (L._∷_ 116 L.[]))))))))))))) (Syntax.tcons q9 (Syntax.tcons q9 (Syntax.tcons q9 (Syntax.tcons q9 (Syntax.tcons q3 (Syntax.tcons q3 (Syntax.tcons (Syntax.tyInt Syntax.w64) Syntax.tnil)))))))) (Syntax.tcons (Syntax.tyStruct (L._∷_ 115 (L._∷_ 116 (L._∷_ 101 (L._∷_ 112 (L._∷_ 58 (L._∷_ 58 (L._∷_ 79 (L._∷_ 108 (L._∷_ 100 L.[]))))))))) (Syntax.tcons (Syntax.tyInt Syntax.w64) (Syntax.tcons q8 (Syntax.tcons q9 (Syntax.tcons q9 (Syntax.tcons q9 (Syntax.tcons q9 (Syntax.tcons q5 Syntax.tnil)))))))) Syntax.tnil))) Syntax.tnil)))) Syntax.tnil))))) (Row.setRow 9 (9, Rows.any-gone (Syntax.tyStruct (L._∷_ 114 (L._∷_ 117 (L._∷_ 108 (L._∷_ 101 (L._∷_ 115 (L._∷_ 58 (L._∷_ 58 (L._∷_ 116 (L._∷_ 114 (L._∷_ 105 (L._∷_ 101 (L._∷_ 100 (L._∷_ 58 (L._∷_ 58 (L._∷_ 65 (L._∷_ 114 (L._∷_ 111 (L._∷_ 117 (L._∷_ 110 (L._∷_ 100 L.[])))))))))))))))))))) (Syntax.tcons q9 (Syntax.tcons q9 (Syntax.tcons q9 (Syntax.tcons q9 Syntax.tnil)))))) (T40 .locals)))) (Row.set 16 q37 tt (Row.setRow 10 (10, Rows.any-gone (Syntax.tyStruct (L._∷_ 114 (L._∷_ 117 (L._∷_ 108 (L._∷_ 101 (L._∷_ 115 (L._∷_ 58 (L._∷_ 58 (L._∷_ 102 (L._∷_ 111 (L._∷_ 117 (L._∷_ 110 (L._∷_ 100 (L._∷_ 58 (L._∷_ 58 (L._∷_ 70 (L._∷_ 111 (L._∷_ 117 (L._∷_ 110 (L._∷_ 100 L.[]))))))))))))))))))) (Syntax.tcons Syntax.tyBool (Syntax.tcons Syntax.tyBool (Syntax.tcons (Syntax.tyStruct (L._∷_ 115 (L._∷_ 116 (L._∷_ 101 (L._∷_ 112 (L._∷_ 58 (L._∷_ 58 (L._∷_ 83 (L._∷_ 116 (L._∷_ 101 (L._∷_ 112 L.[])))))))))) (Syntax.tcons (Syntax.tyInt Syntax.w64) (Syntax.tcons (Syntax.tyInt Syntax.w64) (Syntax.tcons (Syntax.tyStruct (L._∷_ 115 (L._∷_ 116 (L._∷_ 101 (L._∷_ 112 (L._∷_ 58 (L._∷_ 58 (L._∷_ 67 (L._∷_ 104 (L._∷_ 97 (L._∷_ 110 (L._∷_ 103 (L._∷_ 101 L.[])))))))))))) (Syntax.tcons (Syntax.tyStruct (L._∷_ 110 (L._∷_ 101 (L._∷_ 116 (L._∷_ 119 (L._∷_ 111 (L._∷_ 114 (L._∷_ 107 (L._∷_ 58 (L._∷_ 58 (L._∷_ 69 (L._∷_ 100 (L._∷_ 105 (L._∷_ 116 L.[]))))))))))))) (Syntax.tcons q9 (Syntax.tcons q9 (Syntax.tcons q9 (Syntax.tcons q9 (Syntax.tcons q3 (Syntax.tcons q3 (Syntax.tcons (Syntax.tyInt Syntax.w64) Syntax.tnil)))))))) (Syntax.tcons (Syntax.tyStruct (L._∷_ 115 (L._∷_ 116 (L._∷_ 101 (L._∷_ 112 (L._∷_ 58 (L._∷_ 58 (L._∷_ 79 (L._∷_ 108 (L._∷_ 100 L.[]))))))))) (Syntax.tcons (Syntax.tyInt Syntax.w64) (Syntax.tcons q8 (Syntax.tcons q9 (Syntax.tcons q9 (Syntax.tcons q9 (Syntax.tcons q9 (Syntax.tcons q5 Syntax.tnil)))))))) Syntax.tnil))) Syntax.tnil)))) Syntax.tnil))))) (Row.setRow 9 (9, Rows.any-gone (Syntax.tyStruct (L._∷_ 114 (L._∷_ 117 (L._∷_ 108 (L._∷_ 101 (L._∷_ 115 (L._∷_ 58 (L._∷_ 58 (L._∷_ 116 (L._∷_ 114 (L._∷_ 105 (L._∷_ 101 (L._∷_ 100 (L._∷_ 58 (L._∷_ 58 (L._∷_ 65 (L._∷_ 114 (L._∷_ 111 (L._∷_ 117 (L._∷_ 110 (L._∷_ 100 L.[])))))))))))))))))))) (Syntax.tcons q9 (Syntax.tcons q9 (Syntax.tcons q9 (Syntax.tcons q9 Syntax.tnil)))))) (T40 .locals))) (Row.set 10 (10, Rows.any-gone (Syntax.tyStruct (L._∷_ 114 (L._∷_ 117 (L._∷_ 108 (L._∷_ 101 (L._∷_ 115 (L._∷_ 58 (L._∷_ 58 (L._∷_ 102 (L._∷_ 111 (L._∷_ 117 (L._∷_ 110 (L._∷_ 100 (L._∷_ 58 (L._∷_ 58 (L._∷_ 70 (L._∷_ 111 (L._∷_ 117 (L._∷_ 110 (L._∷_ 100 L.[]))))))))))))))))))) (Syntax.tcons Syntax.tyBool (Syntax.tcons Syntax.tyBool (Syntax.tcons (Syntax.tyStruct (L._∷_ 115 (L._∷_ 116 (L._∷_ 101 (L._∷_ 112 (L._∷_ 58 (L._∷_ 58 (L._∷_ 83 (L._∷_ 116 (L._∷_ 101 (L._∷_ 112 L.[])))))))))) (Syntax.tcons (Syntax.tyInt Syntax.w64) (Syntax.tcons (Syntax.tyInt Syntax.w64) (Syntax.tcons (Syntax.tyStruct (L._∷_ 115 (L._∷_ 116 (L._∷_ 101 (L._∷_ 112 (L._∷_ 58 (L._∷_ 58 (L._∷_ 67 (L._∷_ 104 (L._∷_ 97 (L._∷_ 110 (L._∷_ 103 (L._∷_ 101 L.[])))))))))))) (Syntax.tcons (Syntax.tyStruct (L._∷_ 110 (L._∷_ 101 (L._∷_ 116 (L._∷_ 119 (L._∷_ 111 (L._∷_ 114 (L._∷_ 107 (L._∷_ 58 (L._∷_ 58 (L._∷_ 69 (L._∷_ 100 (L._∷_ 105 (L._∷_ 116 L.[]))))))))))))) (Syntax.tcons q9 (Syntax.tcons q9 (Syntax.tcons q9 (Syntax.tcons q9 (Syntax.tcons q3 (Syntax.tcons q3 (Syntax.tcons (Syntax.tyInt Syntax.w64) Syntax.tnil)))))))) (Syntax.tcons (Syntax.tyStruct (L._∷_ 115 (L._∷_ 116 (L._∷_ 101 (L._∷_ 112 (L._∷_ 58 (L._∷_ 58 (L._∷_ 79 (L._∷_ 108 (L._∷_ 100 L.[]))))))))) (Syntax.tcons (Syntax.tyInt Syntax.w64) (Syntax.tcons q8 (Syntax.tcons q9 (Syntax.tcons q9 (Syntax.tcons q9 (Syntax.tcons q9 (Syntax.tcons q5 Syntax.tnil)))))))) Syntax.tnil))) Syntax.tnil)))) Syntax.tnil))))) tt (Row.setRow 9 (9, Rows.any-gone (Syntax.tyStruct (L._∷_ 114 (L._∷_ 117 (L._∷_ 108 (L._∷_ 101 (L._∷_ 115 (L._∷_ 58 (L._∷_ 58 (L._∷_ 116 (L._∷_ 114 (L._∷_ 105 (L._∷_ 101 (L._∷_ 100 (L._∷_ 58 (L._∷_ 58 (L._∷_ 65 (L._∷_ 114 (L._∷_ 111 (L._∷_ 117 (L._∷_ 110 (L._∷_ 100 L.[])))))))))))))))))))) (Syntax.tcons q9 (Syntax.tcons q9 (Syntax.tcons q9 (Syntax.tcons q9 Syntax.tnil)))))) (T40 .locals)) (Row.set 9 (9, Rows.any-gone (Syntax.tyStruct (L._∷_ 114 (L._∷_ 117 (L._∷_ 108 (L._∷_ 101 (L._∷_ 115 (L._∷_ 58 (L._∷_ 58 (L._∷_ 116 (L._∷_ 114 (L._∷_ 105 (L._∷_ 101 (L._∷_ 100 (L._∷_ 58 (L._∷_ 58 (L._∷_ 65 (L._∷_ 114 (L._∷_ 111 (L._∷_ 117 (L._∷_ 110 (L._∷_ 100 L.[])))))))))))))))))))) (Syntax.tcons q9 (Syntax.tcons q9 (Syntax.tcons q9 (Syntax.tcons q9 Syntax.tnil)))))) tt (T40 .locals) (m37 (before .before) (After-is-wanted·gave before))))))
 
       module _ (before· : After-is-wanted) where
         pub record Joined1·own : Type 0 where
@@ -2092,6 +2092,6 @@ module _ (claims· : Claims) where
           pub asked : (a : FnKinds.Dens κs ps) → (good : FnKinds.GoodsP κs ps a) → (pre : Pre· κs a) → (bs : L.List Nat.ℕ) → Φ bs (Any.wantQ 1 ps r xs m κs qs a (Post· κs a)) (Function.init 1 ps r xs m κs qs a)
           asked = λ a good pre bs. laid record { κs = κs; args = record { t1 = a .0; arcs = a .1 .0; t3 = a .1 .1 .0; k = a .1 .1 .1 .0 }; blocks = bs; good = good; fits = record { k = record { fits = good .1 .1 .1 .0 .1 } }; pre = pre }
 
-        module _ {M : Type 1} (𝓤 : URA.URA M) (H : Wp.Heap 𝓤) (A : Atoms.Atoms 𝓤) (W : Kit.Given 𝓤 H A) (𝓣 : Wp.Tables 𝓤 H) (known0 : Plain.Known 𝓤 H A W 𝓣 0 ps·0 r·0 (claims· .0) (claims· .1) "search::scan::is_wanted") (known1 : Plain.Known 𝓤 H A W 𝓣 1 ps·1 r·1 (claims· .2) (claims· .3) "search::scan::gather") (known2 : Plain.Known 𝓤 H A W 𝓣 0 ps·2 r·2 (claims· .4) (claims· .5) "search::scan::at_node") (known3 : Plain.Known 𝓤 H A W 𝓣 0 ps·3 r·3 (claims· .6) (claims· .7) "search::scan::nothing") where
+        module _ {M : Type 1} (𝓤 : URA.URA M) (H : Wp.Heap 𝓤) (A : Atoms.Atoms 𝓤) (W : Kit.Given 𝓤 H A) (𝓣 : Wp.Tables 𝓤 H) (known0 : Plain.Known 𝓤 H A W 𝓣 0 ps·0 r·0 (claims· .0) (claims· .1) "rules::tried::is_wanted") (known1 : Plain.Known 𝓤 H A W 𝓣 1 ps·1 r·1 (claims· .2) (claims· .3) "search::scan::gather") (known2 : Plain.Known 𝓤 H A W 𝓣 0 ps·2 r·2 (claims· .4) (claims· .5) "rules::tried::at_node") (known3 : Plain.Known 𝓤 H A W 𝓣 0 ps·3 r·3 (claims· .6) (claims· .7) "rules::found::nothing") where
           pub spec : Statement.Triple 𝓤 (Wp.WpFn 𝓤 H (𝓣 .C) (𝓣 .Λ) (Function.fnOf 1 ps r xs m hs body)) (Function.plainOf 𝓤 H A 1 ps r Pre· Post·)
           spec = Plain.t-fn-plain 𝓤 H A W 𝓣 1 ps r xs m hs body (λ κs qs bs. Φ bs) (λ κs qs bs bd. typed κs qs 𝓤 H A W 𝓣 (known0, known1, known2, known3) bs bd) Pre· Post· asked

@@ -6,10 +6,10 @@ use Rattle.network.proofs.Edit as network-proofs-Edit·
 use Rattle.network.proofs.Edit.Laws as network-proofs-Edit-Laws·
 use Rattle.network.proofs.Nodes as network-proofs-Nodes·
 use Rattle.network.proofs.Nodes.Laws as network-proofs-Nodes-Laws·
+use Rattle.rules.proofs.tried.Looked as rules-proofs-tried-Looked·
+use Rattle.rules.proofs.tried.Looked.Laws as rules-proofs-tried-Looked-Laws·
 use Rattle.search.proofs.Progress as Progress·
 use Rattle.search.proofs.Progress.Laws as Progress-Laws·
-use Rattle.search.proofs.scan.Looked as scan-Looked·
-use Rattle.search.proofs.scan.Looked.Laws as scan-Looked-Laws·
 use borrow.Author.Called
 use borrow.Fn.Any
 use borrow.Fn.Call
@@ -79,17 +79,17 @@ q30 = Syntax.tyRef Syntax.erased Syntax.mut Rec.named
 abbrev pub q29 : Syntax.Ty
 q29 = Syntax.tyRef Syntax.erased Syntax.imm Rec.named
 
-abbrev pub q28 : Row.Entry
-q28 = (4, Rows.whole (Declared.row scan-Looked·.the-type))
+abbrev pub q28 : Syntax.Ty
+q28 = Syntax.tyRef (Syntax.named 1) Syntax.mut Rec.named
 
-abbrev pub q27 : Syntax.Ty
-q27 = Syntax.tyRef (Syntax.named 1) Syntax.mut Rec.named
+abbrev pub q27 : Row.Entry
+q27 = (11, Rows.whole (Declared.row network-proofs-Edit·.the-type))
 
-abbrev pub q26 : Row.Entry
-q26 = (11, Rows.whole (Declared.row network-proofs-Edit·.the-type))
+abbrev pub q26 : Syntax.Ty
+q26 = Syntax.tyRef Syntax.erased Syntax.mut (Syntax.tyInt Syntax.w32)
 
-abbrev pub q25 : Syntax.Ty
-q25 = Syntax.tyRef Syntax.erased Syntax.mut (Syntax.tyInt Syntax.w32)
+abbrev pub q25 : Row.Entry
+q25 = (4, Rows.whole (Declared.row rules-proofs-tried-Looked·.the-type))
 
 abbrev pub q24 : Row.Entry
 q24 = (9, Rows.any-gone q30)
@@ -110,19 +110,19 @@ abbrev pub q19 : Row.Entry
 q19 = (6, Rows.sslice Rec.row q29 2)
 
 abbrev pub q18 : Row.Entry
-q18 = (3, Mut.mslice Rec.row q27 1)
+q18 = (3, Mut.mslice Rec.row q28 1)
 
 abbrev pub q17 : Row.Entry
-q17 = (12, Rows.any-gone q25)
+q17 = (12, Rows.any-gone q26)
 
 abbrev pub q16 : Row.Entry
-q16 = (3, Relend.mslice-owed Rec.row q27 1 3 Row.off)
+q16 = (3, Relend.mslice-owed Rec.row q28 1 3 Row.off)
 
 abbrev pub q15 : Row.Entry
-q15 = (3, Reshare.mslice-owedS Rec.row q27 1 2 Row.off)
+q15 = (3, Reshare.mslice-owedS Rec.row q28 1 2 Row.off)
 
 abbrev pub q14 : Row.Entry
-q14 = (13, Mut.msleft (Signed.SInt Syntax.w32) q25)
+q14 = (13, Mut.msleft (Signed.SInt Syntax.w32) q26)
 
 abbrev pub q13 : Row.Entry
 q13 = (2, Mut.mslice (Signed.SInt Syntax.w32) q22 0)
@@ -137,7 +137,7 @@ abbrev pub q10 : Syntax.Ty
 q10 = Syntax.tyStruct (L._∷_ 38 (L._∷_ 91 (L._∷_ 93 L.[]))) (Syntax.tcons q29 (Syntax.tcons (Syntax.tyInt Syntax.w64) Syntax.tnil))
 
 abbrev pub q9 : Syntax.Ty
-q9 = Syntax.tyStruct (L._∷_ 38 (L._∷_ 91 (L._∷_ 93 L.[]))) (Syntax.tcons q25 (Syntax.tcons (Syntax.tyInt Syntax.w64) Syntax.tnil))
+q9 = Syntax.tyStruct (L._∷_ 38 (L._∷_ 91 (L._∷_ 93 L.[]))) (Syntax.tcons q26 (Syntax.tcons (Syntax.tyInt Syntax.w64) Syntax.tnil))
 
 abbrev pub q8 : Row.Entry
 q8 = (6, Rows.any-gone q10)
@@ -173,7 +173,7 @@ abbrev pub r : FnKinds.RK 2
 r = Value.rVal record { ty = Declared.row Progress·.the-type; one = Path.refl; val = StructLaws.val Progress·.the-type Progress-Laws·.the-laws; tells = StructLaws.tells Progress·.the-type Progress-Laws·.the-laws; still = StructLaws.still Progress·.the-type Progress-Laws·.the-copy Exit.yes; row = Rows.whole (Declared.row Progress·.the-type); rd = λ x. x; mk = λ x. x } λ M 𝓤 H A W. record { copies = StructLaws.copy Progress·.the-type Progress-Laws·.the-copy 𝓤 H A W; lawful = StructLaws.lawful Progress·.the-type Progress-Laws·.the-laws 𝓤 H A W; makes = StructLaws.makes Progress·.the-type Progress-Laws·.the-plain 𝓤 H A; in-mem = Local.mem-whole 𝓤 H A W (Declared.row Progress·.the-type); of-mem = Local.whole-mem 𝓤 H A W (Declared.row Progress·.the-type) }
 
 abbrev pub xs : L.List Syntax.Ty
-xs = L._∷_ (Syntax.tyStruct (L._∷_ 115 (L._∷_ 101 (L._∷_ 97 (L._∷_ 114 (L._∷_ 99 (L._∷_ 104 (L._∷_ 58 (L._∷_ 58 (L._∷_ 115 (L._∷_ 99 (L._∷_ 97 (L._∷_ 110 (L._∷_ 58 (L._∷_ 58 (L._∷_ 76 (L._∷_ 111 (L._∷_ 111 (L._∷_ 107 (L._∷_ 101 (L._∷_ 100 L.[])))))))))))))))))))) (Syntax.tcons (Syntax.tyStruct (L._∷_ 115 (L._∷_ 101 (L._∷_ 97 (L._∷_ 114 (L._∷_ 99 (L._∷_ 104 (L._∷_ 58 (L._∷_ 58 (L._∷_ 115 (L._∷_ 99 (L._∷_ 97 (L._∷_ 110 (L._∷_ 58 (L._∷_ 58 (L._∷_ 70 (L._∷_ 111 (L._∷_ 117 (L._∷_ 110 (L._∷_ 100 L.[]))))))))))))))))))) (Syntax.tcons Syntax.tyBool (Syntax.tcons Syntax.tyBool (Syntax.tcons (Syntax.tyStruct (L._∷_ 115 (L._∷_ 116 (L._∷_ 101 (L._∷_ 112 (L._∷_ 58 (L._∷_ 58 (L._∷_ 83 (L._∷_ 116 (L._∷_ 101 (L._∷_ 112 L.[])))))))))) (Syntax.tcons (Syntax.tyInt Syntax.w64) (Syntax.tcons (Syntax.tyInt Syntax.w64) (Syntax.tcons (Syntax.tyStruct (L._∷_ 115 (L._∷_ 116 (L._∷_ 101 (L._∷_ 112 (L._∷_ 58 (L._∷_ 58 (L._∷_ 67 (L._∷_ 104 (L._∷_ 97 (L._∷_ 110 (L._∷_ 103 (L._∷_ 101 L.[])))))))))))) (Syntax.tcons (Syntax.tyStruct (L._∷_ 110 (L._∷_ 101 (L._∷_ 116 (L._∷_ 119 (L._∷_ 111 (L._∷_ 114 (L._∷_ 107 (L._∷_ 58 (L._∷_ 58 (L._∷_ 69 (L._∷_ 100 (L._∷_ 105 (L._∷_ 116 L.[]))))))))))))) (Syntax.tcons q5 (Syntax.tcons q5 (Syntax.tcons q5 (Syntax.tcons q5 (Syntax.tcons q1 (Syntax.tcons q1 (Syntax.tcons (Syntax.tyInt Syntax.w64) Syntax.tnil)))))))) (Syntax.tcons (Syntax.tyStruct (L._∷_ 115 (L._∷_ 116 (L._∷_ 101 (L._∷_ 112 (L._∷_ 58 (L._∷_ 58 (L._∷_ 79 (L._∷_ 108 (L._∷_ 100 L.[]))))))))) (Syntax.tcons (Syntax.tyInt Syntax.w64) (Syntax.tcons q4 (Syntax.tcons q5 (Syntax.tcons q5 (Syntax.tcons q5 (Syntax.tcons q5 (Syntax.tcons q2 Syntax.tnil)))))))) Syntax.tnil))) Syntax.tnil)))) Syntax.tnil)))) (Syntax.tcons q3 Syntax.tnil))) (L._∷_ q29 (L._∷_ q10 (L._∷_ (Syntax.tyInt Syntax.w8) (L._∷_ Syntax.tyUnit (L._∷_ q30 (L._∷_ q11 (L._∷_ (Syntax.tyStruct (L._∷_ 110 (L._∷_ 101 (L._∷_ 116 (L._∷_ 119 (L._∷_ 111 (L._∷_ 114 (L._∷_ 107 (L._∷_ 58 (L._∷_ 58 (L._∷_ 69 (L._∷_ 100 (L._∷_ 105 (L._∷_ 116 L.[]))))))))))))) (Syntax.tcons q5 (Syntax.tcons q5 (Syntax.tcons q5 (Syntax.tcons q5 (Syntax.tcons q1 (Syntax.tcons q1 (Syntax.tcons (Syntax.tyInt Syntax.w64) Syntax.tnil)))))))) (L._∷_ q25 (L._∷_ q9 L.[])))))))))
+xs = L._∷_ (Syntax.tyStruct (L._∷_ 114 (L._∷_ 117 (L._∷_ 108 (L._∷_ 101 (L._∷_ 115 (L._∷_ 58 (L._∷_ 58 (L._∷_ 116 (L._∷_ 114 (L._∷_ 105 (L._∷_ 101 (L._∷_ 100 (L._∷_ 58 (L._∷_ 58 (L._∷_ 76 (L._∷_ 111 (L._∷_ 111 (L._∷_ 107 (L._∷_ 101 (L._∷_ 100 L.[])))))))))))))))))))) (Syntax.tcons (Syntax.tyStruct (L._∷_ 114 (L._∷_ 117 (L._∷_ 108 (L._∷_ 101 (L._∷_ 115 (L._∷_ 58 (L._∷_ 58 (L._∷_ 102 (L._∷_ 111 (L._∷_ 117 (L._∷_ 110 (L._∷_ 100 (L._∷_ 58 (L._∷_ 58 (L._∷_ 70 (L._∷_ 111 (L._∷_ 117 (L._∷_ 110 (L._∷_ 100 L.[]))))))))))))))))))) (Syntax.tcons Syntax.tyBool (Syntax.tcons Syntax.tyBool (Syntax.tcons (Syntax.tyStruct (L._∷_ 115 (L._∷_ 116 (L._∷_ 101 (L._∷_ 112 (L._∷_ 58 (L._∷_ 58 (L._∷_ 83 (L._∷_ 116 (L._∷_ 101 (L._∷_ 112 L.[])))))))))) (Syntax.tcons (Syntax.tyInt Syntax.w64) (Syntax.tcons (Syntax.tyInt Syntax.w64) (Syntax.tcons (Syntax.tyStruct (L._∷_ 115 (L._∷_ 116 (L._∷_ 101 (L._∷_ 112 (L._∷_ 58 (L._∷_ 58 (L._∷_ 67 (L._∷_ 104 (L._∷_ 97 (L._∷_ 110 (L._∷_ 103 (L._∷_ 101 L.[])))))))))))) (Syntax.tcons (Syntax.tyStruct (L._∷_ 110 (L._∷_ 101 (L._∷_ 116 (L._∷_ 119 (L._∷_ 111 (L._∷_ 114 (L._∷_ 107 (L._∷_ 58 (L._∷_ 58 (L._∷_ 69 (L._∷_ 100 (L._∷_ 105 (L._∷_ 116 L.[]))))))))))))) (Syntax.tcons q5 (Syntax.tcons q5 (Syntax.tcons q5 (Syntax.tcons q5 (Syntax.tcons q1 (Syntax.tcons q1 (Syntax.tcons (Syntax.tyInt Syntax.w64) Syntax.tnil)))))))) (Syntax.tcons (Syntax.tyStruct (L._∷_ 115 (L._∷_ 116 (L._∷_ 101 (L._∷_ 112 (L._∷_ 58 (L._∷_ 58 (L._∷_ 79 (L._∷_ 108 (L._∷_ 100 L.[]))))))))) (Syntax.tcons (Syntax.tyInt Syntax.w64) (Syntax.tcons q4 (Syntax.tcons q5 (Syntax.tcons q5 (Syntax.tcons q5 (Syntax.tcons q5 (Syntax.tcons q2 Syntax.tnil)))))))) Syntax.tnil))) Syntax.tnil)))) Syntax.tnil)))) (Syntax.tcons q3 Syntax.tnil))) (L._∷_ q29 (L._∷_ q10 (L._∷_ (Syntax.tyInt Syntax.w8) (L._∷_ Syntax.tyUnit (L._∷_ q30 (L._∷_ q11 (L._∷_ (Syntax.tyStruct (L._∷_ 110 (L._∷_ 101 (L._∷_ 116 (L._∷_ 119 (L._∷_ 111 (L._∷_ 114 (L._∷_ 107 (L._∷_ 58 (L._∷_ 58 (L._∷_ 69 (L._∷_ 100 (L._∷_ 105 (L._∷_ 116 L.[]))))))))))))) (Syntax.tcons q5 (Syntax.tcons q5 (Syntax.tcons q5 (Syntax.tcons q5 (Syntax.tcons q1 (Syntax.tcons q1 (Syntax.tcons (Syntax.tyInt Syntax.w64) Syntax.tnil)))))))) (L._∷_ q26 (L._∷_ q9 L.[])))))))))
 
 abbrev pub m : Nat.ℕ
 m = 3
@@ -188,10 +188,10 @@ abbrev pub ps·1 : L.List (FnKinds.PK 1)
 ps·1 = L._∷_ (Value.pVal record { ty = Declared.row network-proofs-Nodes·.the-type; one = Path.refl; val = StructLaws.val network-proofs-Nodes·.the-type network-proofs-Nodes-Laws·.the-laws; tells = StructLaws.tells network-proofs-Nodes·.the-type network-proofs-Nodes-Laws·.the-laws; still = StructLaws.still network-proofs-Nodes·.the-type network-proofs-Nodes-Laws·.the-copy Exit.yes; row = Rows.whole (Declared.row network-proofs-Nodes·.the-type); rd = λ x. x; mk = λ x. x } λ M 𝓤 H A W. record { copies = StructLaws.copy network-proofs-Nodes·.the-type network-proofs-Nodes-Laws·.the-copy 𝓤 H A W; lawful = StructLaws.lawful network-proofs-Nodes·.the-type network-proofs-Nodes-Laws·.the-laws 𝓤 H A W; makes = StructLaws.makes network-proofs-Nodes·.the-type network-proofs-Nodes-Laws·.the-plain 𝓤 H A; in-mem = Local.mem-whole 𝓤 H A W (Declared.row network-proofs-Nodes·.the-type); of-mem = Local.whole-mem 𝓤 H A W (Declared.row network-proofs-Nodes·.the-type) }) (L._∷_ (ShrSlice.pShrS Rec.row 0 tt) (L._∷_ (Value.pVal record { ty = Declared.row costly-arc-proofs-Seen·.the-type; one = Path.refl; val = StructLaws.val costly-arc-proofs-Seen·.the-type costly-arc-proofs-Seen-Laws·.the-laws; tells = StructLaws.tells costly-arc-proofs-Seen·.the-type costly-arc-proofs-Seen-Laws·.the-laws; still = StructLaws.still costly-arc-proofs-Seen·.the-type costly-arc-proofs-Seen-Laws·.the-copy Exit.yes; row = Rows.whole (Declared.row costly-arc-proofs-Seen·.the-type); rd = λ x. x; mk = λ x. x } λ M 𝓤 H A W. record { copies = StructLaws.copy costly-arc-proofs-Seen·.the-type costly-arc-proofs-Seen-Laws·.the-copy 𝓤 H A W; lawful = StructLaws.lawful costly-arc-proofs-Seen·.the-type costly-arc-proofs-Seen-Laws·.the-laws 𝓤 H A W; makes = StructLaws.makes costly-arc-proofs-Seen·.the-type costly-arc-proofs-Seen-Laws·.the-plain 𝓤 H A; in-mem = Local.mem-whole 𝓤 H A W (Declared.row costly-arc-proofs-Seen·.the-type); of-mem = Local.whole-mem 𝓤 H A W (Declared.row costly-arc-proofs-Seen·.the-type) }) (L._∷_ (Num.pNum Syntax.w8) L.[])))
 
 abbrev pub r·1 : FnKinds.RK 1
-r·1 = Value.rVal record { ty = Declared.row scan-Looked·.the-type; one = Path.refl; val = StructLaws.val scan-Looked·.the-type scan-Looked-Laws·.the-laws; tells = StructLaws.tells scan-Looked·.the-type scan-Looked-Laws·.the-laws; still = StructLaws.still scan-Looked·.the-type scan-Looked-Laws·.the-copy Exit.yes; row = Rows.whole (Declared.row scan-Looked·.the-type); rd = λ x. x; mk = λ x. x } λ M 𝓤 H A W. record { copies = StructLaws.copy scan-Looked·.the-type scan-Looked-Laws·.the-copy 𝓤 H A W; lawful = StructLaws.lawful scan-Looked·.the-type scan-Looked-Laws·.the-laws 𝓤 H A W; makes = StructLaws.makes scan-Looked·.the-type scan-Looked-Laws·.the-plain 𝓤 H A; in-mem = Local.mem-whole 𝓤 H A W (Declared.row scan-Looked·.the-type); of-mem = Local.whole-mem 𝓤 H A W (Declared.row scan-Looked·.the-type) }
+r·1 = Value.rVal record { ty = Declared.row rules-proofs-tried-Looked·.the-type; one = Path.refl; val = StructLaws.val rules-proofs-tried-Looked·.the-type rules-proofs-tried-Looked-Laws·.the-laws; tells = StructLaws.tells rules-proofs-tried-Looked·.the-type rules-proofs-tried-Looked-Laws·.the-laws; still = StructLaws.still rules-proofs-tried-Looked·.the-type rules-proofs-tried-Looked-Laws·.the-copy Exit.yes; row = Rows.whole (Declared.row rules-proofs-tried-Looked·.the-type); rd = λ x. x; mk = λ x. x } λ M 𝓤 H A W. record { copies = StructLaws.copy rules-proofs-tried-Looked·.the-type rules-proofs-tried-Looked-Laws·.the-copy 𝓤 H A W; lawful = StructLaws.lawful rules-proofs-tried-Looked·.the-type rules-proofs-tried-Looked-Laws·.the-laws 𝓤 H A W; makes = StructLaws.makes rules-proofs-tried-Looked·.the-type rules-proofs-tried-Looked-Laws·.the-plain 𝓤 H A; in-mem = Local.mem-whole 𝓤 H A W (Declared.row rules-proofs-tried-Looked·.the-type); of-mem = Local.whole-mem 𝓤 H A W (Declared.row rules-proofs-tried-Looked·.the-type) }
 
 abbrev pub ps·2 : L.List (FnKinds.PK 0)
-ps·2 = L._∷_ (Value.pVal record { ty = Declared.row scan-Looked·.the-type; one = Path.refl; val = StructLaws.val scan-Looked·.the-type scan-Looked-Laws·.the-laws; tells = StructLaws.tells scan-Looked·.the-type scan-Looked-Laws·.the-laws; still = StructLaws.still scan-Looked·.the-type scan-Looked-Laws·.the-copy Exit.yes; row = Rows.whole (Declared.row scan-Looked·.the-type); rd = λ x. x; mk = λ x. x } λ M 𝓤 H A W. record { copies = StructLaws.copy scan-Looked·.the-type scan-Looked-Laws·.the-copy 𝓤 H A W; lawful = StructLaws.lawful scan-Looked·.the-type scan-Looked-Laws·.the-laws 𝓤 H A W; makes = StructLaws.makes scan-Looked·.the-type scan-Looked-Laws·.the-plain 𝓤 H A; in-mem = Local.mem-whole 𝓤 H A W (Declared.row scan-Looked·.the-type); of-mem = Local.whole-mem 𝓤 H A W (Declared.row scan-Looked·.the-type) }) L.[]
+ps·2 = L._∷_ (Value.pVal record { ty = Declared.row rules-proofs-tried-Looked·.the-type; one = Path.refl; val = StructLaws.val rules-proofs-tried-Looked·.the-type rules-proofs-tried-Looked-Laws·.the-laws; tells = StructLaws.tells rules-proofs-tried-Looked·.the-type rules-proofs-tried-Looked-Laws·.the-laws; still = StructLaws.still rules-proofs-tried-Looked·.the-type rules-proofs-tried-Looked-Laws·.the-copy Exit.yes; row = Rows.whole (Declared.row rules-proofs-tried-Looked·.the-type); rd = λ x. x; mk = λ x. x } λ M 𝓤 H A W. record { copies = StructLaws.copy rules-proofs-tried-Looked·.the-type rules-proofs-tried-Looked-Laws·.the-copy 𝓤 H A W; lawful = StructLaws.lawful rules-proofs-tried-Looked·.the-type rules-proofs-tried-Looked-Laws·.the-laws 𝓤 H A W; makes = StructLaws.makes rules-proofs-tried-Looked·.the-type rules-proofs-tried-Looked-Laws·.the-plain 𝓤 H A; in-mem = Local.mem-whole 𝓤 H A W (Declared.row rules-proofs-tried-Looked·.the-type); of-mem = Local.whole-mem 𝓤 H A W (Declared.row rules-proofs-tried-Looked·.the-type) }) L.[]
 
 abbrev pub r·2 : FnKinds.RK 0
 r·2 = Value.rVal record { ty = Declared.row network-proofs-Edit·.the-type; one = Path.refl; val = StructLaws.val network-proofs-Edit·.the-type network-proofs-Edit-Laws·.the-laws; tells = StructLaws.tells network-proofs-Edit·.the-type network-proofs-Edit-Laws·.the-laws; still = StructLaws.still network-proofs-Edit·.the-type network-proofs-Edit-Laws·.the-copy Exit.yes; row = Rows.whole (Declared.row network-proofs-Edit·.the-type); rd = λ x. x; mk = λ x. x } λ M 𝓤 H A W. record { copies = StructLaws.copy network-proofs-Edit·.the-type network-proofs-Edit-Laws·.the-copy 𝓤 H A W; lawful = StructLaws.lawful network-proofs-Edit·.the-type network-proofs-Edit-Laws·.the-laws 𝓤 H A W; makes = StructLaws.makes network-proofs-Edit·.the-type network-proofs-Edit-Laws·.the-plain 𝓤 H A; in-mem = Local.mem-whole 𝓤 H A W (Declared.row network-proofs-Edit·.the-type); of-mem = Local.whole-mem 𝓤 H A W (Declared.row network-proofs-Edit·.the-type) }
@@ -203,13 +203,13 @@ abbrev pub r·3 : FnKinds.RK 1
 r·3 = KUnit.rUnit
 
 abbrev pub ps·4 : L.List (FnKinds.PK 1)
-ps·4 = L._∷_ (MutSlice.pMutS (Signed.SInt Syntax.w32) 0 tt) (L._∷_ (Num.pNum Syntax.w64) (L._∷_ (Value.pVal record { ty = Declared.row scan-Looked·.the-type; one = Path.refl; val = StructLaws.val scan-Looked·.the-type scan-Looked-Laws·.the-laws; tells = StructLaws.tells scan-Looked·.the-type scan-Looked-Laws·.the-laws; still = StructLaws.still scan-Looked·.the-type scan-Looked-Laws·.the-copy Exit.yes; row = Rows.whole (Declared.row scan-Looked·.the-type); rd = λ x. x; mk = λ x. x } λ M 𝓤 H A W. record { copies = StructLaws.copy scan-Looked·.the-type scan-Looked-Laws·.the-copy 𝓤 H A W; lawful = StructLaws.lawful scan-Looked·.the-type scan-Looked-Laws·.the-laws 𝓤 H A W; makes = StructLaws.makes scan-Looked·.the-type scan-Looked-Laws·.the-plain 𝓤 H A; in-mem = Local.mem-whole 𝓤 H A W (Declared.row scan-Looked·.the-type); of-mem = Local.whole-mem 𝓤 H A W (Declared.row scan-Looked·.the-type) }) L.[]))
+ps·4 = L._∷_ (MutSlice.pMutS (Signed.SInt Syntax.w32) 0 tt) (L._∷_ (Num.pNum Syntax.w64) (L._∷_ (Value.pVal record { ty = Declared.row rules-proofs-tried-Looked·.the-type; one = Path.refl; val = StructLaws.val rules-proofs-tried-Looked·.the-type rules-proofs-tried-Looked-Laws·.the-laws; tells = StructLaws.tells rules-proofs-tried-Looked·.the-type rules-proofs-tried-Looked-Laws·.the-laws; still = StructLaws.still rules-proofs-tried-Looked·.the-type rules-proofs-tried-Looked-Laws·.the-copy Exit.yes; row = Rows.whole (Declared.row rules-proofs-tried-Looked·.the-type); rd = λ x. x; mk = λ x. x } λ M 𝓤 H A W. record { copies = StructLaws.copy rules-proofs-tried-Looked·.the-type rules-proofs-tried-Looked-Laws·.the-copy 𝓤 H A W; lawful = StructLaws.lawful rules-proofs-tried-Looked·.the-type rules-proofs-tried-Looked-Laws·.the-laws 𝓤 H A W; makes = StructLaws.makes rules-proofs-tried-Looked·.the-type rules-proofs-tried-Looked-Laws·.the-plain 𝓤 H A; in-mem = Local.mem-whole 𝓤 H A W (Declared.row rules-proofs-tried-Looked·.the-type); of-mem = Local.whole-mem 𝓤 H A W (Declared.row rules-proofs-tried-Looked·.the-type) }) L.[]))
 
 abbrev pub r·4 : FnKinds.RK 1
 r·4 = KUnit.rUnit
 
 abbrev pub ps·5 : L.List (FnKinds.PK 0)
-ps·5 = L._∷_ (Value.pVal record { ty = Declared.row Progress·.the-type; one = Path.refl; val = StructLaws.val Progress·.the-type Progress-Laws·.the-laws; tells = StructLaws.tells Progress·.the-type Progress-Laws·.the-laws; still = StructLaws.still Progress·.the-type Progress-Laws·.the-copy Exit.yes; row = Rows.whole (Declared.row Progress·.the-type); rd = λ x. x; mk = λ x. x } λ M 𝓤 H A W. record { copies = StructLaws.copy Progress·.the-type Progress-Laws·.the-copy 𝓤 H A W; lawful = StructLaws.lawful Progress·.the-type Progress-Laws·.the-laws 𝓤 H A W; makes = StructLaws.makes Progress·.the-type Progress-Laws·.the-plain 𝓤 H A; in-mem = Local.mem-whole 𝓤 H A W (Declared.row Progress·.the-type); of-mem = Local.whole-mem 𝓤 H A W (Declared.row Progress·.the-type) }) (L._∷_ (Value.pVal record { ty = Declared.row scan-Looked·.the-type; one = Path.refl; val = StructLaws.val scan-Looked·.the-type scan-Looked-Laws·.the-laws; tells = StructLaws.tells scan-Looked·.the-type scan-Looked-Laws·.the-laws; still = StructLaws.still scan-Looked·.the-type scan-Looked-Laws·.the-copy Exit.yes; row = Rows.whole (Declared.row scan-Looked·.the-type); rd = λ x. x; mk = λ x. x } λ M 𝓤 H A W. record { copies = StructLaws.copy scan-Looked·.the-type scan-Looked-Laws·.the-copy 𝓤 H A W; lawful = StructLaws.lawful scan-Looked·.the-type scan-Looked-Laws·.the-laws 𝓤 H A W; makes = StructLaws.makes scan-Looked·.the-type scan-Looked-Laws·.the-plain 𝓤 H A; in-mem = Local.mem-whole 𝓤 H A W (Declared.row scan-Looked·.the-type); of-mem = Local.whole-mem 𝓤 H A W (Declared.row scan-Looked·.the-type) }) L.[])
+ps·5 = L._∷_ (Value.pVal record { ty = Declared.row Progress·.the-type; one = Path.refl; val = StructLaws.val Progress·.the-type Progress-Laws·.the-laws; tells = StructLaws.tells Progress·.the-type Progress-Laws·.the-laws; still = StructLaws.still Progress·.the-type Progress-Laws·.the-copy Exit.yes; row = Rows.whole (Declared.row Progress·.the-type); rd = λ x. x; mk = λ x. x } λ M 𝓤 H A W. record { copies = StructLaws.copy Progress·.the-type Progress-Laws·.the-copy 𝓤 H A W; lawful = StructLaws.lawful Progress·.the-type Progress-Laws·.the-laws 𝓤 H A W; makes = StructLaws.makes Progress·.the-type Progress-Laws·.the-plain 𝓤 H A; in-mem = Local.mem-whole 𝓤 H A W (Declared.row Progress·.the-type); of-mem = Local.whole-mem 𝓤 H A W (Declared.row Progress·.the-type) }) (L._∷_ (Value.pVal record { ty = Declared.row rules-proofs-tried-Looked·.the-type; one = Path.refl; val = StructLaws.val rules-proofs-tried-Looked·.the-type rules-proofs-tried-Looked-Laws·.the-laws; tells = StructLaws.tells rules-proofs-tried-Looked·.the-type rules-proofs-tried-Looked-Laws·.the-laws; still = StructLaws.still rules-proofs-tried-Looked·.the-type rules-proofs-tried-Looked-Laws·.the-copy Exit.yes; row = Rows.whole (Declared.row rules-proofs-tried-Looked·.the-type); rd = λ x. x; mk = λ x. x } λ M 𝓤 H A W. record { copies = StructLaws.copy rules-proofs-tried-Looked·.the-type rules-proofs-tried-Looked-Laws·.the-copy 𝓤 H A W; lawful = StructLaws.lawful rules-proofs-tried-Looked·.the-type rules-proofs-tried-Looked-Laws·.the-laws 𝓤 H A W; makes = StructLaws.makes rules-proofs-tried-Looked·.the-type rules-proofs-tried-Looked-Laws·.the-plain 𝓤 H A; in-mem = Local.mem-whole 𝓤 H A W (Declared.row rules-proofs-tried-Looked·.the-type); of-mem = Local.whole-mem 𝓤 H A W (Declared.row rules-proofs-tried-Looked·.the-type) }) L.[])
 
 abbrev pub r·5 : FnKinds.RK 0
 r·5 = Value.rVal record { ty = Declared.row Progress·.the-type; one = Path.refl; val = StructLaws.val Progress·.the-type Progress-Laws·.the-laws; tells = StructLaws.tells Progress·.the-type Progress-Laws·.the-laws; still = StructLaws.still Progress·.the-type Progress-Laws·.the-copy Exit.yes; row = Rows.whole (Declared.row Progress·.the-type); rd = λ x. x; mk = λ x. x } λ M 𝓤 H A W. record { copies = StructLaws.copy Progress·.the-type Progress-Laws·.the-copy 𝓤 H A W; lawful = StructLaws.lawful Progress·.the-type Progress-Laws·.the-laws 𝓤 H A W; makes = StructLaws.makes Progress·.the-type Progress-Laws·.the-plain 𝓤 H A; in-mem = Local.mem-whole 𝓤 H A W (Declared.row Progress·.the-type); of-mem = Local.whole-mem 𝓤 H A W (Declared.row Progress·.the-type) }
@@ -299,67 +299,67 @@ abbrev pub Claims : Type 1
 Claims = FnKinds.In 0 ps·0 × FnKinds.Out 0 ps·0 r·0 × FnKinds.In 1 ps·1 × FnKinds.Out 1 ps·1 r·1 × FnKinds.In 0 ps·2 × FnKinds.Out 0 ps·2 r·2 × FnKinds.In 1 ps·3 × FnKinds.Out 1 ps·3 r·3 × FnKinds.In 1 ps·4 × FnKinds.Out 1 ps·4 r·4 × FnKinds.In 0 ps·5 × FnKinds.Out 0 ps·5 r·5
 
 abbrev pub t0 : L.List Row.Entry
-t0 = L._∷_ (0, Rows.any-gone (Syntax.tyStruct (L._∷_ 115 (L._∷_ 101 (L._∷_ 97 (L._∷_ 114 (L._∷_ 99 (L._∷_ 104 (L._∷_ 58 (L._∷_ 58 (L._∷_ 80 (L._∷_ 114 (L._∷_ 111 (L._∷_ 103 (L._∷_ 114 (L._∷_ 101 (L._∷_ 115 (L._∷_ 115 L.[])))))))))))))))) (Syntax.tcons q0 (Syntax.tcons (Syntax.tyInt Syntax.w64) (Syntax.tcons q3 (Syntax.tcons Syntax.tyBool (Syntax.tcons Syntax.tyBool (Syntax.tcons (Syntax.tyInt Syntax.w64) (Syntax.tcons (Syntax.tyInt Syntax.w64) Syntax.tnil))))))))) (L._∷_ q31 (L._∷_ q13 (L._∷_ q18 (L._∷_ (4, Rows.any-gone (Syntax.tyStruct (L._∷_ 115 (L._∷_ 101 (L._∷_ 97 (L._∷_ 114 (L._∷_ 99 (L._∷_ 104 (L._∷_ 58 (L._∷_ 58 (L._∷_ 115 (L._∷_ 99 (L._∷_ 97 (L._∷_ 110 (L._∷_ 58 (L._∷_ 58 (L._∷_ 76 (L._∷_ 111 (L._∷_ 111 (L._∷_ 107 (L._∷_ 101 (L._∷_ 100 L.[])))))))))))))))))))) (Syntax.tcons (Syntax.tyStruct (L._∷_ 115 (L._∷_ 101 (L._∷_ 97 (L._∷_ 114 (L._∷_ 99 (L._∷_ 104 (L._∷_ 58 (L._∷_ 58 (L._∷_ 115 (L._∷_ 99 (L._∷_ 97 (L._∷_ 110 (L._∷_ 58 (L._∷_ 58 (L._∷_ 70 (L._∷_ 111 (L._∷_ 117 (L._∷_ 110 (L._∷_ 100 L.[]))))))))))))))))))) (Syntax.tcons Syntax.tyBool (Syntax.tcons Syntax.tyBool (Syntax.tcons (Syntax.tyStruct (L._∷_ 115 (L._∷_ 116 (L._∷_ 101 (L._∷_ 112 (L._∷_ 58 (L._∷_ 58 (L._∷_ 83 (L._∷_ 116 (L._∷_ 101 (L._∷_ 112 L.[])))))))))) (Syntax.tcons (Syntax.tyInt Syntax.w64) (Syntax.tcons (Syntax.tyInt Syntax.w64) (Syntax.tcons (Syntax.tyStruct (L._∷_ 115 (L._∷_ 116 (L._∷_ 101 (L._∷_ 112 (L._∷_ 58 (L._∷_ 58 (L._∷_ 67 (L._∷_ 104 (L._∷_ 97 (L._∷_ 110 (L._∷_ 103 (L._∷_ 101 L.[])))))))))))) (Syntax.tcons (Syntax.tyStruct (L._∷_ 110 (L._∷_ 101 (L._∷_ 116 (L._∷_ 119 (L._∷_ 111 (L._∷_ 114 (L._∷_ 107 (L._∷_ 58 (L._∷_ 58 (L._∷_ 69 (L._∷_ 100 (L._∷_ 105 (L._∷_ 116 L.[]))))))))))))) (Syntax.tcons q5 (Syntax.tcons q5 (Syntax.tcons q5 (Syntax.tcons q5 (Syntax.tcons q1 (Syntax.tcons q1 (Syntax.tcons (Syntax.tyInt Syntax.w64) Syntax.tnil)))))))) (Syntax.tcons (Syntax.tyStruct (L._∷_ 115 (L._∷_ 116 (L._∷_ 101 (L._∷_ 112 (L._∷_ 58 (L._∷_ 58 (L._∷_ 79 (L._∷_ 108 (L._∷_ 100 L.[]))))))))) (Syntax.tcons (Syntax.tyInt Syntax.w64) (Syntax.tcons q4 (Syntax.tcons q5 (Syntax.tcons q5 (Syntax.tcons q5 (Syntax.tcons q5 (Syntax.tcons q2 Syntax.tnil)))))))) Syntax.tnil))) Syntax.tnil)))) Syntax.tnil)))) (Syntax.tcons q3 Syntax.tnil)))) (L._∷_ q23 (L._∷_ q8 (L._∷_ q33 (L._∷_ q35 (L._∷_ q24 (L._∷_ q7 (L._∷_ (11, Rows.any-gone (Syntax.tyStruct (L._∷_ 110 (L._∷_ 101 (L._∷_ 116 (L._∷_ 119 (L._∷_ 111 (L._∷_ 114 (L._∷_ 107 (L._∷_ 58 (L._∷_ 58 (L._∷_ 69 (L._∷_ 100 (L._∷_ 105 (L._∷_ 116 L.[]))))))))))))) (Syntax.tcons q5 (Syntax.tcons q5 (Syntax.tcons q5 (Syntax.tcons q5 (Syntax.tcons q1 (Syntax.tcons q1 (Syntax.tcons (Syntax.tyInt Syntax.w64) Syntax.tnil))))))))) (L._∷_ q17 (L._∷_ q6 L.[])))))))))))))
+t0 = L._∷_ (0, Rows.any-gone (Syntax.tyStruct (L._∷_ 115 (L._∷_ 101 (L._∷_ 97 (L._∷_ 114 (L._∷_ 99 (L._∷_ 104 (L._∷_ 58 (L._∷_ 58 (L._∷_ 80 (L._∷_ 114 (L._∷_ 111 (L._∷_ 103 (L._∷_ 114 (L._∷_ 101 (L._∷_ 115 (L._∷_ 115 L.[])))))))))))))))) (Syntax.tcons q0 (Syntax.tcons (Syntax.tyInt Syntax.w64) (Syntax.tcons q3 (Syntax.tcons Syntax.tyBool (Syntax.tcons Syntax.tyBool (Syntax.tcons (Syntax.tyInt Syntax.w64) (Syntax.tcons (Syntax.tyInt Syntax.w64) Syntax.tnil))))))))) (L._∷_ q31 (L._∷_ q13 (L._∷_ q18 (L._∷_ (4, Rows.any-gone (Syntax.tyStruct (L._∷_ 114 (L._∷_ 117 (L._∷_ 108 (L._∷_ 101 (L._∷_ 115 (L._∷_ 58 (L._∷_ 58 (L._∷_ 116 (L._∷_ 114 (L._∷_ 105 (L._∷_ 101 (L._∷_ 100 (L._∷_ 58 (L._∷_ 58 (L._∷_ 76 (L._∷_ 111 (L._∷_ 111 (L._∷_ 107 (L._∷_ 101 (L._∷_ 100 L.[])))))))))))))))))))) (Syntax.tcons (Syntax.tyStruct (L._∷_ 114 (L._∷_ 117 (L._∷_ 108 (L._∷_ 101 (L._∷_ 115 (L._∷_ 58 (L._∷_ 58 (L._∷_ 102 (L._∷_ 111 (L._∷_ 117 (L._∷_ 110 (L._∷_ 100 (L._∷_ 58 (L._∷_ 58 (L._∷_ 70 (L._∷_ 111 (L._∷_ 117 (L._∷_ 110 (L._∷_ 100 L.[]))))))))))))))))))) (Syntax.tcons Syntax.tyBool (Syntax.tcons Syntax.tyBool (Syntax.tcons (Syntax.tyStruct (L._∷_ 115 (L._∷_ 116 (L._∷_ 101 (L._∷_ 112 (L._∷_ 58 (L._∷_ 58 (L._∷_ 83 (L._∷_ 116 (L._∷_ 101 (L._∷_ 112 L.[])))))))))) (Syntax.tcons (Syntax.tyInt Syntax.w64) (Syntax.tcons (Syntax.tyInt Syntax.w64) (Syntax.tcons (Syntax.tyStruct (L._∷_ 115 (L._∷_ 116 (L._∷_ 101 (L._∷_ 112 (L._∷_ 58 (L._∷_ 58 (L._∷_ 67 (L._∷_ 104 (L._∷_ 97 (L._∷_ 110 (L._∷_ 103 (L._∷_ 101 L.[])))))))))))) (Syntax.tcons (Syntax.tyStruct (L._∷_ 110 (L._∷_ 101 (L._∷_ 116 (L._∷_ 119 (L._∷_ 111 (L._∷_ 114 (L._∷_ 107 (L._∷_ 58 (L._∷_ 58 (L._∷_ 69 (L._∷_ 100 (L._∷_ 105 (L._∷_ 116 L.[]))))))))))))) (Syntax.tcons q5 (Syntax.tcons q5 (Syntax.tcons q5 (Syntax.tcons q5 (Syntax.tcons q1 (Syntax.tcons q1 (Syntax.tcons (Syntax.tyInt Syntax.w64) Syntax.tnil)))))))) (Syntax.tcons (Syntax.tyStruct (L._∷_ 115 (L._∷_ 116 (L._∷_ 101 (L._∷_ 112 (L._∷_ 58 (L._∷_ 58 (L._∷_ 79 (L._∷_ 108 (L._∷_ 100 L.[]))))))))) (Syntax.tcons (Syntax.tyInt Syntax.w64) (Syntax.tcons q4 (Syntax.tcons q5 (Syntax.tcons q5 (Syntax.tcons q5 (Syntax.tcons q5 (Syntax.tcons q2 Syntax.tnil)))))))) Syntax.tnil))) Syntax.tnil)))) Syntax.tnil)))) (Syntax.tcons q3 Syntax.tnil)))) (L._∷_ q23 (L._∷_ q8 (L._∷_ q33 (L._∷_ q35 (L._∷_ q24 (L._∷_ q7 (L._∷_ (11, Rows.any-gone (Syntax.tyStruct (L._∷_ 110 (L._∷_ 101 (L._∷_ 116 (L._∷_ 119 (L._∷_ 111 (L._∷_ 114 (L._∷_ 107 (L._∷_ 58 (L._∷_ 58 (L._∷_ 69 (L._∷_ 100 (L._∷_ 105 (L._∷_ 116 L.[]))))))))))))) (Syntax.tcons q5 (Syntax.tcons q5 (Syntax.tcons q5 (Syntax.tcons q5 (Syntax.tcons q1 (Syntax.tcons q1 (Syntax.tcons (Syntax.tyInt Syntax.w64) Syntax.tnil))))))))) (L._∷_ q17 (L._∷_ q6 L.[])))))))))))))
 
 abbrev pub t1 : L.List Row.Entry
-t1 = L._∷_ (0, Rows.whole (Declared.row Progress·.the-type)) (L._∷_ (1, Rows.any-gone (Syntax.tyStruct (L._∷_ 115 (L._∷_ 101 (L._∷_ 97 (L._∷_ 114 (L._∷_ 99 (L._∷_ 104 (L._∷_ 58 (L._∷_ 58 (L._∷_ 80 (L._∷_ 114 (L._∷_ 111 (L._∷_ 103 (L._∷_ 114 (L._∷_ 101 (L._∷_ 115 (L._∷_ 115 L.[])))))))))))))))) (Syntax.tcons q0 (Syntax.tcons (Syntax.tyInt Syntax.w64) (Syntax.tcons q3 (Syntax.tcons Syntax.tyBool (Syntax.tcons Syntax.tyBool (Syntax.tcons (Syntax.tyInt Syntax.w64) (Syntax.tcons (Syntax.tyInt Syntax.w64) Syntax.tnil))))))))) (L._∷_ q13 (L._∷_ q18 (L._∷_ (4, Rows.any-gone (Syntax.tyStruct (L._∷_ 115 (L._∷_ 101 (L._∷_ 97 (L._∷_ 114 (L._∷_ 99 (L._∷_ 104 (L._∷_ 58 (L._∷_ 58 (L._∷_ 115 (L._∷_ 99 (L._∷_ 97 (L._∷_ 110 (L._∷_ 58 (L._∷_ 58 (L._∷_ 76 (L._∷_ 111 (L._∷_ 111 (L._∷_ 107 (L._∷_ 101 (L._∷_ 100 L.[])))))))))))))))))))) (Syntax.tcons (Syntax.tyStruct (L._∷_ 115 (L._∷_ 101 (L._∷_ 97 (L._∷_ 114 (L._∷_ 99 (L._∷_ 104 (L._∷_ 58 (L._∷_ 58 (L._∷_ 115 (L._∷_ 99 (L._∷_ 97 (L._∷_ 110 (L._∷_ 58 (L._∷_ 58 (L._∷_ 70 (L._∷_ 111 (L._∷_ 117 (L._∷_ 110 (L._∷_ 100 L.[]))))))))))))))))))) (Syntax.tcons Syntax.tyBool (Syntax.tcons Syntax.tyBool (Syntax.tcons (Syntax.tyStruct (L._∷_ 115 (L._∷_ 116 (L._∷_ 101 (L._∷_ 112 (L._∷_ 58 (L._∷_ 58 (L._∷_ 83 (L._∷_ 116 (L._∷_ 101 (L._∷_ 112 L.[])))))))))) (Syntax.tcons (Syntax.tyInt Syntax.w64) (Syntax.tcons (Syntax.tyInt Syntax.w64) (Syntax.tcons (Syntax.tyStruct (L._∷_ 115 (L._∷_ 116 (L._∷_ 101 (L._∷_ 112 (L._∷_ 58 (L._∷_ 58 (L._∷_ 67 (L._∷_ 104 (L._∷_ 97 (L._∷_ 110 (L._∷_ 103 (L._∷_ 101 L.[])))))))))))) (Syntax.tcons (Syntax.tyStruct (L._∷_ 110 (L._∷_ 101 (L._∷_ 116 (L._∷_ 119 (L._∷_ 111 (L._∷_ 114 (L._∷_ 107 (L._∷_ 58 (L._∷_ 58 (L._∷_ 69 (L._∷_ 100 (L._∷_ 105 (L._∷_ 116 L.[]))))))))))))) (Syntax.tcons q5 (Syntax.tcons q5 (Syntax.tcons q5 (Syntax.tcons q5 (Syntax.tcons q1 (Syntax.tcons q1 (Syntax.tcons (Syntax.tyInt Syntax.w64) Syntax.tnil)))))))) (Syntax.tcons (Syntax.tyStruct (L._∷_ 115 (L._∷_ 116 (L._∷_ 101 (L._∷_ 112 (L._∷_ 58 (L._∷_ 58 (L._∷_ 79 (L._∷_ 108 (L._∷_ 100 L.[]))))))))) (Syntax.tcons (Syntax.tyInt Syntax.w64) (Syntax.tcons q4 (Syntax.tcons q5 (Syntax.tcons q5 (Syntax.tcons q5 (Syntax.tcons q5 (Syntax.tcons q2 Syntax.tnil)))))))) Syntax.tnil))) Syntax.tnil)))) Syntax.tnil)))) (Syntax.tcons q3 Syntax.tnil)))) (L._∷_ q23 (L._∷_ q8 (L._∷_ q33 (L._∷_ q35 (L._∷_ q24 (L._∷_ q7 (L._∷_ (11, Rows.any-gone (Syntax.tyStruct (L._∷_ 110 (L._∷_ 101 (L._∷_ 116 (L._∷_ 119 (L._∷_ 111 (L._∷_ 114 (L._∷_ 107 (L._∷_ 58 (L._∷_ 58 (L._∷_ 69 (L._∷_ 100 (L._∷_ 105 (L._∷_ 116 L.[]))))))))))))) (Syntax.tcons q5 (Syntax.tcons q5 (Syntax.tcons q5 (Syntax.tcons q5 (Syntax.tcons q1 (Syntax.tcons q1 (Syntax.tcons (Syntax.tyInt Syntax.w64) Syntax.tnil))))))))) (L._∷_ q17 (L._∷_ q6 L.[])))))))))))))
+t1 = L._∷_ (0, Rows.whole (Declared.row Progress·.the-type)) (L._∷_ (1, Rows.any-gone (Syntax.tyStruct (L._∷_ 115 (L._∷_ 101 (L._∷_ 97 (L._∷_ 114 (L._∷_ 99 (L._∷_ 104 (L._∷_ 58 (L._∷_ 58 (L._∷_ 80 (L._∷_ 114 (L._∷_ 111 (L._∷_ 103 (L._∷_ 114 (L._∷_ 101 (L._∷_ 115 (L._∷_ 115 L.[])))))))))))))))) (Syntax.tcons q0 (Syntax.tcons (Syntax.tyInt Syntax.w64) (Syntax.tcons q3 (Syntax.tcons Syntax.tyBool (Syntax.tcons Syntax.tyBool (Syntax.tcons (Syntax.tyInt Syntax.w64) (Syntax.tcons (Syntax.tyInt Syntax.w64) Syntax.tnil))))))))) (L._∷_ q13 (L._∷_ q18 (L._∷_ (4, Rows.any-gone (Syntax.tyStruct (L._∷_ 114 (L._∷_ 117 (L._∷_ 108 (L._∷_ 101 (L._∷_ 115 (L._∷_ 58 (L._∷_ 58 (L._∷_ 116 (L._∷_ 114 (L._∷_ 105 (L._∷_ 101 (L._∷_ 100 (L._∷_ 58 (L._∷_ 58 (L._∷_ 76 (L._∷_ 111 (L._∷_ 111 (L._∷_ 107 (L._∷_ 101 (L._∷_ 100 L.[])))))))))))))))))))) (Syntax.tcons (Syntax.tyStruct (L._∷_ 114 (L._∷_ 117 (L._∷_ 108 (L._∷_ 101 (L._∷_ 115 (L._∷_ 58 (L._∷_ 58 (L._∷_ 102 (L._∷_ 111 (L._∷_ 117 (L._∷_ 110 (L._∷_ 100 (L._∷_ 58 (L._∷_ 58 (L._∷_ 70 (L._∷_ 111 (L._∷_ 117 (L._∷_ 110 (L._∷_ 100 L.[]))))))))))))))))))) (Syntax.tcons Syntax.tyBool (Syntax.tcons Syntax.tyBool (Syntax.tcons (Syntax.tyStruct (L._∷_ 115 (L._∷_ 116 (L._∷_ 101 (L._∷_ 112 (L._∷_ 58 (L._∷_ 58 (L._∷_ 83 (L._∷_ 116 (L._∷_ 101 (L._∷_ 112 L.[])))))))))) (Syntax.tcons (Syntax.tyInt Syntax.w64) (Syntax.tcons (Syntax.tyInt Syntax.w64) (Syntax.tcons (Syntax.tyStruct (L._∷_ 115 (L._∷_ 116 (L._∷_ 101 (L._∷_ 112 (L._∷_ 58 (L._∷_ 58 (L._∷_ 67 (L._∷_ 104 (L._∷_ 97 (L._∷_ 110 (L._∷_ 103 (L._∷_ 101 L.[])))))))))))) (Syntax.tcons (Syntax.tyStruct (L._∷_ 110 (L._∷_ 101 (L._∷_ 116 (L._∷_ 119 (L._∷_ 111 (L._∷_ 114 (L._∷_ 107 (L._∷_ 58 (L._∷_ 58 (L._∷_ 69 (L._∷_ 100 (L._∷_ 105 (L._∷_ 116 L.[]))))))))))))) (Syntax.tcons q5 (Syntax.tcons q5 (Syntax.tcons q5 (Syntax.tcons q5 (Syntax.tcons q1 (Syntax.tcons q1 (Syntax.tcons (Syntax.tyInt Syntax.w64) Syntax.tnil)))))))) (Syntax.tcons (Syntax.tyStruct (L._∷_ 115 (L._∷_ 116 (L._∷_ 101 (L._∷_ 112 (L._∷_ 58 (L._∷_ 58 (L._∷_ 79 (L._∷_ 108 (L._∷_ 100 L.[]))))))))) (Syntax.tcons (Syntax.tyInt Syntax.w64) (Syntax.tcons q4 (Syntax.tcons q5 (Syntax.tcons q5 (Syntax.tcons q5 (Syntax.tcons q5 (Syntax.tcons q2 Syntax.tnil)))))))) Syntax.tnil))) Syntax.tnil)))) Syntax.tnil)))) (Syntax.tcons q3 Syntax.tnil)))) (L._∷_ q23 (L._∷_ q8 (L._∷_ q33 (L._∷_ q35 (L._∷_ q24 (L._∷_ q7 (L._∷_ (11, Rows.any-gone (Syntax.tyStruct (L._∷_ 110 (L._∷_ 101 (L._∷_ 116 (L._∷_ 119 (L._∷_ 111 (L._∷_ 114 (L._∷_ 107 (L._∷_ 58 (L._∷_ 58 (L._∷_ 69 (L._∷_ 100 (L._∷_ 105 (L._∷_ 116 L.[]))))))))))))) (Syntax.tcons q5 (Syntax.tcons q5 (Syntax.tcons q5 (Syntax.tcons q5 (Syntax.tcons q1 (Syntax.tcons q1 (Syntax.tcons (Syntax.tyInt Syntax.w64) Syntax.tnil))))))))) (L._∷_ q17 (L._∷_ q6 L.[])))))))))))))
 
 abbrev pub t2 : L.List Row.Entry
-t2 = L._∷_ (0, Rows.any-gone (Syntax.tyStruct (L._∷_ 115 (L._∷_ 101 (L._∷_ 97 (L._∷_ 114 (L._∷_ 99 (L._∷_ 104 (L._∷_ 58 (L._∷_ 58 (L._∷_ 80 (L._∷_ 114 (L._∷_ 111 (L._∷_ 103 (L._∷_ 114 (L._∷_ 101 (L._∷_ 115 (L._∷_ 115 L.[])))))))))))))))) (Syntax.tcons q0 (Syntax.tcons (Syntax.tyInt Syntax.w64) (Syntax.tcons q3 (Syntax.tcons Syntax.tyBool (Syntax.tcons Syntax.tyBool (Syntax.tcons (Syntax.tyInt Syntax.w64) (Syntax.tcons (Syntax.tyInt Syntax.w64) Syntax.tnil))))))))) (L._∷_ q31 (L._∷_ q13 (L._∷_ q15 (L._∷_ (4, Rows.any-gone (Syntax.tyStruct (L._∷_ 115 (L._∷_ 101 (L._∷_ 97 (L._∷_ 114 (L._∷_ 99 (L._∷_ 104 (L._∷_ 58 (L._∷_ 58 (L._∷_ 115 (L._∷_ 99 (L._∷_ 97 (L._∷_ 110 (L._∷_ 58 (L._∷_ 58 (L._∷_ 76 (L._∷_ 111 (L._∷_ 111 (L._∷_ 107 (L._∷_ 101 (L._∷_ 100 L.[])))))))))))))))))))) (Syntax.tcons (Syntax.tyStruct (L._∷_ 115 (L._∷_ 101 (L._∷_ 97 (L._∷_ 114 (L._∷_ 99 (L._∷_ 104 (L._∷_ 58 (L._∷_ 58 (L._∷_ 115 (L._∷_ 99 (L._∷_ 97 (L._∷_ 110 (L._∷_ 58 (L._∷_ 58 (L._∷_ 70 (L._∷_ 111 (L._∷_ 117 (L._∷_ 110 (L._∷_ 100 L.[]))))))))))))))))))) (Syntax.tcons Syntax.tyBool (Syntax.tcons Syntax.tyBool (Syntax.tcons (Syntax.tyStruct (L._∷_ 115 (L._∷_ 116 (L._∷_ 101 (L._∷_ 112 (L._∷_ 58 (L._∷_ 58 (L._∷_ 83 (L._∷_ 116 (L._∷_ 101 (L._∷_ 112 L.[])))))))))) (Syntax.tcons (Syntax.tyInt Syntax.w64) (Syntax.tcons (Syntax.tyInt Syntax.w64) (Syntax.tcons (Syntax.tyStruct (L._∷_ 115 (L._∷_ 116 (L._∷_ 101 (L._∷_ 112 (L._∷_ 58 (L._∷_ 58 (L._∷_ 67 (L._∷_ 104 (L._∷_ 97 (L._∷_ 110 (L._∷_ 103 (L._∷_ 101 L.[])))))))))))) (Syntax.tcons (Syntax.tyStruct (L._∷_ 110 (L._∷_ 101 (L._∷_ 116 (L._∷_ 119 (L._∷_ 111 (L._∷_ 114 (L._∷_ 107 (L._∷_ 58 (L._∷_ 58 (L._∷_ 69 (L._∷_ 100 (L._∷_ 105 (L._∷_ 116 L.[]))))))))))))) (Syntax.tcons q5 (Syntax.tcons q5 (Syntax.tcons q5 (Syntax.tcons q5 (Syntax.tcons q1 (Syntax.tcons q1 (Syntax.tcons (Syntax.tyInt Syntax.w64) Syntax.tnil)))))))) (Syntax.tcons (Syntax.tyStruct (L._∷_ 115 (L._∷_ 116 (L._∷_ 101 (L._∷_ 112 (L._∷_ 58 (L._∷_ 58 (L._∷_ 79 (L._∷_ 108 (L._∷_ 100 L.[]))))))))) (Syntax.tcons (Syntax.tyInt Syntax.w64) (Syntax.tcons q4 (Syntax.tcons q5 (Syntax.tcons q5 (Syntax.tcons q5 (Syntax.tcons q5 (Syntax.tcons q2 Syntax.tnil)))))))) Syntax.tnil))) Syntax.tnil)))) Syntax.tnil)))) (Syntax.tcons q3 Syntax.tnil)))) (L._∷_ (5, Relend.ssptr Rec.row q29 2) (L._∷_ q8 (L._∷_ q33 (L._∷_ q35 (L._∷_ q24 (L._∷_ q7 (L._∷_ (11, Rows.any-gone (Syntax.tyStruct (L._∷_ 110 (L._∷_ 101 (L._∷_ 116 (L._∷_ 119 (L._∷_ 111 (L._∷_ 114 (L._∷_ 107 (L._∷_ 58 (L._∷_ 58 (L._∷_ 69 (L._∷_ 100 (L._∷_ 105 (L._∷_ 116 L.[]))))))))))))) (Syntax.tcons q5 (Syntax.tcons q5 (Syntax.tcons q5 (Syntax.tcons q5 (Syntax.tcons q1 (Syntax.tcons q1 (Syntax.tcons (Syntax.tyInt Syntax.w64) Syntax.tnil))))))))) (L._∷_ q17 (L._∷_ q6 L.[])))))))))))))
+t2 = L._∷_ (0, Rows.any-gone (Syntax.tyStruct (L._∷_ 115 (L._∷_ 101 (L._∷_ 97 (L._∷_ 114 (L._∷_ 99 (L._∷_ 104 (L._∷_ 58 (L._∷_ 58 (L._∷_ 80 (L._∷_ 114 (L._∷_ 111 (L._∷_ 103 (L._∷_ 114 (L._∷_ 101 (L._∷_ 115 (L._∷_ 115 L.[])))))))))))))))) (Syntax.tcons q0 (Syntax.tcons (Syntax.tyInt Syntax.w64) (Syntax.tcons q3 (Syntax.tcons Syntax.tyBool (Syntax.tcons Syntax.tyBool (Syntax.tcons (Syntax.tyInt Syntax.w64) (Syntax.tcons (Syntax.tyInt Syntax.w64) Syntax.tnil))))))))) (L._∷_ q31 (L._∷_ q13 (L._∷_ q15 (L._∷_ (4, Rows.any-gone (Syntax.tyStruct (L._∷_ 114 (L._∷_ 117 (L._∷_ 108 (L._∷_ 101 (L._∷_ 115 (L._∷_ 58 (L._∷_ 58 (L._∷_ 116 (L._∷_ 114 (L._∷_ 105 (L._∷_ 101 (L._∷_ 100 (L._∷_ 58 (L._∷_ 58 (L._∷_ 76 (L._∷_ 111 (L._∷_ 111 (L._∷_ 107 (L._∷_ 101 (L._∷_ 100 L.[])))))))))))))))))))) (Syntax.tcons (Syntax.tyStruct (L._∷_ 114 (L._∷_ 117 (L._∷_ 108 (L._∷_ 101 (L._∷_ 115 (L._∷_ 58 (L._∷_ 58 (L._∷_ 102 (L._∷_ 111 (L._∷_ 117 (L._∷_ 110 (L._∷_ 100 (L._∷_ 58 (L._∷_ 58 (L._∷_ 70 (L._∷_ 111 (L._∷_ 117 (L._∷_ 110 (L._∷_ 100 L.[]))))))))))))))))))) (Syntax.tcons Syntax.tyBool (Syntax.tcons Syntax.tyBool (Syntax.tcons (Syntax.tyStruct (L._∷_ 115 (L._∷_ 116 (L._∷_ 101 (L._∷_ 112 (L._∷_ 58 (L._∷_ 58 (L._∷_ 83 (L._∷_ 116 (L._∷_ 101 (L._∷_ 112 L.[])))))))))) (Syntax.tcons (Syntax.tyInt Syntax.w64) (Syntax.tcons (Syntax.tyInt Syntax.w64) (Syntax.tcons (Syntax.tyStruct (L._∷_ 115 (L._∷_ 116 (L._∷_ 101 (L._∷_ 112 (L._∷_ 58 (L._∷_ 58 (L._∷_ 67 (L._∷_ 104 (L._∷_ 97 (L._∷_ 110 (L._∷_ 103 (L._∷_ 101 L.[])))))))))))) (Syntax.tcons (Syntax.tyStruct (L._∷_ 110 (L._∷_ 101 (L._∷_ 116 (L._∷_ 119 (L._∷_ 111 (L._∷_ 114 (L._∷_ 107 (L._∷_ 58 (L._∷_ 58 (L._∷_ 69 (L._∷_ 100 (L._∷_ 105 (L._∷_ 116 L.[]))))))))))))) (Syntax.tcons q5 (Syntax.tcons q5 (Syntax.tcons q5 (Syntax.tcons q5 (Syntax.tcons q1 (Syntax.tcons q1 (Syntax.tcons (Syntax.tyInt Syntax.w64) Syntax.tnil)))))))) (Syntax.tcons (Syntax.tyStruct (L._∷_ 115 (L._∷_ 116 (L._∷_ 101 (L._∷_ 112 (L._∷_ 58 (L._∷_ 58 (L._∷_ 79 (L._∷_ 108 (L._∷_ 100 L.[]))))))))) (Syntax.tcons (Syntax.tyInt Syntax.w64) (Syntax.tcons q4 (Syntax.tcons q5 (Syntax.tcons q5 (Syntax.tcons q5 (Syntax.tcons q5 (Syntax.tcons q2 Syntax.tnil)))))))) Syntax.tnil))) Syntax.tnil)))) Syntax.tnil)))) (Syntax.tcons q3 Syntax.tnil)))) (L._∷_ (5, Relend.ssptr Rec.row q29 2) (L._∷_ q8 (L._∷_ q33 (L._∷_ q35 (L._∷_ q24 (L._∷_ q7 (L._∷_ (11, Rows.any-gone (Syntax.tyStruct (L._∷_ 110 (L._∷_ 101 (L._∷_ 116 (L._∷_ 119 (L._∷_ 111 (L._∷_ 114 (L._∷_ 107 (L._∷_ 58 (L._∷_ 58 (L._∷_ 69 (L._∷_ 100 (L._∷_ 105 (L._∷_ 116 L.[]))))))))))))) (Syntax.tcons q5 (Syntax.tcons q5 (Syntax.tcons q5 (Syntax.tcons q5 (Syntax.tcons q1 (Syntax.tcons q1 (Syntax.tcons (Syntax.tyInt Syntax.w64) Syntax.tnil))))))))) (L._∷_ q17 (L._∷_ q6 L.[])))))))))))))
 
 abbrev pub t3 : L.List Row.Entry
-t3 = L._∷_ (0, Rows.any-gone (Syntax.tyStruct (L._∷_ 115 (L._∷_ 101 (L._∷_ 97 (L._∷_ 114 (L._∷_ 99 (L._∷_ 104 (L._∷_ 58 (L._∷_ 58 (L._∷_ 80 (L._∷_ 114 (L._∷_ 111 (L._∷_ 103 (L._∷_ 114 (L._∷_ 101 (L._∷_ 115 (L._∷_ 115 L.[])))))))))))))))) (Syntax.tcons q0 (Syntax.tcons (Syntax.tyInt Syntax.w64) (Syntax.tcons q3 (Syntax.tcons Syntax.tyBool (Syntax.tcons Syntax.tyBool (Syntax.tcons (Syntax.tyInt Syntax.w64) (Syntax.tcons (Syntax.tyInt Syntax.w64) Syntax.tnil))))))))) (L._∷_ q31 (L._∷_ q13 (L._∷_ q15 (L._∷_ (4, Rows.any-gone (Syntax.tyStruct (L._∷_ 115 (L._∷_ 101 (L._∷_ 97 (L._∷_ 114 (L._∷_ 99 (L._∷_ 104 (L._∷_ 58 (L._∷_ 58 (L._∷_ 115 (L._∷_ 99 (L._∷_ 97 (L._∷_ 110 (L._∷_ 58 (L._∷_ 58 (L._∷_ 76 (L._∷_ 111 (L._∷_ 111 (L._∷_ 107 (L._∷_ 101 (L._∷_ 100 L.[])))))))))))))))))))) (Syntax.tcons (Syntax.tyStruct (L._∷_ 115 (L._∷_ 101 (L._∷_ 97 (L._∷_ 114 (L._∷_ 99 (L._∷_ 104 (L._∷_ 58 (L._∷_ 58 (L._∷_ 115 (L._∷_ 99 (L._∷_ 97 (L._∷_ 110 (L._∷_ 58 (L._∷_ 58 (L._∷_ 70 (L._∷_ 111 (L._∷_ 117 (L._∷_ 110 (L._∷_ 100 L.[]))))))))))))))))))) (Syntax.tcons Syntax.tyBool (Syntax.tcons Syntax.tyBool (Syntax.tcons (Syntax.tyStruct (L._∷_ 115 (L._∷_ 116 (L._∷_ 101 (L._∷_ 112 (L._∷_ 58 (L._∷_ 58 (L._∷_ 83 (L._∷_ 116 (L._∷_ 101 (L._∷_ 112 L.[])))))))))) (Syntax.tcons (Syntax.tyInt Syntax.w64) (Syntax.tcons (Syntax.tyInt Syntax.w64) (Syntax.tcons (Syntax.tyStruct (L._∷_ 115 (L._∷_ 116 (L._∷_ 101 (L._∷_ 112 (L._∷_ 58 (L._∷_ 58 (L._∷_ 67 (L._∷_ 104 (L._∷_ 97 (L._∷_ 110 (L._∷_ 103 (L._∷_ 101 L.[])))))))))))) (Syntax.tcons (Syntax.tyStruct (L._∷_ 110 (L._∷_ 101 (L._∷_ 116 (L._∷_ 119 (L._∷_ 111 (L._∷_ 114 (L._∷_ 107 (L._∷_ 58 (L._∷_ 58 (L._∷_ 69 (L._∷_ 100 (L._∷_ 105 (L._∷_ 116 L.[]))))))))))))) (Syntax.tcons q5 (Syntax.tcons q5 (Syntax.tcons q5 (Syntax.tcons q5 (Syntax.tcons q1 (Syntax.tcons q1 (Syntax.tcons (Syntax.tyInt Syntax.w64) Syntax.tnil)))))))) (Syntax.tcons (Syntax.tyStruct (L._∷_ 115 (L._∷_ 116 (L._∷_ 101 (L._∷_ 112 (L._∷_ 58 (L._∷_ 58 (L._∷_ 79 (L._∷_ 108 (L._∷_ 100 L.[]))))))))) (Syntax.tcons (Syntax.tyInt Syntax.w64) (Syntax.tcons q4 (Syntax.tcons q5 (Syntax.tcons q5 (Syntax.tcons q5 (Syntax.tcons q5 (Syntax.tcons q2 Syntax.tnil)))))))) Syntax.tnil))) Syntax.tnil)))) Syntax.tnil)))) (Syntax.tcons q3 Syntax.tnil)))) (L._∷_ q23 (L._∷_ q19 (L._∷_ q33 (L._∷_ q35 (L._∷_ q24 (L._∷_ q7 (L._∷_ (11, Rows.any-gone (Syntax.tyStruct (L._∷_ 110 (L._∷_ 101 (L._∷_ 116 (L._∷_ 119 (L._∷_ 111 (L._∷_ 114 (L._∷_ 107 (L._∷_ 58 (L._∷_ 58 (L._∷_ 69 (L._∷_ 100 (L._∷_ 105 (L._∷_ 116 L.[]))))))))))))) (Syntax.tcons q5 (Syntax.tcons q5 (Syntax.tcons q5 (Syntax.tcons q5 (Syntax.tcons q1 (Syntax.tcons q1 (Syntax.tcons (Syntax.tyInt Syntax.w64) Syntax.tnil))))))))) (L._∷_ q17 (L._∷_ q6 L.[])))))))))))))
+t3 = L._∷_ (0, Rows.any-gone (Syntax.tyStruct (L._∷_ 115 (L._∷_ 101 (L._∷_ 97 (L._∷_ 114 (L._∷_ 99 (L._∷_ 104 (L._∷_ 58 (L._∷_ 58 (L._∷_ 80 (L._∷_ 114 (L._∷_ 111 (L._∷_ 103 (L._∷_ 114 (L._∷_ 101 (L._∷_ 115 (L._∷_ 115 L.[])))))))))))))))) (Syntax.tcons q0 (Syntax.tcons (Syntax.tyInt Syntax.w64) (Syntax.tcons q3 (Syntax.tcons Syntax.tyBool (Syntax.tcons Syntax.tyBool (Syntax.tcons (Syntax.tyInt Syntax.w64) (Syntax.tcons (Syntax.tyInt Syntax.w64) Syntax.tnil))))))))) (L._∷_ q31 (L._∷_ q13 (L._∷_ q15 (L._∷_ (4, Rows.any-gone (Syntax.tyStruct (L._∷_ 114 (L._∷_ 117 (L._∷_ 108 (L._∷_ 101 (L._∷_ 115 (L._∷_ 58 (L._∷_ 58 (L._∷_ 116 (L._∷_ 114 (L._∷_ 105 (L._∷_ 101 (L._∷_ 100 (L._∷_ 58 (L._∷_ 58 (L._∷_ 76 (L._∷_ 111 (L._∷_ 111 (L._∷_ 107 (L._∷_ 101 (L._∷_ 100 L.[])))))))))))))))))))) (Syntax.tcons (Syntax.tyStruct (L._∷_ 114 (L._∷_ 117 (L._∷_ 108 (L._∷_ 101 (L._∷_ 115 (L._∷_ 58 (L._∷_ 58 (L._∷_ 102 (L._∷_ 111 (L._∷_ 117 (L._∷_ 110 (L._∷_ 100 (L._∷_ 58 (L._∷_ 58 (L._∷_ 70 (L._∷_ 111 (L._∷_ 117 (L._∷_ 110 (L._∷_ 100 L.[]))))))))))))))))))) (Syntax.tcons Syntax.tyBool (Syntax.tcons Syntax.tyBool (Syntax.tcons (Syntax.tyStruct (L._∷_ 115 (L._∷_ 116 (L._∷_ 101 (L._∷_ 112 (L._∷_ 58 (L._∷_ 58 (L._∷_ 83 (L._∷_ 116 (L._∷_ 101 (L._∷_ 112 L.[])))))))))) (Syntax.tcons (Syntax.tyInt Syntax.w64) (Syntax.tcons (Syntax.tyInt Syntax.w64) (Syntax.tcons (Syntax.tyStruct (L._∷_ 115 (L._∷_ 116 (L._∷_ 101 (L._∷_ 112 (L._∷_ 58 (L._∷_ 58 (L._∷_ 67 (L._∷_ 104 (L._∷_ 97 (L._∷_ 110 (L._∷_ 103 (L._∷_ 101 L.[])))))))))))) (Syntax.tcons (Syntax.tyStruct (L._∷_ 110 (L._∷_ 101 (L._∷_ 116 (L._∷_ 119 (L._∷_ 111 (L._∷_ 114 (L._∷_ 107 (L._∷_ 58 (L._∷_ 58 (L._∷_ 69 (L._∷_ 100 (L._∷_ 105 (L._∷_ 116 L.[]))))))))))))) (Syntax.tcons q5 (Syntax.tcons q5 (Syntax.tcons q5 (Syntax.tcons q5 (Syntax.tcons q1 (Syntax.tcons q1 (Syntax.tcons (Syntax.tyInt Syntax.w64) Syntax.tnil)))))))) (Syntax.tcons (Syntax.tyStruct (L._∷_ 115 (L._∷_ 116 (L._∷_ 101 (L._∷_ 112 (L._∷_ 58 (L._∷_ 58 (L._∷_ 79 (L._∷_ 108 (L._∷_ 100 L.[]))))))))) (Syntax.tcons (Syntax.tyInt Syntax.w64) (Syntax.tcons q4 (Syntax.tcons q5 (Syntax.tcons q5 (Syntax.tcons q5 (Syntax.tcons q5 (Syntax.tcons q2 Syntax.tnil)))))))) Syntax.tnil))) Syntax.tnil)))) Syntax.tnil)))) (Syntax.tcons q3 Syntax.tnil)))) (L._∷_ q23 (L._∷_ q19 (L._∷_ q33 (L._∷_ q35 (L._∷_ q24 (L._∷_ q7 (L._∷_ (11, Rows.any-gone (Syntax.tyStruct (L._∷_ 110 (L._∷_ 101 (L._∷_ 116 (L._∷_ 119 (L._∷_ 111 (L._∷_ 114 (L._∷_ 107 (L._∷_ 58 (L._∷_ 58 (L._∷_ 69 (L._∷_ 100 (L._∷_ 105 (L._∷_ 116 L.[]))))))))))))) (Syntax.tcons q5 (Syntax.tcons q5 (Syntax.tcons q5 (Syntax.tcons q5 (Syntax.tcons q1 (Syntax.tcons q1 (Syntax.tcons (Syntax.tyInt Syntax.w64) Syntax.tnil))))))))) (L._∷_ q17 (L._∷_ q6 L.[])))))))))))))
 
 abbrev pub t4 : L.List Row.Entry
-t4 = L._∷_ (0, Rows.any-gone (Syntax.tyStruct (L._∷_ 115 (L._∷_ 101 (L._∷_ 97 (L._∷_ 114 (L._∷_ 99 (L._∷_ 104 (L._∷_ 58 (L._∷_ 58 (L._∷_ 80 (L._∷_ 114 (L._∷_ 111 (L._∷_ 103 (L._∷_ 114 (L._∷_ 101 (L._∷_ 115 (L._∷_ 115 L.[])))))))))))))))) (Syntax.tcons q0 (Syntax.tcons (Syntax.tyInt Syntax.w64) (Syntax.tcons q3 (Syntax.tcons Syntax.tyBool (Syntax.tcons Syntax.tyBool (Syntax.tcons (Syntax.tyInt Syntax.w64) (Syntax.tcons (Syntax.tyInt Syntax.w64) Syntax.tnil))))))))) (L._∷_ q31 (L._∷_ q13 (L._∷_ q15 (L._∷_ (4, Rows.any-gone (Syntax.tyStruct (L._∷_ 115 (L._∷_ 101 (L._∷_ 97 (L._∷_ 114 (L._∷_ 99 (L._∷_ 104 (L._∷_ 58 (L._∷_ 58 (L._∷_ 115 (L._∷_ 99 (L._∷_ 97 (L._∷_ 110 (L._∷_ 58 (L._∷_ 58 (L._∷_ 76 (L._∷_ 111 (L._∷_ 111 (L._∷_ 107 (L._∷_ 101 (L._∷_ 100 L.[])))))))))))))))))))) (Syntax.tcons (Syntax.tyStruct (L._∷_ 115 (L._∷_ 101 (L._∷_ 97 (L._∷_ 114 (L._∷_ 99 (L._∷_ 104 (L._∷_ 58 (L._∷_ 58 (L._∷_ 115 (L._∷_ 99 (L._∷_ 97 (L._∷_ 110 (L._∷_ 58 (L._∷_ 58 (L._∷_ 70 (L._∷_ 111 (L._∷_ 117 (L._∷_ 110 (L._∷_ 100 L.[]))))))))))))))))))) (Syntax.tcons Syntax.tyBool (Syntax.tcons Syntax.tyBool (Syntax.tcons (Syntax.tyStruct (L._∷_ 115 (L._∷_ 116 (L._∷_ 101 (L._∷_ 112 (L._∷_ 58 (L._∷_ 58 (L._∷_ 83 (L._∷_ 116 (L._∷_ 101 (L._∷_ 112 L.[])))))))))) (Syntax.tcons (Syntax.tyInt Syntax.w64) (Syntax.tcons (Syntax.tyInt Syntax.w64) (Syntax.tcons (Syntax.tyStruct (L._∷_ 115 (L._∷_ 116 (L._∷_ 101 (L._∷_ 112 (L._∷_ 58 (L._∷_ 58 (L._∷_ 67 (L._∷_ 104 (L._∷_ 97 (L._∷_ 110 (L._∷_ 103 (L._∷_ 101 L.[])))))))))))) (Syntax.tcons (Syntax.tyStruct (L._∷_ 110 (L._∷_ 101 (L._∷_ 116 (L._∷_ 119 (L._∷_ 111 (L._∷_ 114 (L._∷_ 107 (L._∷_ 58 (L._∷_ 58 (L._∷_ 69 (L._∷_ 100 (L._∷_ 105 (L._∷_ 116 L.[]))))))))))))) (Syntax.tcons q5 (Syntax.tcons q5 (Syntax.tcons q5 (Syntax.tcons q5 (Syntax.tcons q1 (Syntax.tcons q1 (Syntax.tcons (Syntax.tyInt Syntax.w64) Syntax.tnil)))))))) (Syntax.tcons (Syntax.tyStruct (L._∷_ 115 (L._∷_ 116 (L._∷_ 101 (L._∷_ 112 (L._∷_ 58 (L._∷_ 58 (L._∷_ 79 (L._∷_ 108 (L._∷_ 100 L.[]))))))))) (Syntax.tcons (Syntax.tyInt Syntax.w64) (Syntax.tcons q4 (Syntax.tcons q5 (Syntax.tcons q5 (Syntax.tcons q5 (Syntax.tcons q5 (Syntax.tcons q2 Syntax.tnil)))))))) Syntax.tnil))) Syntax.tnil)))) Syntax.tnil)))) (Syntax.tcons q3 Syntax.tnil)))) (L._∷_ q23 (L._∷_ q19 (L._∷_ q34 (L._∷_ q35 (L._∷_ q24 (L._∷_ q7 (L._∷_ (11, Rows.any-gone (Syntax.tyStruct (L._∷_ 110 (L._∷_ 101 (L._∷_ 116 (L._∷_ 119 (L._∷_ 111 (L._∷_ 114 (L._∷_ 107 (L._∷_ 58 (L._∷_ 58 (L._∷_ 69 (L._∷_ 100 (L._∷_ 105 (L._∷_ 116 L.[]))))))))))))) (Syntax.tcons q5 (Syntax.tcons q5 (Syntax.tcons q5 (Syntax.tcons q5 (Syntax.tcons q1 (Syntax.tcons q1 (Syntax.tcons (Syntax.tyInt Syntax.w64) Syntax.tnil))))))))) (L._∷_ q17 (L._∷_ q6 L.[])))))))))))))
+t4 = L._∷_ (0, Rows.any-gone (Syntax.tyStruct (L._∷_ 115 (L._∷_ 101 (L._∷_ 97 (L._∷_ 114 (L._∷_ 99 (L._∷_ 104 (L._∷_ 58 (L._∷_ 58 (L._∷_ 80 (L._∷_ 114 (L._∷_ 111 (L._∷_ 103 (L._∷_ 114 (L._∷_ 101 (L._∷_ 115 (L._∷_ 115 L.[])))))))))))))))) (Syntax.tcons q0 (Syntax.tcons (Syntax.tyInt Syntax.w64) (Syntax.tcons q3 (Syntax.tcons Syntax.tyBool (Syntax.tcons Syntax.tyBool (Syntax.tcons (Syntax.tyInt Syntax.w64) (Syntax.tcons (Syntax.tyInt Syntax.w64) Syntax.tnil))))))))) (L._∷_ q31 (L._∷_ q13 (L._∷_ q15 (L._∷_ (4, Rows.any-gone (Syntax.tyStruct (L._∷_ 114 (L._∷_ 117 (L._∷_ 108 (L._∷_ 101 (L._∷_ 115 (L._∷_ 58 (L._∷_ 58 (L._∷_ 116 (L._∷_ 114 (L._∷_ 105 (L._∷_ 101 (L._∷_ 100 (L._∷_ 58 (L._∷_ 58 (L._∷_ 76 (L._∷_ 111 (L._∷_ 111 (L._∷_ 107 (L._∷_ 101 (L._∷_ 100 L.[])))))))))))))))))))) (Syntax.tcons (Syntax.tyStruct (L._∷_ 114 (L._∷_ 117 (L._∷_ 108 (L._∷_ 101 (L._∷_ 115 (L._∷_ 58 (L._∷_ 58 (L._∷_ 102 (L._∷_ 111 (L._∷_ 117 (L._∷_ 110 (L._∷_ 100 (L._∷_ 58 (L._∷_ 58 (L._∷_ 70 (L._∷_ 111 (L._∷_ 117 (L._∷_ 110 (L._∷_ 100 L.[]))))))))))))))))))) (Syntax.tcons Syntax.tyBool (Syntax.tcons Syntax.tyBool (Syntax.tcons (Syntax.tyStruct (L._∷_ 115 (L._∷_ 116 (L._∷_ 101 (L._∷_ 112 (L._∷_ 58 (L._∷_ 58 (L._∷_ 83 (L._∷_ 116 (L._∷_ 101 (L._∷_ 112 L.[])))))))))) (Syntax.tcons (Syntax.tyInt Syntax.w64) (Syntax.tcons (Syntax.tyInt Syntax.w64) (Syntax.tcons (Syntax.tyStruct (L._∷_ 115 (L._∷_ 116 (L._∷_ 101 (L._∷_ 112 (L._∷_ 58 (L._∷_ 58 (L._∷_ 67 (L._∷_ 104 (L._∷_ 97 (L._∷_ 110 (L._∷_ 103 (L._∷_ 101 L.[])))))))))))) (Syntax.tcons (Syntax.tyStruct (L._∷_ 110 (L._∷_ 101 (L._∷_ 116 (L._∷_ 119 (L._∷_ 111 (L._∷_ 114 (L._∷_ 107 (L._∷_ 58 (L._∷_ 58 (L._∷_ 69 (L._∷_ 100 (L._∷_ 105 (L._∷_ 116 L.[]))))))))))))) (Syntax.tcons q5 (Syntax.tcons q5 (Syntax.tcons q5 (Syntax.tcons q5 (Syntax.tcons q1 (Syntax.tcons q1 (Syntax.tcons (Syntax.tyInt Syntax.w64) Syntax.tnil)))))))) (Syntax.tcons (Syntax.tyStruct (L._∷_ 115 (L._∷_ 116 (L._∷_ 101 (L._∷_ 112 (L._∷_ 58 (L._∷_ 58 (L._∷_ 79 (L._∷_ 108 (L._∷_ 100 L.[]))))))))) (Syntax.tcons (Syntax.tyInt Syntax.w64) (Syntax.tcons q4 (Syntax.tcons q5 (Syntax.tcons q5 (Syntax.tcons q5 (Syntax.tcons q5 (Syntax.tcons q2 Syntax.tnil)))))))) Syntax.tnil))) Syntax.tnil)))) Syntax.tnil)))) (Syntax.tcons q3 Syntax.tnil)))) (L._∷_ q23 (L._∷_ q19 (L._∷_ q34 (L._∷_ q35 (L._∷_ q24 (L._∷_ q7 (L._∷_ (11, Rows.any-gone (Syntax.tyStruct (L._∷_ 110 (L._∷_ 101 (L._∷_ 116 (L._∷_ 119 (L._∷_ 111 (L._∷_ 114 (L._∷_ 107 (L._∷_ 58 (L._∷_ 58 (L._∷_ 69 (L._∷_ 100 (L._∷_ 105 (L._∷_ 116 L.[]))))))))))))) (Syntax.tcons q5 (Syntax.tcons q5 (Syntax.tcons q5 (Syntax.tcons q5 (Syntax.tcons q1 (Syntax.tcons q1 (Syntax.tcons (Syntax.tyInt Syntax.w64) Syntax.tnil))))))))) (L._∷_ q17 (L._∷_ q6 L.[])))))))))))))
 
 abbrev pub t5 : L.List Row.Entry
-t5 = L._∷_ (0, Rows.any-gone (Syntax.tyStruct (L._∷_ 115 (L._∷_ 101 (L._∷_ 97 (L._∷_ 114 (L._∷_ 99 (L._∷_ 104 (L._∷_ 58 (L._∷_ 58 (L._∷_ 80 (L._∷_ 114 (L._∷_ 111 (L._∷_ 103 (L._∷_ 114 (L._∷_ 101 (L._∷_ 115 (L._∷_ 115 L.[])))))))))))))))) (Syntax.tcons q0 (Syntax.tcons (Syntax.tyInt Syntax.w64) (Syntax.tcons q3 (Syntax.tcons Syntax.tyBool (Syntax.tcons Syntax.tyBool (Syntax.tcons (Syntax.tyInt Syntax.w64) (Syntax.tcons (Syntax.tyInt Syntax.w64) Syntax.tnil))))))))) (L._∷_ q31 (L._∷_ q13 (L._∷_ q15 (L._∷_ q28 (L._∷_ q23 (L._∷_ q19 (L._∷_ q34 (L._∷_ q35 (L._∷_ q24 (L._∷_ q7 (L._∷_ (11, Rows.any-gone (Syntax.tyStruct (L._∷_ 110 (L._∷_ 101 (L._∷_ 116 (L._∷_ 119 (L._∷_ 111 (L._∷_ 114 (L._∷_ 107 (L._∷_ 58 (L._∷_ 58 (L._∷_ 69 (L._∷_ 100 (L._∷_ 105 (L._∷_ 116 L.[]))))))))))))) (Syntax.tcons q5 (Syntax.tcons q5 (Syntax.tcons q5 (Syntax.tcons q5 (Syntax.tcons q1 (Syntax.tcons q1 (Syntax.tcons (Syntax.tyInt Syntax.w64) Syntax.tnil))))))))) (L._∷_ q17 (L._∷_ q6 L.[])))))))))))))
+t5 = L._∷_ (0, Rows.any-gone (Syntax.tyStruct (L._∷_ 115 (L._∷_ 101 (L._∷_ 97 (L._∷_ 114 (L._∷_ 99 (L._∷_ 104 (L._∷_ 58 (L._∷_ 58 (L._∷_ 80 (L._∷_ 114 (L._∷_ 111 (L._∷_ 103 (L._∷_ 114 (L._∷_ 101 (L._∷_ 115 (L._∷_ 115 L.[])))))))))))))))) (Syntax.tcons q0 (Syntax.tcons (Syntax.tyInt Syntax.w64) (Syntax.tcons q3 (Syntax.tcons Syntax.tyBool (Syntax.tcons Syntax.tyBool (Syntax.tcons (Syntax.tyInt Syntax.w64) (Syntax.tcons (Syntax.tyInt Syntax.w64) Syntax.tnil))))))))) (L._∷_ q31 (L._∷_ q13 (L._∷_ q15 (L._∷_ q25 (L._∷_ q23 (L._∷_ q19 (L._∷_ q34 (L._∷_ q35 (L._∷_ q24 (L._∷_ q7 (L._∷_ (11, Rows.any-gone (Syntax.tyStruct (L._∷_ 110 (L._∷_ 101 (L._∷_ 116 (L._∷_ 119 (L._∷_ 111 (L._∷_ 114 (L._∷_ 107 (L._∷_ 58 (L._∷_ 58 (L._∷_ 69 (L._∷_ 100 (L._∷_ 105 (L._∷_ 116 L.[]))))))))))))) (Syntax.tcons q5 (Syntax.tcons q5 (Syntax.tcons q5 (Syntax.tcons q5 (Syntax.tcons q1 (Syntax.tcons q1 (Syntax.tcons (Syntax.tyInt Syntax.w64) Syntax.tnil))))))))) (L._∷_ q17 (L._∷_ q6 L.[])))))))))))))
 
 abbrev pub t6 : L.List Row.Entry
-t6 = L._∷_ (0, Rows.any-gone (Syntax.tyStruct (L._∷_ 115 (L._∷_ 101 (L._∷_ 97 (L._∷_ 114 (L._∷_ 99 (L._∷_ 104 (L._∷_ 58 (L._∷_ 58 (L._∷_ 80 (L._∷_ 114 (L._∷_ 111 (L._∷_ 103 (L._∷_ 114 (L._∷_ 101 (L._∷_ 115 (L._∷_ 115 L.[])))))))))))))))) (Syntax.tcons q0 (Syntax.tcons (Syntax.tyInt Syntax.w64) (Syntax.tcons q3 (Syntax.tcons Syntax.tyBool (Syntax.tcons Syntax.tyBool (Syntax.tcons (Syntax.tyInt Syntax.w64) (Syntax.tcons (Syntax.tyInt Syntax.w64) Syntax.tnil))))))))) (L._∷_ q31 (L._∷_ q13 (L._∷_ q15 (L._∷_ q28 (L._∷_ q23 (L._∷_ q8 (L._∷_ q34 (L._∷_ q35 (L._∷_ q24 (L._∷_ q7 (L._∷_ (11, Rows.any-gone (Syntax.tyStruct (L._∷_ 110 (L._∷_ 101 (L._∷_ 116 (L._∷_ 119 (L._∷_ 111 (L._∷_ 114 (L._∷_ 107 (L._∷_ 58 (L._∷_ 58 (L._∷_ 69 (L._∷_ 100 (L._∷_ 105 (L._∷_ 116 L.[]))))))))))))) (Syntax.tcons q5 (Syntax.tcons q5 (Syntax.tcons q5 (Syntax.tcons q5 (Syntax.tcons q1 (Syntax.tcons q1 (Syntax.tcons (Syntax.tyInt Syntax.w64) Syntax.tnil))))))))) (L._∷_ q17 (L._∷_ q6 L.[])))))))))))))
+t6 = L._∷_ (0, Rows.any-gone (Syntax.tyStruct (L._∷_ 115 (L._∷_ 101 (L._∷_ 97 (L._∷_ 114 (L._∷_ 99 (L._∷_ 104 (L._∷_ 58 (L._∷_ 58 (L._∷_ 80 (L._∷_ 114 (L._∷_ 111 (L._∷_ 103 (L._∷_ 114 (L._∷_ 101 (L._∷_ 115 (L._∷_ 115 L.[])))))))))))))))) (Syntax.tcons q0 (Syntax.tcons (Syntax.tyInt Syntax.w64) (Syntax.tcons q3 (Syntax.tcons Syntax.tyBool (Syntax.tcons Syntax.tyBool (Syntax.tcons (Syntax.tyInt Syntax.w64) (Syntax.tcons (Syntax.tyInt Syntax.w64) Syntax.tnil))))))))) (L._∷_ q31 (L._∷_ q13 (L._∷_ q15 (L._∷_ q25 (L._∷_ q23 (L._∷_ q8 (L._∷_ q34 (L._∷_ q35 (L._∷_ q24 (L._∷_ q7 (L._∷_ (11, Rows.any-gone (Syntax.tyStruct (L._∷_ 110 (L._∷_ 101 (L._∷_ 116 (L._∷_ 119 (L._∷_ 111 (L._∷_ 114 (L._∷_ 107 (L._∷_ 58 (L._∷_ 58 (L._∷_ 69 (L._∷_ 100 (L._∷_ 105 (L._∷_ 116 L.[]))))))))))))) (Syntax.tcons q5 (Syntax.tcons q5 (Syntax.tcons q5 (Syntax.tcons q5 (Syntax.tcons q1 (Syntax.tcons q1 (Syntax.tcons (Syntax.tyInt Syntax.w64) Syntax.tnil))))))))) (L._∷_ q17 (L._∷_ q6 L.[])))))))))))))
 
 abbrev pub t7 : L.List Row.Entry
-t7 = L._∷_ (0, Rows.any-gone (Syntax.tyStruct (L._∷_ 115 (L._∷_ 101 (L._∷_ 97 (L._∷_ 114 (L._∷_ 99 (L._∷_ 104 (L._∷_ 58 (L._∷_ 58 (L._∷_ 80 (L._∷_ 114 (L._∷_ 111 (L._∷_ 103 (L._∷_ 114 (L._∷_ 101 (L._∷_ 115 (L._∷_ 115 L.[])))))))))))))))) (Syntax.tcons q0 (Syntax.tcons (Syntax.tyInt Syntax.w64) (Syntax.tcons q3 (Syntax.tcons Syntax.tyBool (Syntax.tcons Syntax.tyBool (Syntax.tcons (Syntax.tyInt Syntax.w64) (Syntax.tcons (Syntax.tyInt Syntax.w64) Syntax.tnil))))))))) (L._∷_ q31 (L._∷_ q13 (L._∷_ q15 (L._∷_ q28 (L._∷_ q23 (L._∷_ q8 (L._∷_ q33 (L._∷_ q35 (L._∷_ q24 (L._∷_ q7 (L._∷_ (11, Rows.any-gone (Syntax.tyStruct (L._∷_ 110 (L._∷_ 101 (L._∷_ 116 (L._∷_ 119 (L._∷_ 111 (L._∷_ 114 (L._∷_ 107 (L._∷_ 58 (L._∷_ 58 (L._∷_ 69 (L._∷_ 100 (L._∷_ 105 (L._∷_ 116 L.[]))))))))))))) (Syntax.tcons q5 (Syntax.tcons q5 (Syntax.tcons q5 (Syntax.tcons q5 (Syntax.tcons q1 (Syntax.tcons q1 (Syntax.tcons (Syntax.tyInt Syntax.w64) Syntax.tnil))))))))) (L._∷_ q17 (L._∷_ q6 L.[])))))))))))))
+t7 = L._∷_ (0, Rows.any-gone (Syntax.tyStruct (L._∷_ 115 (L._∷_ 101 (L._∷_ 97 (L._∷_ 114 (L._∷_ 99 (L._∷_ 104 (L._∷_ 58 (L._∷_ 58 (L._∷_ 80 (L._∷_ 114 (L._∷_ 111 (L._∷_ 103 (L._∷_ 114 (L._∷_ 101 (L._∷_ 115 (L._∷_ 115 L.[])))))))))))))))) (Syntax.tcons q0 (Syntax.tcons (Syntax.tyInt Syntax.w64) (Syntax.tcons q3 (Syntax.tcons Syntax.tyBool (Syntax.tcons Syntax.tyBool (Syntax.tcons (Syntax.tyInt Syntax.w64) (Syntax.tcons (Syntax.tyInt Syntax.w64) Syntax.tnil))))))))) (L._∷_ q31 (L._∷_ q13 (L._∷_ q15 (L._∷_ q25 (L._∷_ q23 (L._∷_ q8 (L._∷_ q33 (L._∷_ q35 (L._∷_ q24 (L._∷_ q7 (L._∷_ (11, Rows.any-gone (Syntax.tyStruct (L._∷_ 110 (L._∷_ 101 (L._∷_ 116 (L._∷_ 119 (L._∷_ 111 (L._∷_ 114 (L._∷_ 107 (L._∷_ 58 (L._∷_ 58 (L._∷_ 69 (L._∷_ 100 (L._∷_ 105 (L._∷_ 116 L.[]))))))))))))) (Syntax.tcons q5 (Syntax.tcons q5 (Syntax.tcons q5 (Syntax.tcons q5 (Syntax.tcons q1 (Syntax.tcons q1 (Syntax.tcons (Syntax.tyInt Syntax.w64) Syntax.tnil))))))))) (L._∷_ q17 (L._∷_ q6 L.[])))))))))))))
 
 abbrev pub t8 : L.List Row.Entry
-t8 = L._∷_ (0, Rows.any-gone (Syntax.tyStruct (L._∷_ 115 (L._∷_ 101 (L._∷_ 97 (L._∷_ 114 (L._∷_ 99 (L._∷_ 104 (L._∷_ 58 (L._∷_ 58 (L._∷_ 80 (L._∷_ 114 (L._∷_ 111 (L._∷_ 103 (L._∷_ 114 (L._∷_ 101 (L._∷_ 115 (L._∷_ 115 L.[])))))))))))))))) (Syntax.tcons q0 (Syntax.tcons (Syntax.tyInt Syntax.w64) (Syntax.tcons q3 (Syntax.tcons Syntax.tyBool (Syntax.tcons Syntax.tyBool (Syntax.tcons (Syntax.tyInt Syntax.w64) (Syntax.tcons (Syntax.tyInt Syntax.w64) Syntax.tnil))))))))) (L._∷_ q31 (L._∷_ q13 (L._∷_ q18 (L._∷_ q28 (L._∷_ q23 (L._∷_ q8 (L._∷_ q33 (L._∷_ q35 (L._∷_ q24 (L._∷_ q7 (L._∷_ (11, Rows.any-gone (Syntax.tyStruct (L._∷_ 110 (L._∷_ 101 (L._∷_ 116 (L._∷_ 119 (L._∷_ 111 (L._∷_ 114 (L._∷_ 107 (L._∷_ 58 (L._∷_ 58 (L._∷_ 69 (L._∷_ 100 (L._∷_ 105 (L._∷_ 116 L.[]))))))))))))) (Syntax.tcons q5 (Syntax.tcons q5 (Syntax.tcons q5 (Syntax.tcons q5 (Syntax.tcons q1 (Syntax.tcons q1 (Syntax.tcons (Syntax.tyInt Syntax.w64) Syntax.tnil))))))))) (L._∷_ q17 (L._∷_ q6 L.[])))))))))))))
+t8 = L._∷_ (0, Rows.any-gone (Syntax.tyStruct (L._∷_ 115 (L._∷_ 101 (L._∷_ 97 (L._∷_ 114 (L._∷_ 99 (L._∷_ 104 (L._∷_ 58 (L._∷_ 58 (L._∷_ 80 (L._∷_ 114 (L._∷_ 111 (L._∷_ 103 (L._∷_ 114 (L._∷_ 101 (L._∷_ 115 (L._∷_ 115 L.[])))))))))))))))) (Syntax.tcons q0 (Syntax.tcons (Syntax.tyInt Syntax.w64) (Syntax.tcons q3 (Syntax.tcons Syntax.tyBool (Syntax.tcons Syntax.tyBool (Syntax.tcons (Syntax.tyInt Syntax.w64) (Syntax.tcons (Syntax.tyInt Syntax.w64) Syntax.tnil))))))))) (L._∷_ q31 (L._∷_ q13 (L._∷_ q18 (L._∷_ q25 (L._∷_ q23 (L._∷_ q8 (L._∷_ q33 (L._∷_ q35 (L._∷_ q24 (L._∷_ q7 (L._∷_ (11, Rows.any-gone (Syntax.tyStruct (L._∷_ 110 (L._∷_ 101 (L._∷_ 116 (L._∷_ 119 (L._∷_ 111 (L._∷_ 114 (L._∷_ 107 (L._∷_ 58 (L._∷_ 58 (L._∷_ 69 (L._∷_ 100 (L._∷_ 105 (L._∷_ 116 L.[]))))))))))))) (Syntax.tcons q5 (Syntax.tcons q5 (Syntax.tcons q5 (Syntax.tcons q5 (Syntax.tcons q1 (Syntax.tcons q1 (Syntax.tcons (Syntax.tyInt Syntax.w64) Syntax.tnil))))))))) (L._∷_ q17 (L._∷_ q6 L.[])))))))))))))
 
 abbrev pub t9 : L.List Row.Entry
-t9 = L._∷_ (0, Rows.any-gone (Syntax.tyStruct (L._∷_ 115 (L._∷_ 101 (L._∷_ 97 (L._∷_ 114 (L._∷_ 99 (L._∷_ 104 (L._∷_ 58 (L._∷_ 58 (L._∷_ 80 (L._∷_ 114 (L._∷_ 111 (L._∷_ 103 (L._∷_ 114 (L._∷_ 101 (L._∷_ 115 (L._∷_ 115 L.[])))))))))))))))) (Syntax.tcons q0 (Syntax.tcons (Syntax.tyInt Syntax.w64) (Syntax.tcons q3 (Syntax.tcons Syntax.tyBool (Syntax.tcons Syntax.tyBool (Syntax.tcons (Syntax.tyInt Syntax.w64) (Syntax.tcons (Syntax.tyInt Syntax.w64) Syntax.tnil))))))))) (L._∷_ q31 (L._∷_ q13 (L._∷_ q16 (L._∷_ q28 (L._∷_ q23 (L._∷_ q8 (L._∷_ q33 (L._∷_ q35 (L._∷_ (9, Relend.msptr Rec.row q30 3) (L._∷_ q7 (L._∷_ (11, Rows.any-gone (Syntax.tyStruct (L._∷_ 110 (L._∷_ 101 (L._∷_ 116 (L._∷_ 119 (L._∷_ 111 (L._∷_ 114 (L._∷_ 107 (L._∷_ 58 (L._∷_ 58 (L._∷_ 69 (L._∷_ 100 (L._∷_ 105 (L._∷_ 116 L.[]))))))))))))) (Syntax.tcons q5 (Syntax.tcons q5 (Syntax.tcons q5 (Syntax.tcons q5 (Syntax.tcons q1 (Syntax.tcons q1 (Syntax.tcons (Syntax.tyInt Syntax.w64) Syntax.tnil))))))))) (L._∷_ q17 (L._∷_ q6 L.[])))))))))))))
+t9 = L._∷_ (0, Rows.any-gone (Syntax.tyStruct (L._∷_ 115 (L._∷_ 101 (L._∷_ 97 (L._∷_ 114 (L._∷_ 99 (L._∷_ 104 (L._∷_ 58 (L._∷_ 58 (L._∷_ 80 (L._∷_ 114 (L._∷_ 111 (L._∷_ 103 (L._∷_ 114 (L._∷_ 101 (L._∷_ 115 (L._∷_ 115 L.[])))))))))))))))) (Syntax.tcons q0 (Syntax.tcons (Syntax.tyInt Syntax.w64) (Syntax.tcons q3 (Syntax.tcons Syntax.tyBool (Syntax.tcons Syntax.tyBool (Syntax.tcons (Syntax.tyInt Syntax.w64) (Syntax.tcons (Syntax.tyInt Syntax.w64) Syntax.tnil))))))))) (L._∷_ q31 (L._∷_ q13 (L._∷_ q16 (L._∷_ q25 (L._∷_ q23 (L._∷_ q8 (L._∷_ q33 (L._∷_ q35 (L._∷_ (9, Relend.msptr Rec.row q30 3) (L._∷_ q7 (L._∷_ (11, Rows.any-gone (Syntax.tyStruct (L._∷_ 110 (L._∷_ 101 (L._∷_ 116 (L._∷_ 119 (L._∷_ 111 (L._∷_ 114 (L._∷_ 107 (L._∷_ 58 (L._∷_ 58 (L._∷_ 69 (L._∷_ 100 (L._∷_ 105 (L._∷_ 116 L.[]))))))))))))) (Syntax.tcons q5 (Syntax.tcons q5 (Syntax.tcons q5 (Syntax.tcons q5 (Syntax.tcons q1 (Syntax.tcons q1 (Syntax.tcons (Syntax.tyInt Syntax.w64) Syntax.tnil))))))))) (L._∷_ q17 (L._∷_ q6 L.[])))))))))))))
 
 abbrev pub t10 : L.List Row.Entry
-t10 = L._∷_ (0, Rows.any-gone (Syntax.tyStruct (L._∷_ 115 (L._∷_ 101 (L._∷_ 97 (L._∷_ 114 (L._∷_ 99 (L._∷_ 104 (L._∷_ 58 (L._∷_ 58 (L._∷_ 80 (L._∷_ 114 (L._∷_ 111 (L._∷_ 103 (L._∷_ 114 (L._∷_ 101 (L._∷_ 115 (L._∷_ 115 L.[])))))))))))))))) (Syntax.tcons q0 (Syntax.tcons (Syntax.tyInt Syntax.w64) (Syntax.tcons q3 (Syntax.tcons Syntax.tyBool (Syntax.tcons Syntax.tyBool (Syntax.tcons (Syntax.tyInt Syntax.w64) (Syntax.tcons (Syntax.tyInt Syntax.w64) Syntax.tnil))))))))) (L._∷_ q31 (L._∷_ q13 (L._∷_ q16 (L._∷_ q28 (L._∷_ q23 (L._∷_ q8 (L._∷_ q33 (L._∷_ q35 (L._∷_ q24 (L._∷_ q20 (L._∷_ (11, Rows.any-gone (Syntax.tyStruct (L._∷_ 110 (L._∷_ 101 (L._∷_ 116 (L._∷_ 119 (L._∷_ 111 (L._∷_ 114 (L._∷_ 107 (L._∷_ 58 (L._∷_ 58 (L._∷_ 69 (L._∷_ 100 (L._∷_ 105 (L._∷_ 116 L.[]))))))))))))) (Syntax.tcons q5 (Syntax.tcons q5 (Syntax.tcons q5 (Syntax.tcons q5 (Syntax.tcons q1 (Syntax.tcons q1 (Syntax.tcons (Syntax.tyInt Syntax.w64) Syntax.tnil))))))))) (L._∷_ q17 (L._∷_ q6 L.[])))))))))))))
+t10 = L._∷_ (0, Rows.any-gone (Syntax.tyStruct (L._∷_ 115 (L._∷_ 101 (L._∷_ 97 (L._∷_ 114 (L._∷_ 99 (L._∷_ 104 (L._∷_ 58 (L._∷_ 58 (L._∷_ 80 (L._∷_ 114 (L._∷_ 111 (L._∷_ 103 (L._∷_ 114 (L._∷_ 101 (L._∷_ 115 (L._∷_ 115 L.[])))))))))))))))) (Syntax.tcons q0 (Syntax.tcons (Syntax.tyInt Syntax.w64) (Syntax.tcons q3 (Syntax.tcons Syntax.tyBool (Syntax.tcons Syntax.tyBool (Syntax.tcons (Syntax.tyInt Syntax.w64) (Syntax.tcons (Syntax.tyInt Syntax.w64) Syntax.tnil))))))))) (L._∷_ q31 (L._∷_ q13 (L._∷_ q16 (L._∷_ q25 (L._∷_ q23 (L._∷_ q8 (L._∷_ q33 (L._∷_ q35 (L._∷_ q24 (L._∷_ q20 (L._∷_ (11, Rows.any-gone (Syntax.tyStruct (L._∷_ 110 (L._∷_ 101 (L._∷_ 116 (L._∷_ 119 (L._∷_ 111 (L._∷_ 114 (L._∷_ 107 (L._∷_ 58 (L._∷_ 58 (L._∷_ 69 (L._∷_ 100 (L._∷_ 105 (L._∷_ 116 L.[]))))))))))))) (Syntax.tcons q5 (Syntax.tcons q5 (Syntax.tcons q5 (Syntax.tcons q5 (Syntax.tcons q1 (Syntax.tcons q1 (Syntax.tcons (Syntax.tyInt Syntax.w64) Syntax.tnil))))))))) (L._∷_ q17 (L._∷_ q6 L.[])))))))))))))
 
 abbrev pub t11 : L.List Row.Entry
-t11 = L._∷_ (0, Rows.any-gone (Syntax.tyStruct (L._∷_ 115 (L._∷_ 101 (L._∷_ 97 (L._∷_ 114 (L._∷_ 99 (L._∷_ 104 (L._∷_ 58 (L._∷_ 58 (L._∷_ 80 (L._∷_ 114 (L._∷_ 111 (L._∷_ 103 (L._∷_ 114 (L._∷_ 101 (L._∷_ 115 (L._∷_ 115 L.[])))))))))))))))) (Syntax.tcons q0 (Syntax.tcons (Syntax.tyInt Syntax.w64) (Syntax.tcons q3 (Syntax.tcons Syntax.tyBool (Syntax.tcons Syntax.tyBool (Syntax.tcons (Syntax.tyInt Syntax.w64) (Syntax.tcons (Syntax.tyInt Syntax.w64) Syntax.tnil))))))))) (L._∷_ q31 (L._∷_ q13 (L._∷_ q16 (L._∷_ q28 (L._∷_ q23 (L._∷_ q8 (L._∷_ q33 (L._∷_ q35 (L._∷_ q24 (L._∷_ q20 (L._∷_ q26 (L._∷_ q17 (L._∷_ q6 L.[])))))))))))))
+t11 = L._∷_ (0, Rows.any-gone (Syntax.tyStruct (L._∷_ 115 (L._∷_ 101 (L._∷_ 97 (L._∷_ 114 (L._∷_ 99 (L._∷_ 104 (L._∷_ 58 (L._∷_ 58 (L._∷_ 80 (L._∷_ 114 (L._∷_ 111 (L._∷_ 103 (L._∷_ 114 (L._∷_ 101 (L._∷_ 115 (L._∷_ 115 L.[])))))))))))))))) (Syntax.tcons q0 (Syntax.tcons (Syntax.tyInt Syntax.w64) (Syntax.tcons q3 (Syntax.tcons Syntax.tyBool (Syntax.tcons Syntax.tyBool (Syntax.tcons (Syntax.tyInt Syntax.w64) (Syntax.tcons (Syntax.tyInt Syntax.w64) Syntax.tnil))))))))) (L._∷_ q31 (L._∷_ q13 (L._∷_ q16 (L._∷_ q25 (L._∷_ q23 (L._∷_ q8 (L._∷_ q33 (L._∷_ q35 (L._∷_ q24 (L._∷_ q20 (L._∷_ q27 (L._∷_ q17 (L._∷_ q6 L.[])))))))))))))
 
 abbrev pub t12 : L.List Row.Entry
-t12 = L._∷_ (0, Rows.any-gone (Syntax.tyStruct (L._∷_ 115 (L._∷_ 101 (L._∷_ 97 (L._∷_ 114 (L._∷_ 99 (L._∷_ 104 (L._∷_ 58 (L._∷_ 58 (L._∷_ 80 (L._∷_ 114 (L._∷_ 111 (L._∷_ 103 (L._∷_ 114 (L._∷_ 101 (L._∷_ 115 (L._∷_ 115 L.[])))))))))))))))) (Syntax.tcons q0 (Syntax.tcons (Syntax.tyInt Syntax.w64) (Syntax.tcons q3 (Syntax.tcons Syntax.tyBool (Syntax.tcons Syntax.tyBool (Syntax.tcons (Syntax.tyInt Syntax.w64) (Syntax.tcons (Syntax.tyInt Syntax.w64) Syntax.tnil))))))))) (L._∷_ q31 (L._∷_ q13 (L._∷_ q16 (L._∷_ q28 (L._∷_ q23 (L._∷_ q8 (L._∷_ q33 (L._∷_ (8, Rows.sc-here Row.sUnit) (L._∷_ q24 (L._∷_ q21 (L._∷_ q26 (L._∷_ q17 (L._∷_ q6 L.[])))))))))))))
+t12 = L._∷_ (0, Rows.any-gone (Syntax.tyStruct (L._∷_ 115 (L._∷_ 101 (L._∷_ 97 (L._∷_ 114 (L._∷_ 99 (L._∷_ 104 (L._∷_ 58 (L._∷_ 58 (L._∷_ 80 (L._∷_ 114 (L._∷_ 111 (L._∷_ 103 (L._∷_ 114 (L._∷_ 101 (L._∷_ 115 (L._∷_ 115 L.[])))))))))))))))) (Syntax.tcons q0 (Syntax.tcons (Syntax.tyInt Syntax.w64) (Syntax.tcons q3 (Syntax.tcons Syntax.tyBool (Syntax.tcons Syntax.tyBool (Syntax.tcons (Syntax.tyInt Syntax.w64) (Syntax.tcons (Syntax.tyInt Syntax.w64) Syntax.tnil))))))))) (L._∷_ q31 (L._∷_ q13 (L._∷_ q16 (L._∷_ q25 (L._∷_ q23 (L._∷_ q8 (L._∷_ q33 (L._∷_ (8, Rows.sc-here Row.sUnit) (L._∷_ q24 (L._∷_ q21 (L._∷_ q27 (L._∷_ q17 (L._∷_ q6 L.[])))))))))))))
 
 abbrev pub t13 : L.List Row.Entry
-t13 = L._∷_ (0, Rows.any-gone (Syntax.tyStruct (L._∷_ 115 (L._∷_ 101 (L._∷_ 97 (L._∷_ 114 (L._∷_ 99 (L._∷_ 104 (L._∷_ 58 (L._∷_ 58 (L._∷_ 80 (L._∷_ 114 (L._∷_ 111 (L._∷_ 103 (L._∷_ 114 (L._∷_ 101 (L._∷_ 115 (L._∷_ 115 L.[])))))))))))))))) (Syntax.tcons q0 (Syntax.tcons (Syntax.tyInt Syntax.w64) (Syntax.tcons q3 (Syntax.tcons Syntax.tyBool (Syntax.tcons Syntax.tyBool (Syntax.tcons (Syntax.tyInt Syntax.w64) (Syntax.tcons (Syntax.tyInt Syntax.w64) Syntax.tnil))))))))) (L._∷_ q31 (L._∷_ q13 (L._∷_ q16 (L._∷_ q28 (L._∷_ q23 (L._∷_ q8 (L._∷_ q33 (L._∷_ q35 (L._∷_ q24 (L._∷_ q21 (L._∷_ q26 (L._∷_ q17 (L._∷_ q6 L.[])))))))))))))
+t13 = L._∷_ (0, Rows.any-gone (Syntax.tyStruct (L._∷_ 115 (L._∷_ 101 (L._∷_ 97 (L._∷_ 114 (L._∷_ 99 (L._∷_ 104 (L._∷_ 58 (L._∷_ 58 (L._∷_ 80 (L._∷_ 114 (L._∷_ 111 (L._∷_ 103 (L._∷_ 114 (L._∷_ 101 (L._∷_ 115 (L._∷_ 115 L.[])))))))))))))))) (Syntax.tcons q0 (Syntax.tcons (Syntax.tyInt Syntax.w64) (Syntax.tcons q3 (Syntax.tcons Syntax.tyBool (Syntax.tcons Syntax.tyBool (Syntax.tcons (Syntax.tyInt Syntax.w64) (Syntax.tcons (Syntax.tyInt Syntax.w64) Syntax.tnil))))))))) (L._∷_ q31 (L._∷_ q13 (L._∷_ q16 (L._∷_ q25 (L._∷_ q23 (L._∷_ q8 (L._∷_ q33 (L._∷_ q35 (L._∷_ q24 (L._∷_ q21 (L._∷_ q27 (L._∷_ q17 (L._∷_ q6 L.[])))))))))))))
 
 abbrev pub t14 : L.List Row.Entry
-t14 = L._∷_ (0, Rows.any-gone (Syntax.tyStruct (L._∷_ 115 (L._∷_ 101 (L._∷_ 97 (L._∷_ 114 (L._∷_ 99 (L._∷_ 104 (L._∷_ 58 (L._∷_ 58 (L._∷_ 80 (L._∷_ 114 (L._∷_ 111 (L._∷_ 103 (L._∷_ 114 (L._∷_ 101 (L._∷_ 115 (L._∷_ 115 L.[])))))))))))))))) (Syntax.tcons q0 (Syntax.tcons (Syntax.tyInt Syntax.w64) (Syntax.tcons q3 (Syntax.tcons Syntax.tyBool (Syntax.tcons Syntax.tyBool (Syntax.tcons (Syntax.tyInt Syntax.w64) (Syntax.tcons (Syntax.tyInt Syntax.w64) Syntax.tnil))))))))) (L._∷_ q31 (L._∷_ q13 (L._∷_ q16 (L._∷_ q28 (L._∷_ q23 (L._∷_ q8 (L._∷_ q33 (L._∷_ q35 (L._∷_ q24 (L._∷_ q21 (L._∷_ (11, Rows.any-gone (Syntax.tyStruct (L._∷_ 110 (L._∷_ 101 (L._∷_ 116 (L._∷_ 119 (L._∷_ 111 (L._∷_ 114 (L._∷_ 107 (L._∷_ 58 (L._∷_ 58 (L._∷_ 69 (L._∷_ 100 (L._∷_ 105 (L._∷_ 116 L.[]))))))))))))) (Syntax.tcons q5 (Syntax.tcons q5 (Syntax.tcons q5 (Syntax.tcons q5 (Syntax.tcons q1 (Syntax.tcons q1 (Syntax.tcons (Syntax.tyInt Syntax.w64) Syntax.tnil))))))))) (L._∷_ q17 (L._∷_ q6 L.[])))))))))))))
+t14 = L._∷_ (0, Rows.any-gone (Syntax.tyStruct (L._∷_ 115 (L._∷_ 101 (L._∷_ 97 (L._∷_ 114 (L._∷_ 99 (L._∷_ 104 (L._∷_ 58 (L._∷_ 58 (L._∷_ 80 (L._∷_ 114 (L._∷_ 111 (L._∷_ 103 (L._∷_ 114 (L._∷_ 101 (L._∷_ 115 (L._∷_ 115 L.[])))))))))))))))) (Syntax.tcons q0 (Syntax.tcons (Syntax.tyInt Syntax.w64) (Syntax.tcons q3 (Syntax.tcons Syntax.tyBool (Syntax.tcons Syntax.tyBool (Syntax.tcons (Syntax.tyInt Syntax.w64) (Syntax.tcons (Syntax.tyInt Syntax.w64) Syntax.tnil))))))))) (L._∷_ q31 (L._∷_ q13 (L._∷_ q16 (L._∷_ q25 (L._∷_ q23 (L._∷_ q8 (L._∷_ q33 (L._∷_ q35 (L._∷_ q24 (L._∷_ q21 (L._∷_ (11, Rows.any-gone (Syntax.tyStruct (L._∷_ 110 (L._∷_ 101 (L._∷_ 116 (L._∷_ 119 (L._∷_ 111 (L._∷_ 114 (L._∷_ 107 (L._∷_ 58 (L._∷_ 58 (L._∷_ 69 (L._∷_ 100 (L._∷_ 105 (L._∷_ 116 L.[]))))))))))))) (Syntax.tcons q5 (Syntax.tcons q5 (Syntax.tcons q5 (Syntax.tcons q5 (Syntax.tcons q1 (Syntax.tcons q1 (Syntax.tcons (Syntax.tyInt Syntax.w64) Syntax.tnil))))))))) (L._∷_ q17 (L._∷_ q6 L.[])))))))))))))
 
 abbrev pub t15 : L.List Row.Entry
-t15 = L._∷_ (0, Rows.any-gone (Syntax.tyStruct (L._∷_ 115 (L._∷_ 101 (L._∷_ 97 (L._∷_ 114 (L._∷_ 99 (L._∷_ 104 (L._∷_ 58 (L._∷_ 58 (L._∷_ 80 (L._∷_ 114 (L._∷_ 111 (L._∷_ 103 (L._∷_ 114 (L._∷_ 101 (L._∷_ 115 (L._∷_ 115 L.[])))))))))))))))) (Syntax.tcons q0 (Syntax.tcons (Syntax.tyInt Syntax.w64) (Syntax.tcons q3 (Syntax.tcons Syntax.tyBool (Syntax.tcons Syntax.tyBool (Syntax.tcons (Syntax.tyInt Syntax.w64) (Syntax.tcons (Syntax.tyInt Syntax.w64) Syntax.tnil))))))))) (L._∷_ q31 (L._∷_ q12 (L._∷_ q18 (L._∷_ q28 (L._∷_ q23 (L._∷_ q8 (L._∷_ q33 (L._∷_ q35 (L._∷_ q24 (L._∷_ q7 (L._∷_ (11, Rows.any-gone (Syntax.tyStruct (L._∷_ 110 (L._∷_ 101 (L._∷_ 116 (L._∷_ 119 (L._∷_ 111 (L._∷_ 114 (L._∷_ 107 (L._∷_ 58 (L._∷_ 58 (L._∷_ 69 (L._∷_ 100 (L._∷_ 105 (L._∷_ 116 L.[]))))))))))))) (Syntax.tcons q5 (Syntax.tcons q5 (Syntax.tcons q5 (Syntax.tcons q5 (Syntax.tcons q1 (Syntax.tcons q1 (Syntax.tcons (Syntax.tyInt Syntax.w64) Syntax.tnil))))))))) (L._∷_ (12, Relend.msptr (Signed.SInt Syntax.w32) q25 4) (L._∷_ q6 L.[])))))))))))))
+t15 = L._∷_ (0, Rows.any-gone (Syntax.tyStruct (L._∷_ 115 (L._∷_ 101 (L._∷_ 97 (L._∷_ 114 (L._∷_ 99 (L._∷_ 104 (L._∷_ 58 (L._∷_ 58 (L._∷_ 80 (L._∷_ 114 (L._∷_ 111 (L._∷_ 103 (L._∷_ 114 (L._∷_ 101 (L._∷_ 115 (L._∷_ 115 L.[])))))))))))))))) (Syntax.tcons q0 (Syntax.tcons (Syntax.tyInt Syntax.w64) (Syntax.tcons q3 (Syntax.tcons Syntax.tyBool (Syntax.tcons Syntax.tyBool (Syntax.tcons (Syntax.tyInt Syntax.w64) (Syntax.tcons (Syntax.tyInt Syntax.w64) Syntax.tnil))))))))) (L._∷_ q31 (L._∷_ q12 (L._∷_ q18 (L._∷_ q25 (L._∷_ q23 (L._∷_ q8 (L._∷_ q33 (L._∷_ q35 (L._∷_ q24 (L._∷_ q7 (L._∷_ (11, Rows.any-gone (Syntax.tyStruct (L._∷_ 110 (L._∷_ 101 (L._∷_ 116 (L._∷_ 119 (L._∷_ 111 (L._∷_ 114 (L._∷_ 107 (L._∷_ 58 (L._∷_ 58 (L._∷_ 69 (L._∷_ 100 (L._∷_ 105 (L._∷_ 116 L.[]))))))))))))) (Syntax.tcons q5 (Syntax.tcons q5 (Syntax.tcons q5 (Syntax.tcons q5 (Syntax.tcons q1 (Syntax.tcons q1 (Syntax.tcons (Syntax.tyInt Syntax.w64) Syntax.tnil))))))))) (L._∷_ (12, Relend.msptr (Signed.SInt Syntax.w32) q26 4) (L._∷_ q6 L.[])))))))))))))
 
 abbrev pub t16 : L.List Row.Entry
-t16 = L._∷_ (0, Rows.any-gone (Syntax.tyStruct (L._∷_ 115 (L._∷_ 101 (L._∷_ 97 (L._∷_ 114 (L._∷_ 99 (L._∷_ 104 (L._∷_ 58 (L._∷_ 58 (L._∷_ 80 (L._∷_ 114 (L._∷_ 111 (L._∷_ 103 (L._∷_ 114 (L._∷_ 101 (L._∷_ 115 (L._∷_ 115 L.[])))))))))))))))) (Syntax.tcons q0 (Syntax.tcons (Syntax.tyInt Syntax.w64) (Syntax.tcons q3 (Syntax.tcons Syntax.tyBool (Syntax.tcons Syntax.tyBool (Syntax.tcons (Syntax.tyInt Syntax.w64) (Syntax.tcons (Syntax.tyInt Syntax.w64) Syntax.tnil))))))))) (L._∷_ q31 (L._∷_ q12 (L._∷_ q18 (L._∷_ q28 (L._∷_ q23 (L._∷_ q8 (L._∷_ q33 (L._∷_ q35 (L._∷_ q24 (L._∷_ q7 (L._∷_ (11, Rows.any-gone (Syntax.tyStruct (L._∷_ 110 (L._∷_ 101 (L._∷_ 116 (L._∷_ 119 (L._∷_ 111 (L._∷_ 114 (L._∷_ 107 (L._∷_ 58 (L._∷_ 58 (L._∷_ 69 (L._∷_ 100 (L._∷_ 105 (L._∷_ 116 L.[]))))))))))))) (Syntax.tcons q5 (Syntax.tcons q5 (Syntax.tcons q5 (Syntax.tcons q5 (Syntax.tcons q1 (Syntax.tcons q1 (Syntax.tcons (Syntax.tyInt Syntax.w64) Syntax.tnil))))))))) (L._∷_ q17 (L._∷_ (13, Mut.mslice (Signed.SInt Syntax.w32) q25 4) L.[])))))))))))))
+t16 = L._∷_ (0, Rows.any-gone (Syntax.tyStruct (L._∷_ 115 (L._∷_ 101 (L._∷_ 97 (L._∷_ 114 (L._∷_ 99 (L._∷_ 104 (L._∷_ 58 (L._∷_ 58 (L._∷_ 80 (L._∷_ 114 (L._∷_ 111 (L._∷_ 103 (L._∷_ 114 (L._∷_ 101 (L._∷_ 115 (L._∷_ 115 L.[])))))))))))))))) (Syntax.tcons q0 (Syntax.tcons (Syntax.tyInt Syntax.w64) (Syntax.tcons q3 (Syntax.tcons Syntax.tyBool (Syntax.tcons Syntax.tyBool (Syntax.tcons (Syntax.tyInt Syntax.w64) (Syntax.tcons (Syntax.tyInt Syntax.w64) Syntax.tnil))))))))) (L._∷_ q31 (L._∷_ q12 (L._∷_ q18 (L._∷_ q25 (L._∷_ q23 (L._∷_ q8 (L._∷_ q33 (L._∷_ q35 (L._∷_ q24 (L._∷_ q7 (L._∷_ (11, Rows.any-gone (Syntax.tyStruct (L._∷_ 110 (L._∷_ 101 (L._∷_ 116 (L._∷_ 119 (L._∷_ 111 (L._∷_ 114 (L._∷_ 107 (L._∷_ 58 (L._∷_ 58 (L._∷_ 69 (L._∷_ 100 (L._∷_ 105 (L._∷_ 116 L.[]))))))))))))) (Syntax.tcons q5 (Syntax.tcons q5 (Syntax.tcons q5 (Syntax.tcons q5 (Syntax.tcons q1 (Syntax.tcons q1 (Syntax.tcons (Syntax.tyInt Syntax.w64) Syntax.tnil))))))))) (L._∷_ q17 (L._∷_ (13, Mut.mslice (Signed.SInt Syntax.w32) q26 4) L.[])))))))))))))
 
 abbrev pub t17 : L.List Row.Entry
-t17 = L._∷_ (0, Rows.any-gone (Syntax.tyStruct (L._∷_ 115 (L._∷_ 101 (L._∷_ 97 (L._∷_ 114 (L._∷_ 99 (L._∷_ 104 (L._∷_ 58 (L._∷_ 58 (L._∷_ 80 (L._∷_ 114 (L._∷_ 111 (L._∷_ 103 (L._∷_ 114 (L._∷_ 101 (L._∷_ 115 (L._∷_ 115 L.[])))))))))))))))) (Syntax.tcons q0 (Syntax.tcons (Syntax.tyInt Syntax.w64) (Syntax.tcons q3 (Syntax.tcons Syntax.tyBool (Syntax.tcons Syntax.tyBool (Syntax.tcons (Syntax.tyInt Syntax.w64) (Syntax.tcons (Syntax.tyInt Syntax.w64) Syntax.tnil))))))))) (L._∷_ q31 (L._∷_ q12 (L._∷_ q18 (L._∷_ q28 (L._∷_ q23 (L._∷_ q8 (L._∷_ q33 (L._∷_ (8, Rows.sc-here Row.sUnit) (L._∷_ q24 (L._∷_ q7 (L._∷_ (11, Rows.any-gone (Syntax.tyStruct (L._∷_ 110 (L._∷_ 101 (L._∷_ 116 (L._∷_ 119 (L._∷_ 111 (L._∷_ 114 (L._∷_ 107 (L._∷_ 58 (L._∷_ 58 (L._∷_ 69 (L._∷_ 100 (L._∷_ 105 (L._∷_ 116 L.[]))))))))))))) (Syntax.tcons q5 (Syntax.tcons q5 (Syntax.tcons q5 (Syntax.tcons q5 (Syntax.tcons q1 (Syntax.tcons q1 (Syntax.tcons (Syntax.tyInt Syntax.w64) Syntax.tnil))))))))) (L._∷_ q17 (L._∷_ q14 L.[])))))))))))))
+t17 = L._∷_ (0, Rows.any-gone (Syntax.tyStruct (L._∷_ 115 (L._∷_ 101 (L._∷_ 97 (L._∷_ 114 (L._∷_ 99 (L._∷_ 104 (L._∷_ 58 (L._∷_ 58 (L._∷_ 80 (L._∷_ 114 (L._∷_ 111 (L._∷_ 103 (L._∷_ 114 (L._∷_ 101 (L._∷_ 115 (L._∷_ 115 L.[])))))))))))))))) (Syntax.tcons q0 (Syntax.tcons (Syntax.tyInt Syntax.w64) (Syntax.tcons q3 (Syntax.tcons Syntax.tyBool (Syntax.tcons Syntax.tyBool (Syntax.tcons (Syntax.tyInt Syntax.w64) (Syntax.tcons (Syntax.tyInt Syntax.w64) Syntax.tnil))))))))) (L._∷_ q31 (L._∷_ q12 (L._∷_ q18 (L._∷_ q25 (L._∷_ q23 (L._∷_ q8 (L._∷_ q33 (L._∷_ (8, Rows.sc-here Row.sUnit) (L._∷_ q24 (L._∷_ q7 (L._∷_ (11, Rows.any-gone (Syntax.tyStruct (L._∷_ 110 (L._∷_ 101 (L._∷_ 116 (L._∷_ 119 (L._∷_ 111 (L._∷_ 114 (L._∷_ 107 (L._∷_ 58 (L._∷_ 58 (L._∷_ 69 (L._∷_ 100 (L._∷_ 105 (L._∷_ 116 L.[]))))))))))))) (Syntax.tcons q5 (Syntax.tcons q5 (Syntax.tcons q5 (Syntax.tcons q5 (Syntax.tcons q1 (Syntax.tcons q1 (Syntax.tcons (Syntax.tyInt Syntax.w64) Syntax.tnil))))))))) (L._∷_ q17 (L._∷_ q14 L.[])))))))))))))
 
 abbrev pub t18 : L.List Row.Entry
-t18 = L._∷_ (0, Rows.any-gone (Syntax.tyStruct (L._∷_ 115 (L._∷_ 101 (L._∷_ 97 (L._∷_ 114 (L._∷_ 99 (L._∷_ 104 (L._∷_ 58 (L._∷_ 58 (L._∷_ 80 (L._∷_ 114 (L._∷_ 111 (L._∷_ 103 (L._∷_ 114 (L._∷_ 101 (L._∷_ 115 (L._∷_ 115 L.[])))))))))))))))) (Syntax.tcons q0 (Syntax.tcons (Syntax.tyInt Syntax.w64) (Syntax.tcons q3 (Syntax.tcons Syntax.tyBool (Syntax.tcons Syntax.tyBool (Syntax.tcons (Syntax.tyInt Syntax.w64) (Syntax.tcons (Syntax.tyInt Syntax.w64) Syntax.tnil))))))))) (L._∷_ q31 (L._∷_ q12 (L._∷_ q18 (L._∷_ q28 (L._∷_ q23 (L._∷_ q8 (L._∷_ q33 (L._∷_ q35 (L._∷_ q24 (L._∷_ q7 (L._∷_ (11, Rows.any-gone (Syntax.tyStruct (L._∷_ 110 (L._∷_ 101 (L._∷_ 116 (L._∷_ 119 (L._∷_ 111 (L._∷_ 114 (L._∷_ 107 (L._∷_ 58 (L._∷_ 58 (L._∷_ 69 (L._∷_ 100 (L._∷_ 105 (L._∷_ 116 L.[]))))))))))))) (Syntax.tcons q5 (Syntax.tcons q5 (Syntax.tcons q5 (Syntax.tcons q5 (Syntax.tcons q1 (Syntax.tcons q1 (Syntax.tcons (Syntax.tyInt Syntax.w64) Syntax.tnil))))))))) (L._∷_ q17 (L._∷_ q14 L.[])))))))))))))
+t18 = L._∷_ (0, Rows.any-gone (Syntax.tyStruct (L._∷_ 115 (L._∷_ 101 (L._∷_ 97 (L._∷_ 114 (L._∷_ 99 (L._∷_ 104 (L._∷_ 58 (L._∷_ 58 (L._∷_ 80 (L._∷_ 114 (L._∷_ 111 (L._∷_ 103 (L._∷_ 114 (L._∷_ 101 (L._∷_ 115 (L._∷_ 115 L.[])))))))))))))))) (Syntax.tcons q0 (Syntax.tcons (Syntax.tyInt Syntax.w64) (Syntax.tcons q3 (Syntax.tcons Syntax.tyBool (Syntax.tcons Syntax.tyBool (Syntax.tcons (Syntax.tyInt Syntax.w64) (Syntax.tcons (Syntax.tyInt Syntax.w64) Syntax.tnil))))))))) (L._∷_ q31 (L._∷_ q12 (L._∷_ q18 (L._∷_ q25 (L._∷_ q23 (L._∷_ q8 (L._∷_ q33 (L._∷_ q35 (L._∷_ q24 (L._∷_ q7 (L._∷_ (11, Rows.any-gone (Syntax.tyStruct (L._∷_ 110 (L._∷_ 101 (L._∷_ 116 (L._∷_ 119 (L._∷_ 111 (L._∷_ 114 (L._∷_ 107 (L._∷_ 58 (L._∷_ 58 (L._∷_ 69 (L._∷_ 100 (L._∷_ 105 (L._∷_ 116 L.[]))))))))))))) (Syntax.tcons q5 (Syntax.tcons q5 (Syntax.tcons q5 (Syntax.tcons q5 (Syntax.tcons q1 (Syntax.tcons q1 (Syntax.tcons (Syntax.tyInt Syntax.w64) Syntax.tnil))))))))) (L._∷_ q17 (L._∷_ q14 L.[])))))))))))))
 
 abbrev pub t19 : L.List Row.Entry
-t19 = L._∷_ (0, Rows.whole (Declared.row Progress·.the-type)) (L._∷_ q31 (L._∷_ q13 (L._∷_ q18 (L._∷_ q28 (L._∷_ q23 (L._∷_ q8 (L._∷_ q33 (L._∷_ q35 (L._∷_ q24 (L._∷_ q7 (L._∷_ (11, Rows.any-gone (Syntax.tyStruct (L._∷_ 110 (L._∷_ 101 (L._∷_ 116 (L._∷_ 119 (L._∷_ 111 (L._∷_ 114 (L._∷_ 107 (L._∷_ 58 (L._∷_ 58 (L._∷_ 69 (L._∷_ 100 (L._∷_ 105 (L._∷_ 116 L.[]))))))))))))) (Syntax.tcons q5 (Syntax.tcons q5 (Syntax.tcons q5 (Syntax.tcons q5 (Syntax.tcons q1 (Syntax.tcons q1 (Syntax.tcons (Syntax.tyInt Syntax.w64) Syntax.tnil))))))))) (L._∷_ q17 (L._∷_ q6 L.[])))))))))))))
+t19 = L._∷_ (0, Rows.whole (Declared.row Progress·.the-type)) (L._∷_ q31 (L._∷_ q13 (L._∷_ q18 (L._∷_ q25 (L._∷_ q23 (L._∷_ q8 (L._∷_ q33 (L._∷_ q35 (L._∷_ q24 (L._∷_ q7 (L._∷_ (11, Rows.any-gone (Syntax.tyStruct (L._∷_ 110 (L._∷_ 101 (L._∷_ 116 (L._∷_ 119 (L._∷_ 111 (L._∷_ 114 (L._∷_ 107 (L._∷_ 58 (L._∷_ 58 (L._∷_ 69 (L._∷_ 100 (L._∷_ 105 (L._∷_ 116 L.[]))))))))))))) (Syntax.tcons q5 (Syntax.tcons q5 (Syntax.tcons q5 (Syntax.tcons q5 (Syntax.tcons q1 (Syntax.tcons q1 (Syntax.tcons (Syntax.tyInt Syntax.w64) Syntax.tnil))))))))) (L._∷_ q17 (L._∷_ q6 L.[])))))))))))))
 
 abbrev pub t20 : L.List Row.Entry
-t20 = L._∷_ (0, Rows.whole (Declared.row Progress·.the-type)) (L._∷_ (1, Rows.any-gone (Syntax.tyStruct (L._∷_ 115 (L._∷_ 101 (L._∷_ 97 (L._∷_ 114 (L._∷_ 99 (L._∷_ 104 (L._∷_ 58 (L._∷_ 58 (L._∷_ 80 (L._∷_ 114 (L._∷_ 111 (L._∷_ 103 (L._∷_ 114 (L._∷_ 101 (L._∷_ 115 (L._∷_ 115 L.[])))))))))))))))) (Syntax.tcons q0 (Syntax.tcons (Syntax.tyInt Syntax.w64) (Syntax.tcons q3 (Syntax.tcons Syntax.tyBool (Syntax.tcons Syntax.tyBool (Syntax.tcons (Syntax.tyInt Syntax.w64) (Syntax.tcons (Syntax.tyInt Syntax.w64) Syntax.tnil))))))))) (L._∷_ q13 (L._∷_ q18 (L._∷_ q28 (L._∷_ q23 (L._∷_ q8 (L._∷_ q33 (L._∷_ q35 (L._∷_ q24 (L._∷_ q7 (L._∷_ (11, Rows.any-gone (Syntax.tyStruct (L._∷_ 110 (L._∷_ 101 (L._∷_ 116 (L._∷_ 119 (L._∷_ 111 (L._∷_ 114 (L._∷_ 107 (L._∷_ 58 (L._∷_ 58 (L._∷_ 69 (L._∷_ 100 (L._∷_ 105 (L._∷_ 116 L.[]))))))))))))) (Syntax.tcons q5 (Syntax.tcons q5 (Syntax.tcons q5 (Syntax.tcons q5 (Syntax.tcons q1 (Syntax.tcons q1 (Syntax.tcons (Syntax.tyInt Syntax.w64) Syntax.tnil))))))))) (L._∷_ q17 (L._∷_ q6 L.[])))))))))))))
+t20 = L._∷_ (0, Rows.whole (Declared.row Progress·.the-type)) (L._∷_ (1, Rows.any-gone (Syntax.tyStruct (L._∷_ 115 (L._∷_ 101 (L._∷_ 97 (L._∷_ 114 (L._∷_ 99 (L._∷_ 104 (L._∷_ 58 (L._∷_ 58 (L._∷_ 80 (L._∷_ 114 (L._∷_ 111 (L._∷_ 103 (L._∷_ 114 (L._∷_ 101 (L._∷_ 115 (L._∷_ 115 L.[])))))))))))))))) (Syntax.tcons q0 (Syntax.tcons (Syntax.tyInt Syntax.w64) (Syntax.tcons q3 (Syntax.tcons Syntax.tyBool (Syntax.tcons Syntax.tyBool (Syntax.tcons (Syntax.tyInt Syntax.w64) (Syntax.tcons (Syntax.tyInt Syntax.w64) Syntax.tnil))))))))) (L._∷_ q13 (L._∷_ q18 (L._∷_ q25 (L._∷_ q23 (L._∷_ q8 (L._∷_ q33 (L._∷_ q35 (L._∷_ q24 (L._∷_ q7 (L._∷_ (11, Rows.any-gone (Syntax.tyStruct (L._∷_ 110 (L._∷_ 101 (L._∷_ 116 (L._∷_ 119 (L._∷_ 111 (L._∷_ 114 (L._∷_ 107 (L._∷_ 58 (L._∷_ 58 (L._∷_ 69 (L._∷_ 100 (L._∷_ 105 (L._∷_ 116 L.[]))))))))))))) (Syntax.tcons q5 (Syntax.tcons q5 (Syntax.tcons q5 (Syntax.tcons q5 (Syntax.tcons q1 (Syntax.tcons q1 (Syntax.tcons (Syntax.tyInt Syntax.w64) Syntax.tnil))))))))) (L._∷_ q17 (L._∷_ q6 L.[])))))))))))))
 
 abbrev pub T0 : Row.Cx
 T0 = record { locals = t0; slots = L.[] }
@@ -438,7 +438,7 @@ O0 = record { next = Option.none; exits = L.[]; returns = Option.some T1 }
 
 module _ (claims· : Claims) where
   abbrev s1 : Typed.Gives T0 T3
-  s1 = Reshare.k-sl-reshare Rec.row T0 3 5 1 2 q27 q29 Row.off λ x. x
+  s1 = Reshare.k-sl-reshare Rec.row T0 3 5 1 2 q28 q29 Row.off λ x. x
 
   abbrev s2 : Typed.Asks T3 T4
   s2 = Relend.k-sl-aggregate Rec.row (Relend.asShr Rec.row) T3 5 6 2 q29 q29 (λ x. x) (Scalar.oFld 3 (L._∷_ (Syntax.field 1) L.[]) (Syntax.tyInt Syntax.w64) 8 λ v. Shared.lenV (v .0))
@@ -447,7 +447,7 @@ module _ (claims· : Claims) where
   s3 = Call.callB ps·0 r·0 (claims· .0) (claims· .1) T4 (record { pos = 1; st = L.[]; d = 0; at = λ x. x }, tt) 7 L.[] (Syntax.tyInt Syntax.w8)
 
   abbrev s4 : Typed.Both T5 T6
-  s4 = Call.callB ps·1 r·1 (claims· .2) (claims· .3) T5 (record { pos = 1; st = L._∷_ (Syntax.field 0) L.[]; d = 0; at = λ x. Progress·.struct .as-values x .0 }, (record { pos = 6; ty = Syntax.tyRef Syntax.erased Syntax.imm Rec.named; ref = λ x. x }, (record { pos = 1; st = L._∷_ (Syntax.field 2) L.[]; d = 328; at = λ x. Progress·.struct .as-values x .1 .1 .0 }, (Num.vAt 7 λ x. x, tt)))) 4 (L._∷_ 2 L.[]) (Syntax.tyStruct (L._∷_ 115 (L._∷_ 101 (L._∷_ 97 (L._∷_ 114 (L._∷_ 99 (L._∷_ 104 (L._∷_ 58 (L._∷_ 58 (L._∷_ 115 (L._∷_ 99 (L._∷_ 97 (L._∷_ 110 (L._∷_ 58 (L._∷_ 58 (L._∷_ 76 (L._∷_ 111 (L._∷_ 111 (L._∷_ 107 (L._∷_ 101 (L._∷_ 100 L.[])))))))))))))))))))) (Syntax.tcons (Syntax.tyStruct (L._∷_ 115 (L._∷_ 101 (L._∷_ 97 (L._∷_ 114 (L._∷_ 99 (L._∷_ 104 (L._∷_ 58 (L._∷_ 58 (L._∷_ 115 (L._∷_ 99 (L._∷_ 97 (L._∷_ 110 (L._∷_ 58 (L._∷_ 58 (L._∷_ 70 (L._∷_ 111 (L._∷_ 117 (L._∷_ 110 (L._∷_ 100 L.[]))))))))))))))))))) (Syntax.tcons Syntax.tyBool (Syntax.tcons Syntax.tyBool (Syntax.tcons (Syntax.tyStruct (L._∷_ 115 (L._∷_ 116 (L._∷_ 101 (L._∷_ 112 (L._∷_ 58 (L._∷_ 58 (L._∷_ 83 (L._∷_ 116 (L._∷_ 101 (L._∷_ 112 L.[])))))))))) (Syntax.tcons (Syntax.tyInt Syntax.w64) (Syntax.tcons (Syntax.tyInt Syntax.w64) (Syntax.tcons (Syntax.tyStruct (L._∷_ 115 (L._∷_ 116 (L._∷_ 101 (L._∷_ 112 (L._∷_ 58 (L._∷_ 58 (L._∷_ 67 (L._∷_ 104 (L._∷_ 97 (L._∷_ 110 (L._∷_ 103 (L._∷_ 101 L.[])))))))))))) (Syntax.tcons (Syntax.tyStruct (L._∷_ 110 (L._∷_ 101 (L._∷_ 116 (L._∷_ 119 (L._∷_ 111 (L._∷_ 114 (L._∷_ 107 (L._∷_ 58 (L._∷_ 58 (L._∷_ 69 (L._∷_ 100 (L._∷_ 105 (L._∷_ 116 L.[]))))))))))))) (Syntax.tcons q5 (Syntax.tcons q5 (Syntax.tcons q5 (Syntax.tcons q5 (Syntax.tcons q1 (Syntax.tcons q1 (Syntax.tcons (Syntax.tyInt Syntax.w64) Syntax.tnil)))))))) (Syntax.tcons (Syntax.tyStruct (L._∷_ 115 (L._∷_ 116 (L._∷_ 101 (L._∷_ 112 (L._∷_ 58 (L._∷_ 58 (L._∷_ 79 (L._∷_ 108 (L._∷_ 100 L.[]))))))))) (Syntax.tcons (Syntax.tyInt Syntax.w64) (Syntax.tcons q4 (Syntax.tcons q5 (Syntax.tcons q5 (Syntax.tcons q5 (Syntax.tcons q5 (Syntax.tcons q2 Syntax.tnil)))))))) Syntax.tnil))) Syntax.tnil)))) Syntax.tnil)))) (Syntax.tcons q3 Syntax.tnil)))
+  s4 = Call.callB ps·1 r·1 (claims· .2) (claims· .3) T5 (record { pos = 1; st = L._∷_ (Syntax.field 0) L.[]; d = 0; at = λ x. Progress·.struct .as-values x .0 }, (record { pos = 6; ty = Syntax.tyRef Syntax.erased Syntax.imm Rec.named; ref = λ x. x }, (record { pos = 1; st = L._∷_ (Syntax.field 2) L.[]; d = 328; at = λ x. Progress·.struct .as-values x .1 .1 .0 }, (Num.vAt 7 λ x. x, tt)))) 4 (L._∷_ 2 L.[]) (Syntax.tyStruct (L._∷_ 114 (L._∷_ 117 (L._∷_ 108 (L._∷_ 101 (L._∷_ 115 (L._∷_ 58 (L._∷_ 58 (L._∷_ 116 (L._∷_ 114 (L._∷_ 105 (L._∷_ 101 (L._∷_ 100 (L._∷_ 58 (L._∷_ 58 (L._∷_ 76 (L._∷_ 111 (L._∷_ 111 (L._∷_ 107 (L._∷_ 101 (L._∷_ 100 L.[])))))))))))))))))))) (Syntax.tcons (Syntax.tyStruct (L._∷_ 114 (L._∷_ 117 (L._∷_ 108 (L._∷_ 101 (L._∷_ 115 (L._∷_ 58 (L._∷_ 58 (L._∷_ 102 (L._∷_ 111 (L._∷_ 117 (L._∷_ 110 (L._∷_ 100 (L._∷_ 58 (L._∷_ 58 (L._∷_ 70 (L._∷_ 111 (L._∷_ 117 (L._∷_ 110 (L._∷_ 100 L.[]))))))))))))))))))) (Syntax.tcons Syntax.tyBool (Syntax.tcons Syntax.tyBool (Syntax.tcons (Syntax.tyStruct (L._∷_ 115 (L._∷_ 116 (L._∷_ 101 (L._∷_ 112 (L._∷_ 58 (L._∷_ 58 (L._∷_ 83 (L._∷_ 116 (L._∷_ 101 (L._∷_ 112 L.[])))))))))) (Syntax.tcons (Syntax.tyInt Syntax.w64) (Syntax.tcons (Syntax.tyInt Syntax.w64) (Syntax.tcons (Syntax.tyStruct (L._∷_ 115 (L._∷_ 116 (L._∷_ 101 (L._∷_ 112 (L._∷_ 58 (L._∷_ 58 (L._∷_ 67 (L._∷_ 104 (L._∷_ 97 (L._∷_ 110 (L._∷_ 103 (L._∷_ 101 L.[])))))))))))) (Syntax.tcons (Syntax.tyStruct (L._∷_ 110 (L._∷_ 101 (L._∷_ 116 (L._∷_ 119 (L._∷_ 111 (L._∷_ 114 (L._∷_ 107 (L._∷_ 58 (L._∷_ 58 (L._∷_ 69 (L._∷_ 100 (L._∷_ 105 (L._∷_ 116 L.[]))))))))))))) (Syntax.tcons q5 (Syntax.tcons q5 (Syntax.tcons q5 (Syntax.tcons q5 (Syntax.tcons q1 (Syntax.tcons q1 (Syntax.tcons (Syntax.tyInt Syntax.w64) Syntax.tnil)))))))) (Syntax.tcons (Syntax.tyStruct (L._∷_ 115 (L._∷_ 116 (L._∷_ 101 (L._∷_ 112 (L._∷_ 58 (L._∷_ 58 (L._∷_ 79 (L._∷_ 108 (L._∷_ 100 L.[]))))))))) (Syntax.tcons (Syntax.tyInt Syntax.w64) (Syntax.tcons q4 (Syntax.tcons q5 (Syntax.tcons q5 (Syntax.tcons q5 (Syntax.tcons q5 (Syntax.tcons q2 Syntax.tnil)))))))) Syntax.tnil))) Syntax.tnil)))) Syntax.tnil)))) (Syntax.tcons q3 Syntax.tnil)))
 
   abbrev s5 : Typed.Mo T6 → Typed.Mo T7
   s5 = Scalar.n-room T6 6 q10
@@ -456,10 +456,10 @@ module _ (claims· : Claims) where
   s6 = Scalar.n-room T7 7 (Syntax.tyInt Syntax.w8)
 
   abbrev s8 : Typed.Mo T8 → Typed.Mo T10
-  s8 = Reshare.n-back-sl-shr Rec.row T8 3 1 2 q27 Row.off λ x. x
+  s8 = Reshare.n-back-sl-shr Rec.row T8 3 1 2 q28 Row.off λ x. x
 
   abbrev s11 : Typed.Gives T10 T13
-  s11 = Relend.k-sl-relend Rec.row T10 3 9 1 3 q27 q30 Row.off λ x. x
+  s11 = Relend.k-sl-relend Rec.row T10 3 9 1 3 q28 q30 Row.off λ x. x
 
   abbrev s12 : Typed.Asks T13 T14
   s12 = Relend.k-sl-aggregate Rec.row (Relend.asMut Rec.row) T13 9 10 3 q30 q30 (λ x. x) (Scalar.oFld 3 (L._∷_ (Syntax.field 1) L.[]) (Syntax.tyInt Syntax.w64) 8 λ v. Shared.lenV (v .0))
@@ -477,13 +477,13 @@ module _ (claims· : Claims) where
   s16 = Scalar.n-room T17 11 (Syntax.tyStruct (L._∷_ 110 (L._∷_ 101 (L._∷_ 116 (L._∷_ 119 (L._∷_ 111 (L._∷_ 114 (L._∷_ 107 (L._∷_ 58 (L._∷_ 58 (L._∷_ 69 (L._∷_ 100 (L._∷_ 105 (L._∷_ 116 L.[]))))))))))))) (Syntax.tcons q5 (Syntax.tcons q5 (Syntax.tcons q5 (Syntax.tcons q5 (Syntax.tcons q1 (Syntax.tcons q1 (Syntax.tcons (Syntax.tyInt Syntax.w64) Syntax.tnil))))))))
 
   abbrev s18 : Typed.Both T18 T20
-  s18 = Relend.k-back-sl Rec.row T18 10 3 1 3 q27 q30 Row.off (λ x. x) λ x. x
+  s18 = Relend.k-back-sl Rec.row T18 10 3 1 3 q28 q30 Row.off (λ x. x) λ x. x
 
   abbrev s21 : Typed.Gives T20 T23
-  s21 = Relend.k-sl-relend (Signed.SInt Syntax.w32) T20 2 12 0 4 q22 q25 Row.off λ x. x
+  s21 = Relend.k-sl-relend (Signed.SInt Syntax.w32) T20 2 12 0 4 q22 q26 Row.off λ x. x
 
   abbrev s22 : Typed.Asks T23 T24
-  s22 = Relend.k-sl-aggregate (Signed.SInt Syntax.w32) (Relend.asMut (Signed.SInt Syntax.w32)) T23 12 13 4 q25 q25 (λ x. x) (Scalar.oFld 2 (L._∷_ (Syntax.field 1) L.[]) (Syntax.tyInt Syntax.w64) 8 λ v. Shared.lenV (v .0))
+  s22 = Relend.k-sl-aggregate (Signed.SInt Syntax.w32) (Relend.asMut (Signed.SInt Syntax.w32)) T23 12 13 4 q26 q26 (λ x. x) (Scalar.oFld 2 (L._∷_ (Syntax.field 1) L.[]) (Syntax.tyInt Syntax.w64) 8 λ v. Shared.lenV (v .0))
 
   abbrev s23 : Typed.Both T24 T25
   s23 = Call.callB ps·4 r·4 (claims· .8) (claims· .9) T24 (record { pos = 13; ty = Syntax.tyRef Syntax.erased Syntax.mut (Syntax.tyInt Syntax.w32); ref = λ x. x }, (Num.vFld 1 (L._∷_ (Syntax.field 1) L.[]) 320 λ x. Progress·.struct .as-values x .1 .0, (record { pos = 4; st = L.[]; d = 0; at = λ x. x }, tt))) 8 (L._∷_ 4 L.[]) Syntax.tyUnit
@@ -492,7 +492,7 @@ module _ (claims· : Claims) where
   s24 = Scalar.n-room T25 8 Syntax.tyUnit
 
   abbrev s26 : Typed.Both T26 T28
-  s26 = Relend.k-back-sl (Signed.SInt Syntax.w32) T26 13 2 0 4 q22 q25 Row.off (λ x. x) λ x. x
+  s26 = Relend.k-back-sl (Signed.SInt Syntax.w32) T26 13 2 0 4 q22 q26 Row.off (λ x. x) λ x. x
 
   abbrev s28 : Typed.Both T28 T30
   s28 = Call.callB ps·5 r·5 (claims· .10) (claims· .11) T28 (record { pos = 1; st = L.[]; d = 0; at = λ x. x }, (record { pos = 4; st = L.[]; d = 0; at = λ x. x }, tt)) 0 L.[] (Syntax.tyStruct (L._∷_ 115 (L._∷_ 101 (L._∷_ 97 (L._∷_ 114 (L._∷_ 99 (L._∷_ 104 (L._∷_ 58 (L._∷_ 58 (L._∷_ 80 (L._∷_ 114 (L._∷_ 111 (L._∷_ 103 (L._∷_ 114 (L._∷_ 101 (L._∷_ 115 (L._∷_ 115 L.[])))))))))))))))) (Syntax.tcons q0 (Syntax.tcons (Syntax.tyInt Syntax.w64) (Syntax.tcons q3 (Syntax.tcons Syntax.tyBool (Syntax.tcons Syntax.tyBool (Syntax.tcons (Syntax.tyInt Syntax.w64) (Syntax.tcons (Syntax.tyInt Syntax.w64) Syntax.tnil))))))))
@@ -501,7 +501,7 @@ module _ (claims· : Claims) where
   s29 = Scalar.n-room T30 1 (Syntax.tyStruct (L._∷_ 115 (L._∷_ 101 (L._∷_ 97 (L._∷_ 114 (L._∷_ 99 (L._∷_ 104 (L._∷_ 58 (L._∷_ 58 (L._∷_ 80 (L._∷_ 114 (L._∷_ 111 (L._∷_ 103 (L._∷_ 114 (L._∷_ 101 (L._∷_ 115 (L._∷_ 115 L.[])))))))))))))))) (Syntax.tcons q0 (Syntax.tcons (Syntax.tyInt Syntax.w64) (Syntax.tcons q3 (Syntax.tcons Syntax.tyBool (Syntax.tcons Syntax.tyBool (Syntax.tcons (Syntax.tyInt Syntax.w64) (Syntax.tcons (Syntax.tyInt Syntax.w64) Syntax.tnil))))))))
 
   abbrev s30 : Typed.Mo T31 → Typed.Mo T32
-  s30 = Scalar.n-room T31 4 (Syntax.tyStruct (L._∷_ 115 (L._∷_ 101 (L._∷_ 97 (L._∷_ 114 (L._∷_ 99 (L._∷_ 104 (L._∷_ 58 (L._∷_ 58 (L._∷_ 115 (L._∷_ 99 (L._∷_ 97 (L._∷_ 110 (L._∷_ 58 (L._∷_ 58 (L._∷_ 76 (L._∷_ 111 (L._∷_ 111 (L._∷_ 107 (L._∷_ 101 (L._∷_ 100 L.[])))))))))))))))))))) (Syntax.tcons (Syntax.tyStruct (L._∷_ 115 (L._∷_ 101 (L._∷_ 97 (L._∷_ 114 (L._∷_ 99 (L._∷_ 104 (L._∷_ 58 (L._∷_ 58 (L._∷_ 115 (L._∷_ 99 (L._∷_ 97 (L._∷_ 110 (L._∷_ 58 (L._∷_ 58 (L._∷_ 70 (L._∷_ 111 (L._∷_ 117 (L._∷_ 110 (L._∷_ 100 L.[]))))))))))))))))))) (Syntax.tcons Syntax.tyBool (Syntax.tcons Syntax.tyBool (Syntax.tcons (Syntax.tyStruct (L._∷_ 115 (L._∷_ 116 (L._∷_ 101 (L._∷_ 112 (L._∷_ 58 (L._∷_ 58 (L._∷_ 83 (L._∷_ 116 (L._∷_ 101 (L._∷_ 112 L.[])))))))))) (Syntax.tcons (Syntax.tyInt Syntax.w64) (Syntax.tcons (Syntax.tyInt Syntax.w64) (Syntax.tcons (Syntax.tyStruct (L._∷_ 115 (L._∷_ 116 (L._∷_ 101 (L._∷_ 112 (L._∷_ 58 (L._∷_ 58 (L._∷_ 67 (L._∷_ 104 (L._∷_ 97 (L._∷_ 110 (L._∷_ 103 (L._∷_ 101 L.[])))))))))))) (Syntax.tcons (Syntax.tyStruct (L._∷_ 110 (L._∷_ 101 (L._∷_ 116 (L._∷_ 119 (L._∷_ 111 (L._∷_ 114 (L._∷_ 107 (L._∷_ 58 (L._∷_ 58 (L._∷_ 69 (L._∷_ 100 (L._∷_ 105 (L._∷_ 116 L.[]))))))))))))) (Syntax.tcons q5 (Syntax.tcons q5 (Syntax.tcons q5 (Syntax.tcons q5 (Syntax.tcons q1 (Syntax.tcons q1 (Syntax.tcons (Syntax.tyInt Syntax.w64) Syntax.tnil)))))))) (Syntax.tcons (Syntax.tyStruct (L._∷_ 115 (L._∷_ 116 (L._∷_ 101 (L._∷_ 112 (L._∷_ 58 (L._∷_ 58 (L._∷_ 79 (L._∷_ 108 (L._∷_ 100 L.[]))))))))) (Syntax.tcons (Syntax.tyInt Syntax.w64) (Syntax.tcons q4 (Syntax.tcons q5 (Syntax.tcons q5 (Syntax.tcons q5 (Syntax.tcons q5 (Syntax.tcons q2 Syntax.tnil)))))))) Syntax.tnil))) Syntax.tnil)))) Syntax.tnil)))) (Syntax.tcons q3 Syntax.tnil)))
+  s30 = Scalar.n-room T31 4 (Syntax.tyStruct (L._∷_ 114 (L._∷_ 117 (L._∷_ 108 (L._∷_ 101 (L._∷_ 115 (L._∷_ 58 (L._∷_ 58 (L._∷_ 116 (L._∷_ 114 (L._∷_ 105 (L._∷_ 101 (L._∷_ 100 (L._∷_ 58 (L._∷_ 58 (L._∷_ 76 (L._∷_ 111 (L._∷_ 111 (L._∷_ 107 (L._∷_ 101 (L._∷_ 100 L.[])))))))))))))))))))) (Syntax.tcons (Syntax.tyStruct (L._∷_ 114 (L._∷_ 117 (L._∷_ 108 (L._∷_ 101 (L._∷_ 115 (L._∷_ 58 (L._∷_ 58 (L._∷_ 102 (L._∷_ 111 (L._∷_ 117 (L._∷_ 110 (L._∷_ 100 (L._∷_ 58 (L._∷_ 58 (L._∷_ 70 (L._∷_ 111 (L._∷_ 117 (L._∷_ 110 (L._∷_ 100 L.[]))))))))))))))))))) (Syntax.tcons Syntax.tyBool (Syntax.tcons Syntax.tyBool (Syntax.tcons (Syntax.tyStruct (L._∷_ 115 (L._∷_ 116 (L._∷_ 101 (L._∷_ 112 (L._∷_ 58 (L._∷_ 58 (L._∷_ 83 (L._∷_ 116 (L._∷_ 101 (L._∷_ 112 L.[])))))))))) (Syntax.tcons (Syntax.tyInt Syntax.w64) (Syntax.tcons (Syntax.tyInt Syntax.w64) (Syntax.tcons (Syntax.tyStruct (L._∷_ 115 (L._∷_ 116 (L._∷_ 101 (L._∷_ 112 (L._∷_ 58 (L._∷_ 58 (L._∷_ 67 (L._∷_ 104 (L._∷_ 97 (L._∷_ 110 (L._∷_ 103 (L._∷_ 101 L.[])))))))))))) (Syntax.tcons (Syntax.tyStruct (L._∷_ 110 (L._∷_ 101 (L._∷_ 116 (L._∷_ 119 (L._∷_ 111 (L._∷_ 114 (L._∷_ 107 (L._∷_ 58 (L._∷_ 58 (L._∷_ 69 (L._∷_ 100 (L._∷_ 105 (L._∷_ 116 L.[]))))))))))))) (Syntax.tcons q5 (Syntax.tcons q5 (Syntax.tcons q5 (Syntax.tcons q5 (Syntax.tcons q1 (Syntax.tcons q1 (Syntax.tcons (Syntax.tyInt Syntax.w64) Syntax.tnil)))))))) (Syntax.tcons (Syntax.tyStruct (L._∷_ 115 (L._∷_ 116 (L._∷_ 101 (L._∷_ 112 (L._∷_ 58 (L._∷_ 58 (L._∷_ 79 (L._∷_ 108 (L._∷_ 100 L.[]))))))))) (Syntax.tcons (Syntax.tyInt Syntax.w64) (Syntax.tcons q4 (Syntax.tcons q5 (Syntax.tcons q5 (Syntax.tcons q5 (Syntax.tcons q5 (Syntax.tcons q2 Syntax.tnil)))))))) Syntax.tnil))) Syntax.tnil)))) Syntax.tnil)))) (Syntax.tcons q3 Syntax.tnil)))
 
   module _ (Pre· : (κs : Lifetimes.Lfts 2) → FnKinds.Dens κs ps → Type 0) (Post· : (κs : Lifetimes.Lfts 2) → (a : FnKinds.Dens κs ps) → FnKinds.Plain 2 ps r κs) where
     module _ (M : Type 1) where
@@ -614,52 +614,52 @@ module _ (claims· : Claims) where
 
       module _ (κs : Lifetimes.Lfts 2) (qs : Lifetimes.Shares 2) where
         abbrev g2 : L.List Row.Entry
-        g2 = L._∷_ (0, Rows.any-gone (Syntax.tyStruct (L._∷_ 115 (L._∷_ 101 (L._∷_ 97 (L._∷_ 114 (L._∷_ 99 (L._∷_ 104 (L._∷_ 58 (L._∷_ 58 (L._∷_ 80 (L._∷_ 114 (L._∷_ 111 (L._∷_ 103 (L._∷_ 114 (L._∷_ 101 (L._∷_ 115 (L._∷_ 115 L.[])))))))))))))))) (Syntax.tcons q0 (Syntax.tcons (Syntax.tyInt Syntax.w64) (Syntax.tcons q3 (Syntax.tcons Syntax.tyBool (Syntax.tcons Syntax.tyBool (Syntax.tcons (Syntax.tyInt Syntax.w64) (Syntax.tcons (Syntax.tyInt Syntax.w64) Syntax.tnil))))))))) (L._∷_ q31 (L._∷_ q13 (L._∷_ (3, Reshare.mslice-owedS Rec.row q27 1 2 (Row.lease (κs .1 .0) (qs .1 .0))) (L._∷_ (4, Rows.any-gone (Syntax.tyStruct (L._∷_ 115 (L._∷_ 101 (L._∷_ 97 (L._∷_ 114 (L._∷_ 99 (L._∷_ 104 (L._∷_ 58 (L._∷_ 58 (L._∷_ 115 (L._∷_ 99 (L._∷_ 97 (L._∷_ 110 (L._∷_ 58 (L._∷_ 58 (L._∷_ 76 (L._∷_ 111 (L._∷_ 111 (L._∷_ 107 (L._∷_ 101 (L._∷_ 100 L.[])))))))))))))))))))) (Syntax.tcons (Syntax.tyStruct (L._∷_ 115 (L._∷_ 101 (L._∷_ 97 (L._∷_ 114 (L._∷_ 99 (L._∷_ 104 (L._∷_ 58 (L._∷_ 58 (L._∷_ 115 (L._∷_ 99 (L._∷_ 97 (L._∷_ 110 (L._∷_ 58 (L._∷_ 58 (L._∷_ 70 (L._∷_ 111 (L._∷_ 117 (L._∷_ 110 (L._∷_ 100 L.[]))))))))))))))))))) (Syntax.tcons Syntax.tyBool (Syntax.tcons Syntax.tyBool (Syntax.tcons (Syntax.tyStruct (L._∷_ 115 (L._∷_ 116 (L._∷_ 101 (L._∷_ 112 (L._∷_ 58 (L._∷_ 58 (L._∷_ 83 (L._∷_ 116 (L._∷_ 101 (L._∷_ 112 L.[])))))))))) (Syntax.tcons (Syntax.tyInt Syntax.w64) (Syntax.tcons (Syntax.tyInt Syntax.w64) (Syntax.tcons (Syntax.tyStruct (L._∷_ 115 (L._∷_ 116 (L._∷_ 101 (L._∷_ 112 (L._∷_ 58 (L._∷_ 58 (L._∷_ 67 (L._∷_ 104 (L._∷_ 97 (L._∷_ 110 (L._∷_ 103 (L._∷_ 101 L.[])))))))))))) (Syntax.tcons (Syntax.tyStruct (L._∷_ 110 (L._∷_ 101 (L._∷_ 116 (L._∷_ 119 (L._∷_ 111 (L._∷_ 114 (L._∷_ 107 (L._∷_ 58 (L._∷_ 58 (L._∷_ 69 (L._∷_ 100 (L._∷_ 105 (L._∷_ 116 L.[]))))))))))))) (Syntax.tcons q5 (Syntax.tcons q5 (Syntax.tcons q5 (Syntax.tcons q5 (Syntax.tcons q1 (Syntax.tcons q1 (Syntax.tcons (Syntax.tyInt Syntax.w64) Syntax.tnil)))))))) (Syntax.tcons (Syntax.tyStruct (L._∷_ 115 (L._∷_ 116 (L._∷_ 101 (L._∷_ 112 (L._∷_ 58 (L._∷_ 58 (L._∷_ 79 (L._∷_ 108 (L._∷_ 100 L.[]))))))))) (Syntax.tcons (Syntax.tyInt Syntax.w64) (Syntax.tcons q4 (Syntax.tcons q5 (Syntax.tcons q5 (Syntax.tcons q5 (Syntax.tcons q5 (Syntax.tcons q2 Syntax.tnil)))))))) Syntax.tnil))) Syntax.tnil)))) Syntax.tnil)))) (Syntax.tcons q3 Syntax.tnil)))) (L._∷_ (5, Relend.ssptr Rec.row q29 2) (L._∷_ q8 (L._∷_ q33 (L._∷_ q35 (L._∷_ q24 (L._∷_ q7 (L._∷_ (11, Rows.any-gone (Syntax.tyStruct (L._∷_ 110 (L._∷_ 101 (L._∷_ 116 (L._∷_ 119 (L._∷_ 111 (L._∷_ 114 (L._∷_ 107 (L._∷_ 58 (L._∷_ 58 (L._∷_ 69 (L._∷_ 100 (L._∷_ 105 (L._∷_ 116 L.[]))))))))))))) (Syntax.tcons q5 (Syntax.tcons q5 (Syntax.tcons q5 (Syntax.tcons q5 (Syntax.tcons q1 (Syntax.tcons q1 (Syntax.tcons (Syntax.tyInt Syntax.w64) Syntax.tnil))))))))) (L._∷_ q17 (L._∷_ q6 L.[])))))))))))))
+        g2 = L._∷_ (0, Rows.any-gone (Syntax.tyStruct (L._∷_ 115 (L._∷_ 101 (L._∷_ 97 (L._∷_ 114 (L._∷_ 99 (L._∷_ 104 (L._∷_ 58 (L._∷_ 58 (L._∷_ 80 (L._∷_ 114 (L._∷_ 111 (L._∷_ 103 (L._∷_ 114 (L._∷_ 101 (L._∷_ 115 (L._∷_ 115 L.[])))))))))))))))) (Syntax.tcons q0 (Syntax.tcons (Syntax.tyInt Syntax.w64) (Syntax.tcons q3 (Syntax.tcons Syntax.tyBool (Syntax.tcons Syntax.tyBool (Syntax.tcons (Syntax.tyInt Syntax.w64) (Syntax.tcons (Syntax.tyInt Syntax.w64) Syntax.tnil))))))))) (L._∷_ q31 (L._∷_ q13 (L._∷_ (3, Reshare.mslice-owedS Rec.row q28 1 2 (Row.lease (κs .1 .0) (qs .1 .0))) (L._∷_ (4, Rows.any-gone (Syntax.tyStruct (L._∷_ 114 (L._∷_ 117 (L._∷_ 108 (L._∷_ 101 (L._∷_ 115 (L._∷_ 58 (L._∷_ 58 (L._∷_ 116 (L._∷_ 114 (L._∷_ 105 (L._∷_ 101 (L._∷_ 100 (L._∷_ 58 (L._∷_ 58 (L._∷_ 76 (L._∷_ 111 (L._∷_ 111 (L._∷_ 107 (L._∷_ 101 (L._∷_ 100 L.[])))))))))))))))))))) (Syntax.tcons (Syntax.tyStruct (L._∷_ 114 (L._∷_ 117 (L._∷_ 108 (L._∷_ 101 (L._∷_ 115 (L._∷_ 58 (L._∷_ 58 (L._∷_ 102 (L._∷_ 111 (L._∷_ 117 (L._∷_ 110 (L._∷_ 100 (L._∷_ 58 (L._∷_ 58 (L._∷_ 70 (L._∷_ 111 (L._∷_ 117 (L._∷_ 110 (L._∷_ 100 L.[]))))))))))))))))))) (Syntax.tcons Syntax.tyBool (Syntax.tcons Syntax.tyBool (Syntax.tcons (Syntax.tyStruct (L._∷_ 115 (L._∷_ 116 (L._∷_ 101 (L._∷_ 112 (L._∷_ 58 (L._∷_ 58 (L._∷_ 83 (L._∷_ 116 (L._∷_ 101 (L._∷_ 112 L.[])))))))))) (Syntax.tcons (Syntax.tyInt Syntax.w64) (Syntax.tcons (Syntax.tyInt Syntax.w64) (Syntax.tcons (Syntax.tyStruct (L._∷_ 115 (L._∷_ 116 (L._∷_ 101 (L._∷_ 112 (L._∷_ 58 (L._∷_ 58 (L._∷_ 67 (L._∷_ 104 (L._∷_ 97 (L._∷_ 110 (L._∷_ 103 (L._∷_ 101 L.[])))))))))))) (Syntax.tcons (Syntax.tyStruct (L._∷_ 110 (L._∷_ 101 (L._∷_ 116 (L._∷_ 119 (L._∷_ 111 (L._∷_ 114 (L._∷_ 107 (L._∷_ 58 (L._∷_ 58 (L._∷_ 69 (L._∷_ 100 (L._∷_ 105 (L._∷_ 116 L.[]))))))))))))) (Syntax.tcons q5 (Syntax.tcons q5 (Syntax.tcons q5 (Syntax.tcons q5 (Syntax.tcons q1 (Syntax.tcons q1 (Syntax.tcons (Syntax.tyInt Syntax.w64) Syntax.tnil)))))))) (Syntax.tcons (Syntax.tyStruct (L._∷_ 115 (L._∷_ 116 (L._∷_ 101 (L._∷_ 112 (L._∷_ 58 (L._∷_ 58 (L._∷_ 79 (L._∷_ 108 (L._∷_ 100 L.[]))))))))) (Syntax.tcons (Syntax.tyInt Syntax.w64) (Syntax.tcons q4 (Syntax.tcons q5 (Syntax.tcons q5 (Syntax.tcons q5 (Syntax.tcons q5 (Syntax.tcons q2 Syntax.tnil)))))))) Syntax.tnil))) Syntax.tnil)))) Syntax.tnil)))) (Syntax.tcons q3 Syntax.tnil)))) (L._∷_ (5, Relend.ssptr Rec.row q29 2) (L._∷_ q8 (L._∷_ q33 (L._∷_ q35 (L._∷_ q24 (L._∷_ q7 (L._∷_ (11, Rows.any-gone (Syntax.tyStruct (L._∷_ 110 (L._∷_ 101 (L._∷_ 116 (L._∷_ 119 (L._∷_ 111 (L._∷_ 114 (L._∷_ 107 (L._∷_ 58 (L._∷_ 58 (L._∷_ 69 (L._∷_ 100 (L._∷_ 105 (L._∷_ 116 L.[]))))))))))))) (Syntax.tcons q5 (Syntax.tcons q5 (Syntax.tcons q5 (Syntax.tcons q5 (Syntax.tcons q1 (Syntax.tcons q1 (Syntax.tcons (Syntax.tyInt Syntax.w64) Syntax.tnil))))))))) (L._∷_ q17 (L._∷_ q6 L.[])))))))))))))
 
         abbrev g3 : L.List Row.Entry
-        g3 = L._∷_ (0, Rows.any-gone (Syntax.tyStruct (L._∷_ 115 (L._∷_ 101 (L._∷_ 97 (L._∷_ 114 (L._∷_ 99 (L._∷_ 104 (L._∷_ 58 (L._∷_ 58 (L._∷_ 80 (L._∷_ 114 (L._∷_ 111 (L._∷_ 103 (L._∷_ 114 (L._∷_ 101 (L._∷_ 115 (L._∷_ 115 L.[])))))))))))))))) (Syntax.tcons q0 (Syntax.tcons (Syntax.tyInt Syntax.w64) (Syntax.tcons q3 (Syntax.tcons Syntax.tyBool (Syntax.tcons Syntax.tyBool (Syntax.tcons (Syntax.tyInt Syntax.w64) (Syntax.tcons (Syntax.tyInt Syntax.w64) Syntax.tnil))))))))) (L._∷_ q31 (L._∷_ q13 (L._∷_ (3, Reshare.mslice-owedS Rec.row q27 1 2 (Row.lease (κs .1 .0) (qs .1 .0))) (L._∷_ (4, Rows.any-gone (Syntax.tyStruct (L._∷_ 115 (L._∷_ 101 (L._∷_ 97 (L._∷_ 114 (L._∷_ 99 (L._∷_ 104 (L._∷_ 58 (L._∷_ 58 (L._∷_ 115 (L._∷_ 99 (L._∷_ 97 (L._∷_ 110 (L._∷_ 58 (L._∷_ 58 (L._∷_ 76 (L._∷_ 111 (L._∷_ 111 (L._∷_ 107 (L._∷_ 101 (L._∷_ 100 L.[])))))))))))))))))))) (Syntax.tcons (Syntax.tyStruct (L._∷_ 115 (L._∷_ 101 (L._∷_ 97 (L._∷_ 114 (L._∷_ 99 (L._∷_ 104 (L._∷_ 58 (L._∷_ 58 (L._∷_ 115 (L._∷_ 99 (L._∷_ 97 (L._∷_ 110 (L._∷_ 58 (L._∷_ 58 (L._∷_ 70 (L._∷_ 111 (L._∷_ 117 (L._∷_ 110 (L._∷_ 100 L.[]))))))))))))))))))) (Syntax.tcons Syntax.tyBool (Syntax.tcons Syntax.tyBool (Syntax.tcons (Syntax.tyStruct (L._∷_ 115 (L._∷_ 116 (L._∷_ 101 (L._∷_ 112 (L._∷_ 58 (L._∷_ 58 (L._∷_ 83 (L._∷_ 116 (L._∷_ 101 (L._∷_ 112 L.[])))))))))) (Syntax.tcons (Syntax.tyInt Syntax.w64) (Syntax.tcons (Syntax.tyInt Syntax.w64) (Syntax.tcons (Syntax.tyStruct (L._∷_ 115 (L._∷_ 116 (L._∷_ 101 (L._∷_ 112 (L._∷_ 58 (L._∷_ 58 (L._∷_ 67 (L._∷_ 104 (L._∷_ 97 (L._∷_ 110 (L._∷_ 103 (L._∷_ 101 L.[])))))))))))) (Syntax.tcons (Syntax.tyStruct (L._∷_ 110 (L._∷_ 101 (L._∷_ 116 (L._∷_ 119 (L._∷_ 111 (L._∷_ 114 (L._∷_ 107 (L._∷_ 58 (L._∷_ 58 (L._∷_ 69 (L._∷_ 100 (L._∷_ 105 (L._∷_ 116 L.[]))))))))))))) (Syntax.tcons q5 (Syntax.tcons q5 (Syntax.tcons q5 (Syntax.tcons q5 (Syntax.tcons q1 (Syntax.tcons q1 (Syntax.tcons (Syntax.tyInt Syntax.w64) Syntax.tnil)))))))) (Syntax.tcons (Syntax.tyStruct (L._∷_ 115 (L._∷_ 116 (L._∷_ 101 (L._∷_ 112 (L._∷_ 58 (L._∷_ 58 (L._∷_ 79 (L._∷_ 108 (L._∷_ 100 L.[]))))))))) (Syntax.tcons (Syntax.tyInt Syntax.w64) (Syntax.tcons q4 (Syntax.tcons q5 (Syntax.tcons q5 (Syntax.tcons q5 (Syntax.tcons q5 (Syntax.tcons q2 Syntax.tnil)))))))) Syntax.tnil))) Syntax.tnil)))) Syntax.tnil)))) (Syntax.tcons q3 Syntax.tnil)))) (L._∷_ q23 (L._∷_ q19 (L._∷_ q33 (L._∷_ q35 (L._∷_ q24 (L._∷_ q7 (L._∷_ (11, Rows.any-gone (Syntax.tyStruct (L._∷_ 110 (L._∷_ 101 (L._∷_ 116 (L._∷_ 119 (L._∷_ 111 (L._∷_ 114 (L._∷_ 107 (L._∷_ 58 (L._∷_ 58 (L._∷_ 69 (L._∷_ 100 (L._∷_ 105 (L._∷_ 116 L.[]))))))))))))) (Syntax.tcons q5 (Syntax.tcons q5 (Syntax.tcons q5 (Syntax.tcons q5 (Syntax.tcons q1 (Syntax.tcons q1 (Syntax.tcons (Syntax.tyInt Syntax.w64) Syntax.tnil))))))))) (L._∷_ q17 (L._∷_ q6 L.[])))))))))))))
+        g3 = L._∷_ (0, Rows.any-gone (Syntax.tyStruct (L._∷_ 115 (L._∷_ 101 (L._∷_ 97 (L._∷_ 114 (L._∷_ 99 (L._∷_ 104 (L._∷_ 58 (L._∷_ 58 (L._∷_ 80 (L._∷_ 114 (L._∷_ 111 (L._∷_ 103 (L._∷_ 114 (L._∷_ 101 (L._∷_ 115 (L._∷_ 115 L.[])))))))))))))))) (Syntax.tcons q0 (Syntax.tcons (Syntax.tyInt Syntax.w64) (Syntax.tcons q3 (Syntax.tcons Syntax.tyBool (Syntax.tcons Syntax.tyBool (Syntax.tcons (Syntax.tyInt Syntax.w64) (Syntax.tcons (Syntax.tyInt Syntax.w64) Syntax.tnil))))))))) (L._∷_ q31 (L._∷_ q13 (L._∷_ (3, Reshare.mslice-owedS Rec.row q28 1 2 (Row.lease (κs .1 .0) (qs .1 .0))) (L._∷_ (4, Rows.any-gone (Syntax.tyStruct (L._∷_ 114 (L._∷_ 117 (L._∷_ 108 (L._∷_ 101 (L._∷_ 115 (L._∷_ 58 (L._∷_ 58 (L._∷_ 116 (L._∷_ 114 (L._∷_ 105 (L._∷_ 101 (L._∷_ 100 (L._∷_ 58 (L._∷_ 58 (L._∷_ 76 (L._∷_ 111 (L._∷_ 111 (L._∷_ 107 (L._∷_ 101 (L._∷_ 100 L.[])))))))))))))))))))) (Syntax.tcons (Syntax.tyStruct (L._∷_ 114 (L._∷_ 117 (L._∷_ 108 (L._∷_ 101 (L._∷_ 115 (L._∷_ 58 (L._∷_ 58 (L._∷_ 102 (L._∷_ 111 (L._∷_ 117 (L._∷_ 110 (L._∷_ 100 (L._∷_ 58 (L._∷_ 58 (L._∷_ 70 (L._∷_ 111 (L._∷_ 117 (L._∷_ 110 (L._∷_ 100 L.[]))))))))))))))))))) (Syntax.tcons Syntax.tyBool (Syntax.tcons Syntax.tyBool (Syntax.tcons (Syntax.tyStruct (L._∷_ 115 (L._∷_ 116 (L._∷_ 101 (L._∷_ 112 (L._∷_ 58 (L._∷_ 58 (L._∷_ 83 (L._∷_ 116 (L._∷_ 101 (L._∷_ 112 L.[])))))))))) (Syntax.tcons (Syntax.tyInt Syntax.w64) (Syntax.tcons (Syntax.tyInt Syntax.w64) (Syntax.tcons (Syntax.tyStruct (L._∷_ 115 (L._∷_ 116 (L._∷_ 101 (L._∷_ 112 (L._∷_ 58 (L._∷_ 58 (L._∷_ 67 (L._∷_ 104 (L._∷_ 97 (L._∷_ 110 (L._∷_ 103 (L._∷_ 101 L.[])))))))))))) (Syntax.tcons (Syntax.tyStruct (L._∷_ 110 (L._∷_ 101 (L._∷_ 116 (L._∷_ 119 (L._∷_ 111 (L._∷_ 114 (L._∷_ 107 (L._∷_ 58 (L._∷_ 58 (L._∷_ 69 (L._∷_ 100 (L._∷_ 105 (L._∷_ 116 L.[]))))))))))))) (Syntax.tcons q5 (Syntax.tcons q5 (Syntax.tcons q5 (Syntax.tcons q5 (Syntax.tcons q1 (Syntax.tcons q1 (Syntax.tcons (Syntax.tyInt Syntax.w64) Syntax.tnil)))))))) (Syntax.tcons (Syntax.tyStruct (L._∷_ 115 (L._∷_ 116 (L._∷_ 101 (L._∷_ 112 (L._∷_ 58 (L._∷_ 58 (L._∷_ 79 (L._∷_ 108 (L._∷_ 100 L.[]))))))))) (Syntax.tcons (Syntax.tyInt Syntax.w64) (Syntax.tcons q4 (Syntax.tcons q5 (Syntax.tcons q5 (Syntax.tcons q5 (Syntax.tcons q5 (Syntax.tcons q2 Syntax.tnil)))))))) Syntax.tnil))) Syntax.tnil)))) Syntax.tnil)))) (Syntax.tcons q3 Syntax.tnil)))) (L._∷_ q23 (L._∷_ q19 (L._∷_ q33 (L._∷_ q35 (L._∷_ q24 (L._∷_ q7 (L._∷_ (11, Rows.any-gone (Syntax.tyStruct (L._∷_ 110 (L._∷_ 101 (L._∷_ 116 (L._∷_ 119 (L._∷_ 111 (L._∷_ 114 (L._∷_ 107 (L._∷_ 58 (L._∷_ 58 (L._∷_ 69 (L._∷_ 100 (L._∷_ 105 (L._∷_ 116 L.[]))))))))))))) (Syntax.tcons q5 (Syntax.tcons q5 (Syntax.tcons q5 (Syntax.tcons q5 (Syntax.tcons q1 (Syntax.tcons q1 (Syntax.tcons (Syntax.tyInt Syntax.w64) Syntax.tnil))))))))) (L._∷_ q17 (L._∷_ q6 L.[])))))))))))))
 
         abbrev g4 : L.List Row.Entry
-        g4 = L._∷_ (0, Rows.any-gone (Syntax.tyStruct (L._∷_ 115 (L._∷_ 101 (L._∷_ 97 (L._∷_ 114 (L._∷_ 99 (L._∷_ 104 (L._∷_ 58 (L._∷_ 58 (L._∷_ 80 (L._∷_ 114 (L._∷_ 111 (L._∷_ 103 (L._∷_ 114 (L._∷_ 101 (L._∷_ 115 (L._∷_ 115 L.[])))))))))))))))) (Syntax.tcons q0 (Syntax.tcons (Syntax.tyInt Syntax.w64) (Syntax.tcons q3 (Syntax.tcons Syntax.tyBool (Syntax.tcons Syntax.tyBool (Syntax.tcons (Syntax.tyInt Syntax.w64) (Syntax.tcons (Syntax.tyInt Syntax.w64) Syntax.tnil))))))))) (L._∷_ q31 (L._∷_ q13 (L._∷_ (3, Reshare.mslice-owedS Rec.row q27 1 2 (Row.lease (κs .1 .0) (qs .1 .0))) (L._∷_ (4, Rows.any-gone (Syntax.tyStruct (L._∷_ 115 (L._∷_ 101 (L._∷_ 97 (L._∷_ 114 (L._∷_ 99 (L._∷_ 104 (L._∷_ 58 (L._∷_ 58 (L._∷_ 115 (L._∷_ 99 (L._∷_ 97 (L._∷_ 110 (L._∷_ 58 (L._∷_ 58 (L._∷_ 76 (L._∷_ 111 (L._∷_ 111 (L._∷_ 107 (L._∷_ 101 (L._∷_ 100 L.[])))))))))))))))))))) (Syntax.tcons (Syntax.tyStruct (L._∷_ 115 (L._∷_ 101 (L._∷_ 97 (L._∷_ 114 (L._∷_ 99 (L._∷_ 104 (L._∷_ 58 (L._∷_ 58 (L._∷_ 115 (L._∷_ 99 (L._∷_ 97 (L._∷_ 110 (L._∷_ 58 (L._∷_ 58 (L._∷_ 70 (L._∷_ 111 (L._∷_ 117 (L._∷_ 110 (L._∷_ 100 L.[]))))))))))))))))))) (Syntax.tcons Syntax.tyBool (Syntax.tcons Syntax.tyBool (Syntax.tcons (Syntax.tyStruct (L._∷_ 115 (L._∷_ 116 (L._∷_ 101 (L._∷_ 112 (L._∷_ 58 (L._∷_ 58 (L._∷_ 83 (L._∷_ 116 (L._∷_ 101 (L._∷_ 112 L.[])))))))))) (Syntax.tcons (Syntax.tyInt Syntax.w64) (Syntax.tcons (Syntax.tyInt Syntax.w64) (Syntax.tcons (Syntax.tyStruct (L._∷_ 115 (L._∷_ 116 (L._∷_ 101 (L._∷_ 112 (L._∷_ 58 (L._∷_ 58 (L._∷_ 67 (L._∷_ 104 (L._∷_ 97 (L._∷_ 110 (L._∷_ 103 (L._∷_ 101 L.[])))))))))))) (Syntax.tcons (Syntax.tyStruct (L._∷_ 110 (L._∷_ 101 (L._∷_ 116 (L._∷_ 119 (L._∷_ 111 (L._∷_ 114 (L._∷_ 107 (L._∷_ 58 (L._∷_ 58 (L._∷_ 69 (L._∷_ 100 (L._∷_ 105 (L._∷_ 116 L.[]))))))))))))) (Syntax.tcons q5 (Syntax.tcons q5 (Syntax.tcons q5 (Syntax.tcons q5 (Syntax.tcons q1 (Syntax.tcons q1 (Syntax.tcons (Syntax.tyInt Syntax.w64) Syntax.tnil)))))))) (Syntax.tcons (Syntax.tyStruct (L._∷_ 115 (L._∷_ 116 (L._∷_ 101 (L._∷_ 112 (L._∷_ 58 (L._∷_ 58 (L._∷_ 79 (L._∷_ 108 (L._∷_ 100 L.[]))))))))) (Syntax.tcons (Syntax.tyInt Syntax.w64) (Syntax.tcons q4 (Syntax.tcons q5 (Syntax.tcons q5 (Syntax.tcons q5 (Syntax.tcons q5 (Syntax.tcons q2 Syntax.tnil)))))))) Syntax.tnil))) Syntax.tnil)))) Syntax.tnil)))) (Syntax.tcons q3 Syntax.tnil)))) (L._∷_ q23 (L._∷_ q19 (L._∷_ q34 (L._∷_ q35 (L._∷_ q24 (L._∷_ q7 (L._∷_ (11, Rows.any-gone (Syntax.tyStruct (L._∷_ 110 (L._∷_ 101 (L._∷_ 116 (L._∷_ 119 (L._∷_ 111 (L._∷_ 114 (L._∷_ 107 (L._∷_ 58 (L._∷_ 58 (L._∷_ 69 (L._∷_ 100 (L._∷_ 105 (L._∷_ 116 L.[]))))))))))))) (Syntax.tcons q5 (Syntax.tcons q5 (Syntax.tcons q5 (Syntax.tcons q5 (Syntax.tcons q1 (Syntax.tcons q1 (Syntax.tcons (Syntax.tyInt Syntax.w64) Syntax.tnil))))))))) (L._∷_ q17 (L._∷_ q6 L.[])))))))))))))
+        g4 = L._∷_ (0, Rows.any-gone (Syntax.tyStruct (L._∷_ 115 (L._∷_ 101 (L._∷_ 97 (L._∷_ 114 (L._∷_ 99 (L._∷_ 104 (L._∷_ 58 (L._∷_ 58 (L._∷_ 80 (L._∷_ 114 (L._∷_ 111 (L._∷_ 103 (L._∷_ 114 (L._∷_ 101 (L._∷_ 115 (L._∷_ 115 L.[])))))))))))))))) (Syntax.tcons q0 (Syntax.tcons (Syntax.tyInt Syntax.w64) (Syntax.tcons q3 (Syntax.tcons Syntax.tyBool (Syntax.tcons Syntax.tyBool (Syntax.tcons (Syntax.tyInt Syntax.w64) (Syntax.tcons (Syntax.tyInt Syntax.w64) Syntax.tnil))))))))) (L._∷_ q31 (L._∷_ q13 (L._∷_ (3, Reshare.mslice-owedS Rec.row q28 1 2 (Row.lease (κs .1 .0) (qs .1 .0))) (L._∷_ (4, Rows.any-gone (Syntax.tyStruct (L._∷_ 114 (L._∷_ 117 (L._∷_ 108 (L._∷_ 101 (L._∷_ 115 (L._∷_ 58 (L._∷_ 58 (L._∷_ 116 (L._∷_ 114 (L._∷_ 105 (L._∷_ 101 (L._∷_ 100 (L._∷_ 58 (L._∷_ 58 (L._∷_ 76 (L._∷_ 111 (L._∷_ 111 (L._∷_ 107 (L._∷_ 101 (L._∷_ 100 L.[])))))))))))))))))))) (Syntax.tcons (Syntax.tyStruct (L._∷_ 114 (L._∷_ 117 (L._∷_ 108 (L._∷_ 101 (L._∷_ 115 (L._∷_ 58 (L._∷_ 58 (L._∷_ 102 (L._∷_ 111 (L._∷_ 117 (L._∷_ 110 (L._∷_ 100 (L._∷_ 58 (L._∷_ 58 (L._∷_ 70 (L._∷_ 111 (L._∷_ 117 (L._∷_ 110 (L._∷_ 100 L.[]))))))))))))))))))) (Syntax.tcons Syntax.tyBool (Syntax.tcons Syntax.tyBool (Syntax.tcons (Syntax.tyStruct (L._∷_ 115 (L._∷_ 116 (L._∷_ 101 (L._∷_ 112 (L._∷_ 58 (L._∷_ 58 (L._∷_ 83 (L._∷_ 116 (L._∷_ 101 (L._∷_ 112 L.[])))))))))) (Syntax.tcons (Syntax.tyInt Syntax.w64) (Syntax.tcons (Syntax.tyInt Syntax.w64) (Syntax.tcons (Syntax.tyStruct (L._∷_ 115 (L._∷_ 116 (L._∷_ 101 (L._∷_ 112 (L._∷_ 58 (L._∷_ 58 (L._∷_ 67 (L._∷_ 104 (L._∷_ 97 (L._∷_ 110 (L._∷_ 103 (L._∷_ 101 L.[])))))))))))) (Syntax.tcons (Syntax.tyStruct (L._∷_ 110 (L._∷_ 101 (L._∷_ 116 (L._∷_ 119 (L._∷_ 111 (L._∷_ 114 (L._∷_ 107 (L._∷_ 58 (L._∷_ 58 (L._∷_ 69 (L._∷_ 100 (L._∷_ 105 (L._∷_ 116 L.[]))))))))))))) (Syntax.tcons q5 (Syntax.tcons q5 (Syntax.tcons q5 (Syntax.tcons q5 (Syntax.tcons q1 (Syntax.tcons q1 (Syntax.tcons (Syntax.tyInt Syntax.w64) Syntax.tnil)))))))) (Syntax.tcons (Syntax.tyStruct (L._∷_ 115 (L._∷_ 116 (L._∷_ 101 (L._∷_ 112 (L._∷_ 58 (L._∷_ 58 (L._∷_ 79 (L._∷_ 108 (L._∷_ 100 L.[]))))))))) (Syntax.tcons (Syntax.tyInt Syntax.w64) (Syntax.tcons q4 (Syntax.tcons q5 (Syntax.tcons q5 (Syntax.tcons q5 (Syntax.tcons q5 (Syntax.tcons q2 Syntax.tnil)))))))) Syntax.tnil))) Syntax.tnil)))) Syntax.tnil)))) (Syntax.tcons q3 Syntax.tnil)))) (L._∷_ q23 (L._∷_ q19 (L._∷_ q34 (L._∷_ q35 (L._∷_ q24 (L._∷_ q7 (L._∷_ (11, Rows.any-gone (Syntax.tyStruct (L._∷_ 110 (L._∷_ 101 (L._∷_ 116 (L._∷_ 119 (L._∷_ 111 (L._∷_ 114 (L._∷_ 107 (L._∷_ 58 (L._∷_ 58 (L._∷_ 69 (L._∷_ 100 (L._∷_ 105 (L._∷_ 116 L.[]))))))))))))) (Syntax.tcons q5 (Syntax.tcons q5 (Syntax.tcons q5 (Syntax.tcons q5 (Syntax.tcons q1 (Syntax.tcons q1 (Syntax.tcons (Syntax.tyInt Syntax.w64) Syntax.tnil))))))))) (L._∷_ q17 (L._∷_ q6 L.[])))))))))))))
 
         abbrev g5 : L.List Row.Entry
-        g5 = L._∷_ (0, Rows.any-gone (Syntax.tyStruct (L._∷_ 115 (L._∷_ 101 (L._∷_ 97 (L._∷_ 114 (L._∷_ 99 (L._∷_ 104 (L._∷_ 58 (L._∷_ 58 (L._∷_ 80 (L._∷_ 114 (L._∷_ 111 (L._∷_ 103 (L._∷_ 114 (L._∷_ 101 (L._∷_ 115 (L._∷_ 115 L.[])))))))))))))))) (Syntax.tcons q0 (Syntax.tcons (Syntax.tyInt Syntax.w64) (Syntax.tcons q3 (Syntax.tcons Syntax.tyBool (Syntax.tcons Syntax.tyBool (Syntax.tcons (Syntax.tyInt Syntax.w64) (Syntax.tcons (Syntax.tyInt Syntax.w64) Syntax.tnil))))))))) (L._∷_ q31 (L._∷_ q13 (L._∷_ (3, Reshare.mslice-owedS Rec.row q27 1 2 (Row.lease (κs .1 .0) (qs .1 .0))) (L._∷_ q28 (L._∷_ q23 (L._∷_ q19 (L._∷_ q34 (L._∷_ q35 (L._∷_ q24 (L._∷_ q7 (L._∷_ (11, Rows.any-gone (Syntax.tyStruct (L._∷_ 110 (L._∷_ 101 (L._∷_ 116 (L._∷_ 119 (L._∷_ 111 (L._∷_ 114 (L._∷_ 107 (L._∷_ 58 (L._∷_ 58 (L._∷_ 69 (L._∷_ 100 (L._∷_ 105 (L._∷_ 116 L.[]))))))))))))) (Syntax.tcons q5 (Syntax.tcons q5 (Syntax.tcons q5 (Syntax.tcons q5 (Syntax.tcons q1 (Syntax.tcons q1 (Syntax.tcons (Syntax.tyInt Syntax.w64) Syntax.tnil))))))))) (L._∷_ q17 (L._∷_ q6 L.[])))))))))))))
+        g5 = L._∷_ (0, Rows.any-gone (Syntax.tyStruct (L._∷_ 115 (L._∷_ 101 (L._∷_ 97 (L._∷_ 114 (L._∷_ 99 (L._∷_ 104 (L._∷_ 58 (L._∷_ 58 (L._∷_ 80 (L._∷_ 114 (L._∷_ 111 (L._∷_ 103 (L._∷_ 114 (L._∷_ 101 (L._∷_ 115 (L._∷_ 115 L.[])))))))))))))))) (Syntax.tcons q0 (Syntax.tcons (Syntax.tyInt Syntax.w64) (Syntax.tcons q3 (Syntax.tcons Syntax.tyBool (Syntax.tcons Syntax.tyBool (Syntax.tcons (Syntax.tyInt Syntax.w64) (Syntax.tcons (Syntax.tyInt Syntax.w64) Syntax.tnil))))))))) (L._∷_ q31 (L._∷_ q13 (L._∷_ (3, Reshare.mslice-owedS Rec.row q28 1 2 (Row.lease (κs .1 .0) (qs .1 .0))) (L._∷_ q25 (L._∷_ q23 (L._∷_ q19 (L._∷_ q34 (L._∷_ q35 (L._∷_ q24 (L._∷_ q7 (L._∷_ (11, Rows.any-gone (Syntax.tyStruct (L._∷_ 110 (L._∷_ 101 (L._∷_ 116 (L._∷_ 119 (L._∷_ 111 (L._∷_ 114 (L._∷_ 107 (L._∷_ 58 (L._∷_ 58 (L._∷_ 69 (L._∷_ 100 (L._∷_ 105 (L._∷_ 116 L.[]))))))))))))) (Syntax.tcons q5 (Syntax.tcons q5 (Syntax.tcons q5 (Syntax.tcons q5 (Syntax.tcons q1 (Syntax.tcons q1 (Syntax.tcons (Syntax.tyInt Syntax.w64) Syntax.tnil))))))))) (L._∷_ q17 (L._∷_ q6 L.[])))))))))))))
 
         abbrev g6 : L.List Row.Entry
-        g6 = L._∷_ (0, Rows.any-gone (Syntax.tyStruct (L._∷_ 115 (L._∷_ 101 (L._∷_ 97 (L._∷_ 114 (L._∷_ 99 (L._∷_ 104 (L._∷_ 58 (L._∷_ 58 (L._∷_ 80 (L._∷_ 114 (L._∷_ 111 (L._∷_ 103 (L._∷_ 114 (L._∷_ 101 (L._∷_ 115 (L._∷_ 115 L.[])))))))))))))))) (Syntax.tcons q0 (Syntax.tcons (Syntax.tyInt Syntax.w64) (Syntax.tcons q3 (Syntax.tcons Syntax.tyBool (Syntax.tcons Syntax.tyBool (Syntax.tcons (Syntax.tyInt Syntax.w64) (Syntax.tcons (Syntax.tyInt Syntax.w64) Syntax.tnil))))))))) (L._∷_ q31 (L._∷_ q13 (L._∷_ (3, Reshare.mslice-owedS Rec.row q27 1 2 (Row.lease (κs .1 .0) (qs .1 .0))) (L._∷_ q28 (L._∷_ q23 (L._∷_ q8 (L._∷_ q34 (L._∷_ q35 (L._∷_ q24 (L._∷_ q7 (L._∷_ (11, Rows.any-gone (Syntax.tyStruct (L._∷_ 110 (L._∷_ 101 (L._∷_ 116 (L._∷_ 119 (L._∷_ 111 (L._∷_ 114 (L._∷_ 107 (L._∷_ 58 (L._∷_ 58 (L._∷_ 69 (L._∷_ 100 (L._∷_ 105 (L._∷_ 116 L.[]))))))))))))) (Syntax.tcons q5 (Syntax.tcons q5 (Syntax.tcons q5 (Syntax.tcons q5 (Syntax.tcons q1 (Syntax.tcons q1 (Syntax.tcons (Syntax.tyInt Syntax.w64) Syntax.tnil))))))))) (L._∷_ q17 (L._∷_ q6 L.[])))))))))))))
+        g6 = L._∷_ (0, Rows.any-gone (Syntax.tyStruct (L._∷_ 115 (L._∷_ 101 (L._∷_ 97 (L._∷_ 114 (L._∷_ 99 (L._∷_ 104 (L._∷_ 58 (L._∷_ 58 (L._∷_ 80 (L._∷_ 114 (L._∷_ 111 (L._∷_ 103 (L._∷_ 114 (L._∷_ 101 (L._∷_ 115 (L._∷_ 115 L.[])))))))))))))))) (Syntax.tcons q0 (Syntax.tcons (Syntax.tyInt Syntax.w64) (Syntax.tcons q3 (Syntax.tcons Syntax.tyBool (Syntax.tcons Syntax.tyBool (Syntax.tcons (Syntax.tyInt Syntax.w64) (Syntax.tcons (Syntax.tyInt Syntax.w64) Syntax.tnil))))))))) (L._∷_ q31 (L._∷_ q13 (L._∷_ (3, Reshare.mslice-owedS Rec.row q28 1 2 (Row.lease (κs .1 .0) (qs .1 .0))) (L._∷_ q25 (L._∷_ q23 (L._∷_ q8 (L._∷_ q34 (L._∷_ q35 (L._∷_ q24 (L._∷_ q7 (L._∷_ (11, Rows.any-gone (Syntax.tyStruct (L._∷_ 110 (L._∷_ 101 (L._∷_ 116 (L._∷_ 119 (L._∷_ 111 (L._∷_ 114 (L._∷_ 107 (L._∷_ 58 (L._∷_ 58 (L._∷_ 69 (L._∷_ 100 (L._∷_ 105 (L._∷_ 116 L.[]))))))))))))) (Syntax.tcons q5 (Syntax.tcons q5 (Syntax.tcons q5 (Syntax.tcons q5 (Syntax.tcons q1 (Syntax.tcons q1 (Syntax.tcons (Syntax.tyInt Syntax.w64) Syntax.tnil))))))))) (L._∷_ q17 (L._∷_ q6 L.[])))))))))))))
 
         abbrev g7 : L.List Row.Entry
-        g7 = L._∷_ (0, Rows.any-gone (Syntax.tyStruct (L._∷_ 115 (L._∷_ 101 (L._∷_ 97 (L._∷_ 114 (L._∷_ 99 (L._∷_ 104 (L._∷_ 58 (L._∷_ 58 (L._∷_ 80 (L._∷_ 114 (L._∷_ 111 (L._∷_ 103 (L._∷_ 114 (L._∷_ 101 (L._∷_ 115 (L._∷_ 115 L.[])))))))))))))))) (Syntax.tcons q0 (Syntax.tcons (Syntax.tyInt Syntax.w64) (Syntax.tcons q3 (Syntax.tcons Syntax.tyBool (Syntax.tcons Syntax.tyBool (Syntax.tcons (Syntax.tyInt Syntax.w64) (Syntax.tcons (Syntax.tyInt Syntax.w64) Syntax.tnil))))))))) (L._∷_ q31 (L._∷_ q13 (L._∷_ (3, Reshare.mslice-owedS Rec.row q27 1 2 (Row.lease (κs .1 .0) (qs .1 .0))) (L._∷_ q28 (L._∷_ q23 (L._∷_ q8 (L._∷_ q33 (L._∷_ q35 (L._∷_ q24 (L._∷_ q7 (L._∷_ (11, Rows.any-gone (Syntax.tyStruct (L._∷_ 110 (L._∷_ 101 (L._∷_ 116 (L._∷_ 119 (L._∷_ 111 (L._∷_ 114 (L._∷_ 107 (L._∷_ 58 (L._∷_ 58 (L._∷_ 69 (L._∷_ 100 (L._∷_ 105 (L._∷_ 116 L.[]))))))))))))) (Syntax.tcons q5 (Syntax.tcons q5 (Syntax.tcons q5 (Syntax.tcons q5 (Syntax.tcons q1 (Syntax.tcons q1 (Syntax.tcons (Syntax.tyInt Syntax.w64) Syntax.tnil))))))))) (L._∷_ q17 (L._∷_ q6 L.[])))))))))))))
+        g7 = L._∷_ (0, Rows.any-gone (Syntax.tyStruct (L._∷_ 115 (L._∷_ 101 (L._∷_ 97 (L._∷_ 114 (L._∷_ 99 (L._∷_ 104 (L._∷_ 58 (L._∷_ 58 (L._∷_ 80 (L._∷_ 114 (L._∷_ 111 (L._∷_ 103 (L._∷_ 114 (L._∷_ 101 (L._∷_ 115 (L._∷_ 115 L.[])))))))))))))))) (Syntax.tcons q0 (Syntax.tcons (Syntax.tyInt Syntax.w64) (Syntax.tcons q3 (Syntax.tcons Syntax.tyBool (Syntax.tcons Syntax.tyBool (Syntax.tcons (Syntax.tyInt Syntax.w64) (Syntax.tcons (Syntax.tyInt Syntax.w64) Syntax.tnil))))))))) (L._∷_ q31 (L._∷_ q13 (L._∷_ (3, Reshare.mslice-owedS Rec.row q28 1 2 (Row.lease (κs .1 .0) (qs .1 .0))) (L._∷_ q25 (L._∷_ q23 (L._∷_ q8 (L._∷_ q33 (L._∷_ q35 (L._∷_ q24 (L._∷_ q7 (L._∷_ (11, Rows.any-gone (Syntax.tyStruct (L._∷_ 110 (L._∷_ 101 (L._∷_ 116 (L._∷_ 119 (L._∷_ 111 (L._∷_ 114 (L._∷_ 107 (L._∷_ 58 (L._∷_ 58 (L._∷_ 69 (L._∷_ 100 (L._∷_ 105 (L._∷_ 116 L.[]))))))))))))) (Syntax.tcons q5 (Syntax.tcons q5 (Syntax.tcons q5 (Syntax.tcons q5 (Syntax.tcons q1 (Syntax.tcons q1 (Syntax.tcons (Syntax.tyInt Syntax.w64) Syntax.tnil))))))))) (L._∷_ q17 (L._∷_ q6 L.[])))))))))))))
 
         abbrev g9 : L.List Row.Entry
-        g9 = L._∷_ (0, Rows.any-gone (Syntax.tyStruct (L._∷_ 115 (L._∷_ 101 (L._∷_ 97 (L._∷_ 114 (L._∷_ 99 (L._∷_ 104 (L._∷_ 58 (L._∷_ 58 (L._∷_ 80 (L._∷_ 114 (L._∷_ 111 (L._∷_ 103 (L._∷_ 114 (L._∷_ 101 (L._∷_ 115 (L._∷_ 115 L.[])))))))))))))))) (Syntax.tcons q0 (Syntax.tcons (Syntax.tyInt Syntax.w64) (Syntax.tcons q3 (Syntax.tcons Syntax.tyBool (Syntax.tcons Syntax.tyBool (Syntax.tcons (Syntax.tyInt Syntax.w64) (Syntax.tcons (Syntax.tyInt Syntax.w64) Syntax.tnil))))))))) (L._∷_ q31 (L._∷_ q13 (L._∷_ (3, Relend.mslice-owed Rec.row q27 1 3 (Row.lease (κs .1 .0) (qs .1 .0))) (L._∷_ q28 (L._∷_ q23 (L._∷_ q8 (L._∷_ q33 (L._∷_ q35 (L._∷_ (9, Relend.msptr Rec.row q30 3) (L._∷_ q7 (L._∷_ (11, Rows.any-gone (Syntax.tyStruct (L._∷_ 110 (L._∷_ 101 (L._∷_ 116 (L._∷_ 119 (L._∷_ 111 (L._∷_ 114 (L._∷_ 107 (L._∷_ 58 (L._∷_ 58 (L._∷_ 69 (L._∷_ 100 (L._∷_ 105 (L._∷_ 116 L.[]))))))))))))) (Syntax.tcons q5 (Syntax.tcons q5 (Syntax.tcons q5 (Syntax.tcons q5 (Syntax.tcons q1 (Syntax.tcons q1 (Syntax.tcons (Syntax.tyInt Syntax.w64) Syntax.tnil))))))))) (L._∷_ q17 (L._∷_ q6 L.[])))))))))))))
+        g9 = L._∷_ (0, Rows.any-gone (Syntax.tyStruct (L._∷_ 115 (L._∷_ 101 (L._∷_ 97 (L._∷_ 114 (L._∷_ 99 (L._∷_ 104 (L._∷_ 58 (L._∷_ 58 (L._∷_ 80 (L._∷_ 114 (L._∷_ 111 (L._∷_ 103 (L._∷_ 114 (L._∷_ 101 (L._∷_ 115 (L._∷_ 115 L.[])))))))))))))))) (Syntax.tcons q0 (Syntax.tcons (Syntax.tyInt Syntax.w64) (Syntax.tcons q3 (Syntax.tcons Syntax.tyBool (Syntax.tcons Syntax.tyBool (Syntax.tcons (Syntax.tyInt Syntax.w64) (Syntax.tcons (Syntax.tyInt Syntax.w64) Syntax.tnil))))))))) (L._∷_ q31 (L._∷_ q13 (L._∷_ (3, Relend.mslice-owed Rec.row q28 1 3 (Row.lease (κs .1 .0) (qs .1 .0))) (L._∷_ q25 (L._∷_ q23 (L._∷_ q8 (L._∷_ q33 (L._∷_ q35 (L._∷_ (9, Relend.msptr Rec.row q30 3) (L._∷_ q7 (L._∷_ (11, Rows.any-gone (Syntax.tyStruct (L._∷_ 110 (L._∷_ 101 (L._∷_ 116 (L._∷_ 119 (L._∷_ 111 (L._∷_ 114 (L._∷_ 107 (L._∷_ 58 (L._∷_ 58 (L._∷_ 69 (L._∷_ 100 (L._∷_ 105 (L._∷_ 116 L.[]))))))))))))) (Syntax.tcons q5 (Syntax.tcons q5 (Syntax.tcons q5 (Syntax.tcons q5 (Syntax.tcons q1 (Syntax.tcons q1 (Syntax.tcons (Syntax.tyInt Syntax.w64) Syntax.tnil))))))))) (L._∷_ q17 (L._∷_ q6 L.[])))))))))))))
 
         abbrev g10 : L.List Row.Entry
-        g10 = L._∷_ (0, Rows.any-gone (Syntax.tyStruct (L._∷_ 115 (L._∷_ 101 (L._∷_ 97 (L._∷_ 114 (L._∷_ 99 (L._∷_ 104 (L._∷_ 58 (L._∷_ 58 (L._∷_ 80 (L._∷_ 114 (L._∷_ 111 (L._∷_ 103 (L._∷_ 114 (L._∷_ 101 (L._∷_ 115 (L._∷_ 115 L.[])))))))))))))))) (Syntax.tcons q0 (Syntax.tcons (Syntax.tyInt Syntax.w64) (Syntax.tcons q3 (Syntax.tcons Syntax.tyBool (Syntax.tcons Syntax.tyBool (Syntax.tcons (Syntax.tyInt Syntax.w64) (Syntax.tcons (Syntax.tyInt Syntax.w64) Syntax.tnil))))))))) (L._∷_ q31 (L._∷_ q13 (L._∷_ (3, Relend.mslice-owed Rec.row q27 1 3 (Row.lease (κs .1 .0) (qs .1 .0))) (L._∷_ q28 (L._∷_ q23 (L._∷_ q8 (L._∷_ q33 (L._∷_ q35 (L._∷_ q24 (L._∷_ q20 (L._∷_ (11, Rows.any-gone (Syntax.tyStruct (L._∷_ 110 (L._∷_ 101 (L._∷_ 116 (L._∷_ 119 (L._∷_ 111 (L._∷_ 114 (L._∷_ 107 (L._∷_ 58 (L._∷_ 58 (L._∷_ 69 (L._∷_ 100 (L._∷_ 105 (L._∷_ 116 L.[]))))))))))))) (Syntax.tcons q5 (Syntax.tcons q5 (Syntax.tcons q5 (Syntax.tcons q5 (Syntax.tcons q1 (Syntax.tcons q1 (Syntax.tcons (Syntax.tyInt Syntax.w64) Syntax.tnil))))))))) (L._∷_ q17 (L._∷_ q6 L.[])))))))))))))
+        g10 = L._∷_ (0, Rows.any-gone (Syntax.tyStruct (L._∷_ 115 (L._∷_ 101 (L._∷_ 97 (L._∷_ 114 (L._∷_ 99 (L._∷_ 104 (L._∷_ 58 (L._∷_ 58 (L._∷_ 80 (L._∷_ 114 (L._∷_ 111 (L._∷_ 103 (L._∷_ 114 (L._∷_ 101 (L._∷_ 115 (L._∷_ 115 L.[])))))))))))))))) (Syntax.tcons q0 (Syntax.tcons (Syntax.tyInt Syntax.w64) (Syntax.tcons q3 (Syntax.tcons Syntax.tyBool (Syntax.tcons Syntax.tyBool (Syntax.tcons (Syntax.tyInt Syntax.w64) (Syntax.tcons (Syntax.tyInt Syntax.w64) Syntax.tnil))))))))) (L._∷_ q31 (L._∷_ q13 (L._∷_ (3, Relend.mslice-owed Rec.row q28 1 3 (Row.lease (κs .1 .0) (qs .1 .0))) (L._∷_ q25 (L._∷_ q23 (L._∷_ q8 (L._∷_ q33 (L._∷_ q35 (L._∷_ q24 (L._∷_ q20 (L._∷_ (11, Rows.any-gone (Syntax.tyStruct (L._∷_ 110 (L._∷_ 101 (L._∷_ 116 (L._∷_ 119 (L._∷_ 111 (L._∷_ 114 (L._∷_ 107 (L._∷_ 58 (L._∷_ 58 (L._∷_ 69 (L._∷_ 100 (L._∷_ 105 (L._∷_ 116 L.[]))))))))))))) (Syntax.tcons q5 (Syntax.tcons q5 (Syntax.tcons q5 (Syntax.tcons q5 (Syntax.tcons q1 (Syntax.tcons q1 (Syntax.tcons (Syntax.tyInt Syntax.w64) Syntax.tnil))))))))) (L._∷_ q17 (L._∷_ q6 L.[])))))))))))))
 
         abbrev g11 : L.List Row.Entry
-        g11 = L._∷_ (0, Rows.any-gone (Syntax.tyStruct (L._∷_ 115 (L._∷_ 101 (L._∷_ 97 (L._∷_ 114 (L._∷_ 99 (L._∷_ 104 (L._∷_ 58 (L._∷_ 58 (L._∷_ 80 (L._∷_ 114 (L._∷_ 111 (L._∷_ 103 (L._∷_ 114 (L._∷_ 101 (L._∷_ 115 (L._∷_ 115 L.[])))))))))))))))) (Syntax.tcons q0 (Syntax.tcons (Syntax.tyInt Syntax.w64) (Syntax.tcons q3 (Syntax.tcons Syntax.tyBool (Syntax.tcons Syntax.tyBool (Syntax.tcons (Syntax.tyInt Syntax.w64) (Syntax.tcons (Syntax.tyInt Syntax.w64) Syntax.tnil))))))))) (L._∷_ q31 (L._∷_ q13 (L._∷_ (3, Relend.mslice-owed Rec.row q27 1 3 (Row.lease (κs .1 .0) (qs .1 .0))) (L._∷_ q28 (L._∷_ q23 (L._∷_ q8 (L._∷_ q33 (L._∷_ q35 (L._∷_ q24 (L._∷_ q20 (L._∷_ q26 (L._∷_ q17 (L._∷_ q6 L.[])))))))))))))
+        g11 = L._∷_ (0, Rows.any-gone (Syntax.tyStruct (L._∷_ 115 (L._∷_ 101 (L._∷_ 97 (L._∷_ 114 (L._∷_ 99 (L._∷_ 104 (L._∷_ 58 (L._∷_ 58 (L._∷_ 80 (L._∷_ 114 (L._∷_ 111 (L._∷_ 103 (L._∷_ 114 (L._∷_ 101 (L._∷_ 115 (L._∷_ 115 L.[])))))))))))))))) (Syntax.tcons q0 (Syntax.tcons (Syntax.tyInt Syntax.w64) (Syntax.tcons q3 (Syntax.tcons Syntax.tyBool (Syntax.tcons Syntax.tyBool (Syntax.tcons (Syntax.tyInt Syntax.w64) (Syntax.tcons (Syntax.tyInt Syntax.w64) Syntax.tnil))))))))) (L._∷_ q31 (L._∷_ q13 (L._∷_ (3, Relend.mslice-owed Rec.row q28 1 3 (Row.lease (κs .1 .0) (qs .1 .0))) (L._∷_ q25 (L._∷_ q23 (L._∷_ q8 (L._∷_ q33 (L._∷_ q35 (L._∷_ q24 (L._∷_ q20 (L._∷_ q27 (L._∷_ q17 (L._∷_ q6 L.[])))))))))))))
 
         abbrev g12 : L.List Row.Entry
-        g12 = L._∷_ (0, Rows.any-gone (Syntax.tyStruct (L._∷_ 115 (L._∷_ 101 (L._∷_ 97 (L._∷_ 114 (L._∷_ 99 (L._∷_ 104 (L._∷_ 58 (L._∷_ 58 (L._∷_ 80 (L._∷_ 114 (L._∷_ 111 (L._∷_ 103 (L._∷_ 114 (L._∷_ 101 (L._∷_ 115 (L._∷_ 115 L.[])))))))))))))))) (Syntax.tcons q0 (Syntax.tcons (Syntax.tyInt Syntax.w64) (Syntax.tcons q3 (Syntax.tcons Syntax.tyBool (Syntax.tcons Syntax.tyBool (Syntax.tcons (Syntax.tyInt Syntax.w64) (Syntax.tcons (Syntax.tyInt Syntax.w64) Syntax.tnil))))))))) (L._∷_ q31 (L._∷_ q13 (L._∷_ (3, Relend.mslice-owed Rec.row q27 1 3 (Row.lease (κs .1 .0) (qs .1 .0))) (L._∷_ q28 (L._∷_ q23 (L._∷_ q8 (L._∷_ q33 (L._∷_ (8, Rows.sc-here Row.sUnit) (L._∷_ q24 (L._∷_ q21 (L._∷_ q26 (L._∷_ q17 (L._∷_ q6 L.[])))))))))))))
+        g12 = L._∷_ (0, Rows.any-gone (Syntax.tyStruct (L._∷_ 115 (L._∷_ 101 (L._∷_ 97 (L._∷_ 114 (L._∷_ 99 (L._∷_ 104 (L._∷_ 58 (L._∷_ 58 (L._∷_ 80 (L._∷_ 114 (L._∷_ 111 (L._∷_ 103 (L._∷_ 114 (L._∷_ 101 (L._∷_ 115 (L._∷_ 115 L.[])))))))))))))))) (Syntax.tcons q0 (Syntax.tcons (Syntax.tyInt Syntax.w64) (Syntax.tcons q3 (Syntax.tcons Syntax.tyBool (Syntax.tcons Syntax.tyBool (Syntax.tcons (Syntax.tyInt Syntax.w64) (Syntax.tcons (Syntax.tyInt Syntax.w64) Syntax.tnil))))))))) (L._∷_ q31 (L._∷_ q13 (L._∷_ (3, Relend.mslice-owed Rec.row q28 1 3 (Row.lease (κs .1 .0) (qs .1 .0))) (L._∷_ q25 (L._∷_ q23 (L._∷_ q8 (L._∷_ q33 (L._∷_ (8, Rows.sc-here Row.sUnit) (L._∷_ q24 (L._∷_ q21 (L._∷_ q27 (L._∷_ q17 (L._∷_ q6 L.[])))))))))))))
 
         abbrev g13 : L.List Row.Entry
-        g13 = L._∷_ (0, Rows.any-gone (Syntax.tyStruct (L._∷_ 115 (L._∷_ 101 (L._∷_ 97 (L._∷_ 114 (L._∷_ 99 (L._∷_ 104 (L._∷_ 58 (L._∷_ 58 (L._∷_ 80 (L._∷_ 114 (L._∷_ 111 (L._∷_ 103 (L._∷_ 114 (L._∷_ 101 (L._∷_ 115 (L._∷_ 115 L.[])))))))))))))))) (Syntax.tcons q0 (Syntax.tcons (Syntax.tyInt Syntax.w64) (Syntax.tcons q3 (Syntax.tcons Syntax.tyBool (Syntax.tcons Syntax.tyBool (Syntax.tcons (Syntax.tyInt Syntax.w64) (Syntax.tcons (Syntax.tyInt Syntax.w64) Syntax.tnil))))))))) (L._∷_ q31 (L._∷_ q13 (L._∷_ (3, Relend.mslice-owed Rec.row q27 1 3 (Row.lease (κs .1 .0) (qs .1 .0))) (L._∷_ q28 (L._∷_ q23 (L._∷_ q8 (L._∷_ q33 (L._∷_ q35 (L._∷_ q24 (L._∷_ q21 (L._∷_ q26 (L._∷_ q17 (L._∷_ q6 L.[])))))))))))))
+        g13 = L._∷_ (0, Rows.any-gone (Syntax.tyStruct (L._∷_ 115 (L._∷_ 101 (L._∷_ 97 (L._∷_ 114 (L._∷_ 99 (L._∷_ 104 (L._∷_ 58 (L._∷_ 58 (L._∷_ 80 (L._∷_ 114 (L._∷_ 111 (L._∷_ 103 (L._∷_ 114 (L._∷_ 101 (L._∷_ 115 (L._∷_ 115 L.[])))))))))))))))) (Syntax.tcons q0 (Syntax.tcons (Syntax.tyInt Syntax.w64) (Syntax.tcons q3 (Syntax.tcons Syntax.tyBool (Syntax.tcons Syntax.tyBool (Syntax.tcons (Syntax.tyInt Syntax.w64) (Syntax.tcons (Syntax.tyInt Syntax.w64) Syntax.tnil))))))))) (L._∷_ q31 (L._∷_ q13 (L._∷_ (3, Relend.mslice-owed Rec.row q28 1 3 (Row.lease (κs .1 .0) (qs .1 .0))) (L._∷_ q25 (L._∷_ q23 (L._∷_ q8 (L._∷_ q33 (L._∷_ q35 (L._∷_ q24 (L._∷_ q21 (L._∷_ q27 (L._∷_ q17 (L._∷_ q6 L.[])))))))))))))
 
         abbrev g14 : L.List Row.Entry
-        g14 = L._∷_ (0, Rows.any-gone (Syntax.tyStruct (L._∷_ 115 (L._∷_ 101 (L._∷_ 97 (L._∷_ 114 (L._∷_ 99 (L._∷_ 104 (L._∷_ 58 (L._∷_ 58 (L._∷_ 80 (L._∷_ 114 (L._∷_ 111 (L._∷_ 103 (L._∷_ 114 (L._∷_ 101 (L._∷_ 115 (L._∷_ 115 L.[])))))))))))))))) (Syntax.tcons q0 (Syntax.tcons (Syntax.tyInt Syntax.w64) (Syntax.tcons q3 (Syntax.tcons Syntax.tyBool (Syntax.tcons Syntax.tyBool (Syntax.tcons (Syntax.tyInt Syntax.w64) (Syntax.tcons (Syntax.tyInt Syntax.w64) Syntax.tnil))))))))) (L._∷_ q31 (L._∷_ q13 (L._∷_ (3, Relend.mslice-owed Rec.row q27 1 3 (Row.lease (κs .1 .0) (qs .1 .0))) (L._∷_ q28 (L._∷_ q23 (L._∷_ q8 (L._∷_ q33 (L._∷_ q35 (L._∷_ q24 (L._∷_ q21 (L._∷_ (11, Rows.any-gone (Syntax.tyStruct (L._∷_ 110 (L._∷_ 101 (L._∷_ 116 (L._∷_ 119 (L._∷_ 111 (L._∷_ 114 (L._∷_ 107 (L._∷_ 58 (L._∷_ 58 (L._∷_ 69 (L._∷_ 100 (L._∷_ 105 (L._∷_ 116 L.[]))))))))))))) (Syntax.tcons q5 (Syntax.tcons q5 (Syntax.tcons q5 (Syntax.tcons q5 (Syntax.tcons q1 (Syntax.tcons q1 (Syntax.tcons (Syntax.tyInt Syntax.w64) Syntax.tnil))))))))) (L._∷_ q17 (L._∷_ q6 L.[])))))))))))))
+        g14 = L._∷_ (0, Rows.any-gone (Syntax.tyStruct (L._∷_ 115 (L._∷_ 101 (L._∷_ 97 (L._∷_ 114 (L._∷_ 99 (L._∷_ 104 (L._∷_ 58 (L._∷_ 58 (L._∷_ 80 (L._∷_ 114 (L._∷_ 111 (L._∷_ 103 (L._∷_ 114 (L._∷_ 101 (L._∷_ 115 (L._∷_ 115 L.[])))))))))))))))) (Syntax.tcons q0 (Syntax.tcons (Syntax.tyInt Syntax.w64) (Syntax.tcons q3 (Syntax.tcons Syntax.tyBool (Syntax.tcons Syntax.tyBool (Syntax.tcons (Syntax.tyInt Syntax.w64) (Syntax.tcons (Syntax.tyInt Syntax.w64) Syntax.tnil))))))))) (L._∷_ q31 (L._∷_ q13 (L._∷_ (3, Relend.mslice-owed Rec.row q28 1 3 (Row.lease (κs .1 .0) (qs .1 .0))) (L._∷_ q25 (L._∷_ q23 (L._∷_ q8 (L._∷_ q33 (L._∷_ q35 (L._∷_ q24 (L._∷_ q21 (L._∷_ (11, Rows.any-gone (Syntax.tyStruct (L._∷_ 110 (L._∷_ 101 (L._∷_ 116 (L._∷_ 119 (L._∷_ 111 (L._∷_ 114 (L._∷_ 107 (L._∷_ 58 (L._∷_ 58 (L._∷_ 69 (L._∷_ 100 (L._∷_ 105 (L._∷_ 116 L.[]))))))))))))) (Syntax.tcons q5 (Syntax.tcons q5 (Syntax.tcons q5 (Syntax.tcons q5 (Syntax.tcons q1 (Syntax.tcons q1 (Syntax.tcons (Syntax.tyInt Syntax.w64) Syntax.tnil))))))))) (L._∷_ q17 (L._∷_ q6 L.[])))))))))))))
 
         abbrev g15 : L.List Row.Entry
-        g15 = L._∷_ (0, Rows.any-gone (Syntax.tyStruct (L._∷_ 115 (L._∷_ 101 (L._∷_ 97 (L._∷_ 114 (L._∷_ 99 (L._∷_ 104 (L._∷_ 58 (L._∷_ 58 (L._∷_ 80 (L._∷_ 114 (L._∷_ 111 (L._∷_ 103 (L._∷_ 114 (L._∷_ 101 (L._∷_ 115 (L._∷_ 115 L.[])))))))))))))))) (Syntax.tcons q0 (Syntax.tcons (Syntax.tyInt Syntax.w64) (Syntax.tcons q3 (Syntax.tcons Syntax.tyBool (Syntax.tcons Syntax.tyBool (Syntax.tcons (Syntax.tyInt Syntax.w64) (Syntax.tcons (Syntax.tyInt Syntax.w64) Syntax.tnil))))))))) (L._∷_ q31 (L._∷_ (2, Relend.mslice-owed (Signed.SInt Syntax.w32) q22 0 4 (Row.lease (κs .0) (qs .0))) (L._∷_ q18 (L._∷_ q28 (L._∷_ q23 (L._∷_ q8 (L._∷_ q33 (L._∷_ q35 (L._∷_ q24 (L._∷_ q7 (L._∷_ (11, Rows.any-gone (Syntax.tyStruct (L._∷_ 110 (L._∷_ 101 (L._∷_ 116 (L._∷_ 119 (L._∷_ 111 (L._∷_ 114 (L._∷_ 107 (L._∷_ 58 (L._∷_ 58 (L._∷_ 69 (L._∷_ 100 (L._∷_ 105 (L._∷_ 116 L.[]))))))))))))) (Syntax.tcons q5 (Syntax.tcons q5 (Syntax.tcons q5 (Syntax.tcons q5 (Syntax.tcons q1 (Syntax.tcons q1 (Syntax.tcons (Syntax.tyInt Syntax.w64) Syntax.tnil))))))))) (L._∷_ (12, Relend.msptr (Signed.SInt Syntax.w32) q25 4) (L._∷_ q6 L.[])))))))))))))
+        g15 = L._∷_ (0, Rows.any-gone (Syntax.tyStruct (L._∷_ 115 (L._∷_ 101 (L._∷_ 97 (L._∷_ 114 (L._∷_ 99 (L._∷_ 104 (L._∷_ 58 (L._∷_ 58 (L._∷_ 80 (L._∷_ 114 (L._∷_ 111 (L._∷_ 103 (L._∷_ 114 (L._∷_ 101 (L._∷_ 115 (L._∷_ 115 L.[])))))))))))))))) (Syntax.tcons q0 (Syntax.tcons (Syntax.tyInt Syntax.w64) (Syntax.tcons q3 (Syntax.tcons Syntax.tyBool (Syntax.tcons Syntax.tyBool (Syntax.tcons (Syntax.tyInt Syntax.w64) (Syntax.tcons (Syntax.tyInt Syntax.w64) Syntax.tnil))))))))) (L._∷_ q31 (L._∷_ (2, Relend.mslice-owed (Signed.SInt Syntax.w32) q22 0 4 (Row.lease (κs .0) (qs .0))) (L._∷_ q18 (L._∷_ q25 (L._∷_ q23 (L._∷_ q8 (L._∷_ q33 (L._∷_ q35 (L._∷_ q24 (L._∷_ q7 (L._∷_ (11, Rows.any-gone (Syntax.tyStruct (L._∷_ 110 (L._∷_ 101 (L._∷_ 116 (L._∷_ 119 (L._∷_ 111 (L._∷_ 114 (L._∷_ 107 (L._∷_ 58 (L._∷_ 58 (L._∷_ 69 (L._∷_ 100 (L._∷_ 105 (L._∷_ 116 L.[]))))))))))))) (Syntax.tcons q5 (Syntax.tcons q5 (Syntax.tcons q5 (Syntax.tcons q5 (Syntax.tcons q1 (Syntax.tcons q1 (Syntax.tcons (Syntax.tyInt Syntax.w64) Syntax.tnil))))))))) (L._∷_ (12, Relend.msptr (Signed.SInt Syntax.w32) q26 4) (L._∷_ q6 L.[])))))))))))))
 
         abbrev g16 : L.List Row.Entry
-        g16 = L._∷_ (0, Rows.any-gone (Syntax.tyStruct (L._∷_ 115 (L._∷_ 101 (L._∷_ 97 (L._∷_ 114 (L._∷_ 99 (L._∷_ 104 (L._∷_ 58 (L._∷_ 58 (L._∷_ 80 (L._∷_ 114 (L._∷_ 111 (L._∷_ 103 (L._∷_ 114 (L._∷_ 101 (L._∷_ 115 (L._∷_ 115 L.[])))))))))))))))) (Syntax.tcons q0 (Syntax.tcons (Syntax.tyInt Syntax.w64) (Syntax.tcons q3 (Syntax.tcons Syntax.tyBool (Syntax.tcons Syntax.tyBool (Syntax.tcons (Syntax.tyInt Syntax.w64) (Syntax.tcons (Syntax.tyInt Syntax.w64) Syntax.tnil))))))))) (L._∷_ q31 (L._∷_ (2, Relend.mslice-owed (Signed.SInt Syntax.w32) q22 0 4 (Row.lease (κs .0) (qs .0))) (L._∷_ q18 (L._∷_ q28 (L._∷_ q23 (L._∷_ q8 (L._∷_ q33 (L._∷_ q35 (L._∷_ q24 (L._∷_ q7 (L._∷_ (11, Rows.any-gone (Syntax.tyStruct (L._∷_ 110 (L._∷_ 101 (L._∷_ 116 (L._∷_ 119 (L._∷_ 111 (L._∷_ 114 (L._∷_ 107 (L._∷_ 58 (L._∷_ 58 (L._∷_ 69 (L._∷_ 100 (L._∷_ 105 (L._∷_ 116 L.[]))))))))))))) (Syntax.tcons q5 (Syntax.tcons q5 (Syntax.tcons q5 (Syntax.tcons q5 (Syntax.tcons q1 (Syntax.tcons q1 (Syntax.tcons (Syntax.tyInt Syntax.w64) Syntax.tnil))))))))) (L._∷_ q17 (L._∷_ (13, Mut.mslice (Signed.SInt Syntax.w32) q25 4) L.[])))))))))))))
+        g16 = L._∷_ (0, Rows.any-gone (Syntax.tyStruct (L._∷_ 115 (L._∷_ 101 (L._∷_ 97 (L._∷_ 114 (L._∷_ 99 (L._∷_ 104 (L._∷_ 58 (L._∷_ 58 (L._∷_ 80 (L._∷_ 114 (L._∷_ 111 (L._∷_ 103 (L._∷_ 114 (L._∷_ 101 (L._∷_ 115 (L._∷_ 115 L.[])))))))))))))))) (Syntax.tcons q0 (Syntax.tcons (Syntax.tyInt Syntax.w64) (Syntax.tcons q3 (Syntax.tcons Syntax.tyBool (Syntax.tcons Syntax.tyBool (Syntax.tcons (Syntax.tyInt Syntax.w64) (Syntax.tcons (Syntax.tyInt Syntax.w64) Syntax.tnil))))))))) (L._∷_ q31 (L._∷_ (2, Relend.mslice-owed (Signed.SInt Syntax.w32) q22 0 4 (Row.lease (κs .0) (qs .0))) (L._∷_ q18 (L._∷_ q25 (L._∷_ q23 (L._∷_ q8 (L._∷_ q33 (L._∷_ q35 (L._∷_ q24 (L._∷_ q7 (L._∷_ (11, Rows.any-gone (Syntax.tyStruct (L._∷_ 110 (L._∷_ 101 (L._∷_ 116 (L._∷_ 119 (L._∷_ 111 (L._∷_ 114 (L._∷_ 107 (L._∷_ 58 (L._∷_ 58 (L._∷_ 69 (L._∷_ 100 (L._∷_ 105 (L._∷_ 116 L.[]))))))))))))) (Syntax.tcons q5 (Syntax.tcons q5 (Syntax.tcons q5 (Syntax.tcons q5 (Syntax.tcons q1 (Syntax.tcons q1 (Syntax.tcons (Syntax.tyInt Syntax.w64) Syntax.tnil))))))))) (L._∷_ q17 (L._∷_ (13, Mut.mslice (Signed.SInt Syntax.w32) q26 4) L.[])))))))))))))
 
         abbrev g17 : L.List Row.Entry
-        g17 = L._∷_ (0, Rows.any-gone (Syntax.tyStruct (L._∷_ 115 (L._∷_ 101 (L._∷_ 97 (L._∷_ 114 (L._∷_ 99 (L._∷_ 104 (L._∷_ 58 (L._∷_ 58 (L._∷_ 80 (L._∷_ 114 (L._∷_ 111 (L._∷_ 103 (L._∷_ 114 (L._∷_ 101 (L._∷_ 115 (L._∷_ 115 L.[])))))))))))))))) (Syntax.tcons q0 (Syntax.tcons (Syntax.tyInt Syntax.w64) (Syntax.tcons q3 (Syntax.tcons Syntax.tyBool (Syntax.tcons Syntax.tyBool (Syntax.tcons (Syntax.tyInt Syntax.w64) (Syntax.tcons (Syntax.tyInt Syntax.w64) Syntax.tnil))))))))) (L._∷_ q31 (L._∷_ (2, Relend.mslice-owed (Signed.SInt Syntax.w32) q22 0 4 (Row.lease (κs .0) (qs .0))) (L._∷_ q18 (L._∷_ q28 (L._∷_ q23 (L._∷_ q8 (L._∷_ q33 (L._∷_ (8, Rows.sc-here Row.sUnit) (L._∷_ q24 (L._∷_ q7 (L._∷_ (11, Rows.any-gone (Syntax.tyStruct (L._∷_ 110 (L._∷_ 101 (L._∷_ 116 (L._∷_ 119 (L._∷_ 111 (L._∷_ 114 (L._∷_ 107 (L._∷_ 58 (L._∷_ 58 (L._∷_ 69 (L._∷_ 100 (L._∷_ 105 (L._∷_ 116 L.[]))))))))))))) (Syntax.tcons q5 (Syntax.tcons q5 (Syntax.tcons q5 (Syntax.tcons q5 (Syntax.tcons q1 (Syntax.tcons q1 (Syntax.tcons (Syntax.tyInt Syntax.w64) Syntax.tnil))))))))) (L._∷_ q17 (L._∷_ q14 L.[])))))))))))))
+        g17 = L._∷_ (0, Rows.any-gone (Syntax.tyStruct (L._∷_ 115 (L._∷_ 101 (L._∷_ 97 (L._∷_ 114 (L._∷_ 99 (L._∷_ 104 (L._∷_ 58 (L._∷_ 58 (L._∷_ 80 (L._∷_ 114 (L._∷_ 111 (L._∷_ 103 (L._∷_ 114 (L._∷_ 101 (L._∷_ 115 (L._∷_ 115 L.[])))))))))))))))) (Syntax.tcons q0 (Syntax.tcons (Syntax.tyInt Syntax.w64) (Syntax.tcons q3 (Syntax.tcons Syntax.tyBool (Syntax.tcons Syntax.tyBool (Syntax.tcons (Syntax.tyInt Syntax.w64) (Syntax.tcons (Syntax.tyInt Syntax.w64) Syntax.tnil))))))))) (L._∷_ q31 (L._∷_ (2, Relend.mslice-owed (Signed.SInt Syntax.w32) q22 0 4 (Row.lease (κs .0) (qs .0))) (L._∷_ q18 (L._∷_ q25 (L._∷_ q23 (L._∷_ q8 (L._∷_ q33 (L._∷_ (8, Rows.sc-here Row.sUnit) (L._∷_ q24 (L._∷_ q7 (L._∷_ (11, Rows.any-gone (Syntax.tyStruct (L._∷_ 110 (L._∷_ 101 (L._∷_ 116 (L._∷_ 119 (L._∷_ 111 (L._∷_ 114 (L._∷_ 107 (L._∷_ 58 (L._∷_ 58 (L._∷_ 69 (L._∷_ 100 (L._∷_ 105 (L._∷_ 116 L.[]))))))))))))) (Syntax.tcons q5 (Syntax.tcons q5 (Syntax.tcons q5 (Syntax.tcons q5 (Syntax.tcons q1 (Syntax.tcons q1 (Syntax.tcons (Syntax.tyInt Syntax.w64) Syntax.tnil))))))))) (L._∷_ q17 (L._∷_ q14 L.[])))))))))))))
 
         abbrev g18 : L.List Row.Entry
-        g18 = L._∷_ (0, Rows.any-gone (Syntax.tyStruct (L._∷_ 115 (L._∷_ 101 (L._∷_ 97 (L._∷_ 114 (L._∷_ 99 (L._∷_ 104 (L._∷_ 58 (L._∷_ 58 (L._∷_ 80 (L._∷_ 114 (L._∷_ 111 (L._∷_ 103 (L._∷_ 114 (L._∷_ 101 (L._∷_ 115 (L._∷_ 115 L.[])))))))))))))))) (Syntax.tcons q0 (Syntax.tcons (Syntax.tyInt Syntax.w64) (Syntax.tcons q3 (Syntax.tcons Syntax.tyBool (Syntax.tcons Syntax.tyBool (Syntax.tcons (Syntax.tyInt Syntax.w64) (Syntax.tcons (Syntax.tyInt Syntax.w64) Syntax.tnil))))))))) (L._∷_ q31 (L._∷_ (2, Relend.mslice-owed (Signed.SInt Syntax.w32) q22 0 4 (Row.lease (κs .0) (qs .0))) (L._∷_ q18 (L._∷_ q28 (L._∷_ q23 (L._∷_ q8 (L._∷_ q33 (L._∷_ q35 (L._∷_ q24 (L._∷_ q7 (L._∷_ (11, Rows.any-gone (Syntax.tyStruct (L._∷_ 110 (L._∷_ 101 (L._∷_ 116 (L._∷_ 119 (L._∷_ 111 (L._∷_ 114 (L._∷_ 107 (L._∷_ 58 (L._∷_ 58 (L._∷_ 69 (L._∷_ 100 (L._∷_ 105 (L._∷_ 116 L.[]))))))))))))) (Syntax.tcons q5 (Syntax.tcons q5 (Syntax.tcons q5 (Syntax.tcons q5 (Syntax.tcons q1 (Syntax.tcons q1 (Syntax.tcons (Syntax.tyInt Syntax.w64) Syntax.tnil))))))))) (L._∷_ q17 (L._∷_ q14 L.[])))))))))))))
+        g18 = L._∷_ (0, Rows.any-gone (Syntax.tyStruct (L._∷_ 115 (L._∷_ 101 (L._∷_ 97 (L._∷_ 114 (L._∷_ 99 (L._∷_ 104 (L._∷_ 58 (L._∷_ 58 (L._∷_ 80 (L._∷_ 114 (L._∷_ 111 (L._∷_ 103 (L._∷_ 114 (L._∷_ 101 (L._∷_ 115 (L._∷_ 115 L.[])))))))))))))))) (Syntax.tcons q0 (Syntax.tcons (Syntax.tyInt Syntax.w64) (Syntax.tcons q3 (Syntax.tcons Syntax.tyBool (Syntax.tcons Syntax.tyBool (Syntax.tcons (Syntax.tyInt Syntax.w64) (Syntax.tcons (Syntax.tyInt Syntax.w64) Syntax.tnil))))))))) (L._∷_ q31 (L._∷_ (2, Relend.mslice-owed (Signed.SInt Syntax.w32) q22 0 4 (Row.lease (κs .0) (qs .0))) (L._∷_ q18 (L._∷_ q25 (L._∷_ q23 (L._∷_ q8 (L._∷_ q33 (L._∷_ q35 (L._∷_ q24 (L._∷_ q7 (L._∷_ (11, Rows.any-gone (Syntax.tyStruct (L._∷_ 110 (L._∷_ 101 (L._∷_ 116 (L._∷_ 119 (L._∷_ 111 (L._∷_ 114 (L._∷_ 107 (L._∷_ 58 (L._∷_ 58 (L._∷_ 69 (L._∷_ 100 (L._∷_ 105 (L._∷_ 116 L.[]))))))))))))) (Syntax.tcons q5 (Syntax.tcons q5 (Syntax.tcons q5 (Syntax.tcons q5 (Syntax.tcons q1 (Syntax.tcons q1 (Syntax.tcons (Syntax.tyInt Syntax.w64) Syntax.tnil))))))))) (L._∷_ q17 (L._∷_ q14 L.[])))))))))))))
 
         abbrev G0 : Row.Cx
         G0 = record { locals = t0; slots = L._∷_ (Row.lease (κs .0) (qs .0)) (L._∷_ (Row.lease (κs .1 .0) (qs .1 .0)) (L._∷_ Row.off (L._∷_ Row.off (L._∷_ Row.off L.[])))) }
@@ -771,19 +771,19 @@ module _ (claims· : Claims) where
           d0 = Typed.t-return 𝓤 H A W 𝓣 E Δ0 tt
 
           d1 : Typed.Typed 𝓤 H A 𝓣 E G31 b12 Δ0 at1
-          d1 = Typed.g-pre 𝓤 H A W 𝓣 E G31 G32 b12 Δ0 (Typed.pass T31 T32 s30) at0 (Scalar.g-room 𝓤 H A W E G31 4 (Syntax.tyStruct (L._∷_ 115 (L._∷_ 101 (L._∷_ 97 (L._∷_ 114 (L._∷_ 99 (L._∷_ 104 (L._∷_ 58 (L._∷_ 58 (L._∷_ 115 (L._∷_ 99 (L._∷_ 97 (L._∷_ 110 (L._∷_ 58 (L._∷_ 58 (L._∷_ 76 (L._∷_ 111 (L._∷_ 111 (L._∷_ 107 (L._∷_ 101 (L._∷_ 100 L.[])))))))))))))))))))) (Syntax.tcons (Syntax.tyStruct (L._∷_ 115 (L._∷_ 101 (L._∷_ 97 (L._∷_ 114 (L._∷_ 99 (L._∷_ 104 (L._∷_ 58 (L._∷_ 58 (L._∷_ 115 (L._∷_ 99 (L._∷_ 97 (L._∷_ 110 (L._∷_ 58 (L._∷_ 58 (L._∷_ 70 (L._∷_ 111 (L._∷_ 117 (L._∷_ 110 (L._∷_ 100 L.[]))))))))))))))))))) (Syntax.tcons Syntax.tyBool (Syntax.tcons Syntax.tyBool (Syntax.tcons (Syntax.tyStruct (L._∷_ 115 (L._∷_ 116 (L._∷_ 101 (L._∷_ 112 (L._∷_ 58 (L._∷_ 58 (L._∷_ 83 (L._∷_ 116 (L._∷_ 101 (L._∷_ 112 L.[])))))))))) (Syntax.tcons (Syntax.tyInt Syntax.w64) (Syntax.tcons (Syntax.tyInt Syntax.w64) (Syntax.tcons (Syntax.tyStruct (L._∷_ 115 (L._∷_ 116 (L._∷_ 101 (L._∷_ 112 (L._∷_ 58 (L._∷_ 58 (L._∷_ 67 (L._∷_ 104 (L._∷_ 97 (L._∷_ 110 (L._∷_ 103 (L._∷_ 101 L.[])))))))))))) (Syntax.tcons (Syntax.tyStruct (L._∷_ 110 (L._∷_ 101 (L._∷_ 116 (L._∷_ 119 (L._∷_ 111 (L._∷_ 114 (L._∷_ 107 (L._∷_ 58 (L._∷_ 58 (L._∷_ 69 (L._∷_ 100 (L._∷_ 105 (L._∷_ 116 L.[]))))))))))))) (Syntax.tcons q5 (Syntax.tcons q5 (Syntax.tcons q5 (Syntax.tcons q5 (Syntax.tcons q1 (Syntax.tcons q1 (Syntax.tcons (Syntax.tyInt Syntax.w64) Syntax.tnil)))))))) (Syntax.tcons (Syntax.tyStruct (L._∷_ 115 (L._∷_ 116 (L._∷_ 101 (L._∷_ 112 (L._∷_ 58 (L._∷_ 58 (L._∷_ 79 (L._∷_ 108 (L._∷_ 100 L.[]))))))))) (Syntax.tcons (Syntax.tyInt Syntax.w64) (Syntax.tcons q4 (Syntax.tcons q5 (Syntax.tcons q5 (Syntax.tcons q5 (Syntax.tcons q5 (Syntax.tcons q2 Syntax.tnil)))))))) Syntax.tnil))) Syntax.tnil)))) Syntax.tnil)))) (Syntax.tcons q3 Syntax.tnil))) (Local.room-whole 𝓤 H A W (Declared.row scan-Looked·.the-type) (Syntax.tyStruct (L._∷_ 115 (L._∷_ 101 (L._∷_ 97 (L._∷_ 114 (L._∷_ 99 (L._∷_ 104 (L._∷_ 58 (L._∷_ 58 (L._∷_ 115 (L._∷_ 99 (L._∷_ 97 (L._∷_ 110 (L._∷_ 58 (L._∷_ 58 (L._∷_ 76 (L._∷_ 111 (L._∷_ 111 (L._∷_ 107 (L._∷_ 101 (L._∷_ 100 L.[])))))))))))))))))))) (Syntax.tcons (Syntax.tyStruct (L._∷_ 115 (L._∷_ 101 (L._∷_ 97 (L._∷_ 114 (L._∷_ 99 (L._∷_ 104 (L._∷_ 58 (L._∷_ 58 (L._∷_ 115 (L._∷_ 99 (L._∷_ 97 (L._∷_ 110 (L._∷_ 58 (L._∷_ 58 (L._∷_ 70 (L._∷_ 111 (L._∷_ 117 (L._∷_ 110 (L._∷_ 100 L.[]))))))))))))))))))) (Syntax.tcons Syntax.tyBool (Syntax.tcons Syntax.tyBool (Syntax.tcons (Syntax.tyStruct (L._∷_ 115 (L._∷_ 116 (L._∷_ 101 (L._∷_ 112 (L._∷_ 58 (L._∷_ 58 (L._∷_ 83 (L._∷_ 116 (L._∷_ 101 (L._∷_ 112 L.[])))))))))) (Syntax.tcons (Syntax.tyInt Syntax.w64) (Syntax.tcons (Syntax.tyInt Syntax.w64) (Syntax.tcons (Syntax.tyStruct (L._∷_ 115 (L._∷_ 116 (L._∷_ 101 (L._∷_ 112 (L._∷_ 58 (L._∷_ 58 (L._∷_ 67 (L._∷_ 104 (L._∷_ 97 (L._∷_ 110 (L._∷_ 103 (L._∷_ 101 L.[])))))))))))) (Syntax.tcons (Syntax.tyStruct (L._∷_ 110 (L._∷_ 101 (L._∷_ 116 (L._∷_ 119 (L._∷_ 111 (L._∷_ 114 (L._∷_ 107 (L._∷_ 58 (L._∷_ 58 (L._∷_ 69 (L._∷_ 100 (L._∷_ 105 (L._∷_ 116 L.[]))))))))))))) (Syntax.tcons q5 (Syntax.tcons q5 (Syntax.tcons q5 (Syntax.tcons q5 (Syntax.tcons q1 (Syntax.tcons q1 (Syntax.tcons (Syntax.tyInt Syntax.w64) Syntax.tnil)))))))) (Syntax.tcons (Syntax.tyStruct (L._∷_ 115 (L._∷_ 116 (L._∷_ 101 (L._∷_ 112 (L._∷_ 58 (L._∷_ 58 (L._∷_ 79 (L._∷_ 108 (L._∷_ 100 L.[]))))))))) (Syntax.tcons (Syntax.tyInt Syntax.w64) (Syntax.tcons q4 (Syntax.tcons q5 (Syntax.tcons q5 (Syntax.tcons q5 (Syntax.tcons q5 (Syntax.tcons q2 Syntax.tnil)))))))) Syntax.tnil))) Syntax.tnil)))) Syntax.tnil)))) (Syntax.tcons q3 Syntax.tnil))) Path.refl)) d0
+          d1 = Typed.g-pre 𝓤 H A W 𝓣 E G31 G32 b12 Δ0 (Typed.pass T31 T32 s30) at0 (Scalar.g-room 𝓤 H A W E G31 4 (Syntax.tyStruct (L._∷_ 114 (L._∷_ 117 (L._∷_ 108 (L._∷_ 101 (L._∷_ 115 (L._∷_ 58 (L._∷_ 58 (L._∷_ 116 (L._∷_ 114 (L._∷_ 105 (L._∷_ 101 (L._∷_ 100 (L._∷_ 58 (L._∷_ 58 (L._∷_ 76 (L._∷_ 111 (L._∷_ 111 (L._∷_ 107 (L._∷_ 101 (L._∷_ 100 L.[])))))))))))))))))))) (Syntax.tcons (Syntax.tyStruct (L._∷_ 114 (L._∷_ 117 (L._∷_ 108 (L._∷_ 101 (L._∷_ 115 (L._∷_ 58 (L._∷_ 58 (L._∷_ 102 (L._∷_ 111 (L._∷_ 117 (L._∷_ 110 (L._∷_ 100 (L._∷_ 58 (L._∷_ 58 (L._∷_ 70 (L._∷_ 111 (L._∷_ 117 (L._∷_ 110 (L._∷_ 100 L.[]))))))))))))))))))) (Syntax.tcons Syntax.tyBool (Syntax.tcons Syntax.tyBool (Syntax.tcons (Syntax.tyStruct (L._∷_ 115 (L._∷_ 116 (L._∷_ 101 (L._∷_ 112 (L._∷_ 58 (L._∷_ 58 (L._∷_ 83 (L._∷_ 116 (L._∷_ 101 (L._∷_ 112 L.[])))))))))) (Syntax.tcons (Syntax.tyInt Syntax.w64) (Syntax.tcons (Syntax.tyInt Syntax.w64) (Syntax.tcons (Syntax.tyStruct (L._∷_ 115 (L._∷_ 116 (L._∷_ 101 (L._∷_ 112 (L._∷_ 58 (L._∷_ 58 (L._∷_ 67 (L._∷_ 104 (L._∷_ 97 (L._∷_ 110 (L._∷_ 103 (L._∷_ 101 L.[])))))))))))) (Syntax.tcons (Syntax.tyStruct (L._∷_ 110 (L._∷_ 101 (L._∷_ 116 (L._∷_ 119 (L._∷_ 111 (L._∷_ 114 (L._∷_ 107 (L._∷_ 58 (L._∷_ 58 (L._∷_ 69 (L._∷_ 100 (L._∷_ 105 (L._∷_ 116 L.[]))))))))))))) (Syntax.tcons q5 (Syntax.tcons q5 (Syntax.tcons q5 (Syntax.tcons q5 (Syntax.tcons q1 (Syntax.tcons q1 (Syntax.tcons (Syntax.tyInt Syntax.w64) Syntax.tnil)))))))) (Syntax.tcons (Syntax.tyStruct (L._∷_ 115 (L._∷_ 116 (L._∷_ 101 (L._∷_ 112 (L._∷_ 58 (L._∷_ 58 (L._∷_ 79 (L._∷_ 108 (L._∷_ 100 L.[]))))))))) (Syntax.tcons (Syntax.tyInt Syntax.w64) (Syntax.tcons q4 (Syntax.tcons q5 (Syntax.tcons q5 (Syntax.tcons q5 (Syntax.tcons q5 (Syntax.tcons q2 Syntax.tnil)))))))) Syntax.tnil))) Syntax.tnil)))) Syntax.tnil)))) (Syntax.tcons q3 Syntax.tnil))) (Local.room-whole 𝓤 H A W (Declared.row rules-proofs-tried-Looked·.the-type) (Syntax.tyStruct (L._∷_ 114 (L._∷_ 117 (L._∷_ 108 (L._∷_ 101 (L._∷_ 115 (L._∷_ 58 (L._∷_ 58 (L._∷_ 116 (L._∷_ 114 (L._∷_ 105 (L._∷_ 101 (L._∷_ 100 (L._∷_ 58 (L._∷_ 58 (L._∷_ 76 (L._∷_ 111 (L._∷_ 111 (L._∷_ 107 (L._∷_ 101 (L._∷_ 100 L.[])))))))))))))))))))) (Syntax.tcons (Syntax.tyStruct (L._∷_ 114 (L._∷_ 117 (L._∷_ 108 (L._∷_ 101 (L._∷_ 115 (L._∷_ 58 (L._∷_ 58 (L._∷_ 102 (L._∷_ 111 (L._∷_ 117 (L._∷_ 110 (L._∷_ 100 (L._∷_ 58 (L._∷_ 58 (L._∷_ 70 (L._∷_ 111 (L._∷_ 117 (L._∷_ 110 (L._∷_ 100 L.[]))))))))))))))))))) (Syntax.tcons Syntax.tyBool (Syntax.tcons Syntax.tyBool (Syntax.tcons (Syntax.tyStruct (L._∷_ 115 (L._∷_ 116 (L._∷_ 101 (L._∷_ 112 (L._∷_ 58 (L._∷_ 58 (L._∷_ 83 (L._∷_ 116 (L._∷_ 101 (L._∷_ 112 L.[])))))))))) (Syntax.tcons (Syntax.tyInt Syntax.w64) (Syntax.tcons (Syntax.tyInt Syntax.w64) (Syntax.tcons (Syntax.tyStruct (L._∷_ 115 (L._∷_ 116 (L._∷_ 101 (L._∷_ 112 (L._∷_ 58 (L._∷_ 58 (L._∷_ 67 (L._∷_ 104 (L._∷_ 97 (L._∷_ 110 (L._∷_ 103 (L._∷_ 101 L.[])))))))))))) (Syntax.tcons (Syntax.tyStruct (L._∷_ 110 (L._∷_ 101 (L._∷_ 116 (L._∷_ 119 (L._∷_ 111 (L._∷_ 114 (L._∷_ 107 (L._∷_ 58 (L._∷_ 58 (L._∷_ 69 (L._∷_ 100 (L._∷_ 105 (L._∷_ 116 L.[]))))))))))))) (Syntax.tcons q5 (Syntax.tcons q5 (Syntax.tcons q5 (Syntax.tcons q5 (Syntax.tcons q1 (Syntax.tcons q1 (Syntax.tcons (Syntax.tyInt Syntax.w64) Syntax.tnil)))))))) (Syntax.tcons (Syntax.tyStruct (L._∷_ 115 (L._∷_ 116 (L._∷_ 101 (L._∷_ 112 (L._∷_ 58 (L._∷_ 58 (L._∷_ 79 (L._∷_ 108 (L._∷_ 100 L.[]))))))))) (Syntax.tcons (Syntax.tyInt Syntax.w64) (Syntax.tcons q4 (Syntax.tcons q5 (Syntax.tcons q5 (Syntax.tcons q5 (Syntax.tcons q5 (Syntax.tcons q2 Syntax.tnil)))))))) Syntax.tnil))) Syntax.tnil)))) Syntax.tnil)))) (Syntax.tcons q3 Syntax.tnil))) Path.refl)) d0
 
           d2 : Typed.Typed 𝓤 H A 𝓣 E G30 b12 Δ0 at2
           d2 = Typed.g-pre 𝓤 H A W 𝓣 E G30 G31 b12 Δ0 (Typed.pass T30 T31 s29) at1 (Scalar.g-room 𝓤 H A W E G30 1 (Syntax.tyStruct (L._∷_ 115 (L._∷_ 101 (L._∷_ 97 (L._∷_ 114 (L._∷_ 99 (L._∷_ 104 (L._∷_ 58 (L._∷_ 58 (L._∷_ 80 (L._∷_ 114 (L._∷_ 111 (L._∷_ 103 (L._∷_ 114 (L._∷_ 101 (L._∷_ 115 (L._∷_ 115 L.[])))))))))))))))) (Syntax.tcons q0 (Syntax.tcons (Syntax.tyInt Syntax.w64) (Syntax.tcons q3 (Syntax.tcons Syntax.tyBool (Syntax.tcons Syntax.tyBool (Syntax.tcons (Syntax.tyInt Syntax.w64) (Syntax.tcons (Syntax.tyInt Syntax.w64) Syntax.tnil)))))))) (Local.room-whole 𝓤 H A W (Declared.row Progress·.the-type) (Syntax.tyStruct (L._∷_ 115 (L._∷_ 101 (L._∷_ 97 (L._∷_ 114 (L._∷_ 99 (L._∷_ 104 (L._∷_ 58 (L._∷_ 58 (L._∷_ 80 (L._∷_ 114 (L._∷_ 111 (L._∷_ 103 (L._∷_ 114 (L._∷_ 101 (L._∷_ 115 (L._∷_ 115 L.[])))))))))))))))) (Syntax.tcons q0 (Syntax.tcons (Syntax.tyInt Syntax.w64) (Syntax.tcons q3 (Syntax.tcons Syntax.tyBool (Syntax.tcons Syntax.tyBool (Syntax.tcons (Syntax.tyInt Syntax.w64) (Syntax.tcons (Syntax.tyInt Syntax.w64) Syntax.tnil)))))))) Path.refl)) d1
 
           d3 : Typed.Typed 𝓤 H A 𝓣 E G29 b13 Δ0 at3
-          d3 = Typed.s-seq 𝓤 H A W 𝓣 E G29 G30 b11 b12 Δ0 (Typed.both s28) at2 (Plain.t-call-plain 𝓤 H A W 𝓣 0 ps·5 r·5 (claims· .10) (claims· .11) "search::advance" (known .5) E (λ pos β. β) G29 (record { pos = 1; st = L.[]; d = 0; at = λ x. x }, (record { pos = 4; st = L.[]; d = 0; at = λ x. x }, tt)) 0 L.[] (Call.sub-id 𝓤 H A W (G29 .slots)) ((RuleYields.yields-copy 𝓤 H A W (λ ρ. Unit) (Declared.row Progress·.the-type) Path.refl (Copies.cStruct Progress·.the-type Progress-Laws·.the-laws Progress-Laws·.the-copy .copy 𝓤 H A W) q32 (λ x. x) (λ x. x) (λ ρ told. Local.mem-whole 𝓤 H A W (Declared.row Progress·.the-type) ρ) λ ρ told. Local.whole-mem 𝓤 H A W (Declared.row Progress·.the-type) ρ, Path.refl), ((RuleYields.yields-copy 𝓤 H A W (λ ρ. Unit) (Declared.row scan-Looked·.the-type) Path.refl (Copies.cStruct scan-Looked·.the-type scan-Looked-Laws·.the-laws scan-Looked-Laws·.the-copy .copy 𝓤 H A W) (Rows.whole (Declared.row scan-Looked·.the-type)) (λ x. x) (λ x. x) (λ ρ told. Local.mem-whole 𝓤 H A W (Declared.row scan-Looked·.the-type) ρ) λ ρ told. Local.whole-mem 𝓤 H A W (Declared.row scan-Looked·.the-type) ρ, Path.refl), tt)) (TReads.room-gone 𝓤 H A (Syntax.tyStruct (L._∷_ 115 (L._∷_ 101 (L._∷_ 97 (L._∷_ 114 (L._∷_ 99 (L._∷_ 104 (L._∷_ 58 (L._∷_ 58 (L._∷_ 80 (L._∷_ 114 (L._∷_ 111 (L._∷_ 103 (L._∷_ 114 (L._∷_ 101 (L._∷_ 115 (L._∷_ 115 L.[])))))))))))))))) (Syntax.tcons q0 (Syntax.tcons (Syntax.tyInt Syntax.w64) (Syntax.tcons q3 (Syntax.tcons Syntax.tyBool (Syntax.tcons Syntax.tyBool (Syntax.tcons (Syntax.tyInt Syntax.w64) (Syntax.tcons (Syntax.tyInt Syntax.w64) Syntax.tnil))))))))) tt Path.refl) d2
+          d3 = Typed.s-seq 𝓤 H A W 𝓣 E G29 G30 b11 b12 Δ0 (Typed.both s28) at2 (Plain.t-call-plain 𝓤 H A W 𝓣 0 ps·5 r·5 (claims· .10) (claims· .11) "search::advance" (known .5) E (λ pos β. β) G29 (record { pos = 1; st = L.[]; d = 0; at = λ x. x }, (record { pos = 4; st = L.[]; d = 0; at = λ x. x }, tt)) 0 L.[] (Call.sub-id 𝓤 H A W (G29 .slots)) ((RuleYields.yields-copy 𝓤 H A W (λ ρ. Unit) (Declared.row Progress·.the-type) Path.refl (Copies.cStruct Progress·.the-type Progress-Laws·.the-laws Progress-Laws·.the-copy .copy 𝓤 H A W) q32 (λ x. x) (λ x. x) (λ ρ told. Local.mem-whole 𝓤 H A W (Declared.row Progress·.the-type) ρ) λ ρ told. Local.whole-mem 𝓤 H A W (Declared.row Progress·.the-type) ρ, Path.refl), ((RuleYields.yields-copy 𝓤 H A W (λ ρ. Unit) (Declared.row rules-proofs-tried-Looked·.the-type) Path.refl (Copies.cStruct rules-proofs-tried-Looked·.the-type rules-proofs-tried-Looked-Laws·.the-laws rules-proofs-tried-Looked-Laws·.the-copy .copy 𝓤 H A W) (Rows.whole (Declared.row rules-proofs-tried-Looked·.the-type)) (λ x. x) (λ x. x) (λ ρ told. Local.mem-whole 𝓤 H A W (Declared.row rules-proofs-tried-Looked·.the-type) ρ) λ ρ told. Local.whole-mem 𝓤 H A W (Declared.row rules-proofs-tried-Looked·.the-type) ρ, Path.refl), tt)) (TReads.room-gone 𝓤 H A (Syntax.tyStruct (L._∷_ 115 (L._∷_ 101 (L._∷_ 97 (L._∷_ 114 (L._∷_ 99 (L._∷_ 104 (L._∷_ 58 (L._∷_ 58 (L._∷_ 80 (L._∷_ 114 (L._∷_ 111 (L._∷_ 103 (L._∷_ 114 (L._∷_ 101 (L._∷_ 115 (L._∷_ 115 L.[])))))))))))))))) (Syntax.tcons q0 (Syntax.tcons (Syntax.tyInt Syntax.w64) (Syntax.tcons q3 (Syntax.tcons Syntax.tyBool (Syntax.tcons Syntax.tyBool (Syntax.tcons (Syntax.tyInt Syntax.w64) (Syntax.tcons (Syntax.tyInt Syntax.w64) Syntax.tnil))))))))) tt Path.refl) d2
 
           d4 : Typed.Typed 𝓤 H A 𝓣 E G28 b13 Δ0 at4
           d4 = Typed.g-pre 𝓤 H A W 𝓣 E G28 G29 b13 Δ0 (λ Ψ. Ψ) at3 (Lifetime.g-forget 𝓤 H A W E G28 4 Row.dead Path.refl) d3
 
           d5 : Typed.Typed 𝓤 H A 𝓣 E G27 b13 Δ0 at5
-          d5 = Typed.g-pre 𝓤 H A W 𝓣 E G27 G28 b13 Δ0 (Typed.both s26) at4 (Relend.g-back-sl 𝓤 H A W E (Signed.SInt Syntax.w32) G27 13 2 0 4 q22 q25 (Row.lease (κs .0) (qs .0)) (λ x. x) (λ x. x) (TReads.as-is 𝓤 H A (Mut.msleft (Signed.SInt Syntax.w32) q25)) (TReads.as-is 𝓤 H A (Relend.mslice-owed (Signed.SInt Syntax.w32) q22 0 4 (Row.lease (κs .0) (qs .0)))) Path.refl Path.refl) d4
+          d5 = Typed.g-pre 𝓤 H A W 𝓣 E G27 G28 b13 Δ0 (Typed.both s26) at4 (Relend.g-back-sl 𝓤 H A W E (Signed.SInt Syntax.w32) G27 13 2 0 4 q22 q26 (Row.lease (κs .0) (qs .0)) (λ x. x) (λ x. x) (TReads.as-is 𝓤 H A (Mut.msleft (Signed.SInt Syntax.w32) q26)) (TReads.as-is 𝓤 H A (Relend.mslice-owed (Signed.SInt Syntax.w32) q22 0 4 (Row.lease (κs .0) (qs .0)))) Path.refl Path.refl) d4
 
           d6 : Typed.Typed 𝓤 H A 𝓣 E G26 b13 Δ0 at6
           d6 = Typed.g-pre 𝓤 H A W 𝓣 E G26 G27 b13 Δ0 (λ Ψ. Ψ) at5 (Lifetime.g-end 𝓤 H A W E G26 4 Path.refl) d5
@@ -792,13 +792,13 @@ module _ (claims· : Claims) where
           d7 = Typed.g-pre 𝓤 H A W 𝓣 E G25 G26 b13 Δ0 (Typed.pass T25 T26 s24) at6 (Scalar.g-room 𝓤 H A W E G25 8 Syntax.tyUnit (Scalar.room-sc 𝓤 H A W Row.sUnit)) d6
 
           d8 : Typed.Typed 𝓤 H A 𝓣 E G24 b14 Δ0 at8
-          d8 = Typed.s-seq 𝓤 H A W 𝓣 E G24 G25 b10 b13 Δ0 (Typed.both s23) at7 (Plain.t-call-plain 𝓤 H A W 𝓣 1 ps·4 r·4 (claims· .8) (claims· .9) "search::note" (known .4) E (λ pos β. β) G24 (record { pos = 13; ty = Syntax.tyRef Syntax.erased Syntax.mut (Syntax.tyInt Syntax.w32); ref = λ x. x }, (Num.vFld 1 (L._∷_ (Syntax.field 1) L.[]) 320 λ x. Progress·.struct .as-values x .1 .0, (record { pos = 4; st = L.[]; d = 0; at = λ x. x }, tt))) 8 (L._∷_ 4 L.[]) (Call.sub-id 𝓤 H A W (G24 .slots)) (TReads.as-is 𝓤 H A (Mut.mslice (Signed.SInt Syntax.w32) q25 4), Mut.reads-mslice 𝓤 H A W (Signed.SInt Syntax.w32) q25 4, Path.refl, ((Reads.reads-field 𝓤 H A W Progress·.the-type Progress-Laws·.the-laws 1 (Syntax.tyInt Syntax.w64) 320 Path.refl, Path.refl), ((RuleYields.yields-copy 𝓤 H A W (λ ρ. Unit) (Declared.row scan-Looked·.the-type) Path.refl (Copies.cStruct scan-Looked·.the-type scan-Looked-Laws·.the-laws scan-Looked-Laws·.the-copy .copy 𝓤 H A W) (Rows.whole (Declared.row scan-Looked·.the-type)) (λ x. x) (λ x. x) (λ ρ told. Local.mem-whole 𝓤 H A W (Declared.row scan-Looked·.the-type) ρ) λ ρ told. Local.whole-mem 𝓤 H A W (Declared.row scan-Looked·.the-type) ρ, Path.refl), tt))) (TReads.room-gone 𝓤 H A Syntax.tyUnit) (tt, tt) Path.refl) d7
+          d8 = Typed.s-seq 𝓤 H A W 𝓣 E G24 G25 b10 b13 Δ0 (Typed.both s23) at7 (Plain.t-call-plain 𝓤 H A W 𝓣 1 ps·4 r·4 (claims· .8) (claims· .9) "search::note" (known .4) E (λ pos β. β) G24 (record { pos = 13; ty = Syntax.tyRef Syntax.erased Syntax.mut (Syntax.tyInt Syntax.w32); ref = λ x. x }, (Num.vFld 1 (L._∷_ (Syntax.field 1) L.[]) 320 λ x. Progress·.struct .as-values x .1 .0, (record { pos = 4; st = L.[]; d = 0; at = λ x. x }, tt))) 8 (L._∷_ 4 L.[]) (Call.sub-id 𝓤 H A W (G24 .slots)) (TReads.as-is 𝓤 H A (Mut.mslice (Signed.SInt Syntax.w32) q26 4), Mut.reads-mslice 𝓤 H A W (Signed.SInt Syntax.w32) q26 4, Path.refl, ((Reads.reads-field 𝓤 H A W Progress·.the-type Progress-Laws·.the-laws 1 (Syntax.tyInt Syntax.w64) 320 Path.refl, Path.refl), ((RuleYields.yields-copy 𝓤 H A W (λ ρ. Unit) (Declared.row rules-proofs-tried-Looked·.the-type) Path.refl (Copies.cStruct rules-proofs-tried-Looked·.the-type rules-proofs-tried-Looked-Laws·.the-laws rules-proofs-tried-Looked-Laws·.the-copy .copy 𝓤 H A W) (Rows.whole (Declared.row rules-proofs-tried-Looked·.the-type)) (λ x. x) (λ x. x) (λ ρ told. Local.mem-whole 𝓤 H A W (Declared.row rules-proofs-tried-Looked·.the-type) ρ) λ ρ told. Local.whole-mem 𝓤 H A W (Declared.row rules-proofs-tried-Looked·.the-type) ρ, Path.refl), tt))) (TReads.room-gone 𝓤 H A Syntax.tyUnit) (tt, tt) Path.refl) d7
 
           d9 : Typed.Typed 𝓤 H A 𝓣 E G23 b15 Δ0 at9
-          d9 = Typed.s-seq 𝓤 H A W 𝓣 E G23 G24 b9 b14 Δ0 (Typed.ask s22) at8 (Relend.t-sl-aggregate 𝓤 H A W E (Signed.SInt Syntax.w32) 𝓣 (Relend.asMut (Signed.SInt Syntax.w32)) G23 12 13 4 q25 q25 (λ x. x) (Scalar.oFld 2 (L._∷_ (Syntax.field 1) L.[]) (Syntax.tyInt Syntax.w64) 8 λ v. Shared.lenV (v .0)) (TReads.as-is 𝓤 H A (Relend.msptr (Signed.SInt Syntax.w32) q25 4)) (TReads.room-gone 𝓤 H A q9) (Relend.reads-owed-len 𝓤 H A W (Signed.SInt Syntax.w32) q22 0 4 (Row.lease (κs .0) (qs .0)) 8 Path.refl, Path.refl) Path.refl Path.refl λ b o k. tt) d8
+          d9 = Typed.s-seq 𝓤 H A W 𝓣 E G23 G24 b9 b14 Δ0 (Typed.ask s22) at8 (Relend.t-sl-aggregate 𝓤 H A W E (Signed.SInt Syntax.w32) 𝓣 (Relend.asMut (Signed.SInt Syntax.w32)) G23 12 13 4 q26 q26 (λ x. x) (Scalar.oFld 2 (L._∷_ (Syntax.field 1) L.[]) (Syntax.tyInt Syntax.w64) 8 λ v. Shared.lenV (v .0)) (TReads.as-is 𝓤 H A (Relend.msptr (Signed.SInt Syntax.w32) q26 4)) (TReads.room-gone 𝓤 H A q9) (Relend.reads-owed-len 𝓤 H A W (Signed.SInt Syntax.w32) q22 0 4 (Row.lease (κs .0) (qs .0)) 8 Path.refl, Path.refl) Path.refl Path.refl λ b o k. tt) d8
 
           d10 : Typed.Typed 𝓤 H A 𝓣 E G22 b16 Δ0 at10
-          d10 = Typed.s-seq 𝓤 H A W 𝓣 E G22 G23 b8 b15 Δ0 (Typed.give s21) at9 (Relend.t-sl-relend 𝓤 H A W E (Signed.SInt Syntax.w32) 𝓣 G22 2 12 0 4 q22 q25 (Row.lease (κs .0) (qs .0)) 0 (λ x. x) (TReads.as-is 𝓤 H A (Mut.mslice (Signed.SInt Syntax.w32) q22 0)) (TReads.room-gone 𝓤 H A q25) Path.refl tt Path.refl Path.refl Path.refl λ b o. tt) d9
+          d10 = Typed.s-seq 𝓤 H A W 𝓣 E G22 G23 b8 b15 Δ0 (Typed.give s21) at9 (Relend.t-sl-relend 𝓤 H A W E (Signed.SInt Syntax.w32) 𝓣 G22 2 12 0 4 q22 q26 (Row.lease (κs .0) (qs .0)) 0 (λ x. x) (TReads.as-is 𝓤 H A (Mut.mslice (Signed.SInt Syntax.w32) q22 0)) (TReads.room-gone 𝓤 H A q26) Path.refl tt Path.refl Path.refl Path.refl λ b o. tt) d9
 
           d11 : Typed.Typed 𝓤 H A 𝓣 E G21 b16 Δ0 at11
           d11 = Typed.g-pre 𝓤 H A W 𝓣 E G21 G22 b16 Δ0 (λ Ψ. Ψ) at10 (Lifetime.g-begin 𝓤 H A W E G21 4 (tt, (tt, (tt, (tt, (tt, (tt, (tt, (tt, (tt, (tt, (tt, (tt, (tt, (tt, tt))))))))))))))) d10
@@ -807,7 +807,7 @@ module _ (claims· : Claims) where
           d12 = Typed.g-pre 𝓤 H A W 𝓣 E G20 G21 b16 Δ0 (λ Ψ. Ψ) at11 (Lifetime.g-forget 𝓤 H A W E G20 3 Row.dead Path.refl) d11
 
           d13 : Typed.Typed 𝓤 H A 𝓣 E G19 b16 Δ0 at13
-          d13 = Typed.g-pre 𝓤 H A W 𝓣 E G19 G20 b16 Δ0 (Typed.both s18) at12 (Relend.g-back-sl 𝓤 H A W E Rec.row G19 10 3 1 3 q27 q30 (Row.lease (κs .1 .0) (qs .1 .0)) (λ x. x) (λ x. x) (TReads.as-is 𝓤 H A (Mut.msleft Rec.row q30)) (TReads.as-is 𝓤 H A (Relend.mslice-owed Rec.row q27 1 3 (Row.lease (κs .1 .0) (qs .1 .0)))) Path.refl Path.refl) d12
+          d13 = Typed.g-pre 𝓤 H A W 𝓣 E G19 G20 b16 Δ0 (Typed.both s18) at12 (Relend.g-back-sl 𝓤 H A W E Rec.row G19 10 3 1 3 q28 q30 (Row.lease (κs .1 .0) (qs .1 .0)) (λ x. x) (λ x. x) (TReads.as-is 𝓤 H A (Mut.msleft Rec.row q30)) (TReads.as-is 𝓤 H A (Relend.mslice-owed Rec.row q28 1 3 (Row.lease (κs .1 .0) (qs .1 .0)))) Path.refl Path.refl) d12
 
           d14 : Typed.Typed 𝓤 H A 𝓣 E G18 b16 Δ0 at14
           d14 = Typed.g-pre 𝓤 H A W 𝓣 E G18 G19 b16 Δ0 (λ Ψ. Ψ) at13 (Lifetime.g-end 𝓤 H A W E G18 3 Path.refl) d13
@@ -822,13 +822,13 @@ module _ (claims· : Claims) where
           d17 = Typed.s-seq 𝓤 H A W 𝓣 E G15 G16 b7 b16 Δ0 (Typed.both s14) at16 (Plain.t-call-plain 𝓤 H A W 𝓣 1 ps·3 r·3 (claims· .6) (claims· .7) "network::list::put_edit" (known .3) E (λ pos β. β) G15 (record { pos = 10; ty = Syntax.tyRef Syntax.erased Syntax.mut Rec.named; ref = λ x. x }, (record { pos = 11; st = L.[]; d = 0; at = λ x. x }, tt)) 8 (L._∷_ 3 L.[]) (Call.sub-id 𝓤 H A W (G15 .slots)) (TReads.as-is 𝓤 H A (Mut.mslice Rec.row q30 3), Mut.reads-mslice 𝓤 H A W Rec.row q30 3, Path.refl, ((RuleYields.yields-copy 𝓤 H A W (λ ρ. Unit) (Declared.row network-proofs-Edit·.the-type) Path.refl (Copies.cStruct network-proofs-Edit·.the-type network-proofs-Edit-Laws·.the-laws network-proofs-Edit-Laws·.the-copy .copy 𝓤 H A W) (Rows.whole (Declared.row network-proofs-Edit·.the-type)) (λ x. x) (λ x. x) (λ ρ told. Local.mem-whole 𝓤 H A W (Declared.row network-proofs-Edit·.the-type) ρ) λ ρ told. Local.whole-mem 𝓤 H A W (Declared.row network-proofs-Edit·.the-type) ρ, Path.refl), tt)) (TReads.room-gone 𝓤 H A Syntax.tyUnit) (tt, tt) Path.refl) d16
 
           d18 : Typed.Typed 𝓤 H A 𝓣 E G14 b18 Δ0 at18
-          d18 = Typed.s-seq 𝓤 H A W 𝓣 E G14 G15 b6 b17 Δ0 (Typed.both s13) at17 (Plain.t-call-plain 𝓤 H A W 𝓣 0 ps·2 r·2 (claims· .4) (claims· .5) "search::edit_of" (known .2) E (λ pos β. β) G14 (record { pos = 4; st = L.[]; d = 0; at = λ x. x }, tt) 11 L.[] (Call.sub-id 𝓤 H A W (G14 .slots)) ((RuleYields.yields-copy 𝓤 H A W (λ ρ. Unit) (Declared.row scan-Looked·.the-type) Path.refl (Copies.cStruct scan-Looked·.the-type scan-Looked-Laws·.the-laws scan-Looked-Laws·.the-copy .copy 𝓤 H A W) (Rows.whole (Declared.row scan-Looked·.the-type)) (λ x. x) (λ x. x) (λ ρ told. Local.mem-whole 𝓤 H A W (Declared.row scan-Looked·.the-type) ρ) λ ρ told. Local.whole-mem 𝓤 H A W (Declared.row scan-Looked·.the-type) ρ, Path.refl), tt) (TReads.room-gone 𝓤 H A (Syntax.tyStruct (L._∷_ 110 (L._∷_ 101 (L._∷_ 116 (L._∷_ 119 (L._∷_ 111 (L._∷_ 114 (L._∷_ 107 (L._∷_ 58 (L._∷_ 58 (L._∷_ 69 (L._∷_ 100 (L._∷_ 105 (L._∷_ 116 L.[]))))))))))))) (Syntax.tcons q5 (Syntax.tcons q5 (Syntax.tcons q5 (Syntax.tcons q5 (Syntax.tcons q1 (Syntax.tcons q1 (Syntax.tcons (Syntax.tyInt Syntax.w64) Syntax.tnil))))))))) tt Path.refl) d17
+          d18 = Typed.s-seq 𝓤 H A W 𝓣 E G14 G15 b6 b17 Δ0 (Typed.both s13) at17 (Plain.t-call-plain 𝓤 H A W 𝓣 0 ps·2 r·2 (claims· .4) (claims· .5) "search::edit_of" (known .2) E (λ pos β. β) G14 (record { pos = 4; st = L.[]; d = 0; at = λ x. x }, tt) 11 L.[] (Call.sub-id 𝓤 H A W (G14 .slots)) ((RuleYields.yields-copy 𝓤 H A W (λ ρ. Unit) (Declared.row rules-proofs-tried-Looked·.the-type) Path.refl (Copies.cStruct rules-proofs-tried-Looked·.the-type rules-proofs-tried-Looked-Laws·.the-laws rules-proofs-tried-Looked-Laws·.the-copy .copy 𝓤 H A W) (Rows.whole (Declared.row rules-proofs-tried-Looked·.the-type)) (λ x. x) (λ x. x) (λ ρ told. Local.mem-whole 𝓤 H A W (Declared.row rules-proofs-tried-Looked·.the-type) ρ) λ ρ told. Local.whole-mem 𝓤 H A W (Declared.row rules-proofs-tried-Looked·.the-type) ρ, Path.refl), tt) (TReads.room-gone 𝓤 H A (Syntax.tyStruct (L._∷_ 110 (L._∷_ 101 (L._∷_ 116 (L._∷_ 119 (L._∷_ 111 (L._∷_ 114 (L._∷_ 107 (L._∷_ 58 (L._∷_ 58 (L._∷_ 69 (L._∷_ 100 (L._∷_ 105 (L._∷_ 116 L.[]))))))))))))) (Syntax.tcons q5 (Syntax.tcons q5 (Syntax.tcons q5 (Syntax.tcons q5 (Syntax.tcons q1 (Syntax.tcons q1 (Syntax.tcons (Syntax.tyInt Syntax.w64) Syntax.tnil))))))))) tt Path.refl) d17
 
           d19 : Typed.Typed 𝓤 H A 𝓣 E G13 b19 Δ0 at19
-          d19 = Typed.s-seq 𝓤 H A W 𝓣 E G13 G14 b5 b18 Δ0 (Typed.ask s12) at18 (Relend.t-sl-aggregate 𝓤 H A W E Rec.row 𝓣 (Relend.asMut Rec.row) G13 9 10 3 q30 q30 (λ x. x) (Scalar.oFld 3 (L._∷_ (Syntax.field 1) L.[]) (Syntax.tyInt Syntax.w64) 8 λ v. Shared.lenV (v .0)) (TReads.as-is 𝓤 H A (Relend.msptr Rec.row q30 3)) (TReads.room-gone 𝓤 H A q11) (Relend.reads-owed-len 𝓤 H A W Rec.row q27 1 3 (Row.lease (κs .1 .0) (qs .1 .0)) 8 Path.refl, Path.refl) Path.refl Path.refl λ b o k. tt) d18
+          d19 = Typed.s-seq 𝓤 H A W 𝓣 E G13 G14 b5 b18 Δ0 (Typed.ask s12) at18 (Relend.t-sl-aggregate 𝓤 H A W E Rec.row 𝓣 (Relend.asMut Rec.row) G13 9 10 3 q30 q30 (λ x. x) (Scalar.oFld 3 (L._∷_ (Syntax.field 1) L.[]) (Syntax.tyInt Syntax.w64) 8 λ v. Shared.lenV (v .0)) (TReads.as-is 𝓤 H A (Relend.msptr Rec.row q30 3)) (TReads.room-gone 𝓤 H A q11) (Relend.reads-owed-len 𝓤 H A W Rec.row q28 1 3 (Row.lease (κs .1 .0) (qs .1 .0)) 8 Path.refl, Path.refl) Path.refl Path.refl λ b o k. tt) d18
 
           d20 : Typed.Typed 𝓤 H A 𝓣 E G12 b20 Δ0 at20
-          d20 = Typed.s-seq 𝓤 H A W 𝓣 E G12 G13 b4 b19 Δ0 (Typed.give s11) at19 (Relend.t-sl-relend 𝓤 H A W E Rec.row 𝓣 G12 3 9 1 3 q27 q30 (Row.lease (κs .1 .0) (qs .1 .0)) 0 (λ x. x) (TReads.as-is 𝓤 H A (Mut.mslice Rec.row q27 1)) (TReads.room-gone 𝓤 H A q30) Path.refl tt Path.refl Path.refl Path.refl λ b o. tt) d19
+          d20 = Typed.s-seq 𝓤 H A W 𝓣 E G12 G13 b4 b19 Δ0 (Typed.give s11) at19 (Relend.t-sl-relend 𝓤 H A W E Rec.row 𝓣 G12 3 9 1 3 q28 q30 (Row.lease (κs .1 .0) (qs .1 .0)) 0 (λ x. x) (TReads.as-is 𝓤 H A (Mut.mslice Rec.row q28 1)) (TReads.room-gone 𝓤 H A q30) Path.refl tt Path.refl Path.refl Path.refl λ b o. tt) d19
 
           d21 : Typed.Typed 𝓤 H A 𝓣 E G11 b20 Δ0 at21
           d21 = Typed.g-pre 𝓤 H A W 𝓣 E G11 G12 b20 Δ0 (λ Ψ. Ψ) at20 (Lifetime.g-begin 𝓤 H A W E G11 3 (tt, (tt, (tt, (tt, (tt, (tt, (tt, (tt, (tt, (tt, (tt, (tt, (tt, (tt, tt))))))))))))))) d20
@@ -837,7 +837,7 @@ module _ (claims· : Claims) where
           d22 = Typed.g-pre 𝓤 H A W 𝓣 E G10 G11 b20 Δ0 (λ Ψ. Ψ) at21 (Lifetime.g-forget 𝓤 H A W E G10 2 Row.dead Path.refl) d21
 
           d23 : Typed.Typed 𝓤 H A 𝓣 E G9 b20 Δ0 at23
-          d23 = Typed.g-pre 𝓤 H A W 𝓣 E G9 G10 b20 Δ0 (Typed.pass T8 T10 s8) at22 (Reshare.g-back-sl-shr 𝓤 H A W E Rec.row G9 3 1 2 q27 (Row.lease (κs .1 .0) (qs .1 .0)) (λ x. x) (TReads.as-is 𝓤 H A (Reshare.mslice-owedS Rec.row q27 1 2 (Row.lease (κs .1 .0) (qs .1 .0)))) Path.refl Path.refl) d22
+          d23 = Typed.g-pre 𝓤 H A W 𝓣 E G9 G10 b20 Δ0 (Typed.pass T8 T10 s8) at22 (Reshare.g-back-sl-shr 𝓤 H A W E Rec.row G9 3 1 2 q28 (Row.lease (κs .1 .0) (qs .1 .0)) (λ x. x) (TReads.as-is 𝓤 H A (Reshare.mslice-owedS Rec.row q28 1 2 (Row.lease (κs .1 .0) (qs .1 .0)))) Path.refl Path.refl) d22
 
           d24 : Typed.Typed 𝓤 H A 𝓣 E G8 b20 Δ0 at24
           d24 = Typed.g-pre 𝓤 H A W 𝓣 E G8 G9 b20 Δ0 (λ Ψ. Ψ) at23 (Lifetime.g-end 𝓤 H A W E G8 2 Path.refl) d23
@@ -849,16 +849,16 @@ module _ (claims· : Claims) where
           d26 = Typed.g-pre 𝓤 H A W 𝓣 E G6 G7 b20 Δ0 (Typed.pass T6 T7 s5) at25 (Scalar.g-room 𝓤 H A W E G6 6 q10 (Shared.room-sslice 𝓤 H A W Rec.row q29 2)) d25
 
           d27 : Typed.Typed 𝓤 H A 𝓣 E G5 b21 Δ0 at27
-          d27 = Typed.s-seq 𝓤 H A W 𝓣 E G5 G6 b3 b20 Δ0 (Typed.both s4) at26 (Plain.t-call-plain 𝓤 H A W 𝓣 1 ps·1 r·1 (claims· .2) (claims· .3) "search::scan::next" (known .1) E (λ pos β. β) G5 (record { pos = 1; st = L._∷_ (Syntax.field 0) L.[]; d = 0; at = λ x. Progress·.struct .as-values x .0 }, (record { pos = 6; ty = Syntax.tyRef Syntax.erased Syntax.imm Rec.named; ref = λ x. x }, (record { pos = 1; st = L._∷_ (Syntax.field 2) L.[]; d = 328; at = λ x. Progress·.struct .as-values x .1 .1 .0 }, (Num.vAt 7 λ x. x, tt)))) 4 (L._∷_ 2 L.[]) (Call.sub-id 𝓤 H A W (G5 .slots)) ((StructYields.yields-acc 𝓤 H A W q32 (Declared.row network-proofs-Nodes·.the-type) 0 (λ x. Progress·.struct .as-values x .0) Path.refl (Copies.cStruct network-proofs-Nodes·.the-type network-proofs-Nodes-Laws·.the-laws network-proofs-Nodes-Laws·.the-copy .copy 𝓤 H A W) (StructYields.acc-record 𝓤 H A W q32 network-proofs-Nodes·.the-type 0 (λ x. Progress·.struct .as-values x .0) (StructYields.acc-part 𝓤 H A W q32 (Declared.row Progress·.the-type) (Struct.Struct (Declared.shape network-proofs-Nodes·.the-type)) 0 0 (λ x. x) (λ y. network-proofs-Nodes·.the-type .to (Progress·.struct .as-values y .0)) (StructYields.acc-whole 𝓤 H A W (Declared.row Progress·.the-type)) λ y a. Behind.look-at 𝓤 H A W TreeShare.fullShare Progress·.the-type Progress-Laws·.the-laws 0 0 Path.refl Path.refl a y (Progress·.struct .as-values y) Path.refl)), Path.refl), (ShrSlice.spares-sslice 𝓤 H A W Rec.row q29 2, Shared.reads-sslice 𝓤 H A W Rec.row q29 2, Path.refl, ((StructYields.yields-acc 𝓤 H A W q32 (Declared.row costly-arc-proofs-Seen·.the-type) 328 (λ x. Progress·.struct .as-values x .1 .1 .0) Path.refl (Copies.cStruct costly-arc-proofs-Seen·.the-type costly-arc-proofs-Seen-Laws·.the-laws costly-arc-proofs-Seen-Laws·.the-copy .copy 𝓤 H A W) (StructYields.acc-record 𝓤 H A W q32 costly-arc-proofs-Seen·.the-type 328 (λ x. Progress·.struct .as-values x .1 .1 .0) (StructYields.acc-part 𝓤 H A W q32 (Declared.row Progress·.the-type) (Struct.Struct (Declared.shape costly-arc-proofs-Seen·.the-type)) 0 328 (λ x. x) (λ y. costly-arc-proofs-Seen·.the-type .to (Progress·.struct .as-values y .1 .1 .0)) (StructYields.acc-whole 𝓤 H A W (Declared.row Progress·.the-type)) λ y a. Behind.look-at 𝓤 H A W TreeShare.fullShare Progress·.the-type Progress-Laws·.the-laws 2 328 Path.refl Path.refl a y (Progress·.struct .as-values y) Path.refl)), Path.refl), ((Scalar.reads-sc 𝓤 H A W (Row.sInt Syntax.w8), Path.refl), tt)))) (TReads.room-gone 𝓤 H A (Syntax.tyStruct (L._∷_ 115 (L._∷_ 101 (L._∷_ 97 (L._∷_ 114 (L._∷_ 99 (L._∷_ 104 (L._∷_ 58 (L._∷_ 58 (L._∷_ 115 (L._∷_ 99 (L._∷_ 97 (L._∷_ 110 (L._∷_ 58 (L._∷_ 58 (L._∷_ 76 (L._∷_ 111 (L._∷_ 111 (L._∷_ 107 (L._∷_ 101 (L._∷_ 100 L.[])))))))))))))))))))) (Syntax.tcons (Syntax.tyStruct (L._∷_ 115 (L._∷_ 101 (L._∷_ 97 (L._∷_ 114 (L._∷_ 99 (L._∷_ 104 (L._∷_ 58 (L._∷_ 58 (L._∷_ 115 (L._∷_ 99 (L._∷_ 97 (L._∷_ 110 (L._∷_ 58 (L._∷_ 58 (L._∷_ 70 (L._∷_ 111 (L._∷_ 117 (L._∷_ 110 (L._∷_ 100 L.[]))))))))))))))))))) (Syntax.tcons Syntax.tyBool (Syntax.tcons Syntax.tyBool (Syntax.tcons (Syntax.tyStruct (L._∷_ 115 (L._∷_ 116 (L._∷_ 101 (L._∷_ 112 (L._∷_ 58 (L._∷_ 58 (L._∷_ 83 (L._∷_ 116 (L._∷_ 101 (L._∷_ 112 L.[])))))))))) (Syntax.tcons (Syntax.tyInt Syntax.w64) (Syntax.tcons (Syntax.tyInt Syntax.w64) (Syntax.tcons (Syntax.tyStruct (L._∷_ 115 (L._∷_ 116 (L._∷_ 101 (L._∷_ 112 (L._∷_ 58 (L._∷_ 58 (L._∷_ 67 (L._∷_ 104 (L._∷_ 97 (L._∷_ 110 (L._∷_ 103 (L._∷_ 101 L.[])))))))))))) (Syntax.tcons (Syntax.tyStruct (L._∷_ 110 (L._∷_ 101 (L._∷_ 116 (L._∷_ 119 (L._∷_ 111 (L._∷_ 114 (L._∷_ 107 (L._∷_ 58 (L._∷_ 58 (L._∷_ 69 (L._∷_ 100 (L._∷_ 105 (L._∷_ 116 L.[]))))))))))))) (Syntax.tcons q5 (Syntax.tcons q5 (Syntax.tcons q5 (Syntax.tcons q5 (Syntax.tcons q1 (Syntax.tcons q1 (Syntax.tcons (Syntax.tyInt Syntax.w64) Syntax.tnil)))))))) (Syntax.tcons (Syntax.tyStruct (L._∷_ 115 (L._∷_ 116 (L._∷_ 101 (L._∷_ 112 (L._∷_ 58 (L._∷_ 58 (L._∷_ 79 (L._∷_ 108 (L._∷_ 100 L.[]))))))))) (Syntax.tcons (Syntax.tyInt Syntax.w64) (Syntax.tcons q4 (Syntax.tcons q5 (Syntax.tcons q5 (Syntax.tcons q5 (Syntax.tcons q5 (Syntax.tcons q2 Syntax.tnil)))))))) Syntax.tnil))) Syntax.tnil)))) Syntax.tnil)))) (Syntax.tcons q3 Syntax.tnil)))) (tt, tt) Path.refl) d26
+          d27 = Typed.s-seq 𝓤 H A W 𝓣 E G5 G6 b3 b20 Δ0 (Typed.both s4) at26 (Plain.t-call-plain 𝓤 H A W 𝓣 1 ps·1 r·1 (claims· .2) (claims· .3) "search::scan::next" (known .1) E (λ pos β. β) G5 (record { pos = 1; st = L._∷_ (Syntax.field 0) L.[]; d = 0; at = λ x. Progress·.struct .as-values x .0 }, (record { pos = 6; ty = Syntax.tyRef Syntax.erased Syntax.imm Rec.named; ref = λ x. x }, (record { pos = 1; st = L._∷_ (Syntax.field 2) L.[]; d = 328; at = λ x. Progress·.struct .as-values x .1 .1 .0 }, (Num.vAt 7 λ x. x, tt)))) 4 (L._∷_ 2 L.[]) (Call.sub-id 𝓤 H A W (G5 .slots)) ((StructYields.yields-acc 𝓤 H A W q32 (Declared.row network-proofs-Nodes·.the-type) 0 (λ x. Progress·.struct .as-values x .0) Path.refl (Copies.cStruct network-proofs-Nodes·.the-type network-proofs-Nodes-Laws·.the-laws network-proofs-Nodes-Laws·.the-copy .copy 𝓤 H A W) (StructYields.acc-record 𝓤 H A W q32 network-proofs-Nodes·.the-type 0 (λ x. Progress·.struct .as-values x .0) (StructYields.acc-part 𝓤 H A W q32 (Declared.row Progress·.the-type) (Struct.Struct (Declared.shape network-proofs-Nodes·.the-type)) 0 0 (λ x. x) (λ y. network-proofs-Nodes·.the-type .to (Progress·.struct .as-values y .0)) (StructYields.acc-whole 𝓤 H A W (Declared.row Progress·.the-type)) λ y a. Behind.look-at 𝓤 H A W TreeShare.fullShare Progress·.the-type Progress-Laws·.the-laws 0 0 Path.refl Path.refl a y (Progress·.struct .as-values y) Path.refl)), Path.refl), (ShrSlice.spares-sslice 𝓤 H A W Rec.row q29 2, Shared.reads-sslice 𝓤 H A W Rec.row q29 2, Path.refl, ((StructYields.yields-acc 𝓤 H A W q32 (Declared.row costly-arc-proofs-Seen·.the-type) 328 (λ x. Progress·.struct .as-values x .1 .1 .0) Path.refl (Copies.cStruct costly-arc-proofs-Seen·.the-type costly-arc-proofs-Seen-Laws·.the-laws costly-arc-proofs-Seen-Laws·.the-copy .copy 𝓤 H A W) (StructYields.acc-record 𝓤 H A W q32 costly-arc-proofs-Seen·.the-type 328 (λ x. Progress·.struct .as-values x .1 .1 .0) (StructYields.acc-part 𝓤 H A W q32 (Declared.row Progress·.the-type) (Struct.Struct (Declared.shape costly-arc-proofs-Seen·.the-type)) 0 328 (λ x. x) (λ y. costly-arc-proofs-Seen·.the-type .to (Progress·.struct .as-values y .1 .1 .0)) (StructYields.acc-whole 𝓤 H A W (Declared.row Progress·.the-type)) λ y a. Behind.look-at 𝓤 H A W TreeShare.fullShare Progress·.the-type Progress-Laws·.the-laws 2 328 Path.refl Path.refl a y (Progress·.struct .as-values y) Path.refl)), Path.refl), ((Scalar.reads-sc 𝓤 H A W (Row.sInt Syntax.w8), Path.refl), tt)))) (TReads.room-gone 𝓤 H A (Syntax.tyStruct (L._∷_ 114 (L._∷_ 117 (L._∷_ 108 (L._∷_ 101 (L._∷_ 115 (L._∷_ 58 (L._∷_ 58 (L._∷_ 116 (L._∷_ 114 (L._∷_ 105 (L._∷_ 101 (L._∷_ 100 (L._∷_ 58 (L._∷_ 58 (L._∷_ 76 (L._∷_ 111 (L._∷_ 111 (L._∷_ 107 (L._∷_ 101 (L._∷_ 100 L.[])))))))))))))))))))) (Syntax.tcons (Syntax.tyStruct (L._∷_ 114 (L._∷_ 117 (L._∷_ 108 (L._∷_ 101 (L._∷_ 115 (L._∷_ 58 (L._∷_ 58 (L._∷_ 102 (L._∷_ 111 (L._∷_ 117 (L._∷_ 110 (L._∷_ 100 (L._∷_ 58 (L._∷_ 58 (L._∷_ 70 (L._∷_ 111 (L._∷_ 117 (L._∷_ 110 (L._∷_ 100 L.[]))))))))))))))))))) (Syntax.tcons Syntax.tyBool (Syntax.tcons Syntax.tyBool (Syntax.tcons (Syntax.tyStruct (L._∷_ 115 (L._∷_ 116 (L._∷_ 101 (L._∷_ 112 (L._∷_ 58 (L._∷_ 58 (L._∷_ 83 (L._∷_ 116 (L._∷_ 101 (L._∷_ 112 L.[])))))))))) (Syntax.tcons (Syntax.tyInt Syntax.w64) (Syntax.tcons (Syntax.tyInt Syntax.w64) (Syntax.tcons (Syntax.tyStruct (L._∷_ 115 (L._∷_ 116 (L._∷_ 101 (L._∷_ 112 (L._∷_ 58 (L._∷_ 58 (L._∷_ 67 (L._∷_ 104 (L._∷_ 97 (L._∷_ 110 (L._∷_ 103 (L._∷_ 101 L.[])))))))))))) (Syntax.tcons (Syntax.tyStruct (L._∷_ 110 (L._∷_ 101 (L._∷_ 116 (L._∷_ 119 (L._∷_ 111 (L._∷_ 114 (L._∷_ 107 (L._∷_ 58 (L._∷_ 58 (L._∷_ 69 (L._∷_ 100 (L._∷_ 105 (L._∷_ 116 L.[]))))))))))))) (Syntax.tcons q5 (Syntax.tcons q5 (Syntax.tcons q5 (Syntax.tcons q5 (Syntax.tcons q1 (Syntax.tcons q1 (Syntax.tcons (Syntax.tyInt Syntax.w64) Syntax.tnil)))))))) (Syntax.tcons (Syntax.tyStruct (L._∷_ 115 (L._∷_ 116 (L._∷_ 101 (L._∷_ 112 (L._∷_ 58 (L._∷_ 58 (L._∷_ 79 (L._∷_ 108 (L._∷_ 100 L.[]))))))))) (Syntax.tcons (Syntax.tyInt Syntax.w64) (Syntax.tcons q4 (Syntax.tcons q5 (Syntax.tcons q5 (Syntax.tcons q5 (Syntax.tcons q5 (Syntax.tcons q2 Syntax.tnil)))))))) Syntax.tnil))) Syntax.tnil)))) Syntax.tnil)))) (Syntax.tcons q3 Syntax.tnil)))) (tt, tt) Path.refl) d26
 
           d28 : Typed.Typed 𝓤 H A 𝓣 E G4 b22 Δ0 at28
           d28 = Typed.s-seq 𝓤 H A W 𝓣 E G4 G5 b2 b21 Δ0 (Typed.both s3) at27 (Plain.t-call-plain 𝓤 H A W 𝓣 0 ps·0 r·0 (claims· .0) (claims· .1) "search::time" (known .0) E (λ pos β. β) G4 (record { pos = 1; st = L.[]; d = 0; at = λ x. x }, tt) 7 L.[] (Call.sub-id 𝓤 H A W (G4 .slots)) ((RuleYields.yields-copy 𝓤 H A W (λ ρ. Unit) (Declared.row Progress·.the-type) Path.refl (Copies.cStruct Progress·.the-type Progress-Laws·.the-laws Progress-Laws·.the-copy .copy 𝓤 H A W) q32 (λ x. x) (λ x. x) (λ ρ told. Local.mem-whole 𝓤 H A W (Declared.row Progress·.the-type) ρ) λ ρ told. Local.whole-mem 𝓤 H A W (Declared.row Progress·.the-type) ρ, Path.refl), tt) (TReads.room-gone 𝓤 H A (Syntax.tyInt Syntax.w8)) tt Path.refl) d27
 
           d29 : Typed.Typed 𝓤 H A 𝓣 E G3 b23 Δ0 at29
-          d29 = Typed.s-seq 𝓤 H A W 𝓣 E G3 G4 b1 b22 Δ0 (Typed.ask s2) at28 (Relend.t-sl-aggregate 𝓤 H A W E Rec.row 𝓣 (Relend.asShr Rec.row) G3 5 6 2 q29 q29 (λ x. x) (Scalar.oFld 3 (L._∷_ (Syntax.field 1) L.[]) (Syntax.tyInt Syntax.w64) 8 λ v. Shared.lenV (v .0)) (TReads.as-is 𝓤 H A (Relend.ssptr Rec.row q29 2)) (TReads.room-gone 𝓤 H A q10) (Reshare.reads-owedS-len 𝓤 H A W Rec.row q27 1 2 (Row.lease (κs .1 .0) (qs .1 .0)) 8 Path.refl, Path.refl) Path.refl Path.refl λ b o k. tt) d28
+          d29 = Typed.s-seq 𝓤 H A W 𝓣 E G3 G4 b1 b22 Δ0 (Typed.ask s2) at28 (Relend.t-sl-aggregate 𝓤 H A W E Rec.row 𝓣 (Relend.asShr Rec.row) G3 5 6 2 q29 q29 (λ x. x) (Scalar.oFld 3 (L._∷_ (Syntax.field 1) L.[]) (Syntax.tyInt Syntax.w64) 8 λ v. Shared.lenV (v .0)) (TReads.as-is 𝓤 H A (Relend.ssptr Rec.row q29 2)) (TReads.room-gone 𝓤 H A q10) (Reshare.reads-owedS-len 𝓤 H A W Rec.row q28 1 2 (Row.lease (κs .1 .0) (qs .1 .0)) 8 Path.refl, Path.refl) Path.refl Path.refl λ b o k. tt) d28
 
           d30 : Typed.Typed 𝓤 H A 𝓣 E G2 b24 Δ0 at30
-          d30 = Typed.s-seq 𝓤 H A W 𝓣 E G2 G3 b0 b23 Δ0 (Typed.give s1) at29 (Reshare.t-sl-reshare 𝓤 H A W E Rec.row 𝓣 G2 3 5 1 2 q27 q29 (Row.lease (κs .1 .0) (qs .1 .0)) 0 (λ x. x) (TReads.as-is 𝓤 H A (Mut.mslice Rec.row q27 1)) (TReads.room-gone 𝓤 H A q29) Path.refl tt Path.refl Path.refl Path.refl λ b o. tt) d29
+          d30 = Typed.s-seq 𝓤 H A W 𝓣 E G2 G3 b0 b23 Δ0 (Typed.give s1) at29 (Reshare.t-sl-reshare 𝓤 H A W E Rec.row 𝓣 G2 3 5 1 2 q28 q29 (Row.lease (κs .1 .0) (qs .1 .0)) 0 (λ x. x) (TReads.as-is 𝓤 H A (Mut.mslice Rec.row q28 1)) (TReads.room-gone 𝓤 H A q29) Path.refl tt Path.refl Path.refl Path.refl λ b o. tt) d29
 
           d31 : Typed.Typed 𝓤 H A 𝓣 E G0 b24 Δ0 at31
           d31 = Typed.g-pre 𝓤 H A W 𝓣 E G0 G2 b24 Δ0 (λ Ψ. Ψ) at30 (Lifetime.g-begin 𝓤 H A W E G0 2 (tt, (tt, (tt, (tt, (tt, (tt, (tt, (tt, (tt, (tt, (tt, (tt, (tt, (tt, tt))))))))))))))) d30

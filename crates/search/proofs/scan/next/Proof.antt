@@ -27,19 +27,19 @@ scan-costly-requires : tie.Need-scan-costly-requires
 scan-costly-requires c κs = c .before .before .before .before .before .before .before .pre
 
 returns-4 : tie.Need-returns-4
-returns-4 c = (found-four (c .before .before .before .before .before .before .before .before .before .before .before .pre .0) (c .before .before .before .before .before .before .before .before .before .before .scan-closed .ensures) (c .before .before .before .before .before .before .before .before .before .if1 .left) (c .before .before .before .before .before .before .before .scan-nodes .ensures) (c .before .before .before .before .before .before .if2 .left) (c .before .before .before .before .before .scan-nodes2 .ensures) (c .before .before .before .before .if3 .left) (c .before .before .before .scan-costly .ensures .0) (c .if4 .taken), c .before .before .before .scan-costly .ensures .1)
+returns-4 c = (found-four (c .before .before .before .before .before .before .before .before .before .pre .0) (c .before .before .before .before .before .before .before .before .scan-closed .ensures) (c .before .before .before .before .before .before .before .if1 .left) (c .before .before .before .before .before .scan-nodes .ensures) (c .before .before .before .before .if2 .left) (c .before .before .before .scan-nodes2 .ensures) (c .before .before .if3 .left) (c .before .scan-costly .ensures .0) (c .if4 .taken), c .before .scan-costly .ensures .1)
 
 scan-nodes-requires-3 : tie.Need-scan-nodes-requires-3
-scan-nodes-requires-3 c κs = (c .before .before .before .before .before .before .before .before .before .before .before .pre .0, c .before .before .before .before .before .before .before .before .degrees .ensures (c .before .before .before .before .before .before .before .before .before .before .before .args .nodes))
+scan-nodes-requires-3 c κs = (c .before .before .before .before .before .before .before .before .before .before .pre .0, c .before .before .before .before .before .before .before .degrees .ensures (c .before .before .before .before .before .before .before .before .before .before .args .nodes))
 
 returns-5 : tie.Need-returns-5
-returns-5 c = (found-five (c .before .before .before .before .before .before .before .before .before .before .before .before .before .pre .0) (c .before .before .before .before .before .before .before .before .before .before .before .before .scan-closed .ensures) (c .before .before .before .before .before .before .before .before .before .before .before .if1 .left) (c .before .before .before .before .before .before .before .before .before .scan-nodes .ensures) (c .before .before .before .before .before .before .before .before .if2 .left) (c .before .before .before .before .before .before .before .scan-nodes2 .ensures) (c .before .before .before .before .before .before .if3 .left) (c .before .before .before .before .before .scan-costly .ensures .0) (c .before .before .if4 .left) (c .before .scan-nodes3 .ensures) (c .if5 .taken), c .before .before .before .before .before .scan-costly .ensures .1)
+returns-5 c = (found-five (c .before .before .before .before .before .before .before .before .before .before .before .before .pre .0) (c .before .before .before .before .before .before .before .before .before .before .before .scan-closed .ensures) (c .before .before .before .before .before .before .before .before .before .before .if1 .left) (c .before .before .before .before .before .before .before .before .scan-nodes .ensures) (c .before .before .before .before .before .before .before .if2 .left) (c .before .before .before .before .before .before .scan-nodes2 .ensures) (c .before .before .before .before .before .if3 .left) (c .before .before .before .before .scan-costly .ensures .0) (c .before .before .before .if4 .left) (c .before .scan-nodes3 .ensures) (c .if5 .taken), c .before .before .before .before .scan-costly .ensures .1)
 
 scan-nodes-requires-4 : tie.Need-scan-nodes-requires-4
-scan-nodes-requires-4 c κs = (c .before .before .before .before .before .before .before .before .before .before .before .before .before .pre .0, c .before .before .before .before .before .before .before .before .before .before .degrees .ensures (c .before .before .before .before .before .before .before .before .before .before .before .before .before .args .nodes))
+scan-nodes-requires-4 c κs = (c .before .before .before .before .before .before .before .before .before .before .before .before .pre .0, c .before .before .before .before .before .before .before .before .before .degrees .ensures (c .before .before .before .before .before .before .before .before .before .before .before .before .args .nodes))
 
 returns-6 : tie.Need-returns-6
-returns-6 c = (found-six (c .before .before .before .before .before .before .before .before .before .before .before .before .before .before .pre .0) (c .before .before .before .before .before .before .before .before .before .before .before .before .before .scan-closed .ensures) (c .before .before .before .before .before .before .before .before .before .before .before .before .if1 .left) (c .before .before .before .before .before .before .before .before .before .before .scan-nodes .ensures) (c .before .before .before .before .before .before .before .before .before .if2 .left) (c .before .before .before .before .before .before .before .before .scan-nodes2 .ensures) (c .before .before .before .before .before .before .before .if3 .left) (c .before .before .before .before .before .before .scan-costly .ensures .0) (c .before .before .before .if4 .left) (c .before .before .scan-nodes3 .ensures) (c .before .if5 .left) (c .scan-nodes4 .ensures), c .before .before .before .before .before .before .scan-costly .ensures .1)
+returns-6 c = (found-six (c .before .before .before .before .before .before .before .before .before .before .before .before .before .pre .0) (c .before .before .before .before .before .before .before .before .before .before .before .before .scan-closed .ensures) (c .before .before .before .before .before .before .before .before .before .before .before .if1 .left) (c .before .before .before .before .before .before .before .before .before .scan-nodes .ensures) (c .before .before .before .before .before .before .before .before .if2 .left) (c .before .before .before .before .before .before .before .scan-nodes2 .ensures) (c .before .before .before .before .before .before .if3 .left) (c .before .before .before .before .before .scan-costly .ensures .0) (c .before .before .before .before .if4 .left) (c .before .before .scan-nodes3 .ensures) (c .before .if5 .left) (c .scan-nodes4 .ensures), c .before .before .before .before .before .scan-costly .ensures .1)
 
 pub next-spec : {M : Type 1} → statement M
 next-spec =

@@ -6,7 +6,7 @@ use Rattle.costly_arc.proofs.Upward.{Reached, reached-more, reached-none}
 use Rattle.network.proofs.Lists.{arc-is}
 use Rattle.network.specs.ArcList.{netIn}
 use Rattle.search.proofs.Scans.{reached-answer, reached-end, reached-on}
-use Rattle.search.proofs.Tests.{closed-at, closed-beyond, closed-open}
+use Rattle.rules.proofs.Tests.{closed-at, closed-beyond, closed-open}
 use Rattle.step.specs.declared.Next.the-variants.{Stops}
 use borrow.Author.Needs.{needs}
 use mathlib.Core.Logic.{⊎-elim}

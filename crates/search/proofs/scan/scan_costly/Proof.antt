@@ -19,11 +19,8 @@ abbrev μ-loop : tie.MeasureT-loop
 loop-holds : tie.Need-loop-holds Inv-loop μ-loop
 loop-holds c = no-root-none (c .pre .0)
 
-at-costly-requires : tie.Need-at-costly-requires Inv-loop μ-loop
-at-costly-requires c κs = rw (c .view .ensures) (c .before .before .before .before .before .before .before .pre .1)
-
 returns : tie.Need-returns Inv-loop μ-loop
-returns c = rw (c .before .view .ensures) at (c .at-costly .ensures)
+returns c = (rw (c .before .view .ensures) at (c .at-costly .ensures)) (c .before .before .before .before .before .before .before .before .pre .1)
 
 add-j : tie.Need-add-j Inv-loop μ-loop
 add-j c = let l : c .before .before .before .before .before .loop .j ≤ 96 = omega (arith, c .before .before .before .before .before .before .pre .0 .few-arcs, c .before .before .before .if1 .taken) in search needs
@@ -47,7 +44,7 @@ scan-costly-spec =
     (λ c κs. search needs)
     (λ c κs. search needs)
     (λ c κs. search needs)
-    at-costly-requires
+    (λ c κs. search needs)
     returns
     add-j
     loop-less

@@ -4,8 +4,9 @@ use Prim.Native.Nat.{_-_, _≤_}
 use Rattle.costly_arc.proofs.Upward.{Reached, reached-more, reached-none}
 use Rattle.network.specs.ArcList.{netIn}
 use Rattle.search.proofs.Scans.{reached-answer, reached-end, reached-on}
-use Rattle.search.proofs.Tests.{degrees-are, node-beyond, node-passed, node-tried}
-use Rattle.search.specs.internal.Scan.{nodeRule}
+use Rattle.rules.proofs.Tests.{node-beyond, node-passed, node-tried}
+use Rattle.search.proofs.AtNode.{degrees-are}
+use Rattle.rules.specs.Tried.{nodeRule}
 use Rattle.step.specs.declared.Next.the-variants.{Stops}
 use borrow.Author.Needs.{needs}
 use mathlib.Core.Logic.{⊎-elim}

@@ -57,17 +57,14 @@ Else3 = scan-next-Lts·.Else3 (scan-scan-closed-Reads·.Asked, scan-scan-closed-
 abbrev pub After-scan-costly : Type 0
 After-scan-costly = scan-next-Lts·.After-scan-costly (scan-scan-closed-Reads·.Asked, scan-scan-closed-Reads·.Learnt, network-list-degrees-Reads·.Asked, network-list-degrees-Reads·.Learnt, scan-scan-nodes-Reads·.Asked, scan-scan-nodes-Reads·.Learnt, scan-scan-costly-Reads·.Asked, scan-scan-costly-Reads·.Learnt) scan-next-Reads·.Pre scan-next-Reads·.Post
 
-abbrev pub After-known : Type 0
-After-known = scan-next-Lts·.After-known (scan-scan-closed-Reads·.Asked, scan-scan-closed-Reads·.Learnt, network-list-degrees-Reads·.Asked, network-list-degrees-Reads·.Learnt, scan-scan-nodes-Reads·.Asked, scan-scan-nodes-Reads·.Learnt, scan-scan-costly-Reads·.Asked, scan-scan-costly-Reads·.Learnt) scan-next-Reads·.Pre scan-next-Reads·.Post
-
-abbrev pub After-costly : Type 0
-After-costly = scan-next-Lts·.After-costly (scan-scan-closed-Reads·.Asked, scan-scan-closed-Reads·.Learnt, network-list-degrees-Reads·.Asked, network-list-degrees-Reads·.Learnt, scan-scan-nodes-Reads·.Asked, scan-scan-nodes-Reads·.Learnt, scan-scan-costly-Reads·.Asked, scan-scan-costly-Reads·.Learnt) scan-next-Reads·.Pre scan-next-Reads·.Post
-
 abbrev pub Then4 : Type 0
 Then4 = scan-next-Lts·.Then4 (scan-scan-closed-Reads·.Asked, scan-scan-closed-Reads·.Learnt, network-list-degrees-Reads·.Asked, network-list-degrees-Reads·.Learnt, scan-scan-nodes-Reads·.Asked, scan-scan-nodes-Reads·.Learnt, scan-scan-costly-Reads·.Asked, scan-scan-costly-Reads·.Learnt) scan-next-Reads·.Pre scan-next-Reads·.Post
 
 abbrev pub Else4 : Type 0
 Else4 = scan-next-Lts·.Else4 (scan-scan-closed-Reads·.Asked, scan-scan-closed-Reads·.Learnt, network-list-degrees-Reads·.Asked, network-list-degrees-Reads·.Learnt, scan-scan-nodes-Reads·.Asked, scan-scan-nodes-Reads·.Learnt, scan-scan-costly-Reads·.Asked, scan-scan-costly-Reads·.Learnt) scan-next-Reads·.Pre scan-next-Reads·.Post
+
+abbrev pub After-known : Type 0
+After-known = scan-next-Lts·.After-known (scan-scan-closed-Reads·.Asked, scan-scan-closed-Reads·.Learnt, network-list-degrees-Reads·.Asked, network-list-degrees-Reads·.Learnt, scan-scan-nodes-Reads·.Asked, scan-scan-nodes-Reads·.Learnt, scan-scan-costly-Reads·.Asked, scan-scan-costly-Reads·.Learnt) scan-next-Reads·.Pre scan-next-Reads·.Post
 
 abbrev pub After-scan-nodes3 : Type 0
 After-scan-nodes3 = scan-next-Lts·.After-scan-nodes3 (scan-scan-closed-Reads·.Asked, scan-scan-closed-Reads·.Learnt, network-list-degrees-Reads·.Asked, network-list-degrees-Reads·.Learnt, scan-scan-nodes-Reads·.Asked, scan-scan-nodes-Reads·.Learnt, scan-scan-costly-Reads·.Asked, scan-scan-costly-Reads·.Learnt) scan-next-Reads·.Pre scan-next-Reads·.Post
