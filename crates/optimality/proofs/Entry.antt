@@ -1,78 +1,79 @@
--- What an answer of `test` says of the words that it was given, whatever they are. Assumes nothing.
+-- What an answer of `test` says of the words that it was given, whatever they are.
 use mathlib.Core.Path.{_≡_, refl, sym, ap, _∙_, subst}
-use mathlib.Core.Bool.{Bool, true, false}
-use mathlib.Core.List.{List}
+use mathlib.Core.List.{List, _∷_}
 use Prim.Native.Nat.{ℕ, zero, suc}
-use native.Mathlib.Omega.{arith}
 use lib.Dec.{leb}
 use lib.IntN.{ℤ}
 use Rattle.loops.specs.Loops.{zeros}
 use Rattle.fraction.specs.Formula.{figureOf}
-use Rattle.fraction.specs.Laws.{never}
-use Rattle.network.specs.declared.record.Asked.{Asked}
-use Rattle.network.specs.declared.record.Asked.the-variants.{Go, No}
-use Rattle.network.specs.Record.{askedOf, readOf}
-use Rattle.network.specs.Legal.{Legal}
-use Rattle.network.proofs.Questions.{asked-no}
-use Rattle.network.proofs.Legal.{read-legal, read-is, read-gapless}
+use Rattle.fraction.proofs.Laws.{never}
+use Rattle.records.specs.Questions.{Question, _asks_, firstNo}
+use Rattle.records.specs.Network.{questions, readOf}
+use Rattle.records.specs.Values.{twoWords}
+use Rattle.records.proofs.Questions.{none-no}
+use Rattle.records.proofs.Tables.{numbered-questions, stops, goes-on, none-before}
+use Rattle.records.proofs.Legal.{read-legal, read-gapless}
+use Rattle.figures.specs.Figures.{valueOf}
 use Rattle.optimality.specs.declared.Answer.{Answer}
 use Rattle.optimality.specs.declared.Answer.the-variants.{Passed, Refused}
-use Rattle.optimality.specs.Figures.{valueOf}
-use Rattle.optimality.specs.Test.{pairIn, examined, refusalBy, refusalOf, answerOf, twoWords, valuesBy, Least, Tested}
+use Rattle.optimality.specs.Test.{pairIn, pairQuestions, testTable, answerOf, valuesBy, numberOf, Proven, Least, Tested}
 use Rattle.optimality.proofs.Exactly.{exactly-proven, proven-least}
 
--- none of 1 to 12 is answered by no
-pub record AllYes (xs ys : List ℤ) (room : ℕ) : Type 0 where
-  pub roomy : leb 2 room ≡ true
-  pub n : ℕ
-  pub m : ℕ
-  pub asked : askedOf xs ≡ Go n m
-  pub examined-is : examined (readOf xs) ys ≡ 0
+passed-is : (q : ℕ) → answerOf q ≡ Passed → q ≡ 0
+passed-is zero e = refl
+passed-is (suc q) e = never cc
+
+number-is : (q : ℕ) → numberOf (answerOf q) ≡ q
+number-is zero = refl
+number-is (suc q) = refl
 
 module _ (xs ys : List ℤ) (room : ℕ) where
-  pub all-yes : refusalOf xs ys room ≡ 0 → AllYes xs ys room
-  unfolding refusalOf
-  all-yes e = by (leb 2 room) refl (askedOf xs) refl e
-    where
-      by : (b : Bool) → leb 2 room ≡ b → (a : Asked) → askedOf xs ≡ a → refusalBy b xs ys ≡ 0 → AllYes xs ys room
-      by false r a f e = absurd (omega arith)
-      by true r (No q) f e = absurd (let k : q ≡ 0 = rw f at e in omega (arith, asked-no xs q f))
-      by true r (Go n m) f e = record { roomy = r; n = n; m = m; asked = f; examined-is = rw f at e }
+  -- 1 to 5, and what comes behind
+  abbrev before : List Question
+  before = (1 asks leb 2 room) ∷ questions xs
 
-  -- where none of 1 to 5 is
-  examined-then : (n m : ℕ) → leb 2 room ≡ true → askedOf xs ≡ Go n m → refusalOf xs ys room ≡ examined (readOf xs) ys
-  unfolding refusalOf
-  examined-then n m r e = rw (r, e)
+  by-pair : firstNo before ≡ 0 → firstNo (testTable xs ys room) ≡ firstNo (pairQuestions (readOf xs) ys)
+  unfolding testTable
+  by-pair e = goes-on before (pairQuestions (readOf xs) ys) (numbered-questions xs) e
 
-  legal : (n m : ℕ) → askedOf xs ≡ Go n m → Legal (readOf xs)
-  legal n m e = rw (read-is xs n m e) (read-legal xs n m e)
+  by-network : ¬ (firstNo before ≡ 0) → firstNo (testTable xs ys room) ≡ firstNo before
+  unfolding testTable
+  by-network n = stops before (pairQuestions (readOf xs) ys) n
 
-  passed-is : (q : ℕ) → answerOf q ≡ Passed → q ≡ 0
-  passed-is zero e = refl
-  passed-is (suc q) e = never cc
+  none-of-5 : firstNo (testTable xs ys room) ≡ 0 → firstNo before ≡ 0
+  unfolding testTable
+  none-of-5 e = none-before before (pairQuestions (readOf xs) ys) e
+
+  -- where none of 1 to 5 is answered by no
+  module _ (e : firstNo before ≡ 0) where
+    asked : firstNo (questions xs) ≡ 0
+    asked = none-no 0 (leb 2 room) e .1
+
+    proven : firstNo (testTable xs ys room) ≡ 0 → Proven (readOf xs) ys
+    proven z = exactly-proven (read-legal xs asked) (read-gapless xs asked) ys .0 (sym (by-pair e) ∙ z)
+
+    none : Proven (readOf xs) ys → firstNo (testTable xs ys room) ≡ 0
+    none p = by-pair e ∙ exactly-proven (read-legal xs asked) (read-gapless xs asked) ys .1 p
 
   -- the result and the words that are written, and what they say
-  tested : (r : Answer) (values : List ℤ) → r ≡ answerOf (refusalOf xs ys room) → values ≡ valuesBy (refusalOf xs ys room) (readOf xs) (pairIn (readOf xs) ys) room → Tested xs ys room r values
+  tested : (r : Answer) (values : List ℤ) → r ≡ answerOf (firstNo (testTable xs ys room)) → values ≡ valuesBy (firstNo (testTable xs ys room)) (readOf xs) (pairIn (readOf xs) ys) room → Tested xs ys room r values
   tested r values a v =
       record {
         result = a;
+        number = ap numberOf a ∙ number-is _;
         values-are = v;
-        exactly = λ n m k e.
-            let t = exactly-proven (legal n m e) (read-gapless xs n m e) ys in
-            (λ p. t .0 (sym (examined-then n m k e) ∙ passed-is _ (sym a ∙ p)), λ p. a ∙ ap answerOf (examined-then n m k e ∙ t .1 p));
+        exactly = λ e. (λ p. proven e (passed-is _ (sym a ∙ p)), λ p. a ∙ ap answerOf (none e p));
         least = λ p.
             let z = passed-is _ (sym a ∙ p) in
-            let y = all-yes z in
-            let g = legal (y .n) (y .m) (y .asked) in
-            let h = read-gapless xs (y .n) (y .m) (y .asked) in
-            subst (Least (readOf xs) ys) (sym (rw z at v)) (proven-least g h ys room (exactly-proven g h ys .0 (y .examined-is)));
+            let e = none-of-5 z in
+            subst (Least (readOf xs) ys) (sym (rw z at v)) (proven-least (read-legal xs (asked e)) (read-gapless xs (asked e)) ys room (proven e z));
       }
 
   -- a pair that is passed, and a refusal
-  pub passed : (values : List ℤ) → refusalOf xs ys room ≡ 0 → values ≡ twoWords (figureOf (valueOf (readOf xs) (pairIn (readOf xs) ys))) room → Tested xs ys room Passed values
-  passed values z e = tested Passed values (rw z refl) (rw z e)
+  pub passed : firstNo before ≡ 0 → (values : List ℤ) → firstNo (pairQuestions (readOf xs) ys) ≡ 0 → values ≡ twoWords (figureOf (valueOf (readOf xs) (pairIn (readOf xs) ys))) room → Tested xs ys room Passed values
+  passed e values z v = let k = by-pair e ∙ z in tested Passed values (rw k refl) (rw k v)
 
-  pub refused : (q : ℕ) (values : List ℤ) → q ≡ refusalOf xs ys room → ¬ (q ≡ 0) → values ≡ zeros room → Tested xs ys room (Refused q) values
+  refused : (q : ℕ) (values : List ℤ) → q ≡ firstNo (testTable xs ys room) → ¬ (q ≡ 0) → values ≡ zeros room → Tested xs ys room (Refused q) values
   refused q values z n e = tested (Refused q) values (rw (← z) (answer q n)) (rw (← z) (e ∙ nothing q n))
     where
       answer : (q : ℕ) → ¬ (q ≡ 0) → Refused q ≡ answerOf q
@@ -82,3 +83,10 @@ module _ (xs ys : List ℤ) (room : ℕ) where
       nothing : (q : ℕ) → ¬ (q ≡ 0) → zeros room ≡ valuesBy q (readOf xs) (pairIn (readOf xs) ys) room
       nothing zero n = absurd (n refl)
       nothing (suc q) n = refl
+
+  -- by a question of 1 to 5, and by one of 8 to 12
+  pub refused-before : (q : ℕ) (values : List ℤ) → q ≡ firstNo before → ¬ (q ≡ 0) → values ≡ zeros room → Tested xs ys room (Refused q) values
+  refused-before q values z n = refused q values (z ∙ sym (by-network (λ e. n (z ∙ e)))) n
+
+  pub refused-pair : firstNo before ≡ 0 → (q : ℕ) (values : List ℤ) → q ≡ firstNo (pairQuestions (readOf xs) ys) → ¬ (q ≡ 0) → values ≡ zeros room → Tested xs ys room (Refused q) values
+  refused-pair e q values z n = refused q values (z ∙ sym (by-pair e)) n

@@ -1,4 +1,4 @@
--- The test passes exactly the proven pairs: its questions in exact numbers, and back. Assumes nothing.
+-- The test passes exactly the proven pairs: its questions in exact numbers, and back.
 use mathlib.Core.Path.{_≡_, refl, sym, ap, _∙_, subst}
 use mathlib.Core.Bool.{Bool, true, false, _&&_, not}
 use mathlib.Core.List.{List, List·Memᴰ}
@@ -8,48 +8,52 @@ use Prim.Native.Nat.{ℕ, _+_, _-_, _≤_, _<_}
 use native.Mathlib.Omega.{arith}
 use lib.Dec.{T}
 use lib.IntN.{ℤ, pos}
-use borrow.Author.Tests.{ne-eqb, not-true, le-leb}
+use borrow.Author.Tests.{not-true}
 use Rattle.loops.specs.Loops.{all}
 use Rattle.loops.proofs.Laws.{all-each, each-all}
-use Rattle.algebra.specs.Solver.{_:*_, :0, _:=_, ring1}
-use Rattle.algebra.specs.Rat.{ℚ, ℚ-ring, _*ℚ_, invℚ, 0ℚ, fromℤ}
-use Rattle.algebra.specs.Order.{_<_ as _<ℚ_, lt→le, le-of-eq}
+use Rattle.algebra.proofs.Solver.{_:*_, :0, _:=_, ring1}
+use Rattle.algebra.specs.Rat.{ℚ, _*ℚ_, invℚ, 0ℚ, fromℤ}
+use Rattle.algebra.proofs.Rat.{ℚ-ring}
+use Rattle.algebra.proofs.Order.{le-of-eq}
 use Rattle.algebra.specs.Frac.{frac}
-use Rattle.algebra.specs.Sum.{range, range-once, sum-congr, sum-zero}
-use Rattle.presolve.specs.Bounds.{Within, some-inj, fits-closed}
+use Rattle.algebra.specs.Sum.{range}
+use Rattle.algebra.proofs.Sum.{range-once, sum-congr, sum-zero}
+use Rattle.presolve.specs.Bounds.{Within}
+use Rattle.presolve.proofs.Bounds.{some-inj, fits-closed}
 use Rattle.presolve.specs.Bounds as Bounds
-use Rattle.presolve.specs.LP.{Column, LP, Solved, InBounds, reduced, brings, total, weak-duality}
-use Rattle.presolve.specs.Named.{once-mem}
-use Rattle.presolve.specs.Net.{column, columnAt, rhsAt, rhs-in, rhs-out, row-out}
+use Rattle.presolve.specs.LP.{Column, LP, Solved, InBounds, reduced, brings, total}
+use Rattle.presolve.proofs.Duality.{weak-duality}
+use Rattle.presolve.proofs.Named.{once-mem}
+use Rattle.presolve.specs.Net.{column, columnAt, rhsAt}
+use Rattle.presolve.proofs.Net.{rhs-in, rhs-out, row-out}
 use Rattle.fraction.specs.declared.Fraction.{Fraction}
-use Rattle.fraction.specs.declared.Worked.{Worked}
-use Rattle.fraction.specs.declared.Worked.the-variants.{Fits, Misfit}
-use Rattle.fraction.specs.Exact.{Proper, most, noFigure, zeroFraction, noLower, noUpper, isFinite, isLess, isSame, fromWords, denWord}
+use Rattle.fraction.specs.Exact.{Proper, noFigure, noLower, noUpper, isLess, isSame}
 use Rattle.fraction.specs.Formula.{isFit, figureOf}
-use Rattle.fraction.specs.Laws.{never, and-both}
-use Rattle.fraction.specs.Value.{value, value-unique, same-is, is-same}
-use Rattle.fraction.specs.Worked.{zero-proper, zero-is}
-use Rattle.fraction.specs.Extended.{less-value, value-less}
+use Rattle.fraction.proofs.Laws.{and-both}
+use Rattle.fraction.specs.Value.{value}
+use Rattle.fraction.proofs.Value.{value-unique, same-is, is-same}
 use Rattle.network.specs.declared.Arc.{Arc}
 use Rattle.network.specs.declared.Net.{Net}
 use Rattle.network.specs.declared.pair.Pair.{Pair}
 use Rattle.network.specs.Network.{arcAt, supplyAt, isHere}
-use Rattle.network.specs.Pair.{flowAt, isPair, exactPair}
+use Rattle.network.specs.Pair.{flowAt, exactPair}
+use Rattle.records.specs.Pair.{isPair}
 use Rattle.network.specs.Legal.{Bound, LegalArc, Legal, Gapless}
 use Rattle.network.specs.Program.{boundOf, exactArc, exactOf, programOf}
-use Rattle.network.proofs.Legal.{by-number}
-use Rattle.network.proofs.Bounds.{Number, bound-is, lower-number, upper-number, not-under, not-over, under}
+use Rattle.network.proofs.Numbers.{by-number}
+use Rattle.network.proofs.Bounds.{not-under, not-over, under}
 use Rattle.network.proofs.Bounds as Beyond
 use Rattle.network.proofs.Sane.{sane}
-use Rattle.network.proofs.Paired.{flow-proper, no-flow-read}
-use Rattle.optimality.specs.Figures.{balanceOf, reducedCost, valueOf, balanceFits, costFits, allFit, isBalanced, isWithin, isWithinAt, isAt, keepsBy, keepsRule, keepsRuleAt, verdictBy, verdictOf}
-use Rattle.optimality.specs.Test.{pairIn, pairAsked, examined, twoWords, Proven, Least}
-use Rattle.optimality.proofs.Values.{Exactly, balance-exactly, value-exactly, cost-exactly, column-used, column-unused}
-
--- what fits is in form and exact
-pub fit-is : (w : Worked) {q : ℚ} → Exactly w q → isFit w ≡ true → Proper (figureOf w) × (value (figureOf w) ≡ q)
-fit-is (Fits z) k e = k z refl
-fit-is Misfit k e = never cc
+use Rattle.records.proofs.Paired.{flow-proper, no-flow-read}
+use Rattle.records.specs.Questions.{firstNo}
+use Rattle.records.proofs.Questions.{none-no}
+use Rattle.records.proofs.Written.{words-read}
+use Rattle.figures.specs.Figures.{balanceOf, reducedCost, valueOf, balanceFits, costFits, allFit, isBalanced, isWithin, isWithinAt, keepsRuleAt, testQuestions}
+use Rattle.slackness.proofs.Laws.{rule-is, is-rule}
+use Rattle.optimality.specs.Test.{pairIn, pairQuestions, Proven, Least}
+use Rattle.records.specs.Values.{twoWords}
+use Rattle.fraction.proofs.Exactly.{fit-is}
+use Rattle.figures.proofs.Values.{balance-exactly, value-exactly, cost-exactly, column-used, column-unused}
 
 -- nothing counts as 0
 nothing-is : value noFigure ≡ 0ℚ
@@ -74,47 +78,6 @@ module _ {x : Fraction} (p : Proper x) where
         by true e b f = let o = under p l e in absurd (o .1 (w .above _ (o .0)))
         by false e true f = let o = Beyond.over p u f in absurd (o .1 (w .below _ (o .0)))
         by false e false f = refl
-
-  at-is : (z : Fraction) → isAt z x ≡ true → boundOf z ≡ some (value x)
-  unfolding isAt
-  at-is z e = ap boundOf (sym (same-is x z (and-both (isFinite z) _ e .1))) ∙ bound-is p
-
-  is-at : {z : Fraction} → Number z (value x) → isAt z x ≡ true
-  unfolding isAt isFinite
-  is-at {z} n =
-      let e : x ≡ z = value-unique x z p (n .proper) (sym (n .is)) in
-      rw (ne-eqb (z .den) 0 (λ q. omega (arith, n .proper .operand .den-pos))) (subst (λ y. isSame x y ≡ true) e (is-same x))
-
-  module _ {l u d : Fraction} (bl : Bound noLower l) (bu : Bound noUpper u) (q : Proper d) where
-    positive : isLess zeroFraction d ≡ true → 0ℚ <ℚ value d
-    positive e = rw zero-is at (less-value zero-proper q e)
-
-    negative : isLess d zeroFraction ≡ true → value d <ℚ 0ℚ
-    negative e = rw zero-is at (less-value q zero-proper e)
-
-    is-positive : 0ℚ <ℚ value d → isLess zeroFraction d ≡ true
-    is-positive n = value-less zero-proper q (rw zero-is n)
-
-    is-negative : value d <ℚ 0ℚ → isLess d zeroFraction ≡ true
-    is-negative n = value-less q zero-proper (rw zero-is n)
-
-    pub rule-is : keepsRule l u x d ≡ true → Bounds.Fits (boundOf l) (boundOf u) (value x) (value d)
-    unfolding keepsRule
-    rule-is e = by (isLess zeroFraction d) refl (isLess d zeroFraction) refl e
-      where
-        by : (a : Bool) → isLess zeroFraction d ≡ a → (b : Bool) → isLess d zeroFraction ≡ b → keepsBy a b l u x ≡ true → Bounds.Fits (boundOf l) (boundOf u) (value x) (value d)
-        by true f b k e = record { at-lower = λ _. at-is l e; at-upper = λ n. absurd (positive f (lt→le n)) }
-        by false f true k e = record { at-lower = λ n. never (let z = sym f ∙ is-positive n in cc); at-upper = λ _. at-is u e }
-        by false f false k e = record { at-lower = λ n. never (let z = sym f ∙ is-positive n in cc); at-upper = λ n. never (let z = sym k ∙ is-negative n in cc) }
-
-    pub is-rule : Bounds.Fits (boundOf l) (boundOf u) (value x) (value d) → keepsRule l u x d ≡ true
-    unfolding keepsRule
-    is-rule h = by (isLess zeroFraction d) refl (isLess d zeroFraction) refl
-      where
-        by : (a : Bool) → isLess zeroFraction d ≡ a → (b : Bool) → isLess d zeroFraction ≡ b → keepsBy a b l u x ≡ true
-        by true f b k = is-at (lower-number bl (h .at-lower (positive f)))
-        by false f true k = is-at (upper-number bu (h .at-upper (negative k)))
-        by false f false k = refl
 
 -- ---- questions 9 to 12, on a legal network without gaps, for a pair whose flows are in form where there is an arc, and nothing elsewhere
 
@@ -247,13 +210,6 @@ module _ {net : Net} (g : Legal net) (h : Gapless net) (pair : Pair) (form : (j 
 
 -- ---- questions 8 to 12
 
-none-fails : (a b c d : Bool) → verdictBy a b c d ≡ 0 → (a ≡ true) × (b ≡ true) × (c ≡ true) × (d ≡ true)
-none-fails false b c d e = absurd (omega arith)
-none-fails true false c d e = absurd (omega arith)
-none-fails true true false d e = absurd (omega arith)
-none-fails true true true false e = absurd (omega arith)
-none-fails true true true true e = (refl, refl, refl, refl)
-
 module _ {net : Net} (g : Legal net) (h : Gapless net) (ys : List ℤ) where
   -- the pair of words in form
   module _ (e : isPair ys (net .n) (net .m) ≡ true) where
@@ -263,32 +219,28 @@ module _ {net : Net} (g : Legal net) (h : Gapless net) (ys : List ℤ) where
     none : (j : ℕ) → (j ≡ 0) ⊎ (net .m < j) → flowAt (pairIn net ys) j ≡ noFigure
     none = no-flow-read ys (net .n) (net .m) (g .few-nodes) (g .few-arcs)
 
-  passed-proven : examined net ys ≡ 0 → Proven net ys
-  unfolding examined verdictOf
-  passed-proven e = by (isPair ys (net .n) (net .m)) refl e
-    where
-      by : (b : Bool) → isPair ys (net .n) (net .m) ≡ b → pairAsked b net ys ≡ 0 → Proven net ys
-      by false p e = absurd (omega arith)
-      by true p e =
-          let v = none-fails (allFit net (pairIn net ys)) _ _ _ e in
-          record { in-form = p; fits = v .0; solved = tests-solve g h (pairIn net ys) (form p) (none p) (v .0) (v .1) (v .2) (v .3) }
+  passed-proven : firstNo (pairQuestions net ys) ≡ 0 → Proven net ys
+  unfolding pairQuestions testQuestions
+  passed-proven e =
+      let a = none-no 7 (isPair ys (net .n) (net .m)) e in
+      let b = none-no 8 (allFit net (pairIn net ys)) (a .1) in
+      let c = none-no 9 (all (isBalanced net (pairIn net ys)) (net .n)) (b .1) in
+      let d = none-no 10 (all (isWithinAt net (pairIn net ys)) (net .m)) (c .1) in
+      let k = none-no 11 (all (keepsRuleAt net (pairIn net ys)) (net .m)) (d .1) in
+      record { in-form = a .0; fits = b .0; solved = tests-solve g h (pairIn net ys) (form (a .0)) (none (a .0)) (b .0) (c .0) (d .0) (k .0) }
 
-  proven-passed : Proven net ys → examined net ys ≡ 0
-  unfolding examined verdictOf
+  proven-passed : Proven net ys → firstNo (pairQuestions net ys) ≡ 0
+  unfolding pairQuestions testQuestions
   proven-passed v =
       let t = solved-tests g h (pairIn net ys) (form (v .in-form)) (none (v .in-form)) (v .fits) (v .solved) in
       rw (v .in-form, v .fits, t .0, t .1, t .2)
 
   -- none of 8 to 12 is answered by no exactly where the pair is proven
-  pub exactly-proven : examined net ys ≡ 0 ↔ Proven net ys
+  pub exactly-proven : firstNo (pairQuestions net ys) ≡ 0 ↔ Proven net ys
   exactly-proven = (passed-proven, proven-passed)
 
   -- the flow of a proven pair is of least cost, and the two words are its cost
   pub proven-least : (room : ℕ) → Proven net ys → Least net ys (twoWords (figureOf (valueOf net (pairIn net ys))) room)
-  unfolding fromWords denWord
   proven-least room v =
       let f = value-fits g h (pairIn net ys) (form (v .in-form)) (none (v .in-form)) (v .fits) in
-      record { optimal = weak-duality (programOf net) (exactPair (pairIn net ys)) (v .solved); cost = ap value (read-back _ (f .0 .operand .den-in)) ∙ f .1 }
-    where
-      read-back : (x : Fraction) → x .den ≤ most → fromWords (x .num) (denWord (x .den)) ≡ x
-      read-back x l = rw (le-leb (x .den) most l)
+      record { optimal = weak-duality (programOf net) (exactPair (pairIn net ys)) (v .solved); cost = ap value (words-read _ (f .0 .operand .den-in)) ∙ f .1 }
