@@ -1,17 +1,14 @@
 -- What a run that refuses nothing leaves: the definition's run, its steps in the log, its arcs in the list; and the words of its end.
 use mathlib.Core.Path.{_≡_, refl, sym, ap, ap₂, _∙_}
-use mathlib.Core.Bool.{Bool, true, false, _&&_}
 use mathlib.Core.List.{List}
 use Prim.Native.Nat.{ℕ, zero, suc, _+_, _*_, _≤_, _<_}
 use native.Mathlib.Omega.{arith}
-use lib.Dec.{leb}
 use lib.IntN.{ℤ}
 use lib.ListN.{length}
 use borrow.Author.Tests.{le-leb, lt-leb}
 use Rattle.loops.specs.Loops.{zeros, written}
 use Rattle.network.specs.declared.Arc.{Arc}
-use Rattle.network.specs.declared.Net.{Net}
-use Rattle.network.specs.Record.{readOf}
+use Rattle.records.specs.Network.{readOf}
 use Rattle.network.specs.ArcList.{arcsIn, joined, netIn}
 use Rattle.step.specs.Run.{Run}
 use Rattle.step.proofs.Fewer.{legal-left}
@@ -26,10 +23,9 @@ use Rattle.search.proofs.Questions.{AllYes, legal-read}
 use Rattle.search.proofs.Left.{yes, net-left}
 use Rattle.reduction.specs.declared.Answer.{Answer}
 use Rattle.reduction.specs.declared.Answer.the-variants.{Refused}
-use Rattle.reduction.specs.Questions.{question, _⊳_}
-use Rattle.reduction.specs.Logged.{stackWord}
+use Rattle.records.specs.Logged.{stackWord, withStack}
 use Rattle.reduction.specs.Reduce.{refusalOf, endAnswer, endOutput, Written}
-use Rattle.reduction.proofs.Logged.{stack-written}
+use Rattle.records.proofs.Logged.{stack-written, with-room}
 use Rattle.reduction.proofs.Entry.{room-is}
 
 -- ---- the run
@@ -73,11 +69,11 @@ refused p (suc q) e n a b = rw e (record { result = refl; out-is = a; stack-is =
 
 -- the end of a run, where its arcs are `view` and the stack was d
 pub finished : {xs log d : List ℤ} {ran : Ran} {arcs view : List Arc} {w k : ℕ} {r : Answer} {out stack : List ℤ} {o : ℕ} (p : ℕ) → Found xs ran log arcs w k → view ≡ arcsIn arcs → p ≡ 0 → d ≡ zeros (length d)
-    → r ≡ endAnswer (endsOf (ran .ends)) → out ≡ endOutput (endsOf (ran .ends)) (joined (ran .nodes) view) o → stack ≡ written (1 + 2 * ran .steps) (stackWord log (ran .steps)) d → Written p (reduced (readOf xs)) r out stack o (length d)
-finished {xs} {log} {d} {ran} {o = o} p f v e z a b c =
+    → r ≡ endAnswer (endsOf (ran .ends)) → out ≡ endOutput (endsOf (ran .ends)) (joined (ran .nodes) view) o → stack ≡ withStack log (ran .steps) d → 257 ≤ length d → Written p (reduced (readOf xs)) r out stack o (length d)
+finished {xs} {log} {d} {ran} {o = o} p f v e z a b c l =
     rw e
     (record {
       result = a ∙ ap endAnswer (sym (f .ends-is));
       out-is = b ∙ ap₂ (λ n net. endOutput n net o) (sym (f .ends-is)) (ap (joined (ran .nodes)) v ∙ f .net-is);
-      stack-is = c ∙ ap (λ n. written (1 + 2 * n) (stackWord log n) d) (sym (f .steps-is)) ∙ stack-written log (reduced (readOf xs) .steps) (f .holds) d z;
+      stack-is = c ∙ with-room log (ran .steps) d (f .few) l ∙ ap (λ n. written (1 + 2 * n) (stackWord log n) d) (sym (f .steps-is)) ∙ stack-written log (reduced (readOf xs) .steps) (f .holds) d z;
     })

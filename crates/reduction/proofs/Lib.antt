@@ -1,6 +1,6 @@
 pub mod Named
 pub mod Sizes
-pub mod Logged
+pub mod ReadBack
 pub mod Entry
 pub mod Found
 pub mod Lent

@@ -1,22 +1,18 @@
 -- Where the search answers no flow, the rule that it names shows it at the place that it names.
-use mathlib.Core.Path.{_≡_, refl, sym, _∙_}
+use mathlib.Core.Path.{_≡_, refl}
 use mathlib.Core.List.{List, [], _∷_}
 use mathlib.Core.Logic.{_⊎_, inl, inr}
 use Prim.Native.Nat.{ℕ, zero, suc, _+_, _≤_, _<_}
 use native.Mathlib.Numerals.{add-one}
 use native.Mathlib.Omega.{arith}
-use Rattle.fraction.specs.Laws.{never}
+use Rattle.fraction.proofs.Laws.{never}
 use Rattle.network.specs.declared.Net.{Net}
 use Rattle.step.specs.declared.Outcome.{Outcome}
 use Rattle.step.specs.declared.Outcome.the-variants.{Passes, NoFlow, Changes}
 use Rattle.step.specs.declared.Next.{Next}
-use Rattle.step.specs.declared.Next.the-variants.{Stops, Refuted, Takes}
+use Rattle.step.specs.declared.Next.the-variants.{Refuted}
+use Rattle.step.specs.Applies.{Shown}
 use Rattle.step.specs.Run.{Rule, orElse, upward, nextFrom, nextBy}
-
--- rule r of a table whose first is number k answers no flow at place i
-abbrev pub Shown : ℕ → List Rule → Net → ℕ → ℕ → Type 0
-Shown k [] net r i = ⊥
-Shown k (R ∷ rules) net r i = ((r ≡ k) × (1 ≤ i) × (i ≤ R .last) × (R .at net i ≡ NoFlow)) ⊎ Shown (suc k) rules net r i
 
 -- at one of the places, or what comes after them
 upward-shown : (rule : ℕ → Outcome) (k many from : ℕ) (rest : Next) (r i : ℕ) → upward rule k many from rest ≡ Refuted r i → ((r ≡ k) × (from ≤ i) × (i < from + many) × (rule i ≡ NoFlow)) ⊎ (rest ≡ Refuted r i)

@@ -1,27 +1,29 @@
 -- A network that is read has the sizes of its record, and a run keeps them.
-use mathlib.Core.Path.{_≡_, refl, _∙_}
+use mathlib.Core.Path.{_≡_, refl}
+use mathlib.Core.Bool.{true}
 use mathlib.Core.List.{List}
 use Prim.Native.Nat.{ℕ, zero, suc}
 use lib.IntN.{ℤ}
 use Rattle.loops.proofs.Laws.{upto-keeps}
 use Rattle.network.specs.declared.Net.{Net}
-use Rattle.network.specs.declared.record.Asked.the-variants.{Go}
 use Rattle.network.specs.Network.{emptyNet, withArc, withSupply, withNode, without, applied}
-use Rattle.network.specs.Record.{figures, nodeTurn, arcTurn, askedOf, netOf, readOf}
-use Rattle.network.proofs.Legal.{read-is}
+use Rattle.records.specs.Network.{figures, nOf, mOf, sizesRight, nodeTurn, arcTurn, netOf, readOf}
+use Rattle.records.proofs.Legal.{read-is}
 use Rattle.step.specs.declared.Next.{Next}
 use Rattle.step.specs.declared.Next.the-variants.{Stops, Refuted, Takes}
-use Rattle.step.specs.Run.{Run, runBy, runOf}
+use Rattle.step.specs.Run.{runBy, runOf}
 
 abbrev pub SameSizes : Net → Net → Type 0
 SameSizes p q = (p .n ≡ q .n) × (p .m ≡ q .m)
 
-pub read-sizes : (xs : List ℤ) (n m : ℕ) → askedOf xs ≡ Go n m → (readOf xs .n ≡ n) × (readOf xs .m ≡ m)
+pub read-sizes : (xs : List ℤ) → sizesRight xs ≡ true → (readOf xs .n ≡ nOf xs) × (readOf xs .m ≡ mOf xs)
 unfolding netOf withArc withSupply withNode
-read-sizes xs n m e =
-    rw (read-is xs n m e)
-    (upto-keeps (λ net. SameSizes net (emptyNet n m)) (arcTurn xs n (figures n m)) (λ i s h. h) m _
-    (upto-keeps (λ net. SameSizes net (emptyNet n m)) (nodeTurn xs (figures n m)) (λ i s h. h) n (emptyNet n m) (refl, refl)))
+read-sizes xs e = rw (read-is xs e) (by (nOf xs) (mOf xs))
+  where
+    by : (n m : ℕ) → SameSizes (netOf xs n m) (emptyNet n m)
+    by n m =
+        upto-keeps (λ net. SameSizes net (emptyNet n m)) (arcTurn xs n (figures n m)) (λ i s h. h) m _
+        (upto-keeps (λ net. SameSizes net (emptyNet n m)) (nodeTurn xs (figures n m)) (λ i s h. h) n (emptyNet n m) (refl, refl))
 
 pub run-sizes : (next : Net → Next) (many : ℕ) (net : Net) → SameSizes (runOf next many net .net) net
 unfolding runOf runBy applied withArc withSupply without

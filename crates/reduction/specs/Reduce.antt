@@ -2,26 +2,28 @@
 use mathlib.Core.Path.{_≡_}
 use mathlib.Core.Bool.{Bool, _&&_}
 use mathlib.Core.List.{List, [], _∷_}
-use Prim.Native.Nat.{ℕ, zero, suc}
+use Prim.Native.Nat.{ℕ, zero, suc, _+_, _≤_}
 use lib.Dec.{leb}
 use lib.IntN.{ℤ}
+use lib.ListN.{length}
 use Rattle.loops.specs.Loops.{zeros}
 use Rattle.presolve.specs.LP as LP
 use Rattle.network.specs.declared.Arc.{Arc}
 use Rattle.network.specs.declared.Net.{Net}
-use Rattle.network.specs.Record.{askedOf, readOf}
-use Rattle.network.specs.Output.{packedOf, networkOf}
+use Rattle.records.specs.Questions.{Question, _asks_, firstNo}
+use Rattle.records.specs.Network.{nOf, mOf, questions, readOf, networkOf}
+use Rattle.records.specs.Cut.{cutNetwork}
+use Rattle.records.specs.Stack as Stack
+use Rattle.survivors.specs.Survivors.{packedOf}
 use Rattle.network.specs.Program.{programOf}
 use Rattle.network.specs.ArcList.{noArcs}
 use Rattle.step.specs.declared.Next.{Next}
 use Rattle.step.specs.declared.Next.the-variants.{Stops, Refuted, Takes}
 use Rattle.step.specs.Run.{Run}
-use Rattle.search.specs.Search.{askedNumber}
-use Rattle.rules.specs.Table.{reduced}
+use Rattle.step.specs.Applies.{NoneApplies, Shown}
+use Rattle.rules.specs.Table.{rules, reduced}
 use Rattle.reduction.specs.declared.Answer.{Answer}
 use Rattle.reduction.specs.declared.Answer.the-variants.{Reduced, NoFlow, Refused}
-use Rattle.reduction.specs.Questions.{question, _⊳_}
-use Rattle.reduction.specs.Stack as Stack
 
 -- ---- the questions, in order, of the network's words and of the lengths of the lent output, stack, scratch and arc list
 
@@ -30,8 +32,11 @@ unfoldable pub isRoomy : ℕ → ℕ → ℕ → ℕ → Bool
 isRoomy out stack scratch arcs = leb 1410 out && (leb 257 stack && (leb 10240 scratch && leb 96 arcs))
 
 -- "Are the lent outputs and scratch long enough? 1"; then 2 to 5
-unfoldable pub refusalOf : List ℤ → ℕ → ℕ → ℕ → ℕ → ℕ
-refusalOf xs out stack scratch arcs = question 1 (isRoomy out stack scratch arcs) ⊳ askedNumber (askedOf xs)
+unfoldable pub reduceTable : List ℤ → ℕ → ℕ → ℕ → ℕ → List Question
+reduceTable xs out stack scratch arcs = 1 asks isRoomy out stack scratch arcs ∷ questions xs
+
+abbrev pub refusalOf : List ℤ → ℕ → ℕ → ℕ → ℕ → ℕ
+refusalOf xs out stack scratch arcs = firstNo (reduceTable xs out stack scratch arcs)
 
 -- ---- the answer and the words written, by the number of the first question that is answered by no, and by the run
 
@@ -65,17 +70,6 @@ pub record Written (q : ℕ) (run : Run) (r : Answer) (out stack : List ℤ) (o 
   pub out-is : out ≡ outputOf q run o
   pub stack-is : stack ≡ stackOf q run s
 
--- ---- a call: the network's words, the lengths of the lent output, stack, scratch and arc list; the result, all words written, and the records
-
-pub record Reduction (xs : List ℤ) (o s w k : ℕ) (r : Answer) (out stack scratch : List ℤ) (arcs : List Arc) : Type 0 where
-  pub result : r ≡ answerOf (refusalOf xs o s w k) (reduced (readOf xs))
-  pub out-is : out ≡ outputOf (refusalOf xs o s w k) (reduced (readOf xs)) o
-  pub stack-is : stack ≡ stackOf (refusalOf xs o s w k) (reduced (readOf xs)) s
-  pub scratch-is : scratch ≡ zeros w
-  pub arcs-is : arcs ≡ noArcs k
-  -- no flow: the network given has no feasible flow, in fractions of any width
-  pub flowless : (rule place : ℕ) → r ≡ NoFlow rule place → LP.NoFlow (programOf (readOf xs))
-
 -- the paper's number of an answer, 0 where nothing is refused, and its values, the rule and the place of no flow
 abbrev pub numberOf : Answer → ℕ
 numberOf Reduced = 0
@@ -86,3 +80,22 @@ abbrev pub valuesOf : Answer → List ℕ
 valuesOf Reduced = []
 valuesOf (NoFlow rule place) = rule ∷ place ∷ []
 valuesOf (Refused q) = []
+
+-- ---- a call: the network's words, the lengths of the lent output, stack, scratch and arc list; the result, all words written, and the records
+
+pub record Reduction (xs : List ℤ) (o s w k : ℕ) (r : Answer) (out stack scratch : List ℤ) (arcs : List Arc) : Type 0 where
+  -- the first refusal that applies; else the run's end
+  pub number : numberOf r ≡ firstNo (reduceTable xs o s w k)
+  pub result : r ≡ answerOf (firstNo (reduceTable xs o s w k)) (reduced (readOf xs))
+  pub out-is : out ≡ outputOf (firstNo (reduceTable xs o s w k)) (reduced (readOf xs)) o
+  pub stack-is : stack ≡ stackOf (firstNo (reduceTable xs o s w k)) (reduced (readOf xs)) s
+  pub scratch-is : scratch ≡ zeros w
+  pub arcs-is : arcs ≡ noArcs k
+  -- "until none applies": no rule applies to what is left, at any place; "there are at most n + m steps"
+  pub until-none : r ≡ Reduced → NoneApplies 6 rules (reduced (readOf xs) .net)
+  pub few-steps : numberOf r ≡ 0 → length (reduced (readOf xs) .steps) ≤ nOf xs + mOf xs
+  -- the record written, cut to its length, passes 2 to 5 and is read as that network: the test asks of it what restoring asks
+  pub reads-back : r ≡ Reduced → (firstNo (questions (cutNetwork (packedOf (reduced (readOf xs) .net)) out)) ≡ 0) × (readOf (cutNetwork (packedOf (reduced (readOf xs) .net)) out) ≡ packedOf (reduced (readOf xs) .net))
+  -- no flow: the rule named shows it at the place named, and the network given has no feasible flow, in fractions of any width
+  pub shown : (rule place : ℕ) → r ≡ NoFlow rule place → Shown 1 rules (reduced (readOf xs) .net) rule place
+  pub flowless : (rule place : ℕ) → r ≡ NoFlow rule place → LP.NoFlow (programOf (readOf xs))

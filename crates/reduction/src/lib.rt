@@ -2,23 +2,19 @@
 // The next line is for tools/lift.py:
 // lent: network::Arc [i8; 56]
 ghost use mathlib.Core.Path.{_≡_};
-ghost use mathlib.Core.Bool.{_&&_};
-ghost use Prim.Native.Nat.{_+_, _*_, _≤_};
-ghost use lib.Dec.{leb};
 ghost use lib.ListN.{length};
-ghost use Rattle.loops.specs.Loops.{written, zeros};
+ghost use Rattle.loops.specs.Loops.{zeros};
 ghost use Rattle.network.specs.ArcList.{joined};
-ghost use Rattle.network.specs.Record.{readOf};
+ghost use Rattle.records.specs.Network.{readOf};
 ghost use Rattle.rules.specs.Table.{reduced};
 ghost use Rattle.search.specs.Search.{endsOf};
-ghost use Rattle.reduction.specs.Logged.{stackWord};
+ghost use Rattle.records.specs.Logged.{withStack};
 ghost use Rattle.reduction.specs.Reduce.{refusalOf, endAnswer, endOutput, Written, Reduction};
 use network::Arc;
 use search::Ends;
 use search::Ran;
 
 pub mod plain;
-pub mod stack;
 
 // A reduced network; no flow, with the rule and the place that show it; or the number of the question that is answered by no.
 pub enum Answer {
@@ -29,16 +25,16 @@ pub enum Answer {
 
 // The end of a run whose steps stand in the log and whose arcs are `view`, into slices of zeros.
 fn finish(ran: Ran, view: [Arc; 97], log: &[i32], out: &mut [i32], stack: &mut [i32]) -> Answer
-    requires { ⌜ (ran .steps ≤ 128) × (257 ≤ length (now stack)) × (now out ≡ zeros (length (now out))) ⌝ }
-    ensures { λ r. ⌜ (r ≡ endAnswer (endsOf (ran .ends))) × (now (out .exit) ≡ endOutput (endsOf (ran .ends)) (joined (ran .nodes) view) (length (now (out .entry)))) × (now (stack .exit) ≡ written (1 + 2 * ran .steps) (stackWord (now (log .entry)) (ran .steps)) (now (stack .entry))) ⌝ }
+    requires { ⌜ now out ≡ zeros (length (now out)) ⌝ }
+    ensures { λ r. ⌜ (r ≡ endAnswer (endsOf (ran .ends))) × (now (out .exit) ≡ endOutput (endsOf (ran .ends)) (joined (ran .nodes) view) (length (now (out .entry)))) × (now (stack .exit) ≡ withStack (now (log .entry)) (ran .steps) (now (stack .entry))) ⌝ }
 {
-    crate::stack::write(log, ran.steps, stack);
+    records::stack::write(log, ran.steps, stack);
     let ends = ran.ends;
     match ends {
         Ends::NoFlow(rule, place) => Answer::NoFlow(rule, place),
         Ends::Stops => {
             let net = network::join(ran.nodes, view);
-            network::output::write_network(network::output::pack(net), out);
+            records::net::write_network(survivors::pack(net), out);
             Answer::Reduced
         },
     }

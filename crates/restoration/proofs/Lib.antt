@@ -1,6 +1,6 @@
 pub mod Spread
-pub mod Words
 pub mod Parts
 pub mod Optimum
 pub mod Passed
+pub mod Entry
 pub mod Lent

@@ -1,6 +1,6 @@
 -- Demand 3: a pair that is restored is optimal on the network given, and the value written is its cost.
 use mathlib.Core.Path.{_≡_, refl, sym, ap, _∙_, subst}
-use mathlib.Core.Bool.{Bool, true, false, _&&_}
+use mathlib.Core.Bool.{true}
 use mathlib.Core.List.{List, List·Memᴰ}
 use mathlib.Core.Logic.{_⊎_, inl, inr, ⊎-elim}
 use Prim.Native.Nat.{ℕ, zero, suc, _+_, _-_, _≤_, _<_}
@@ -11,8 +11,9 @@ use lib.Dec.{leb}
 use lib.IntN.{ℤ}
 use borrow.Author.Tests.{leb-true}
 use Rattle.loops.specs.Loops.{upto}
-use Rattle.algebra.specs.Rat.{ℚ, _+ℚ_, _*ℚ_, _≤ℚ_, 0ℚ, ≤ℚ-antisym}
-use Rattle.algebra.specs.Sum.{sum-congr}
+use Rattle.algebra.specs.Rat.{ℚ, _+ℚ_, _*ℚ_, _≤ℚ_, 0ℚ}
+use Rattle.algebra.proofs.Rat.{≤ℚ-antisym}
+use Rattle.algebra.proofs.Sum.{sum-congr}
 use Rattle.presolve.specs.LP.{Column, LP, Optimal, InBounds, brings, total}
 use Rattle.presolve.specs.LP as LP
 use Rattle.fraction.specs.declared.Fraction.{Fraction}
@@ -20,37 +21,41 @@ use Rattle.fraction.specs.declared.Worked.{Worked}
 use Rattle.fraction.specs.declared.Worked.the-variants.{Fits, Misfit}
 use Rattle.fraction.specs.Exact.{Operand, zeroFraction, fromWords}
 use Rattle.fraction.specs.Formula.{isFit, figureOf}
-use Rattle.fraction.specs.Laws.{never, and-both}
+use Rattle.fraction.proofs.Laws.{never, and-both}
 use Rattle.fraction.specs.Value.{value}
-use Rattle.fraction.specs.Worked.{plus-fits, times-fits}
+use Rattle.fraction.proofs.Formulas.{plus-fits, times-fits}
 use Rattle.network.specs.declared.Net.{Net}
 use Rattle.network.specs.declared.pair.Pair.{Pair}
-use Rattle.network.specs.Record.{word, readOf}
+use Rattle.fraction.specs.Words.{word}
+use Rattle.records.specs.Network.{questions, readOf}
 use Rattle.network.specs.Pair.{flowAt, exactPair}
 use Rattle.network.specs.Legal.{Legal, Gapless}
 use Rattle.network.specs.Program.{exactOf, programOf}
-use Rattle.network.proofs.Legal.{by-number, read-gapless}
-use Rattle.network.proofs.Survivors.{packed-gapless}
-use Rattle.network.proofs.Packed.{packed-legal}
-use Rattle.network.proofs.Paired.{no-flow-read}
-use Rattle.step.specs.Run.{Run, backOf, Way, wide, at, wayBack}
-use Rattle.rules.specs.Table.{rules, reduced}
+use Rattle.network.proofs.Numbers.{by-number}
+use Rattle.records.proofs.Legal.{read-gapless}
+use Rattle.survivors.proofs.Survivors.{packed-gapless}
+use Rattle.survivors.proofs.Packed.{packed-legal}
+use Rattle.records.proofs.Paired.{no-flow-read}
+use Rattle.step.specs.Run.{Run, Way, wide, at}
+use Rattle.rules.specs.Table.{reduced}
 use Rattle.rules.proofs.Whole as Whole
-use Rattle.optimality.specs.Figures.{valueTurn, valueOf}
-use Rattle.optimality.specs.Test.{pairIn, examined, Proven}
-use Rattle.optimality.proofs.Values.{value-exactly, column-unused}
+use Rattle.figures.specs.Figures.{valueTurn, valueOf}
+use Rattle.optimality.specs.Test.{pairIn, pairQuestions, Proven}
+use Rattle.figures.proofs.Values.{value-exactly, column-unused}
 use Rattle.optimality.proofs.Exactly.{exactly-proven}
-use Rattle.search.proofs.Questions.{AllYes, all-yes, legal-read}
-use Rattle.search.specs.Search as Search
-use Rattle.reduction.specs.Questions.{question, _⊳_}
-use Rattle.reduction.proofs.Entry.{both-none, is-yes}
+use Rattle.search.proofs.Questions.{AllYes, legal-read}
+use Rattle.records.specs.Questions.{firstNo}
+use Rattle.records.proofs.Questions.{none-no}
+use Rattle.records.proofs.Tables.{numbered-questions, none-before, none-behind}
 use Rattle.restoration.specs.declared.Answer.{Answer}
 use Rattle.restoration.specs.declared.Answer.the-variants.{Restored}
-use Rattle.postsolve.specs.Postsolve.{spreadOf}
-use Rattle.restoration.specs.Restore.{isReduced, isStack, reducedNet, broughtBack, pairBack, originalValue, reducedValue, isBack, runRefusal, refusalOf, answerOf, pairWords, fourWords, writtenPair, Written, Optimum}
-use Rattle.restoration.proofs.Parts.{room-is}
+use Rattle.survivors.specs.Survivors.{spreadOf}
+use Rattle.restoration.specs.Restore.{isReduced, isStack, reducedNet, broughtBack, pairBack, originalValue, reducedValue, isRoomy, isBack, offerTable, backTable, runTable, restoreTable, refusalOf, answerOf, writtenPair, Written, Optimum}
+use Rattle.records.specs.Pair.{pairWords}
+use Rattle.records.specs.Values.{fourWords}
+use Rattle.restoration.proofs.Parts.{numbered-pair}
 use Rattle.restoration.proofs.Spread.{no-value, read-sized, read-solved}
-use Rattle.restoration.proofs.Words.{flow-written, value-written}
+use Rattle.records.proofs.Written.{flow-written, value-written}
 
 -- ---- an optimal flow is known by its figures at the columns
 
@@ -151,18 +156,27 @@ module _ (xs zs ys : List ℤ) (o v w k : ℕ) where
   record Restores : Type 0 where
     room : 258 ≤ o
     asked : AllYes xs w k
-    tested : examined (reducedNet run) ys ≡ 0
+    tested : firstNo (pairQuestions (reducedNet run) ys) ≡ 0
     fits : isBack net way ≡ true
 
   restores : refusalOf xs zs ys o v w k ≡ 0 → Restores
-  unfolding runRefusal
+  unfolding restoreTable runTable offerTable isRoomy
   restores e =
-      let a = both-none (question 1 (leb 258 o && leb 4 v)) _ (sym (room-is xs zs ys o v w k) ∙ e) in
-      let b = both-none (Search.refusalOf xs w k) _ (a .1) in
-      let c = both-none (question 6 (isReduced (run .ends))) _ (b .1) in
-      let d = both-none (question 7 (isStack run zs)) _ (c .1) in
-      let f = both-none (examined (reducedNet run) ys) _ (d .1) in
-      record { room = leb-true 258 o (and-both (leb 258 o) _ (is-yes 1 _ (omega arith) (a .0)) .0); asked = all-yes xs w k (b .0); tested = f .0; fits = is-yes 13 _ (omega arith) (f .1) }
+      let a = none-no 0 (isRoomy o v w k) e in
+      let b = none-behind (questions xs) (runTable net run zs ys) (numbered-questions xs) (a .1) in
+      let c = none-no 5 (isReduced (run .ends)) b in
+      let d = none-no 6 (isStack run zs) (c .1) in
+      let p = none-before (pairQuestions (reducedNet run) ys) (backTable net way) (d .1) in
+      let f = none-behind (pairQuestions (reducedNet run) ys) (backTable net way) (numbered-pair (reducedNet run) ys) (d .1) in
+      let x = and-both (leb 258 o) _ (a .0) in
+      let y = and-both (leb 4 v) _ (x .1) in
+      let z = and-both (leb 10240 w) _ (y .1) in
+      record {
+        room = leb-true 258 o (x .0);
+        asked = record { room = leb-true 10240 w (z .0); wide = leb-true 96 k (z .1); asked = none-before (questions xs) (runTable net run zs ys) (a .1) };
+        tested = p;
+        fits = none-no 12 (isBack net way) f .0;
+      }
 
   module _ (y : Restores) where
     left-legal : Legal (run .net)
@@ -179,7 +193,7 @@ module _ (xs zs ys : List ℤ) (o v w k : ℕ) where
 
     optimum : Optimum net run ys (pairWords (net .n) (net .m) (pairBack way) o) (fourWords (reducedValue run ys) (originalValue net way) v)
     optimum =
-        let gap = read-gapless xs (y .asked .n) (y .asked .m) (y .asked .go) in
+        let gap = read-gapless xs (y .asked .asked) in
         let fits = arrived net way (y .fits) .1 in
         record {
           tested = y .tested;

@@ -7,12 +7,13 @@ use Prim.Native.Nat.{ℕ, _+_, _-_, _≤_, _<_}
 use native.Mathlib.Omega.{arith}
 use lib.Dec.{ltb}
 use lib.IntN.{ℤ}
-use lib.ListN.{List·getD-eq-default, length, getD}
+use lib.ListN.{List·getD-eq-default, getD}
 use borrow.Author.Tests.{ltb-true, ltb-false}
 use Rattle.loops.specs.Loops.{build}
 use Rattle.loops.proofs.Laws.{length-build, getD-build}
-use Rattle.algebra.specs.Solver.{_:*_, :0, _:=_, ring1}
-use Rattle.algebra.specs.Rat.{ℚ, ℚ-ring, _*ℚ_, 0ℚ, invℚ-zero}
+use Rattle.algebra.proofs.Solver.{_:*_, :0, _:=_, ring1}
+use Rattle.algebra.specs.Rat.{ℚ, _*ℚ_, 0ℚ}
+use Rattle.algebra.proofs.Rat.{ℚ-ring, invℚ-zero}
 use Rattle.algebra.specs.Frac.{frac}
 use Rattle.presolve.specs.LP.{Solved}
 use Rattle.fraction.specs.declared.Fraction.{Fraction}
@@ -20,16 +21,16 @@ use Rattle.fraction.specs.Exact.{Proper, noFigure}
 use Rattle.fraction.specs.Value.{value}
 use Rattle.network.specs.declared.Net.{Net}
 use Rattle.network.specs.declared.pair.Pair.{Pair}
-use Rattle.network.specs.Network.{noArc, isHere}
-use Rattle.network.specs.Output.{isUsed, rankOf, arcRank, packedOf}
+use Rattle.network.specs.Network.{noArc, isHere, isUsed}
+use Rattle.survivors.specs.Survivors.{rankOf, arcRank, packedOf, spreadPrice, spreadFlow, spreadOf}
 use Rattle.network.specs.Legal.{Legal}
-use Rattle.network.specs.Pair.{priceAt, flowAt, isPair, pairOf, exactPair}
+use Rattle.network.specs.Pair.{priceAt, flowAt, exactPair}
+use Rattle.records.specs.Pair.{isPair, pairOf}
 use Rattle.network.specs.Program.{programOf}
-use Rattle.network.proofs.Legal.{by-number}
-use Rattle.network.proofs.Paired.{price-proper, no-price-read, flow-proper, no-flow-read}
-use Rattle.network.proofs.Survivors.{spread, survivors-solved}
+use Rattle.network.proofs.Numbers.{by-number}
+use Rattle.records.proofs.Paired.{price-proper, no-price-read, flow-proper, no-flow-read}
+use Rattle.survivors.proofs.Survivors.{spread, survivors-solved}
 use Rattle.step.proofs.Figures.{Formed, Sized, pair-is}
-use Rattle.postsolve.specs.Postsolve.{spreadPrice, spreadFlow, spreadOf}
 
 pub no-value : value noFigure ≡ 0ℚ
 unfolding value frac

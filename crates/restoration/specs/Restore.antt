@@ -1,36 +1,40 @@
 -- What restoring answers, the words that it writes, and what that says in exact numbers.
 use mathlib.Core.Path.{_≡_}
-use mathlib.Core.Bool.{Bool, true, false, cond, _&&_}
-use mathlib.Core.List.{List, _∷_}
-use Prim.Native.Nat.{ℕ, zero, suc, _+_, _-_}
+use mathlib.Core.Bool.{Bool, true, false, _&&_}
+use mathlib.Core.List.{List, [], _∷_, _++_}
+use mathlib.Core.Logic.{_↔_, _⊎_}
+use Prim.Native.Nat.{ℕ, zero, suc}
 use lib.Dec.{leb}
 use lib.IntN.{ℤ}
 use Rattle.loops.specs.Loops.{zeros}
 use Rattle.presolve.specs.LP.{Optimal, total}
+use Rattle.presolve.specs.LP as LP
 use Rattle.fraction.specs.declared.Fraction.{Fraction}
-use Rattle.fraction.specs.Exact.{fromWords, denWord}
+use Rattle.fraction.specs.Exact.{fromWords}
 use Rattle.fraction.specs.Formula.{isFit, figureOf}
 use Rattle.fraction.specs.Value.{value}
 use Rattle.network.specs.declared.Arc.{Arc}
 use Rattle.network.specs.declared.Net.{Net}
 use Rattle.network.specs.declared.pair.Pair.{Pair}
-use Rattle.network.specs.Record.{word, askedOf, readOf}
-use Rattle.network.specs.Output.{packedOf, wordOf, arraysOf}
-use Rattle.network.specs.Pair.{noPair, priceAt, flowAt, pairOf, exactPair}
+use Rattle.fraction.specs.Words.{word}
+use Rattle.records.specs.Network.{questions, readOf}
+use Rattle.survivors.specs.Survivors.{packedOf}
+use Rattle.network.specs.Pair.{noPair, exactPair}
+use Rattle.records.specs.Pair.{pairOf, pairWords}
+use Rattle.records.specs.Values.{fourWords}
 use Rattle.network.specs.ArcList.{noArcs}
 use Rattle.network.specs.Program.{programOf}
 use Rattle.step.specs.declared.Next.{Next}
 use Rattle.step.specs.declared.Next.the-variants.{Stops, Refuted, Takes}
 use Rattle.step.specs.Run.{Run, backOf, Way, wide, at, wayBack}
-use Rattle.search.specs.Search.{askedNumber}
 use Rattle.rules.specs.Table.{rules, reduced}
-use Rattle.optimality.specs.Figures.{valueOf}
-use Rattle.optimality.specs.Test.{pairIn, examined, Proven}
-use Rattle.reduction.specs.Questions.{question, _⊳_}
-use Rattle.reduction.specs.Stack.{stackRecord, sameWords}
+use Rattle.figures.specs.Figures.{valueOf}
+use Rattle.optimality.specs.Test.{pairIn, pairQuestions, Proven}
+use Rattle.records.specs.Questions.{Question, _asks_, firstNo}
+use Rattle.records.specs.Stack.{stackRecord, sameWords}
 use Rattle.restoration.specs.declared.Answer.{Answer}
 use Rattle.restoration.specs.declared.Answer.the-variants.{Restored, Refused}
-use Rattle.postsolve.specs.Postsolve.{spreadOf}
+use Rattle.survivors.specs.Survivors.{spreadOf}
 
 -- ---- what a call works on: a run, the reduced network, and the pair that words hold there, brought back over the steps
 
@@ -70,15 +74,28 @@ abbrev pub isBack : Net → Way → Bool
 isBack net wide = false
 isBack net (at pair) = isFit (valueOf net pair)
 
--- "Did the reduction end in a reduced network? 6", "Is the stack offered the one that it gives, length included? 7", 8 to 12 on the
--- reduced network, "Does every figure of the way back fit, the original's value included? 13"
-unfoldable pub runRefusal : Net → Run → List ℤ → List ℤ → ℕ
-runRefusal net run zs ys = question 6 (isReduced (run .ends)) ⊳ question 7 (isStack run zs) ⊳ examined (reducedNet run) ys ⊳ question 13 (isBack net (broughtBack run ys))
+-- "Did the reduction end in a reduced network? 6", "Is the stack offered the one that it gives, length included? 7", 8 to 12 on the reduced network
+unfoldable pub offerTable : Bool → Bool → Net → List ℤ → List Question
+offerTable ended stack net ys = 6 asks ended ∷ 7 asks stack ∷ pairQuestions net ys
 
--- "Are the lent outputs and scratch long enough? 1"; then 2 to 5
-unfoldable pub refusalOf : List ℤ → List ℤ → List ℤ → ℕ → ℕ → ℕ → ℕ → ℕ
-refusalOf xs zs ys out values scratch arcs =
-    question 1 (isRoomy out values scratch arcs) ⊳ askedNumber (askedOf xs) ⊳ runRefusal (readOf xs) (reduced (readOf xs)) zs ys
+-- "Does every figure of the way back fit, the original's value included? 13"
+abbrev pub backTable : Net → Way → List Question
+backTable net way = 13 asks isBack net way ∷ []
+
+unfoldable pub runTable : Net → Run → List ℤ → List ℤ → List Question
+runTable net run zs ys = offerTable (isReduced (run .ends)) (isStack run zs) (reducedNet run) ys ++ backTable net (broughtBack run ys)
+
+-- "Are the lent outputs and scratch long enough? 1"; then 2 to 5, and 6 to 13
+unfoldable pub restoreTable : List ℤ → List ℤ → List ℤ → ℕ → ℕ → ℕ → ℕ → List Question
+restoreTable xs zs ys out values scratch arcs = 1 asks isRoomy out values scratch arcs ∷ (questions xs ++ runTable (readOf xs) (reduced (readOf xs)) zs ys)
+
+abbrev pub refusalOf : List ℤ → List ℤ → List ℤ → ℕ → ℕ → ℕ → ℕ → ℕ
+refusalOf xs zs ys out values scratch arcs = firstNo (restoreTable xs zs ys out values scratch arcs)
+
+-- those before question 8
+unfoldable pub earlierTable : List ℤ → List ℤ → ℕ → ℕ → ℕ → ℕ → List Question
+earlierTable xs zs out values scratch arcs =
+    1 asks isRoomy out values scratch arcs ∷ (questions xs ++ (6 asks isReduced (reduced (readOf xs) .ends) ∷ 7 asks isStack (reduced (readOf xs)) zs ∷ []))
 
 -- ---- the answer and the words written, by the number of the first question that is answered by no
 
@@ -90,24 +107,6 @@ answerOf (suc q) = Refused (suc q)
 abbrev pub numberOf : Answer → ℕ
 numberOf Restored = 0
 numberOf (Refused q) = q
-
--- figure k of a pair's record: "node prices p, then flows"
-unfoldable pub pairFigure : ℕ → Pair → ℕ → Fraction
-pairFigure n pair k = cond (leb (k + 1) n) (priceAt pair (k + 1)) (flowAt pair (k - n + 1))
-
-abbrev pub pairNum : ℕ → Pair → ℕ → ℤ
-pairNum n pair k = pairFigure n pair k .num
-
-abbrev pub pairDen : ℕ → Pair → ℕ → ℤ
-pairDen n pair k = denWord (pairFigure n pair k .den)
-
--- "n, m; then n + m numerators; then denominators", and zeros: room words
-unfoldable pub pairWords : ℕ → ℕ → Pair → ℕ → List ℤ
-pairWords n m pair room = wordOf n ∷ wordOf m ∷ arraysOf (pairNum n pair) (pairDen n pair) (n + m) (room - 2)
-
--- "the reduced value, then the original's", and zeros
-abbrev pub fourWords : Fraction → Fraction → ℕ → List ℤ
-fourWords x y room = x .num ∷ denWord (x .den) ∷ y .num ∷ denWord (y .den) ∷ zeros (room - 4)
 
 abbrev pub outOf : ℕ → Net → Way → ℕ → List ℤ
 outOf zero net way o = pairWords (net .n) (net .m) (pairBack way) o
@@ -131,7 +130,7 @@ writtenPair net out = pairOf out (net .n) (net .m)
 
 pub record Optimum (net : Net) (run : Run) (ys out values : List ℤ) : Type 0 where
   -- the pair passed the test on the reduced network
-  pub tested : examined (reducedNet run) ys ≡ 0
+  pub tested : firstNo (pairQuestions (reducedNet run) ys) ≡ 0
   pub proven : Proven (reducedNet run) ys
   -- the flow written is feasible, every feasible flow costs at least as much, and the cost written is its cost
   pub optimal : Optimal (programOf net) (exactPair (writtenPair net out) .flow)
@@ -140,9 +139,15 @@ pub record Optimum (net : Net) (run : Run) (ys out values : List ℤ) : Type 0 w
 -- ---- a call: the words of the network, the stack and the pair, the lengths of the lent pair, values, scratch and arc list; the result, all words written, and the records
 
 pub record Restoration (xs zs ys : List ℤ) (o v w k : ℕ) (r : Answer) (out values scratch : List ℤ) (arcs : List Arc) : Type 0 where
-  pub result : r ≡ answerOf (refusalOf xs zs ys o v w k)
-  pub out-is : out ≡ outOf (refusalOf xs zs ys o v w k) (readOf xs) (broughtBack (reduced (readOf xs)) ys) o
-  pub values-is : values ≡ valuesOf (refusalOf xs zs ys o v w k) (readOf xs) (reduced (readOf xs)) ys (broughtBack (reduced (readOf xs)) ys) v
+  -- the first refusal that applies
+  pub number : numberOf r ≡ firstNo (restoreTable xs zs ys o v w k)
+  pub result : r ≡ answerOf (firstNo (restoreTable xs zs ys o v w k))
+  pub out-is : out ≡ outOf (firstNo (restoreTable xs zs ys o v w k)) (readOf xs) (broughtBack (reduced (readOf xs)) ys) o
+  pub values-is : values ≡ valuesOf (firstNo (restoreTable xs zs ys o v w k)) (readOf xs) (reduced (readOf xs)) ys (broughtBack (reduced (readOf xs)) ys) v
   pub scratch-is : scratch ≡ zeros w
   pub arcs-is : arcs ≡ noArcs k
+  -- where none of 1 to 7 applies, the answer is restored or 13 exactly where the pair is proven on the reduced network
+  pub exactly : firstNo (earlierTable xs zs o v w k) ≡ 0 → ((numberOf r ≡ 0) ⊎ (numberOf r ≡ 13)) ↔ Proven (reducedNet (reduced (readOf xs))) ys
+  -- 6 only where the network given has no feasible flow, in fractions of any width
+  pub flowless : numberOf r ≡ 6 → LP.NoFlow (programOf (readOf xs))
   pub optimum : r ≡ Restored → Optimum (readOf xs) (reduced (readOf xs)) ys out values

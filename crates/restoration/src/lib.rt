@@ -2,20 +2,20 @@
 // The next line is for tools/lift.py:
 // lent: network::Arc [i8; 56]
 ghost use mathlib.Core.Path.{_≡_};
-ghost use Prim.Native.Nat.{_+_, _*_, _≤_};
 ghost use lib.ListN.{length};
-ghost use Rattle.loops.specs.Loops.{build, zeros};
+ghost use Rattle.loops.specs.Loops.{zeros};
 ghost use Rattle.network.specs.ArcList.{joined};
-ghost use Rattle.network.specs.Output.{packedOf};
-ghost use Rattle.network.specs.Record.{readOf};
-ghost use Rattle.optimality.specs.Test.{examined};
+ghost use Rattle.survivors.specs.Survivors.{packedOf};
+ghost use Rattle.records.specs.Network.{readOf};
+ghost use Rattle.optimality.specs.Test.{pairQuestions};
 ghost use Rattle.rules.specs.Table.{reduced};
 ghost use Rattle.search.specs.Search.{endsOf};
-ghost use Rattle.reduction.specs.Questions.{question, _⊳_};
-ghost use Rattle.reduction.specs.Logged.{stackWord};
-ghost use Rattle.reduction.specs.Stack.{sameWords};
+ghost use Rattle.records.specs.Questions.{firstNo};
+ghost use Rattle.records.specs.Logged.{isStackOf};
 ghost use Rattle.postsolve.specs.Postsolve.{wayOf};
-ghost use Rattle.restoration.specs.Restore.{isReduced, refusalOf, pairWords, fourWords, Written, Restoration};
+ghost use Rattle.restoration.specs.Restore.{isReduced, offerTable, refusalOf, Written, Restoration};
+ghost use Rattle.records.specs.Pair.{pairWords};
+ghost use Rattle.records.specs.Values.{fourWords};
 ghost use Rattle.restoration.specs.internal.Parts.{Empty, Offers, Ended};
 use fraction::Fraction;
 use network::Arc;
@@ -27,8 +27,6 @@ use search::Ends;
 use search::Ran;
 
 pub mod plain;
-mod record;
-mod stack;
 
 // A restored pair, or the number of the question that is answered by no.
 pub enum Answer {
@@ -58,31 +56,28 @@ fn refuse(q: usize) -> Offer
 
 // Questions 8 to 12, on the network that is left.
 fn test_pair(net: Net, pair: &[i32]) -> Offer
-    ensures { λ r. ⌜ Offers net (now (pair .entry)) (examined (packedOf net) (now (pair .entry))) r ⌝ }
+    ensures { λ r. ⌜ Offers net (now (pair .entry)) (firstNo (pairQuestions (packedOf net) (now (pair .entry)))) r ⌝ }
 {
-    let packed = network::output::pack(net);
-    let q = optimality::examine(packed, pair);
-    if q == 0 {
-        let p = network::pair::read_pair(pair, packed.n, packed.m);
-        let value = optimality::figures::value(packed, p).figure();
-        let there = postsolve::spread(net, p);
+    let tested = optimality::examine(survivors::pack(net), pair);
+    if tested.refused == 0 {
+        let there = survivors::spread(net, tested.pair);
+        let worth = tested.value;
         return Offer {
             refused: 0,
             pair: there,
-            value,
+            value: worth,
         };
     }
-    refuse(q)
+    refuse(tested.refused)
 }
 
 // Questions 6 to 12 of a run whose steps stand in the log and whose arcs are `view`.
 fn ask_run(ran: Ran, view: [Arc; 97], log: &[i32], stack: &[i32], pair: &[i32]) -> Offer
-    requires { ⌜ ran .steps ≤ 128 ⌝ }
-    ensures { λ r. ⌜ Offers (joined (ran .nodes) view) (now (pair .entry)) (question 6 (isReduced (endsOf (ran .ends))) ⊳ question 7 (sameWords (now (stack .entry)) (build (1 + 2 * ran .steps) (stackWord (now (log .entry)) (ran .steps)))) ⊳ examined (packedOf (joined (ran .nodes) view)) (now (pair .entry))) r ⌝ }
+    ensures { λ r. ⌜ Offers (joined (ran .nodes) view) (now (pair .entry)) (firstNo (offerTable (isReduced (endsOf (ran .ends))) (isStackOf (now (log .entry)) (ran .steps) (now (stack .entry))) (packedOf (joined (ran .nodes) view)) (now (pair .entry)))) r ⌝ }
 {
     let ends = ran.ends;
     if let Ends::Stops = ends {
-        if crate::stack::is_stack(log, ran.steps, stack) {
+        if records::stack::is_stack(log, ran.steps, stack) {
             return test_pair(network::join(ran.nodes, view), pair);
         }
         return refuse(7);
@@ -99,21 +94,22 @@ fn write(
     out: &mut [i32],
     values: &mut [i32],
 )
-    requires { ⌜ Empty (now out) (now values) × (net .n ≤ 32) × (net .m ≤ 96) ⌝ }
+    requires { ⌜ Empty (now out) (now values) ⌝ }
     ensures { λ _. ⌜ (now (out .exit) ≡ pairWords (net .n) (net .m) pair (length (now (out .entry)))) × (now (values .exit) ≡ fourWords reduced original (length (now (values .entry)))) ⌝ }
 {
-    crate::record::write_pair(net.n, net.m, pair, out);
-    crate::record::write_values(reduced, original, values);
+    records::pair::write_pair(net.n, net.m, pair, out);
+    records::values::write(values, 0, reduced);
+    records::values::write(values, 2, original);
 }
 
 // The end of the way back, b, on the network given: question 13, and the words of what is restored.
 fn finish(net: Net, reduced: Fraction, b: Back, out: &mut [i32], values: &mut [i32]) -> Answer
-    requires { ⌜ Empty (now out) (now values) × (net .n ≤ 32) × (net .m ≤ 96) ⌝ }
+    requires { ⌜ Empty (now out) (now values) ⌝ }
     ensures { λ r. ⌜ Ended net reduced (wayOf b) r (now (out .exit)) (now (values .exit)) (length (now (out .entry))) (length (now (values .entry))) ⌝ }
 {
     if b.fits {
         let back = b.pair;
-        let w = optimality::figures::value(net, back);
+        let w = figures::value(net, back);
         if w.is_fit() {
             write(net, back, reduced, w.figure(), out, values);
             return Answer::Restored;
@@ -131,7 +127,7 @@ fn finish_at(
     out: &mut [i32],
     values: &mut [i32],
 ) -> Answer
-    requires { ⌜ Empty (now out) (now values) × (nodes .n ≤ 32) × (nodes .m ≤ 96) ⌝ }
+    requires { ⌜ Empty (now out) (now values) ⌝ }
     ensures { λ r. ⌜ Ended (joined nodes view) reduced (wayOf b) r (now (out .exit)) (now (values .exit)) (length (now (out .entry))) (length (now (values .entry))) ⌝ }
 {
     finish(network::join(nodes, view), reduced, b, out, values)

@@ -1,11 +1,10 @@
 -- `reduction::finish` meets its contract.
-use mathlib.Core.Path.{_∙_, refl}
 use borrow.Author.Needs.{needs}
 use Rattle.reduction.proofs.finish.Statement.{statement}
 use Rattle.reduction.proofs.finish.Tie as tie
 
 returns : tie.Need-returns
-returns c = (rw (c .before .ends .given .1), rw (c .before .ends .given .1) (c .before .before .before .before .before .before .pre .2), c .before .before .before .before .write .ensures)
+returns c = (rw (c .before .ends .given .1), rw (c .before .ends .given .1) (c .before .before .before .before .before .before .pre), c .before .before .before .before .write .ensures)
 
 returns-2 : tie.Need-returns-2
 returns-2 c = (rw (c .before .before .before .before .before .enum-told .given .1), rw (c .before .before .before .before .before .enum-told .given .1) (rw (c .before .before .before .pack .ensures, c .before .before .before .before .join .ensures) at (c .before .write-network .ensures)), c .before .before .before .before .before .before .before .before .write .ensures)

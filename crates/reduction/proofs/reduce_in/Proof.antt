@@ -1,6 +1,6 @@
 -- `reduction::reduce_in` meets its contract. The part that follows the code is `Proof/Tie.antt`, made by tools/lift.py.
 mod Tie
-use mathlib.Core.Path.{_∙_, sym, refl, ap}
+use mathlib.Core.Path.{_∙_, sym}
 use native.Mathlib.Omega.{arith}
 use Rattle.reduction.proofs.Found.{found, finished, refused, has-room, no-out, no-stack}
 use borrow.Author.Needs.{needs}
@@ -22,7 +22,7 @@ view-requires : tie.Need-view-requires
 view-requires c κs = search needs
 
 finish-requires : tie.Need-finish-requires
-finish-requires c κs = let f = found (c .before .before .before .before .before .before .before .before .before .run .ensures) (c .before .before .before .before .before .if3 .taken) in (f .few, omega (arith, c .before .before .before .before .before .before .before .before .before .before .before .before .if2 .left), c .before .before .before .before .before .before .before .before .before .before .before .before .before .before .pre .0)
+finish-requires c κs = c .before .before .before .before .before .before .before .before .before .before .before .before .before .before .pre .0
 
 same-length : tie.Need-same-length
 same-length c = search needs
@@ -37,7 +37,7 @@ same-length-4 : tie.Need-same-length-4
 same-length-4 c = search needs
 
 returns-3 : tie.Need-returns-3
-returns-3 c = let f = found (c .before .before .before .before .before .before .before .before .before .before .before .before .run .ensures) (c .before .before .before .before .before .before .before .before .if3 .taken) in let g = c .before .before .finish .ensures in finished _ f (c .before .before .before .before .before .before .view .ensures) (has-room _ _ _ _ _ (omega (arith, c .before .before .before .before .before .before .before .before .before .before .before .before .before .before .before .before .if1 .left)) (omega (arith, c .before .before .before .before .before .before .before .before .before .before .before .before .before .before .before .if2 .left)) ∙ (sym (c .before .before .before .before .before .before .before .before .before .before .before .before .run .ensures .refused-is) ∙ c .before .before .before .before .before .before .before .before .if3 .taken)) (c .before .before .before .before .before .before .before .before .before .before .before .before .before .before .before .before .before .pre .1) (g .0) (g .1) (g .2)
+returns-3 c = let f = found (c .before .before .before .before .before .before .before .before .before .before .before .before .run .ensures) (c .before .before .before .before .before .before .before .before .if3 .taken) in let g = c .before .before .finish .ensures in finished _ f (c .before .before .before .before .before .before .view .ensures) (has-room _ _ _ _ _ (omega (arith, c .before .before .before .before .before .before .before .before .before .before .before .before .before .before .before .before .if1 .left)) (omega (arith, c .before .before .before .before .before .before .before .before .before .before .before .before .before .before .before .if2 .left)) ∙ (sym (c .before .before .before .before .before .before .before .before .before .before .before .before .run .ensures .refused-is) ∙ c .before .before .before .before .before .before .before .before .if3 .taken)) (c .before .before .before .before .before .before .before .before .before .before .before .before .before .before .before .before .before .pre .1) (g .0) (g .1) (g .2) (omega (arith, c .before .before .before .before .before .before .before .before .before .before .before .before .before .before .before .if2 .left))
 
 same-length-5 : tie.Need-same-length-5
 same-length-5 c = search needs

@@ -4,7 +4,7 @@ use mathlib.Core.Path.{_∙_, sym, refl, ap}
 use native.Mathlib.Omega.{arith}
 use Rattle.network.specs.ArcList.{arcsIn}
 use Rattle.reduction.proofs.Found.{found}
-use Rattle.restoration.proofs.Parts.{has-room, no-out, no-values, first-none, first-some, then-back, refused, sizes, arcs-first, offered, went-back}
+use Rattle.restoration.proofs.Parts.{no-out, no-values, search-no, search-yes, offer-no, refused, arcs-first, offered, went-back}
 use borrow.Author.Needs.{needs}
 use Rattle.restoration.proofs.restore_in.Statement.{statement}
 use Rattle.restoration.proofs.restore_in.Proof.Tie as tie
@@ -29,7 +29,7 @@ view-requires : tie.Need-view-requires
 view-requires c κs = search needs
 
 ask-run-requires : tie.Need-ask-run-requires
-ask-run-requires c κs = found (c .before .before .before .before .before .before .before .run .ensures) (c .before .before .before .if3 .taken) .few
+ask-run-requires c κs = search needs
 
 undo-steps-requires : tie.Need-undo-steps-requires
 undo-steps-requires c κs = search needs
@@ -38,7 +38,7 @@ view-requires-2 : tie.Need-view-requires-2
 view-requires-2 c κs = search needs
 
 finish-at-requires : tie.Need-finish-at-requires
-finish-at-requires c κs = let f = found (c .before .before .before .before .before .before .before .before .before .before .before .before .before .before .before .before .before .before .run .ensures) (c .before .before .before .before .before .before .before .before .before .before .before .before .before .before .if3 .taken) in (record { no-pair = c .before .before .before .before .before .before .before .before .before .before .before .before .before .before .before .before .before .before .before .before .before .before .before .pre .0; no-values = c .before .before .before .before .before .before .before .before .before .before .before .before .before .before .before .before .before .before .before .before .before .before .before .pre .1; out-room = omega (arith, c .before .before .before .before .before .before .before .before .before .before .before .before .before .before .before .before .before .before .before .before .before .before .if1 .left); values-room = omega (arith, c .before .before .before .before .before .before .before .before .before .before .before .before .before .before .before .before .before .before .before .before .before .if2 .left) }, sizes f .0, sizes f .1)
+finish-at-requires c κs = record { no-pair = c .before .before .before .before .before .before .before .before .before .before .before .before .before .before .before .before .before .before .before .before .before .before .before .pre .0; no-values = c .before .before .before .before .before .before .before .before .before .before .before .before .before .before .before .before .before .before .before .before .before .before .before .pre .1; out-room = omega (arith, c .before .before .before .before .before .before .before .before .before .before .before .before .before .before .before .before .before .before .before .before .before .before .if1 .left); values-room = omega (arith, c .before .before .before .before .before .before .before .before .before .before .before .before .before .before .before .before .before .before .before .before .before .if2 .left) }
 
 same-length : tie.Need-same-length
 same-length c = search needs
@@ -58,7 +58,7 @@ returns-3 c =
     let u = c .before .before .before .before .before .before .before .before .undo-steps .ensures in
     went-back f _ _ (offered f _ _ (c .before .before .before .before .before .before .before .before .before .before .before .before .before .before .before .view .ensures) (c .before .before .before .before .before .before .before .before .before .before .before .before .before .ask-run .ensures)) (c .before .before .before .before .before .before .before .before .before .before .before .if4 .taken) (u .0 _ (f .steps-is) (f .holds)) refl refl
     (c .before .before .before .before .before .view2 .ensures ∙ ap arcsIn (u .1) ∙ arcs-first f (sym (c .before .before .before .before .before .before .before .before .before .before .before .before .before .before .before .before .before .before .before .before .before .run .kept .1 .1 .0))) (c .before .before .finish-at .ensures) _
-    (has-room _ _ _ _ _ _ _ (omega (arith, c .before .before .before .before .before .before .before .before .before .before .before .before .before .before .before .before .before .before .before .before .before .before .before .before .before .if1 .left)) (omega (arith, c .before .before .before .before .before .before .before .before .before .before .before .before .before .before .before .before .before .before .before .before .before .before .before .before .if2 .left)) ∙ first-none _ _ _ (sym (c .before .before .before .before .before .before .before .before .before .before .before .before .before .before .before .before .before .before .before .before .before .run .ensures .refused-is)) (c .before .before .before .before .before .before .before .before .before .before .before .before .before .before .before .before .before .if3 .taken))
+    (search-yes _ _ _ _ _ _ _ (omega (arith, c .before .before .before .before .before .before .before .before .before .before .before .before .before .before .before .before .before .before .before .before .before .before .before .before .before .if1 .left)) (omega (arith, c .before .before .before .before .before .before .before .before .before .before .before .before .before .before .before .before .before .before .before .before .before .before .before .before .if2 .left)) (sym (c .before .before .before .before .before .before .before .before .before .before .before .before .before .before .before .before .before .before .before .before .before .run .ensures .refused-is) ∙ c .before .before .before .before .before .before .before .before .before .before .before .before .before .before .before .before .before .if3 .taken))
 
 same-length-5 : tie.Need-same-length-5
 same-length-5 c = search needs
@@ -71,7 +71,7 @@ returns-4 c =
     let f = found (c .before .before .before .before .before .before .before .before .before .before .run .ensures) (c .before .before .before .before .before .before .if3 .taken) in
     let h = offered f _ _ (c .before .before .before .before .view .ensures) (c .before .before .ask-run .ensures) in
     refused _ _
-    (has-room _ _ _ _ _ _ _ (omega (arith, c .before .before .before .before .before .before .before .before .before .before .before .before .before .before .if1 .left)) (omega (arith, c .before .before .before .before .before .before .before .before .before .before .before .before .before .if2 .left)) ∙ first-none _ _ _ (sym (c .before .before .before .before .before .before .before .before .before .before .run .ensures .refused-is)) (c .before .before .before .before .before .before .if3 .taken) ∙ then-back _ _ _ _ ∙ first-some _ _ _ (sym (h .refused-is)) (c .if4 .left)) (c .if4 .left) (c .before .before .before .before .before .before .before .before .before .before .before .before .before .before .before .pre .0) (c .before .before .before .before .before .before .before .before .before .before .before .before .before .before .before .pre .1)
+    (search-yes _ _ _ _ _ _ _ (omega (arith, c .before .before .before .before .before .before .before .before .before .before .before .before .before .before .if1 .left)) (omega (arith, c .before .before .before .before .before .before .before .before .before .before .before .before .before .if2 .left)) (sym (c .before .before .before .before .before .before .before .before .before .before .run .ensures .refused-is) ∙ c .before .before .before .before .before .before .if3 .taken) ∙ offer-no _ _ _ _ _ (h .refused-is) (c .if4 .left)) (c .if4 .left) (c .before .before .before .before .before .before .before .before .before .before .before .before .before .before .before .pre .0) (c .before .before .before .before .before .before .before .before .before .before .before .before .before .before .before .pre .1)
 
 same-length-7 : tie.Need-same-length-7
 same-length-7 c = search needs
@@ -80,7 +80,7 @@ same-length-8 : tie.Need-same-length-8
 same-length-8 c = search needs
 
 returns-5 : tie.Need-returns-5
-returns-5 c = refused _ _ (has-room _ _ _ _ _ _ _ (omega (arith, c .before .before .before .before .before .before .before .before .if1 .left)) (omega (arith, c .before .before .before .before .before .before .before .if2 .left)) ∙ first-some _ _ _ (sym (c .before .before .before .before .run .ensures .refused-is)) (c .if3 .left)) (c .if3 .left) (c .before .before .before .before .before .before .before .before .before .pre .0) (c .before .before .before .before .before .before .before .before .before .pre .1)
+returns-5 c = refused _ _ (search-no _ _ _ _ _ _ _ (omega (arith, c .before .before .before .before .before .before .before .before .if1 .left)) (omega (arith, c .before .before .before .before .before .before .before .if2 .left)) _ (c .before .before .before .before .run .ensures .refused-is) (c .if3 .left)) (c .if3 .left) (c .before .before .before .before .before .before .before .before .before .pre .0) (c .before .before .before .before .before .before .before .before .before .pre .1)
 
 pub restore-in-spec : {M : Type 1} → statement M
 restore-in-spec =

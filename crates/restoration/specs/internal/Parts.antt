@@ -8,15 +8,16 @@ use Rattle.loops.specs.Loops.{zeros}
 use Rattle.fraction.specs.declared.Fraction.{Fraction}
 use Rattle.fraction.specs.Formula.{figureOf}
 use Rattle.network.specs.declared.Net.{Net}
-use Rattle.network.specs.Output.{packedOf}
+use Rattle.survivors.specs.Survivors.{packedOf}
 use Rattle.step.specs.Run.{Way}
-use Rattle.optimality.specs.Figures.{valueOf}
+use Rattle.figures.specs.Figures.{valueOf}
 use Rattle.optimality.specs.Test.{pairIn}
-use Rattle.postsolve.specs.Postsolve.{spreadOf}
-use Rattle.reduction.specs.Questions.{question}
+use Rattle.survivors.specs.Survivors.{spreadOf}
+use Rattle.records.specs.Questions.{firstNo}
 use Rattle.restoration.specs.declared.Answer.{Answer}
 use Rattle.restoration.specs.declared.Offer.{Offer}
-use Rattle.restoration.specs.Restore.{originalValue, isBack, answerOf, fourWords, outOf}
+use Rattle.restoration.specs.Restore.{originalValue, backTable, answerOf, outOf}
+use Rattle.records.specs.Values.{fourWords}
 
 -- lent slices of zeros, with room
 pub record Empty (out values : List ℤ) : Type 0 where
@@ -37,6 +38,6 @@ valuesWith zero x net way v = fourWords x (originalValue net way) v
 valuesWith (suc q) x net way v = zeros v
 
 pub record Ended (net : Net) (x : Fraction) (way : Way) (r : Answer) (out values : List ℤ) (o v : ℕ) : Type 0 where
-  pub result : r ≡ answerOf (question 13 (isBack net way))
-  pub out-is : out ≡ outOf (question 13 (isBack net way)) net way o
-  pub values-is : values ≡ valuesWith (question 13 (isBack net way)) x net way v
+  pub result : r ≡ answerOf (firstNo (backTable net way))
+  pub out-is : out ≡ outOf (firstNo (backTable net way)) net way o
+  pub values-is : values ≡ valuesWith (firstNo (backTable net way)) x net way v

@@ -1,5 +1,4 @@
 -- `restoration::plain::restore` meets its contract. The part that follows the code is `Proof/Tie.antt`, made by tools/lift.py.
--- Assumes nothing.
 mod Tie
 use borrow.Author.Needs.{needs}
 use Rattle.restoration.proofs.plain.restore.Statement.{statement}
