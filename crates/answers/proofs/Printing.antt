@@ -1,4 +1,4 @@
--- Laws of what is printed. Assumes nothing.
+-- Laws of what is printed.
 use mathlib.Core.List.{List, _++_}
 use Prim.Native.Nat.{ℕ, _+_, _*_, _≤_}
 use native.Mathlib.Nat.{le-trans, add-le-add}

@@ -1,4 +1,4 @@
--- What is known of a text that was read, where there is room for all its words. Assumes nothing.
+-- What is known of a text that was read, where there is room for all its words.
 use mathlib.Core.Path.{_≡_, refl, sym, ap, _∙_}
 use mathlib.Core.List.{List}
 use mathlib.Core.Option.{Option, some, none}
@@ -7,7 +7,7 @@ use native.Mathlib.Omega.{arith}
 use lib.IntN.{ℤ}
 use lib.ListN.{length, take, length-append}
 use lib.Seq.{take-at}
-use Rattle.fraction.specs.Laws.{never}
+use Rattle.fraction.proofs.Laws.{never}
 use Rattle.text.specs.declared.Reading.the-variants.{Words, Refused}
 use Rattle.text.specs.Text.{wordsOf, answer, padded, Read}
 use Rattle.text.proofs.Count.{room-enough}

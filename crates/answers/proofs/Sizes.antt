@@ -1,4 +1,4 @@
--- A word of a record as a size, as the code has it. Assumes nothing.
+-- A word of a record as a size, as the code has it.
 use mathlib.Core.Path.{_≡_, refl, sym, ap}
 use mathlib.Core.Bool.{true, false}
 use mathlib.Core.List.{List}
@@ -12,12 +12,12 @@ use lib.Signed.{mag, ltZ, nonNeg}
 use mir.Syntax.{w32}
 use mir.Val.{toZ, ofZ}
 use Rattle.integer.specs.Machine.{back32}
-use Rattle.network.specs.Record.{endOf}
+use Rattle.fraction.specs.Words.{naturalOf}
 
-pub negative : (z : ℤ) → mag z < 2147483648 → ltZ (toZ w32 (ofZ w32 z)) (pos 0) ≡ true → 0 ≡ endOf z
+pub negative : (z : ℤ) → mag z < 2147483648 → ltZ (toZ w32 (ofZ w32 z)) (pos 0) ≡ true → 0 ≡ naturalOf z
 negative z h e = by z (rw (back32 z h) at e)
   where
-    by : (z : ℤ) → ltZ z (pos 0) ≡ true → 0 ≡ endOf z
+    by : (z : ℤ) → ltZ z (pos 0) ≡ true → 0 ≡ naturalOf z
     by (pos n) e = absurd (below (ltb-true n 0 e))
       where
         below : n < 0 → ⊥
@@ -26,8 +26,8 @@ negative z h e = by z (rw (back32 z h) at e)
 
 pub record Unsigned (z : ℤ) : Type 0 where
   pub positive : T (nonNeg (toZ w32 (ofZ w32 z)))
-  pub is : natAbs (toZ w32 (ofZ w32 z)) ≡ endOf z
-  pub small : endOf z ≤ 2147483647
+  pub is : natAbs (toZ w32 (ofZ w32 z)) ≡ naturalOf z
+  pub small : naturalOf z ≤ 2147483647
 
 pub unsigned : (z : ℤ) → mag z < 2147483648 → ltZ (toZ w32 (ofZ w32 z)) (pos 0) ≡ false → Unsigned z
 unsigned z h e = record { positive = rw (back32 z h) (yes z f); is = rw (back32 z h) (same z f); small = few z f h }
@@ -39,14 +39,14 @@ unsigned z h e = record { positive = rw (back32 z h) (yes z f); is = rw (back32 
     yes (pos n) e = tt
     yes (negsuc n) e = absurd (let b : _≡_ {A = ℕ} 0 1 = cc in omega arith)
 
-    same : (z : ℤ) → ltZ z (pos 0) ≡ false → natAbs z ≡ endOf z
+    same : (z : ℤ) → ltZ z (pos 0) ≡ false → natAbs z ≡ naturalOf z
     same (pos n) e = refl
     same (negsuc n) e = absurd (let b : _≡_ {A = ℕ} 0 1 = cc in omega arith)
 
-    few : (z : ℤ) → ltZ z (pos 0) ≡ false → mag z < 2147483648 → endOf z ≤ 2147483647
+    few : (z : ℤ) → ltZ z (pos 0) ≡ false → mag z < 2147483648 → naturalOf z ≤ 2147483647
     few (pos n) e h = omega arith
     few (negsuc n) e h = omega arith
 
 -- a word outside a record
-pub outside : (xs : List ℤ) (k : ℕ) → length xs ≤ k → 0 ≡ endOf (getD xs k (pos 0))
-outside xs k h = sym (ap endOf (List·getD-eq-default xs (pos 0) {n = k} h))
+pub outside : (xs : List ℤ) (k : ℕ) → length xs ≤ k → 0 ≡ naturalOf (getD xs k (pos 0))
+outside xs k h = sym (ap naturalOf (List·getD-eq-default xs (pos 0) {n = k} h))

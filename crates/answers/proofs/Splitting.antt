@@ -1,4 +1,4 @@
--- The parts of a restoring text lie one behind the other in it. Assumes nothing.
+-- The parts of a restoring text lie one behind the other in it.
 use mathlib.Core.Path.{_≡_, refl}
 use mathlib.Core.Bool.{Bool, true, false, cond}
 use mathlib.Core.List.{List}
@@ -8,10 +8,11 @@ use lib.Dec.{leb}
 use lib.IntN.{ℤ}
 use lib.ListN.{length}
 use borrow.Author.Tests.{leb-true}
-use Rattle.fraction.specs.Laws.{never}
-use Rattle.network.specs.declared.record.Size.{Size}
-use Rattle.network.specs.declared.record.Size.the-variants.{Is, Off}
-use Rattle.network.specs.Record.{word, sizeOf, figures}
+use Rattle.fraction.proofs.Laws.{never}
+use Rattle.records.specs.declared.Size.{Size}
+use Rattle.records.specs.declared.Size.the-variants.{Is, Off}
+use Rattle.fraction.specs.Words.{word}
+use Rattle.records.specs.Network.{sizeOf, figures}
 use Rattle.answers.specs.declared.restoring.Split.the-variants.{Parts, No}
 use Rattle.answers.specs.Restoring.{splitStack, stackSplit, splitSized, splitBy, splitOf}
 

@@ -1,14 +1,18 @@
--- The lines that the programs print (01, "Instances", A), as bytes. Assumes nothing.
+-- The lines that the programs print (01, "Instances", A), as bytes.
+use mathlib.Core.Path.{_≡_}
 use mathlib.Core.List.{List, [], _∷_, _++_, map}
 use mathlib.Core.Option.{Option, some, none}
 use Prim.Native.Nat.{ℕ, _+_, _*_, _≤_}
 use lib.IntN.{ℤ}
 use lib.ListN.{length, take, drop, replicate}
-use Rattle.network.specs.Record.{word, endOf, figures, readOf}
-use Rattle.network.specs.Output.{wordOf}
+use Rattle.fraction.specs.Words.{word, naturalOf}
+use Rattle.records.specs.Network.{figures, readOf}
+use Rattle.fraction.specs.Words.{wordOf}
 use Rattle.reduction.specs.declared.Answer.{Answer}
 use Rattle.reduction.specs.declared.Answer.the-variants.{Reduced, NoFlow, Refused}
 use Rattle.reduction.specs.Reduce.{refusalOf, answerOf, outputOf, stackOf, numberOf, valuesOf}
+use Rattle.presolve.specs.LP as LP
+use Rattle.network.specs.Program.{programOf}
 use Rattle.rules.specs.Table.{reduced}
 use Rattle.text.specs.Text.{wordsOf}
 use Rattle.text.specs.Line.{lineOf}
@@ -26,7 +30,7 @@ refusedBytes = 114 ∷ 101 ∷ 102 ∷ 117 ∷ 115 ∷ 101 ∷ 100 ∷ 32 ∷ []
 
 -- the size that word k of a record says
 abbrev pub sizeAt : List ℤ → ℕ → ℕ
-sizeAt xs k = endOf (word xs k)
+sizeAt xs k = naturalOf (word xs k)
 
 -- a line of count words of a record, from a place on
 abbrev pub partLine : List ℤ → ℕ → ℕ → List ℕ
@@ -65,6 +69,10 @@ onWords (some xs) = reducedText xs
 
 unfoldable pub reduceText : List ℕ → List ℕ
 reduceText text = onWords (wordsOf text)
+
+-- what is printed says this: no flow only where the network given has no feasible flow, in fractions of any width
+abbrev pub NoFlowRight : List ℕ → Type 0
+NoFlowRight text = (xs : List ℤ) (rule place : ℕ) → wordsOf text ≡ some xs → answerOf (refusalOf xs 1410 257 10240 96) (reduced (readOf xs)) ≡ NoFlow rule place → LP.NoFlow (programOf (readOf xs))
 
 abbrev pub noBytes : ℕ → List ℕ
 noBytes n = replicate n 0

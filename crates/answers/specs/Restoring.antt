@@ -1,4 +1,5 @@
--- The restoring program: its text split by the sizes, and the lines that it prints (01, "Questions before work", "Instances", A). Assumes nothing.
+-- The restoring program: its text split by the sizes, and the lines that it prints (01, "Questions before work", "Instances", A).
+use mathlib.Core.Path.{_≡_}
 use mathlib.Core.Bool.{cond}
 use mathlib.Core.List.{List, [], _∷_, _++_}
 use mathlib.Core.Option.{Option, some, none}
@@ -6,14 +7,15 @@ use Prim.Native.Nat.{ℕ, _+_, _-_, _*_}
 use lib.Dec.{leb}
 use lib.IntN.{ℤ}
 use lib.ListN.{length, take, drop}
-use Rattle.network.specs.declared.record.Size.{Size}
-use Rattle.network.specs.declared.record.Size.the-variants.{Is, Off}
-use Rattle.network.specs.Record.{word, sizeOf, figures, readOf}
-use Rattle.network.specs.Output.{wordOf}
+use Rattle.records.specs.declared.Size.{Size}
+use Rattle.records.specs.declared.Size.the-variants.{Is, Off}
+use Rattle.fraction.specs.Words.{word}
+use Rattle.records.specs.Network.{sizeOf, figures, readOf}
+use Rattle.fraction.specs.Words.{wordOf}
 use Rattle.rules.specs.Table.{reduced}
 use Rattle.restoration.specs.declared.Answer.{Answer}
 use Rattle.restoration.specs.declared.Answer.the-variants.{Restored, Refused}
-use Rattle.restoration.specs.Restore.{refusalOf, answerOf, numberOf, outOf, valuesOf, broughtBack}
+use Rattle.restoration.specs.Restore.{refusalOf, answerOf, numberOf, outOf, valuesOf, broughtBack, Optimum}
 use Rattle.text.specs.Text.{wordsOf}
 use Rattle.text.specs.Line.{lineOf}
 use Rattle.answers.specs.declared.restoring.Split.{Split}
@@ -78,6 +80,15 @@ onWords (some ws) = onSplit ws (splitOf ws)
 
 unfoldable pub restoreText : List ℕ → List ℕ
 restoreText text = onWords (wordsOf text)
+
+-- what is printed says this: restored only with an optimum of the network given, of the cost printed
+abbrev pub OptimumRight : List ℤ → List ℤ → List ℤ → Type 0
+OptimumRight xs zs ys =
+    refusalOf xs zs ys 258 4 10240 96 ≡ 0 → Optimum (readOf xs) (reduced (readOf xs)) ys (outOf (refusalOf xs zs ys 258 4 10240 96) (readOf xs) (broughtBack (reduced (readOf xs)) ys) 258)
+    (valuesOf (refusalOf xs zs ys 258 4 10240 96) (readOf xs) (reduced (readOf xs)) ys (broughtBack (reduced (readOf xs)) ys) 4)
+
+abbrev pub RestoredRight : List ℕ → Type 0
+RestoredRight text = (ws : List ℤ) (e f : ℕ) → wordsOf text ≡ some ws → splitOf ws ≡ Parts e f → OptimumRight (take e ws) (take (f - e) (drop e ws)) (drop f ws)
 
 -- how many bytes an answer has at most
 abbrev pub mostRestored : ℕ → ℕ → ℕ

@@ -3,9 +3,9 @@ ghost use mathlib.Core.Path.{_≡_};
 ghost use mathlib.Core.List.{[], _∷_, _++_};
 ghost use Prim.Native.Nat.{_+_, _*_, _≤_};
 ghost use lib.ListN.{length};
-ghost use Rattle.network.specs.Output.{wordOf};
+ghost use Rattle.fraction.specs.Words.{wordOf};
 ghost use Rattle.text.specs.Line.{lineOf};
-ghost use Rattle.answers.specs.Answers.{noFlowBytes, refusedBytes, sizeAt, partLine, recordLines, networkLines, stackLines, reducedLines, reducedText, reduceText, noBytes, Printed, mostOf, mostReduced};
+ghost use Rattle.answers.specs.Answers.{noFlowBytes, refusedBytes, sizeAt, partLine, recordLines, networkLines, stackLines, reducedLines, reducedText, reduceText, noBytes, Printed, mostOf, mostReduced, NoFlowRight};
 use reduction::Answer;
 use text::Reading;
 
@@ -68,7 +68,7 @@ fn put_refusal(out: &mut [u8], at: usize, q: usize) -> usize
     ensures { λ r. ⌜ Printed (now (out .entry)) at (refusedBytes ++ lineOf (wordOf q ∷ [])) 33 r (now (out .exit)) ⌝ }
 {
     let a = text::put_bytes(out, at, b"refused ");
-    let words = [network::output::word_of(q)];
+    let words = [fraction::words::word_of(q)];
     text::put_line(out, a, &words)
 }
 
@@ -77,8 +77,8 @@ fn put_no_flow(out: &mut [u8], at: usize, rule: usize, place: usize) -> usize
 {
     let a = text::put_bytes(out, at, b"no flow ");
     let words = [
-        network::output::word_of(rule),
-        network::output::word_of(place),
+        fraction::words::word_of(rule),
+        fraction::words::word_of(place),
     ];
     text::put_line(out, a, &words)
 }
@@ -119,7 +119,7 @@ fn reduce_words(words: &[i32], out: &mut [u8]) -> usize
 // From the bytes of a text to the bytes of the reducing program's answer, and how many they are; what stands behind them is zero.
 // They are never more than `mostReduced 1410 257`, which is below 65536.
 pub fn reduce_text(text: &[u8], out: &mut [u8]) -> usize
-    ensures { λ r. ⌜ Printed (noBytes (length (now (out .entry)))) 0 (reduceText (now (text .entry))) (mostReduced 1410 257) r (now (out .exit)) ⌝ }
+    ensures { λ r. ⌜ Printed (noBytes (length (now (out .entry)))) 0 (reduceText (now (text .entry))) (mostReduced 1410 257) r (now (out .exit)) × NoFlowRight (now (text .entry)) ⌝ }
 {
     text::clear(out);
     let mut words = [0i32; 12288];

@@ -1,11 +1,10 @@
 // From the bytes of a restoring text to the bytes of the answer.
 ghost use mathlib.Core.Path.{_≡_};
-ghost use mathlib.Core.List.{_++_};
 ghost use Prim.Native.Nat.{_+_, _*_, _≤_};
 ghost use lib.ListN.{length};
 ghost use Rattle.answers.specs.Answers.{noBytes, Printed, mostOf};
-ghost use Rattle.answers.specs.Restoring.{stackSplit, splitSized, splitOf, pairLines, valueLines, restoredLines, restoredText, onSplit, restoreText, mostRestored};
-use network::record::Size;
+ghost use Rattle.answers.specs.Restoring.{stackSplit, splitSized, splitOf, pairLines, valueLines, restoredLines, restoredText, onSplit, restoreText, mostRestored, RestoredRight};
+use records::Size;
 use restoration::Answer;
 use text::Reading;
 
@@ -20,7 +19,7 @@ fn split_stack(words: &[i32], end: usize) -> Split
     requires { ⌜ end ≤ 100000 ⌝ }
     ensures { λ r. ⌜ r ≡ stackSplit (now (words .entry)) end ⌝ }
 {
-    match network::record::size_at(words, end, 128) {
+    match records::size_at(words, end, 128) {
         Size::Off => Split::No(7),
         Size::Is(s) => if end + 1 + 2 * s <= words.len() {
             Split::Parts(end, end + 1 + 2 * s)
@@ -45,9 +44,9 @@ fn split_sized(words: &[i32], n: usize, m: usize) -> Split
 fn split_words(words: &[i32]) -> Split
     ensures { λ r. ⌜ r ≡ splitOf (now (words .entry)) ⌝ }
 {
-    match network::record::size_at(words, 0, 32) {
+    match records::size_at(words, 0, 32) {
         Size::Off => Split::No(2),
-        Size::Is(n) => match network::record::size_at(words, 1, 96) {
+        Size::Is(n) => match records::size_at(words, 1, 96) {
             Size::Off => Split::No(2),
             Size::Is(m) => split_sized(words, n, m),
         },
@@ -130,7 +129,7 @@ fn restore_words(words: &[i32], out: &mut [u8]) -> usize
 // From the bytes of a text to the bytes of the restoring program's answer, and how many they are; what stands behind them is zero.
 // They are never more than `mostRestored 258 4`, which is below 65536.
 pub fn restore_text(text: &[u8], out: &mut [u8]) -> usize
-    ensures { λ r. ⌜ Printed (noBytes (length (now (out .entry)))) 0 (restoreText (now (text .entry))) (mostRestored 258 4) r (now (out .exit)) ⌝ }
+    ensures { λ r. ⌜ Printed (noBytes (length (now (out .entry)))) 0 (restoreText (now (text .entry))) (mostRestored 258 4) r (now (out .exit)) × RestoredRight (now (text .entry)) ⌝ }
 {
     text::clear(out);
     let mut words = [0i32; 12288];

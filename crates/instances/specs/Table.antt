@@ -16,11 +16,17 @@ use Rattle.network.specs.declared.Arc.{Arc}
 use Rattle.network.specs.declared.Net.{Net}
 use Rattle.network.specs.Network.{noArc, emptyNet, updatesOf, withArc, withSupply, withNode, without, applied, isTouching, degreeOf, touchingAfter, isRoot, farEnd, sideOf}
 use Rattle.network.specs.declared.ArcUpdate.{ArcUpdate}
-use Rattle.network.specs.Record.{figureAt, sizesOf, roleOf, isPermitted, isEnd, hasEnds, arcIn, isWeighted, figuresAsked, askedOf, netOf, readOf}
-use Rattle.network.specs.Pair.{withPrice, withFlow, hasSizes, isPair, pairOf as pairRead}
-use Rattle.network.specs.Output.{arcRank, rankOf, packNode, packArc, packedOf, arraysOf, wordOf, roleFigure, figureOf, hasRoom, networkOf}
-use Rattle.optimality.specs.Figures.{balanceOf, reducedCost, valueOf, allFit, isWithin, isAt, keepsRule, verdictOf}
-use Rattle.optimality.specs.Test.{examined}
+use Rattle.records.specs.Arrays.{figureAt}
+use Rattle.records.specs.Network.{sizesRight, figuresRight, endsRight, multipliersRight, questions, roleOf, isPermitted, isEnd, hasEnds, arcIn, isWeighted, netOf, readOf}
+use Rattle.network.specs.Pair.{withPrice, withFlow}
+use Rattle.records.specs.Pair.{hasSizes, isPair, pairOf as pairRead}
+use Rattle.survivors.specs.Survivors.{arcRank, rankOf, packNode, packArc, packedOf}
+use Rattle.records.specs.Arrays.{arraysOf}
+use Rattle.fraction.specs.Words.{wordOf}
+use Rattle.records.specs.Network.{roleFigure, figureOf, hasRoom, networkOf}
+use Rattle.figures.specs.Figures.{balanceOf, reducedCost, valueOf, allFit, isWithin, testQuestions}
+use Rattle.slackness.specs.Slackness.{isAt, keepsRule}
+use Rattle.optimality.specs.Test.{pairQuestions}
 use Rattle.step.specs.declared.Outcome.{Outcome}
 use Rattle.step.specs.declared.Outcome.the-variants.{Passes, NoFlow as NoFlow·outcome, Changes}
 use Rattle.step.specs.Outcome.{onlyWhere, noFlowWhere, fits}
@@ -34,15 +40,20 @@ use Rattle.costly_arc.specs.CostlyArc.{isOpenRoot, isCostlier, hasPair, costlyA
 use Rattle.two_arcs.specs.TwoArcs.{sameSign, tighter, imageOf, merged, kept, twoArcs, twoBack}
 use Rattle.crossing.specs.Crossing.{hasSignAt, signedAfter, isFree, isApart, crossed as crossedArc, crossedAt, crossing, crossingBack}
 use Rattle.rules.specs.Table.{reduced}
-use Rattle.postsolve.specs.Postsolve.{spreadOf}
+use Rattle.survivors.specs.Survivors.{spreadOf}
 use Rattle.reduction.specs.declared.Answer.{Answer}
 use Rattle.reduction.specs.declared.Answer.the-variants.{Reduced, NoFlow}
-use Rattle.reduction.specs.Stack.{stackRecord, sameWords}
-use Rattle.reduction.specs.Stack as Stack
-use Rattle.reduction.specs.Reduce.{isRoomy, refusalOf, answerOf, outputOf, stackOf}
+use Rattle.records.specs.Stack.{stackRecord, sameWords}
+use Rattle.records.specs.Stack as Stack
+use Rattle.reduction.specs.Reduce.{isRoomy, reduceTable, refusalOf, answerOf, outputOf, stackOf}
 use Rattle.restoration.specs.declared.Answer.{Answer as AnswerBack}
 use Rattle.restoration.specs.declared.Answer.the-variants.{Restored, Refused as RefusedBack}
-use Rattle.restoration.specs.Restore.{isRoomy as isRoomyBack, runRefusal, refusalOf as refusalBack, answerOf as answerBack, outOf, valuesOf, broughtBack, pairFigure, pairWords}
+use Rattle.restoration.specs.Restore.{isRoomy as isRoomyBack, offerTable, runTable, restoreTable, refusalOf as refusalBack, answerOf as answerBack, outOf, valuesOf, broughtBack}
+use Rattle.records.specs.Pair.{pairFigure, pairRoom, pairWords}
+use Rattle.text.specs.Text.{separator, digit, pieces, valueFrom, wordsIn, wordsOf}
+use Rattle.text.specs.Line.{digitsIn, digits, behindSpaces, spaced, lineOf}
+use Rattle.answers.specs.Answers.{recordLines, reduceText}
+use Rattle.answers.specs.Restoring.{stackSplit, splitSized, splitOf, restoreText}
 
 pub record Row : Type 1 where
   pub Compared : Type 0
@@ -216,9 +227,29 @@ J = row (Worked × Worked) (sumOf (over (pos 2147483647) 1) (over (pos 1) 1), su
 
 -- ---- the table
 
+-- A as the programs have it: the text given, and the lines that are printed, as bytes
+
+abbrev textGiven : List ℕ
+textGiven = 51 ∷ 32 ∷ 51 ∷ 10 ∷ 52 ∷ 32 ∷ 45 ∷ 53 ∷ 32 ∷ 50 ∷ 32 ∷ 49 ∷ 32 ∷ 50 ∷ 32 ∷ 49 ∷ 32 ∷ 48 ∷ 32 ∷ 51 ∷ 32 ∷ 49 ∷ 32 ∷ 45 ∷ 49 ∷ 32 ∷ 49 ∷ 32 ∷ 50 ∷ 32 ∷ 50 ∷ 32 ∷ 48 ∷ 32 ∷ 49 ∷ 32 ∷ 49 ∷ 32 ∷ 45 ∷ 49 ∷ 32 ∷ 51 ∷ 32 ∷ 50 ∷ 32 ∷ 55 ∷ 32 ∷ 48 ∷ 32 ∷ 49 ∷ 32 ∷ 49 ∷ 32 ∷ 45 ∷ 49 ∷ 10 ∷ 49 ∷ 32 ∷ 49 ∷ 32 ∷ 49 ∷ 32 ∷ 49 ∷ 32 ∷ 49 ∷ 32 ∷ 49 ∷ 32 ∷ 49 ∷ 32 ∷ 49 ∷ 32 ∷ 49 ∷ 32 ∷ 49 ∷ 32 ∷ 49 ∷ 32 ∷ 49 ∷ 32 ∷ 49 ∷ 32 ∷ 49 ∷ 32 ∷ 48 ∷ 32 ∷ 49 ∷ 32 ∷ 49 ∷ 32 ∷ 49 ∷ 32 ∷ 49 ∷ 32 ∷ 49 ∷ 32 ∷ 49 ∷ 32 ∷ 48 ∷ 32 ∷ 49 ∷ 32 ∷ 50 ∷ 10 ∷ []
+
+abbrev linesReduced : List ℕ
+linesReduced = 114 ∷ 101 ∷ 100 ∷ 117 ∷ 99 ∷ 101 ∷ 100 ∷ 10 ∷ 50 ∷ 32 ∷ 50 ∷ 10 ∷ 52 ∷ 32 ∷ 45 ∷ 52 ∷ 32 ∷ 49 ∷ 32 ∷ 50 ∷ 32 ∷ 49 ∷ 32 ∷ 48 ∷ 32 ∷ 51 ∷ 32 ∷ 49 ∷ 32 ∷ 45 ∷ 49 ∷ 32 ∷ 49 ∷ 32 ∷ 50 ∷ 32 ∷ 50 ∷ 32 ∷ 48 ∷ 32 ∷ 49 ∷ 32 ∷ 49 ∷ 32 ∷ 45 ∷ 49 ∷ 10 ∷ 49 ∷ 32 ∷ 49 ∷ 32 ∷ 49 ∷ 32 ∷ 49 ∷ 32 ∷ 49 ∷ 32 ∷ 49 ∷ 32 ∷ 49 ∷ 32 ∷ 49 ∷ 32 ∷ 49 ∷ 32 ∷ 49 ∷ 32 ∷ 49 ∷ 32 ∷ 49 ∷ 32 ∷ 49 ∷ 32 ∷ 48 ∷ 32 ∷ 49 ∷ 32 ∷ 49 ∷ 10 ∷ 49 ∷ 10 ∷ 51 ∷ 10 ∷ 51 ∷ 10 ∷ []
+
+abbrev A-text : Row
+A-text = row (List ℕ) (reduceText textGiven) linesReduced
+
+abbrev textOffered : List ℕ
+textOffered = 51 ∷ 32 ∷ 51 ∷ 10 ∷ 52 ∷ 32 ∷ 45 ∷ 53 ∷ 32 ∷ 50 ∷ 32 ∷ 49 ∷ 32 ∷ 50 ∷ 32 ∷ 49 ∷ 32 ∷ 48 ∷ 32 ∷ 51 ∷ 32 ∷ 49 ∷ 32 ∷ 45 ∷ 49 ∷ 32 ∷ 49 ∷ 32 ∷ 50 ∷ 32 ∷ 50 ∷ 32 ∷ 48 ∷ 32 ∷ 49 ∷ 32 ∷ 49 ∷ 32 ∷ 45 ∷ 49 ∷ 32 ∷ 51 ∷ 32 ∷ 50 ∷ 32 ∷ 55 ∷ 32 ∷ 48 ∷ 32 ∷ 49 ∷ 32 ∷ 49 ∷ 32 ∷ 45 ∷ 49 ∷ 10 ∷ 49 ∷ 32 ∷ 49 ∷ 32 ∷ 49 ∷ 32 ∷ 49 ∷ 32 ∷ 49 ∷ 32 ∷ 49 ∷ 32 ∷ 49 ∷ 32 ∷ 49 ∷ 32 ∷ 49 ∷ 32 ∷ 49 ∷ 32 ∷ 49 ∷ 32 ∷ 49 ∷ 32 ∷ 49 ∷ 32 ∷ 49 ∷ 32 ∷ 48 ∷ 32 ∷ 49 ∷ 32 ∷ 49 ∷ 32 ∷ 49 ∷ 32 ∷ 49 ∷ 32 ∷ 49 ∷ 32 ∷ 49 ∷ 32 ∷ 48 ∷ 32 ∷ 49 ∷ 32 ∷ 50 ∷ 10 ∷ 49 ∷ 10 ∷ 51 ∷ 10 ∷ 51 ∷ 10 ∷ 50 ∷ 32 ∷ 50 ∷ 10 ∷ 50 ∷ 32 ∷ 48 ∷ 32 ∷ 51 ∷ 32 ∷ 49 ∷ 10 ∷ 49 ∷ 32 ∷ 49 ∷ 32 ∷ 49 ∷ 32 ∷ 49 ∷ 10 ∷ []
+
+abbrev linesRestored : List ℕ
+linesRestored = 114 ∷ 101 ∷ 115 ∷ 116 ∷ 111 ∷ 114 ∷ 101 ∷ 100 ∷ 10 ∷ 51 ∷ 32 ∷ 51 ∷ 10 ∷ 50 ∷ 32 ∷ 48 ∷ 32 ∷ 55 ∷ 32 ∷ 51 ∷ 32 ∷ 49 ∷ 32 ∷ 50 ∷ 10 ∷ 49 ∷ 32 ∷ 49 ∷ 32 ∷ 49 ∷ 32 ∷ 49 ∷ 32 ∷ 49 ∷ 32 ∷ 49 ∷ 10 ∷ 53 ∷ 32 ∷ 49 ∷ 10 ∷ 49 ∷ 57 ∷ 32 ∷ 49 ∷ 10 ∷ []
+
+abbrev A-back-text : Row
+A-back-text = row (List ℕ) (restoreText textOffered) linesRestored
+
 abbrev pub table : List Row
-table = A ∷ A-back ∷ B ∷ E ∷ F ∷ G ∷ H ∷ I ∷ J ∷ []
+table = A ∷ A-text ∷ A-back ∷ A-back-text ∷ B ∷ E ∷ F ∷ G ∷ H ∷ I ∷ J ∷ []
 
 pub marked : All table
-unfolding gcd gcdBy build upto count all any scan isOperand isProper fitted reduceOf sumOf productOf differenceOf quotientOf negationOf reciprocalOf isLess isSame isZero isFinite fromWords denWord pairOf _⊕_ _⊖_ _⊗_ _⊘_ ⊝_ withArc withSupply withNode without applied isTouching degreeOf touchingAfter isRoot farEnd sideOf figureAt sizesOf roleOf isPermitted isEnd hasEnds arcIn isWeighted figuresAsked askedOf netOf readOf rankOf packNode packArc packedOf arraysOf wordOf roleFigure figureOf hasRoom networkOf withPrice withFlow hasSizes isPair pairRead balanceOf reducedCost valueOf allFit isWithin isAt keepsRule verdictOf examined onlyWhere noFlowWhere fits supplyLess dropped lowerBack figure restored quoteAt upward nextFrom runBy runOf backFrom wayBack closed bare bareNode bareBack forcedOut singleArc singleBack isOpenRoot isCostlier hasPair costlyArc sameSign tighter imageOf merged kept twoArcs twoBack hasSignAt signedAfter isFree isApart crossedArc crossedAt crossing crossingBack arcRank spreadOf stackRecord Stack.stackOf sameWords isRoomy refusalOf isRoomyBack runRefusal refusalBack broughtBack pairFigure pairWords
-marked = (refl, (refl, (refl, (refl, (refl, (refl, (refl, (refl, (refl, tt)))))))))
+unfolding gcd gcdBy build upto count all any scan isOperand isProper fitted reduceOf sumOf productOf differenceOf quotientOf negationOf reciprocalOf isLess isSame isZero isFinite fromWords denWord pairOf _⊕_ _⊖_ _⊗_ _⊘_ ⊝_ withArc withSupply withNode without applied isTouching degreeOf touchingAfter isRoot farEnd sideOf figureAt sizesRight figuresRight endsRight multipliersRight questions roleOf isPermitted isEnd hasEnds arcIn isWeighted netOf readOf rankOf packNode packArc packedOf arraysOf wordOf roleFigure figureOf hasRoom networkOf withPrice withFlow hasSizes isPair pairRead balanceOf reducedCost valueOf allFit isWithin isAt keepsRule testQuestions pairQuestions onlyWhere noFlowWhere fits supplyLess dropped lowerBack figure restored quoteAt upward nextFrom runBy runOf backFrom wayBack closed bare bareNode bareBack forcedOut singleArc singleBack isOpenRoot isCostlier hasPair costlyArc sameSign tighter imageOf merged kept twoArcs twoBack hasSignAt signedAfter isFree isApart crossedArc crossedAt crossing crossingBack arcRank spreadOf stackRecord Stack.stackOf sameWords isRoomy reduceTable isRoomyBack offerTable runTable restoreTable broughtBack pairFigure pairRoom pairWords separator digit pieces valueFrom wordsIn wordsOf digitsIn digits behindSpaces spaced lineOf recordLines reduceText stackSplit splitSized splitOf restoreText
+marked = (refl, (refl, (refl, (refl, (refl, (refl, (refl, (refl, (refl, (refl, (refl, tt)))))))))))

@@ -1,4 +1,4 @@
--- The codes that other languages get for an answer, beside all that the call says. Assumes nothing.
+-- The codes that other languages get for an answer, beside all that the call says.
 use mathlib.Core.Path.{_≡_}
 use mathlib.Core.List.{List}
 use Prim.Native.Nat.{ℕ, _+_, _*_, _≤_}
@@ -39,8 +39,10 @@ pub record TestCode (xs ys : List ℤ) (room r : ℕ) (values : List ℤ) : Type
   pub answer : Testing.Answer
   pub says : Test.Tested xs ys room answer values
   pub code : r ≡ Test.numberOf answer
+  pub ranged : r ≤ 12
 
 pub record RestorationCode (xs zs ys : List ℤ) (o v w r : ℕ) (out values scratch : List ℤ) : Type 0 where
   pub answer : Restoring.Answer
   pub says : Restore.Restoration xs zs ys o v w 96 answer out values scratch (noArcs 96)
   pub code : r ≡ Restore.numberOf answer
+  pub ranged : r ≤ 13

@@ -1,4 +1,4 @@
--- A line of words, read as a text, gives the words back. Assumes nothing.
+-- A line of words, read as a text, gives the words back.
 use mathlib.Core.Path.{_≡_, refl, ap, _∙_}
 use mathlib.Core.List.{List, [], _∷_, _++_, append-assoc}
 use mathlib.Core.Bool.{Bool, true, false, cond}

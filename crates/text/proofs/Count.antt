@@ -1,4 +1,4 @@
--- A text has at most half as many words as it has bytes, and one. Assumes nothing.
+-- A text has at most half as many words as it has bytes, and one.
 use mathlib.Core.Path.{_≡_, refl}
 use mathlib.Core.List.{List, [], _∷_}
 use mathlib.Core.Bool.{Bool, true, false, cond}

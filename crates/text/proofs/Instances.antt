@@ -1,4 +1,4 @@
--- Instances, computed from the definitions. Assumes nothing.
+-- Instances, computed from the definitions.
 use mathlib.Core.Path.{_≡_, refl}
 use mathlib.Core.List.{[], _∷_}
 use mathlib.Core.Option.{some, none}

@@ -1,4 +1,4 @@
--- Laws of the bytes of numbers and lines. Assumes nothing.
+-- Laws of the bytes of numbers and lines.
 use mathlib.Core.Path.{_≡_, refl, sym, ap}
 use mathlib.Core.List.{List, [], _∷_, _++_, append-nil, append-assoc}
 use mathlib.Core.Bool.{Bool, true, false}

@@ -1,4 +1,4 @@
--- Laws of the signs of words. Assumes nothing.
+-- Laws of the signs of words.
 use mathlib.Core.Path.{_≡_}
 use mathlib.Core.Bool.{true, false}
 use Prim.Native.Nat.{ℕ, zero, suc, _≤_}

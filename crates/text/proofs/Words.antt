@@ -1,4 +1,4 @@
--- A pass through a text, byte by byte, finds the words that its pieces are. Assumes nothing.
+-- A pass through a text, byte by byte, finds the words that its pieces are.
 use mathlib.Core.Path.{_≡_, refl, sym, ap, _∙_}
 use mathlib.Core.List.{List, [], _∷_, _++_, append-nil, append-assoc}
 use mathlib.Core.Bool.{Bool, true, false, cond, _&&_}

@@ -1,4 +1,4 @@
--- Laws of what is written into a slice from a place on. Assumes nothing.
+-- Laws of what is written into a slice from a place on.
 use mathlib.Core.Path.{_≡_, refl, sym, ap, _∙_}
 use mathlib.Core.Logic.{_⊎_, inl, inr, ⊎-elim}
 use mathlib.Core.List.{List, [], _∷_, _++_, append-nil}

@@ -1,4 +1,4 @@
--- The bytes of numbers and of lines. Assumes nothing.
+-- The bytes of numbers and of lines.
 use mathlib.Core.List.{List, [], _∷_, _++_}
 use mathlib.Core.Bool.{Bool, true, false}
 use Prim.Native.Nat.{ℕ, zero, suc, _+_, _*_, _/_, _%_, _≤_}

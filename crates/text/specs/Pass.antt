@@ -1,4 +1,4 @@
--- One pass through a text, byte by byte: where it stands, and the words that end. Assumes nothing.
+-- One pass through a text, byte by byte: where it stands, and the words that end.
 use mathlib.Core.Path.{_≡_}
 use mathlib.Core.List.{List, [], _∷_}
 use mathlib.Core.Bool.{Bool, true, false, cond}

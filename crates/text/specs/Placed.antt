@@ -1,4 +1,4 @@
--- Bytes, or words, written into a slice from a place on. Assumes nothing.
+-- Bytes, or words, written into a slice from a place on.
 use mathlib.Core.Path.{_≡_}
 use mathlib.Core.List.{List, [], _∷_}
 use mathlib.Core.Bool.{cond}

@@ -1,4 +1,4 @@
--- The words of a text: decimal words between spaces and line ends, each a minus sign or none, then digits, with a value within signed 32 bits. Assumes nothing.
+-- The words of a text: decimal words between spaces and line ends, each a minus sign or none, then digits, with a value within signed 32 bits.
 use mathlib.Core.List.{List, [], _∷_, _++_}
 use mathlib.Core.Bool.{Bool, true, false, cond, _&&_, _||_}
 use mathlib.Core.Option.{Option, some, none}

@@ -1,5 +1,5 @@
--- `answers::put_answer` meets its contract. Assumes nothing.
-use Rattle.algebra.specs.Solver.{at}
+-- `answers::put_answer` meets its contract.
+use Rattle.algebra.proofs.Solver.{at}
 use Rattle.answers.proofs.Printing.{printed-append, printed-most}
 use borrow.Author.Needs.{needs}
 use mathlib.Core.List.{append-assoc}

@@ -1,4 +1,4 @@
--- `answers::put_network` meets its contract. Assumes nothing.
+-- `answers::put_network` meets its contract.
 use borrow.Author.Needs.{needs}
 use Rattle.answers.proofs.put_network.Statement.{statement}
 use Rattle.answers.proofs.put_network.Tie as tie

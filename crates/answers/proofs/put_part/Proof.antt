@@ -1,18 +1,15 @@
--- `answers::put_part` meets its contract. Assumes nothing.
+-- `answers::put_part` meets its contract.
 use Prim.Native.Nat.{suc, zero, ℕ}
-use Rattle.algebra.specs.Solver.{at}
+use Rattle.algebra.proofs.Solver.{at}
 use Rattle.answers.proofs.Printing.{part-printed}
 use Rattle.loops.proofs.Laws.{part-in}
 use borrow.Author.Needs.{needs}
 use lib.IntN.{ℤ}
-use lib.ListN.{drop, take}
-use lib.Seq.{take-all}
+use lib.ListN.{drop, take, drop-of-length-le}
+use lib.Seq.{take-all, length-take-le}
 use mathlib.Core.List.{List, []}
 use mathlib.Core.Path.{_≡_, refl, sym}
-use lib.Seq.{length-take-le, take-all}
-use lib.ListN.{drop-of-length-le}
 use native.Mathlib.Nat.{le-of-lt}
-use Rattle.loops.proofs.Laws.{part-in}
 use Rattle.answers.proofs.put_part.Statement.{statement}
 use Rattle.answers.proofs.put_part.Tie as tie
 

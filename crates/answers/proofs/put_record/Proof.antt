@@ -1,4 +1,4 @@
--- `answers::put_record` meets its contract. Assumes nothing.
+-- `answers::put_record` meets its contract.
 use Rattle.answers.proofs.Printing.{printed-append, printed-most}
 use Rattle.answers.specs.Answers.{recordLines}
 use borrow.Author.Needs.{needs}

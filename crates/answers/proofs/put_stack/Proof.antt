@@ -1,4 +1,4 @@
--- `answers::put_stack` meets its contract. Assumes nothing.
+-- `answers::put_stack` meets its contract.
 use borrow.Author.Needs.{needs}
 use Rattle.answers.proofs.put_stack.Statement.{statement}
 use Rattle.answers.proofs.put_stack.Tie as tie

@@ -1,8 +1,8 @@
--- `answers::reduce_text` meets its contract. Assumes nothing.
-use Rattle.algebra.specs.Solver.{at}
+-- `answers::reduce_text` meets its contract.
 use Rattle.answers.proofs.Printing.{printed-most}
 use Rattle.answers.proofs.Reading.{Found, read-none, read-some}
 use Rattle.answers.specs.Answers.{reduceText}
+use Rattle.answers.proofs.Right.{no-flow-right}
 use borrow.Author.Needs.{needs}
 use lib.Dec.{lit≤}
 use mathlib.Core.Path.{sym}
@@ -21,11 +21,11 @@ slice-aggregate-reduce-words c = sym (length-take-le _ _ (found (c .before .befo
 
 returns : tie.Need-returns
 unfolding reduceText
-returns c = rw (found (c .before .before .before .before .before .before) .is) (rw (c .before .before .before .before .before .before .before .before .before .before .before .before .before .clear .ensures) at (c .before .before .reduce-words .ensures))
+returns c = (rw (found (c .before .before .before .before .before .before) .is) (rw (c .before .before .before .before .before .before .before .before .before .before .before .before .before .clear .ensures) at (c .before .before .reduce-words .ensures)), no-flow-right _)
 
 returns-2 : tie.Need-returns-2
 unfolding reduceText
-returns-2 c = rw (read-none (c .before .before .before .before .before .before .before .before .before .before .before .before .before .before .before .args .text .now) 12288 (c .before .before .before .before .before .before .before .read-words .last .1 .0) (lit≤ tt) (rw (c .before .before .before .before .enum-told .given .1) at (c .before .before .before .before .before .before .before .read-words .ensures))) (printed-most (rw (c .before .before .before .before .before .before .before .before .before .before .before .clear .ensures) at (c .before .before .put-refusal .ensures)) (lit≤ tt))
+returns-2 c = (rw (read-none (c .before .before .before .before .before .before .before .before .before .before .before .before .before .before .before .args .text .now) 12288 (c .before .before .before .before .before .before .before .read-words .last .1 .0) (lit≤ tt) (rw (c .before .before .before .before .enum-told .given .1) at (c .before .before .before .before .before .before .before .read-words .ensures))) (printed-most (rw (c .before .before .before .before .before .before .before .before .before .before .before .clear .ensures) at (c .before .before .put-refusal .ensures)) (lit≤ tt)), no-flow-right _)
 
 pub reduce-text-spec : {M : Type 1} → statement M
 reduce-text-spec =

@@ -1,5 +1,5 @@
--- `answers::reduce_words` meets its contract. Assumes nothing.
-use Rattle.algebra.specs.Solver.{at}
+-- `answers::reduce_words` meets its contract.
+use Rattle.algebra.proofs.Solver.{at}
 use borrow.Author.Needs.{needs}
 use Rattle.answers.proofs.reduce_words.Statement.{statement}
 use Rattle.answers.proofs.reduce_words.Tie as tie

@@ -1,4 +1,4 @@
--- `answers::size_at` meets its contract. Assumes nothing.
+-- `answers::size_at` meets its contract.
 use Rattle.answers.proofs.Sizes.{Unsigned, negative, outside, unsigned}
 use borrow.Author.Needs.{needs}
 use lib.IntN.{pos}

@@ -1,4 +1,4 @@
--- `patskvime::patskvime_reduce` meets its contract. Assumes nothing.
+-- `patskvime::patskvime_reduce` meets its contract.
 use native.Mathlib.Omega.{arith}
 use Rattle.reduction.specs.declared.Answer.the-variants.{NoFlow}
 use Rattle.patskvime.specs.Codes.{Ranged}

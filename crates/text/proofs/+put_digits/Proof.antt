@@ -1,4 +1,4 @@
--- `text::+put_digits` meets its contract. Assumes nothing.
+-- `text::+put_digits` meets its contract.
 use native.Mathlib.Omega.{arith}
 use mathlib.Core.Path.{_∙_}
 use Rattle.text.proofs.Lines.{digits-one, digits-more}

@@ -1,4 +1,4 @@
--- `text::after_digit` meets its contract. Assumes nothing.
+-- `text::after_digit` meets its contract.
 use Prim.Native.Nat.{_≤_}
 use Rattle.text.proofs.Words.{at-most}
 use borrow.Author.Needs.{needs}

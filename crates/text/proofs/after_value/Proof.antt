@@ -1,4 +1,4 @@
--- `text::after_value` meets its contract. Assumes nothing.
+-- `text::after_value` meets its contract.
 use Rattle.text.proofs.Words.{value-in, value-out}
 use borrow.Author.Needs.{needs}
 use Rattle.text.proofs.after_value.Statement.{statement}

@@ -1,4 +1,4 @@
--- `text::clear` meets its contract. Assumes nothing.
+-- `text::clear` meets its contract.
 use Prim.Native.Nat.{_-_}
 use Rattle.text.proofs.Writing.{Cleared, cleared-all, cleared-long, cleared-more, cleared-none}
 use borrow.Author.Needs.{needs}

@@ -1,4 +1,4 @@
--- `text::close` meets its contract. Assumes nothing.
+-- `text::close` meets its contract.
 use borrow.Author.Needs.{needs}
 use Rattle.text.proofs.close.Statement.{statement}
 use Rattle.text.proofs.close.Tie as tie

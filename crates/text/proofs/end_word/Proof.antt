@@ -1,4 +1,4 @@
--- `text::end_word` meets its contract. Assumes nothing.
+-- `text::end_word` meets its contract.
 use Rattle.integer.specs.Machine.{back32}
 use Rattle.text.proofs.Words.{stored-none}
 use borrow.Author.Needs.{needs}

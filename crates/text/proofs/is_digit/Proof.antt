@@ -1,4 +1,4 @@
--- `text::is_digit` meets its contract. Assumes nothing.
+-- `text::is_digit` meets its contract.
 use Rattle.text.specs.Text.{digit}
 use borrow.Author.Tests.{le-leb, lt-leb}
 use Rattle.text.proofs.is_digit.Statement.{statement}

@@ -1,4 +1,4 @@
--- `text::is_separator` meets its contract. Assumes nothing.
+-- `text::is_separator` meets its contract.
 use Rattle.text.specs.Text.{separator}
 use borrow.Author.Tests.{eq-eqb, ne-eqb}
 use Rattle.text.proofs.is_separator.Statement.{statement}

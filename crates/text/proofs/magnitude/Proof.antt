@@ -1,4 +1,4 @@
--- `text::magnitude` meets its contract. Assumes nothing.
+-- `text::magnitude` meets its contract.
 use Rattle.integer.specs.Whole.{natAbs-negℤ}
 use Rattle.text.proofs.Signed.{minus-is, natAbs-fits, negative-negated, not-negative, wide, wide-negated}
 use mathlib.Core.Path.{_≡_}

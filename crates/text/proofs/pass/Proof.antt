@@ -1,4 +1,4 @@
--- `text::pass` meets its contract. Assumes nothing.
+-- `text::pass` meets its contract.
 use Prim.Native.Nat.{_-_}
 use Rattle.text.proofs.Words.{Passing, passing-all, passing-long, passing-more, passing-none}
 use borrow.Author.Needs.{needs}

@@ -1,4 +1,4 @@
--- `text::put_byte` meets its contract. Assumes nothing.
+-- `text::put_byte` meets its contract.
 use Rattle.text.proofs.Writing.{put-one, put-outside}
 use borrow.Author.Needs.{needs}
 use Rattle.text.proofs.put_byte.Statement.{statement}

@@ -1,4 +1,4 @@
--- `text::put_bytes` meets its contract. Assumes nothing.
+-- `text::put_bytes` meets its contract.
 use Prim.Native.Nat.{_-_}
 use Rattle.text.proofs.Writing.{Written, put-long, written-all, written-more, written-none}
 use borrow.Author.Needs.{needs}

@@ -1,4 +1,4 @@
--- `text::put_line` meets its contract. Assumes nothing.
+-- `text::put_line` meets its contract.
 use Prim.Native.Nat.{ℕ, _-_, _<_}
 use Rattle.text.proofs.Lines.{line-few, spaced-more, spaced-none, within-all}
 use Rattle.integer.specs.Machine.{back32}

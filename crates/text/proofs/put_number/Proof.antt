@@ -1,4 +1,4 @@
--- `text::put_number` meets its contract. Assumes nothing.
+-- `text::put_number` meets its contract.
 use Rattle.text.proofs.Lines.{decimal-negative, decimal-other}
 use Rattle.text.proofs.Writing.{put-append}
 use borrow.Author.Needs.{needs}

@@ -1,4 +1,4 @@
--- `text::put_word` meets its contract. Assumes nothing.
+-- `text::put_word` meets its contract.
 use Rattle.text.proofs.Writing.{put-append}
 use borrow.Author.Needs.{needs}
 use mir.Facts.{toZ-ofZ}

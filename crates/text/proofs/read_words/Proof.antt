@@ -1,4 +1,4 @@
--- `text::read_words` meets its contract. Assumes nothing.
+-- `text::read_words` meets its contract.
 use Rattle.text.proofs.Words.{read-found, read-long, read-many, read-refused}
 use borrow.Author.Needs.{needs}
 use native.Mathlib.Omega.{arith}

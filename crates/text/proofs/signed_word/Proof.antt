@@ -1,4 +1,4 @@
--- `text::signed_word` meets its contract. Assumes nothing.
+-- `text::signed_word` meets its contract.
 use Prim.Native.Nat.{_≤_}
 use Rattle.text.proofs.Signed.{negated, negated-fits, wide}
 use Rattle.text.proofs.Words.{at-most}

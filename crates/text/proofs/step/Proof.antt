@@ -1,4 +1,4 @@
--- `text::step` meets its contract. Assumes nothing.
+-- `text::step` meets its contract.
 use Rattle.text.proofs.Words.{digit-low}
 use Rattle.text.specs.Pass.{after}
 use borrow.Author.Needs.{needs}

@@ -1,4 +1,4 @@
--- `text::store_ended` meets its contract. Assumes nothing.
+-- `text::store_ended` meets its contract.
 use Rattle.text.proofs.Words.{stored-none}
 use Rattle.text.specs.Pass.{ended}
 use borrow.Author.Needs.{needs}

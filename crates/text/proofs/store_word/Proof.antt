@@ -1,4 +1,4 @@
--- `text::store_word` meets its contract. Assumes nothing.
+-- `text::store_word` meets its contract.
 use Rattle.text.proofs.Words.{stored-in, stored-out}
 use borrow.Author.Needs.{needs}
 use mir.Facts.{toZ-ofZ}

@@ -1,4 +1,4 @@
--- `answers::restoring::put_answer` meets its contract. Assumes nothing.
+-- `answers::restoring::put_answer` meets its contract.
 use Rattle.answers.proofs.Printing.{printed-most}
 use borrow.Author.Needs.{needs}
 use native.Mathlib.Omega.{arith}

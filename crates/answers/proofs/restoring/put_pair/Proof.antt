@@ -1,4 +1,4 @@
--- `answers::restoring::put_pair` meets its contract. Assumes nothing.
+-- `answers::restoring::put_pair` meets its contract.
 use borrow.Author.Needs.{needs}
 use Rattle.answers.proofs.restoring.put_pair.Statement.{statement}
 use Rattle.answers.proofs.restoring.put_pair.Tie as tie

@@ -1,4 +1,4 @@
--- `answers::restoring::restore_parts` meets its contract. Assumes nothing.
+-- `answers::restoring::restore_parts` meets its contract.
 use borrow.Author.Needs.{needs}
 use Rattle.answers.proofs.restoring.restore_parts.Statement.{statement}
 use Rattle.answers.proofs.restoring.restore_parts.Tie as tie

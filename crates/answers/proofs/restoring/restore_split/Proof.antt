@@ -1,4 +1,4 @@
--- `answers::restoring::restore_split` meets its contract. Assumes nothing.
+-- `answers::restoring::restore_split` meets its contract.
 use Rattle.loops.proofs.Laws.{part-in, part-long}
 use borrow.Author.Needs.{needs}
 use mathlib.Core.Path.{sym}

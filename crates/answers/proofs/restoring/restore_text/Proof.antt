@@ -1,7 +1,8 @@
--- `answers::restoring::restore_text` meets its contract. Assumes nothing.
+-- `answers::restoring::restore_text` meets its contract.
 use Rattle.answers.proofs.Printing.{printed-most}
 use Rattle.answers.proofs.Reading.{Found, read-none, read-some}
 use Rattle.answers.specs.Restoring.{restoreText}
+use Rattle.answers.proofs.Right.{restored-right}
 use borrow.Author.Needs.{needs}
 use lib.Dec.{lit≤}
 use mathlib.Core.Path.{sym}
@@ -20,11 +21,11 @@ slice-aggregate-restore-words c = sym (length-take-le _ _ (found (c .before .bef
 
 returns : tie.Need-returns
 unfolding restoreText
-returns c = rw (found (c .before .before .before .before .before .before) .is) (rw (c .before .before .before .before .before .before .before .before .before .before .before .before .before .clear .ensures) at (c .before .before .restore-words .ensures))
+returns c = (rw (found (c .before .before .before .before .before .before) .is) (rw (c .before .before .before .before .before .before .before .before .before .before .before .before .before .clear .ensures) at (c .before .before .restore-words .ensures)), restored-right _)
 
 returns-2 : tie.Need-returns-2
 unfolding restoreText
-returns-2 c = rw (read-none (c .before .before .before .before .before .before .before .before .before .before .before .before .before .before .before .args .text .now) 12288 (c .before .before .before .before .before .before .before .read-words .last .1 .0) (lit≤ tt) (rw (c .before .before .before .before .enum-told .given .1) at (c .before .before .before .before .before .before .before .read-words .ensures))) (printed-most (rw (c .before .before .before .before .before .before .before .before .before .before .before .clear .ensures) at (c .before .before .put-refusal .ensures)) (lit≤ tt))
+returns-2 c = (rw (read-none (c .before .before .before .before .before .before .before .before .before .before .before .before .before .before .before .args .text .now) 12288 (c .before .before .before .before .before .before .before .read-words .last .1 .0) (lit≤ tt) (rw (c .before .before .before .before .enum-told .given .1) at (c .before .before .before .before .before .before .before .read-words .ensures))) (printed-most (rw (c .before .before .before .before .before .before .before .before .before .before .before .clear .ensures) at (c .before .before .put-refusal .ensures)) (lit≤ tt)), restored-right _)
 
 pub restore-text-spec : {M : Type 1} → statement M
 restore-text-spec =

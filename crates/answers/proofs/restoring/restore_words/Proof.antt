@@ -1,4 +1,4 @@
--- `answers::restoring::restore_words` meets its contract. Assumes nothing.
+-- `answers::restoring::restore_words` meets its contract.
 use Rattle.answers.proofs.Printing.{printed-most}
 use Rattle.answers.proofs.Splitting.{split-inside}
 use borrow.Author.Needs.{needs}

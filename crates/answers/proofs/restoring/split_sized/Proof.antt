@@ -1,4 +1,4 @@
--- `answers::restoring::split_sized` meets its contract. Assumes nothing.
+-- `answers::restoring::split_sized` meets its contract.
 use Rattle.answers.specs.Restoring.{splitSized}
 use borrow.Author.Needs.{needs}
 use borrow.Author.Tests.{le-leb, lt-leb}

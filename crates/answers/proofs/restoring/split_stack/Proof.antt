@@ -1,7 +1,7 @@
--- `answers::restoring::split_stack` meets its contract. Assumes nothing.
+-- `answers::restoring::split_stack` meets its contract.
 use Rattle.answers.specs.Restoring.{stackSplit}
-use Rattle.network.proofs.Questions.{size-le}
-use Rattle.network.specs.Record.{word}
+use Rattle.records.proofs.Questions.{size-le}
+use Rattle.fraction.specs.Words.{word}
 use borrow.Author.Needs.{needs}
 use borrow.Author.Tests.{le-leb, lt-leb}
 use mathlib.Core.Path.{_∙_, sym}

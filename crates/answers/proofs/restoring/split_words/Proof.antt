@@ -1,7 +1,7 @@
--- `answers::restoring::split_words` meets its contract. Assumes nothing.
+-- `answers::restoring::split_words` meets its contract.
 use Rattle.answers.specs.Restoring.{splitOf}
-use Rattle.network.proofs.Questions.{size-le}
-use Rattle.network.specs.Record.{word}
+use Rattle.records.proofs.Questions.{size-le}
+use Rattle.fraction.specs.Words.{word}
 use borrow.Author.Needs.{needs}
 use mathlib.Core.Path.{_∙_, sym}
 use Rattle.answers.proofs.restoring.split_words.Statement.{statement}
