@@ -24,9 +24,24 @@ fn output(child: Child) -> Vec<u8> {
     child.wait_with_output().expect("the program ends").stdout
 }
 
-/// Records of words as bytes, the lowest byte of each word first.
-fn bytes_of<const N: usize>(records: &[[i32; N]]) -> Vec<u8> {
-    records.iter().flatten().flat_map(|word| word.to_le_bytes()).collect()
+/// The words of a question and of its answer; zeros fill both.
+const ASKED: usize = 204;
+const TOLD: usize = 60;
+
+/// What a question is about, its first word.
+#[derive(Clone, Copy)]
+pub enum About {
+    Operation,
+    Rule,
+    Test,
+    Back,
+}
+
+/// Words as bytes, the lowest byte of each word first, and zeros up to so many words.
+fn put_words(bytes: &mut Vec<u8>, words: &[i32], room: usize) {
+    let end = bytes.len() + 4 * room;
+    bytes.extend(words.iter().flat_map(|word| word.to_le_bytes()));
+    bytes.resize(end, 0);
 }
 
 fn words_of(bytes: &[u8]) -> Vec<i32> {
@@ -50,22 +65,31 @@ fn output_of(program: &Path, input: Vec<u8>) -> std::io::Result<Vec<u8>> {
 /// Asks the program all questions, prints the first answers that aren't as expected, and counts them all.
 pub fn count_differences<const N: usize, const M: usize>(
     program: &Path,
+    about: About,
     questions: &[[i32; N]],
     expected: &[[i32; M]],
     describe: impl Fn(&[i32; N]) -> String,
 ) -> usize {
-    let output = output_of(program, bytes_of(questions)).expect("the program runs");
+    let mut input = Vec::with_capacity(4 * ASKED * questions.len());
+    for question in questions {
+        put_words(&mut input, &[about as i32], 1);
+        put_words(&mut input, question, ASKED - 1);
+    }
+    let output = output_of(program, input).expect("the program runs");
+    let mut answers = output.chunks(4 * TOLD);
     let mut differ = 0;
     for (number, (asked, told)) in questions.iter().zip(expected).enumerate() {
-        let found = output.get(4 * M * number..4 * M * (number + 1)).map(words_of);
-        if found.as_deref() != Some(&told[..]) {
+        let found = answers.next().unwrap_or_default();
+        let mut answer = vec![];
+        put_words(&mut answer, told, TOLD);
+        if found != answer {
             differ += 1;
             if differ <= 5 {
-                println!("question {number}: {}\nhere {told:?}\nthere {found:?}", describe(asked));
+                println!("question {number}: {}\nhere {told:?}\nthere {:?}", describe(asked), words_of(found));
             }
         }
     }
-    let length = 4 * M * questions.len();
+    let length = 4 * TOLD * questions.len();
     if output.len() != length {
         println!("output has {} bytes, not {length}", output.len());
         differ += 1;

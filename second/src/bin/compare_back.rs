@@ -1,7 +1,7 @@
 //! Compares another program's way back over one step with this implementation's.
 //! Argument 1: the program; argument 2: how many steps (30000 if absent).
 
-use second::compare::{arguments, count_differences, record_in};
+use second::compare::{arguments, count_differences, record_in, About};
 use second::draw::Draw;
 use second::fraction::Fraction;
 use second::network::Network;
@@ -17,9 +17,8 @@ use std::process::exit;
 /// Words for a network's record, and for prices and flows.
 const ROOM: usize = 160;
 const FIGURES: usize = 2 * (NODES + ARCS);
-/// Rule, place, the record's length, the record and zeros behind it; the prices of nodes 1 to 6 and the flows of arcs
-/// 1 to 9, each with its numerator and its denominator.
-const ASKED: usize = 3 + ROOM + FIGURES;
+/// Rule, place, the record's length, the record and zeros behind it; the record of a pair.
+const ASKED: usize = 3 + ROOM + 2 + FIGURES;
 /// Kind, prices and flows.
 const TOLD: usize = 1 + FIGURES;
 
@@ -58,19 +57,21 @@ fn scene_with_step(draw: &mut Draw, rule: u8) -> Scene {
     drawn
 }
 
-/// A pair under the numbers that a question has room for; 0 where it has no figure.
+/// The prices of nodes 1 to 6 and the flows of arcs 1 to 9, 0 where there is none: their numerators, then their
+/// denominators.
 fn pair_words(pair: &Pair) -> [i32; FIGURES] {
     let prices = (1..=NODES).map(|node| pair.prices.get(&node));
     let figures = prices.chain((1..=ARCS).map(|arc| pair.flows.get(&arc)));
     let mut words = [0; FIGURES];
     for (at, figure) in figures.enumerate() {
-        (words[2 * at], words[2 * at + 1]) = figure.unwrap_or(&Fraction::ZERO).words();
+        (words[at], words[FIGURES / 2 + at]) = figure.unwrap_or(&Fraction::ZERO).words();
     }
     words
 }
 
 fn pair_of(words: &[i32]) -> Pair {
-    let figures = words.chunks(2).map(|words| Fraction::read(words[0], words[1]).expect("in form"));
+    let (numerators, denominators) = words.split_at(FIGURES / 2);
+    let figures = numerators.iter().zip(denominators).map(|(&n, &d)| Fraction::read(n, d).expect("in form"));
     let figures: Vec<Fraction> = figures.collect();
     let (prices, flows) = figures.split_at(NODES);
     Pair { prices: (1..).zip(prices.iter().copied()).collect(), flows: (1..).zip(flows.iter().copied()).collect() }
@@ -94,7 +95,8 @@ fn drawn(draw: &mut Draw) -> Question {
         question[draw.below(3)] = draw.of(&[-1, 0, 1, 2, 3, 4, 5, 6, 7, 9, 10, 97, 161, i32::MAX, i32::MIN]);
     }
     question[3..3 + record.len()].copy_from_slice(&record);
-    question[3 + ROOM..].copy_from_slice(&pair_words(&pair));
+    question[3 + ROOM..5 + ROOM].copy_from_slice(&[NODES as i32, ARCS as i32]);
+    question[5 + ROOM..].copy_from_slice(&pair_words(&pair));
     question
 }
 
@@ -104,7 +106,7 @@ fn asked(question: &Question) -> Option<(Option<Change>, Pair)> {
     let network = Network::read(record_in(record, question[2])?).ok()?;
     let (rule, place) = (u8::try_from(question[0]), usize::try_from(question[1]));
     let change = step(&network, rule.unwrap_or(0), place.unwrap_or(0));
-    Some((change, pair_of(pair)))
+    Some((change, pair_of(&pair[2..])))
 }
 
 fn answer(question: &Question) -> Answer {
@@ -192,7 +194,7 @@ fn main() {
     let questions: Vec<Question> = (0..count).map(|_| drawn(&mut draw)).collect();
     let expected: Vec<Answer> = questions.iter().map(answer).collect();
     print_tally(&questions, &expected);
-    let differ = count_differences(&program, &questions, &expected, |question| {
+    let differ = count_differences(&program, About::Back, &questions, &expected, |question| {
         format!("rule {}, place {}: {:?}", question[0], question[1], asked(question))
     });
     println!("steps undone: {count} questions, {differ} differ");

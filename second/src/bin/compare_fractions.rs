@@ -1,7 +1,7 @@
 //! Compares another program's fraction operations with this implementation's.
 //! Argument 1: the program; argument 2: how many operations (200000 if absent).
 
-use second::compare::{arguments, count_differences};
+use second::compare::{arguments, count_differences, About};
 use second::draw::Draw;
 use second::fraction::{Bound, Fraction};
 use std::process::exit;
@@ -245,7 +245,7 @@ fn main() {
     let questions: Vec<Question> = (0..count).map(|_| question(&mut draw)).collect();
     let expected: Vec<Answer> = questions.iter().map(|&asked| answer(asked)).collect();
     print_tally(&questions, &expected);
-    let differ = count_differences(&program, &questions, &expected, |asked| format!("{asked:?}"));
+    let differ = count_differences(&program, About::Operation, &questions, &expected, |asked| format!("{asked:?}"));
     println!("fractions: {count} operations, {differ} differ");
     exit((differ > 0) as i32);
 }

@@ -1,7 +1,7 @@
 //! Compares another program's answers for one rule at one place of a network with this implementation's.
 //! Argument 1: the program; argument 2: how many networks (30000 if absent).
 
-use second::compare::{arguments, count_differences, record_in};
+use second::compare::{arguments, count_differences, record_in, About};
 use second::draw::Draw;
 use second::exact::Exact;
 use second::fraction::{Bound, Fraction};
@@ -195,7 +195,7 @@ fn main() {
     let questions: Vec<Question> = (0..count).map(|_| drawn(&mut draw)).collect();
     let expected: Vec<Answer> = questions.iter().map(answer).collect();
     print_tally(&questions, &expected);
-    let differ = count_differences(&program, &questions, &expected, |asked| {
+    let differ = count_differences(&program, About::Rule, &questions, &expected, |asked| {
         format!("rule {}, place {}: {:?}", asked[0], asked[1], record_of(asked))
     });
     println!("rules: {count} networks, {differ} differ");

@@ -1,7 +1,7 @@
 //! Compares another program's optimality test with this implementation's.
 //! Argument 1: the program; argument 2: how many pairs (30000 if absent).
 
-use second::compare::{arguments, count_differences, record_in};
+use second::compare::{arguments, count_differences, record_in, About};
 use second::draw::Draw;
 use second::exact::Exact;
 use second::network::{Network, Refusal};
@@ -199,7 +199,8 @@ fn main() {
     let expected: Vec<Answer> = questions.iter().map(answer).collect();
     assert!(instances.iter().zip(&expected).all(|((_, told), expected)| told == expected), "as 01 says");
     print_tally(&questions, &expected);
-    let differ = count_differences(&program, &questions, &expected, |question| format!("{:?}", asked(question)));
+    let differ =
+        count_differences(&program, About::Test, &questions, &expected, |question| format!("{:?}", asked(question)));
     println!("tests: {} instances, {count} pairs, {differ} differ", instances.len());
     exit((differ > 0) as i32);
 }
