@@ -1,4 +1,5 @@
-/* Patskvime: reduces generalized networks, tests optima exactly and restores them. Link libpatskvime.a.
+/* Patskvime: reduces generalized networks, tests optima exactly and restores them. Link libpatskvime.a, which is for x86-64
+ * Linux.
  *
  * A slice is a pointer to 32-bit words and how many words there are. Records are those of the README:
  *   network: n, m, n + 7m numerators, as many denominators
@@ -10,7 +11,7 @@
  * A caller must keep to this: pointers are aligned and never null, not even where the length is 0; all words given are
  * initialized; lent slices overlap neither each other nor what is given; nothing else uses them during a call.
  * There is no other condition: a call ends for any words and any lengths. It allocates nothing, keeps nothing and needs
- * less than 1 MB of stack.
+ * less than 1 MB of stack (examples/run calls each function with a stack of that size).
  *
  * Every word of a lent slice is written. After a refusal all are zero; after success those behind a record are.
  * Scratch is always zero afterwards. */

@@ -329,7 +329,7 @@ def skeleton(p, printed, made):
     if 'Needs.{needs}' not in sk: sk = 'use borrow.Author.Needs.{needs}\n' + sk
     if '?' in sk:
         if 'Inv-' not in sk: sk = re.sub(r'= \?$', '= search needs', sk, flags=re.M)
-    return '-- `%s::%s` meets its contract. The part that follows the code is `Proof/Tie.antt`, made by tools/lift.py.\n-- Assumes nothing.\nmod Tie\n%s' % (crate, '::'.join(p), sk)
+    return '-- `%s::%s` meets its contract. The part that follows the code is `Proof/Tie.antt`, made by tools/lift.py.\nmod Tie\n%s' % (crate, '::'.join(p), sk)
 
 
 def write(path, text):
@@ -411,7 +411,6 @@ write(os.path.join(proofs, 'Lent/Rec.antt'), MADE + f'''
 --     none           what lies past the list's end
 --     here           a local that holds one;   room, in-mem, of-mem, yields     its laws
 --     param, result  the kinds of a parameter and of a result;   elem     that of an array's element
--- Assumes nothing.
 use Prim.Native.Nat.{{ℕ}}
 use mathlib.Core.Bool.{{false}}
 use mathlib.Core.Path.{{refl}}
@@ -484,7 +483,7 @@ result {{n}} = rVal {{n = n}} value laws
 abbrev pub elem : Elem
 elem = eStruct T.the-type T′.the-laws T′.the-copy
 
-pub elem-laws : ElemLawsAll elem
+abbrev pub elem-laws : ElemLawsAll elem
 elem-laws = eStruct-laws T.the-type T′.the-laws T′.the-copy T′.the-plain
 
 abbrev pub copies : Cp row
