@@ -163,26 +163,6 @@ fn to_place(t: Arc) -> usize
     place_of(t.to)
 }
 
-// The balances, and the flow of one arc more at its two places.
-fn add_arc(s: Sums, t: Arc, x: Fraction) -> Sums
-    ensures { λ r. ⌜ ((i : ℕ) → i < 33 → sumAt r i ≡ balanceBy (isTouching t i) (sideOf t i .e) x (sumAt s i)) ⌝ }
-{
-    let mut r = s;
-    let from = place_of(t.from);
-    let to = to_place(t);
-    let a = t.a;
-    let b = t.b;
-    let y = r.at[from];
-    let v = y.w;
-    let one = with_term(v, a, x);
-    r.at[from] = Sum { w: one };
-    let z = r.at[to];
-    let w = z.w;
-    let two = with_term(w, b, x);
-    r.at[to] = Sum { w: two };
-    r
-}
-
 // The balances of the nodes 0 to 32, arcs upward.
 fn balances(net: Net, pair: Pair) -> Sums
     ensures { λ r. ⌜ ((i : ℕ) → i < 33 → sumAt r i ≡ balanceOf net pair i) ⌝ }
@@ -197,7 +177,18 @@ fn balances(net: Net, pair: Pair) -> Sums
             t = net.arcs[j + 1];
             x = pair.flow[j + 1];
         }
-        s = add_arc(s, t, x);
+        let from = place_of(t.from);
+        let to = to_place(t);
+        let a = t.a;
+        let b = t.b;
+        let y = s.at[from];
+        let v = y.w;
+        let one = with_term(v, a, x);
+        s.at[from] = Sum { w: one };
+        let z = s.at[to];
+        let w = z.w;
+        let two = with_term(w, b, x);
+        s.at[to] = Sum { w: two };
     }
     s
 }

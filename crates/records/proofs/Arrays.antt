@@ -5,13 +5,13 @@ use mathlib.Core.List.{List, [], _∷_, _++_}
 use Prim.Native.Nat.{ℕ, _+_, _-_, _≤_, _<_}
 use lib.Dec.{leb}
 use lib.IntN.{ℤ, pos}
-use lib.ListN.{List·getD-append, length, getD, take, drop}
-use lib.Seq.{getD-append-add}
+use lib.ListN.{List·getD-append, length, take, drop}
+use lib.Seq.{ext-getD, getD-append-add}
 use borrow.Author.Tests.{le-leb, leb-true}
 use Rattle.loops.specs.Loops.{build, written, zeros}
-use Rattle.loops.proofs.Laws.{length-build, getD-build, build-same, Filled, filled-all}
+use Rattle.loops.proofs.Laws.{length-build, getD-build, Filled, filled-all}
 use Rattle.fraction.specs.declared.Fraction.{Fraction}
-use Rattle.fraction.specs.Exact.{noFigure, denWord}
+use Rattle.fraction.specs.Exact.{denWord}
 use Rattle.fraction.proofs.Laws.{and-both}
 use Rattle.fraction.specs.Words.{word, wordOf}
 use Rattle.network.specs.declared.Net.{Net}
@@ -27,28 +27,26 @@ pub take-written : {A : Type 0} (t : ℕ) (f : ℕ → A) (d : List A) → take 
 unfolding written
 take-written t f d = ap (λ n. take n (build t f ++ drop t d)) (sym (length-build t f)) ∙ take-front (build t f) (drop t d)
 
+-- a list is built from its words
+pub build-self : (l : List ℤ) → build (length l) (word l) ≡ l
+build-self l = ext-getD (pos 0) _ _ (length-build (length l) (word l)) (λ k m. getD-build (length l) (word l) (pos 0) k (rw (length-build (length l) (word l)) at m))
+
 -- a slice of words filled up to t, and zeros behind them
 pub filled-zeros : {t i : ℕ} {f : ℕ → ℤ} {d s : List ℤ} → Filled f t d s i → t ≤ i → take t s ++ zeros (length s - t) ≡ build t f ++ zeros (length d - t)
 filled-zeros {t} {f = f} {d} h l = ap₂ _++_ (ap (take t) (filled-all h l) ∙ take-written t f d) (ap (λ n. zeros (n - t)) (h .long))
 
--- and a second list behind them
-pub filled-rest : {t i : ℕ} {f : ℕ → ℤ} {d s : List ℤ} (ys : List ℤ) → Filled f t d s i → t ≤ i → take t s ++ (ys ++ zeros (length s - t - t)) ≡ build t f ++ (ys ++ zeros (length d - t - t))
-filled-rest {t} {f = f} {d} ys h l = ap₂ _++_ (ap (take t) (filled-all h l) ∙ take-written t f d) (ap (λ n. ys ++ zeros (n - t - t)) (h .long))
+-- by the words of another list
+pub filled-self : (e : List ℤ) {i : ℕ} {d s : List ℤ} → Filled (word e) (length e) d s i → length e ≤ i → take (length e) s ++ zeros (length s - length e) ≡ e ++ zeros (length d - length e)
+filled-self e {d = d} h l = filled-zeros h l ∙ ap (λ x. x ++ zeros (length d - length e)) (build-self e)
 
--- the same figures, the same arrays
-pub arrays-same : (f g : ℕ → Fraction) (t room : ℕ) → ((k : ℕ) → k < t → f k ≡ g k) → arraysOf f t room ≡ arraysOf g t room
+-- numerators and denominators filled, and what the writer of denominators makes of the rest
+pub both-filled : (f : ℕ → Fraction) {t i : ℕ} {d s e v : List ℤ} → Filled (λ k. f k .num) t d s i → Filled (λ k. denWord (f k .den)) t e v i → t ≤ i → take t s ++ (take t v ++ zeros (length s - t - length (take t v))) ≡ arraysOf f t (length d)
 unfolding arraysOf
-arrays-same f g t room h =
-    ap₂ _++_ (build-same t _ _ (λ k l. ap (λ (x : Fraction). x .num) (h k l)))
-    (ap (λ l. l ++ zeros (room - t - t)) (build-same t _ _ (λ k l. ap (λ (x : Fraction). denWord (x .den)) (h k l))))
-
--- figures written into an array
-pub getD-written : {A : Type 0} (t : ℕ) (f : ℕ → A) (d : List A) (a : A) (k : ℕ) → k < t → getD (written t f d) k a ≡ f k
-unfolding written
-getD-written t f d a k l = List·getD-append (build t f) (drop t d) a k (rw (length-build t f) l) ∙ getD-build t f a k l
-
-pub arrays-written : (f : ℕ → Fraction) (t : ℕ) (d : List Fraction) (room : ℕ) → arraysOf (λ k. getD (written t f d) k noFigure) t room ≡ arraysOf f t room
-arrays-written f t d room = arrays-same _ f t room (λ k l. getD-written t f d noFigure k l)
+both-filled f {t} {d = d} {s} {e} {v} h k l =
+    ap₂ _++_ (ap (take t) (filled-all h l) ∙ take-written t _ d) (ap₂ _++_ dens (ap (λ n. zeros (n - t - length (take t v))) (h .long) ∙ ap (λ n. zeros (length d - t - n)) (ap length dens ∙ length-build t _)))
+  where
+    dens : take t v ≡ build t (λ k. denWord (f k .den))
+    dens = ap (take t) (filled-all k l) ∙ take-written t _ e
 
 pub room-is : (net : Net) (room : ℕ) → hasRoom net room ≡ true → (net .n ≤ 32) × (net .m ≤ 96) × (1410 ≤ room)
 unfolding hasRoom

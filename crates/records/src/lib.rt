@@ -2,11 +2,10 @@
 ghost use mathlib.Core.Path.{_≡_};
 ghost use mathlib.Core.List.{_++_};
 ghost use Prim.Native.Nat.{_+_, _-_, _≤_};
-ghost use lib.ListN.{length, getD};
+ghost use lib.ListN.{length};
 ghost use Rattle.loops.specs.Loops.{zeros};
-ghost use Rattle.fraction.specs.Exact.{noFigure};
 ghost use Rattle.fraction.specs.Words.{word, naturalOf};
-ghost use Rattle.records.specs.Arrays.{figureAt, denominators, arraysOf};
+ghost use Rattle.records.specs.Arrays.{figureAt};
 ghost use Rattle.records.specs.Network.{sizeOf};
 use fraction::Fraction;
 
@@ -78,26 +77,14 @@ pub fn number_at(xs: &[i32], at: usize) -> usize
 
 // ---- writing
 
-// The denominators of t figures, and zeros behind them: the rest of an output slice, behind the numerators.
-fn write_denominators(figures: [Fraction; 704], t: usize, rest: &mut [i32])
-    requires { ⌜ (t ≤ 704) × (t ≤ length (now rest)) ⌝ }
-    ensures { λ _. ⌜ now (rest .exit) ≡ denominators (λ k. getD figures k noFigure) t ++ zeros (length (now (rest .entry)) - t) ⌝ }
+// The denominators of figures, and zeros behind them: the rest of an output slice, behind the numerators.
+pub(crate) fn write_denominators(dens: &[i32], rest: &mut [i32])
+    requires { ⌜ length (now dens) ≤ length (now rest) ⌝ }
+    ensures { λ _. ⌜ now (rest .exit) ≡ now (dens .entry) ++ zeros (length (now (rest .entry)) - length (now (dens .entry))) ⌝ }
 {
+    let t = dens.len();
     for k in 0..t {
-        let f = figures[k];
-        loops::put(rest, k, f.den_word());
+        loops::put(rest, k, dens[k]);
     }
     loops::clear(&mut rest[t..]);
-}
-
-// The numerators of t figures, then as many denominators, and zeros behind them.
-pub(crate) fn write_figures(figures: [Fraction; 704], t: usize, out: &mut [i32])
-    requires { ⌜ (t ≤ 704) × (t + t ≤ length (now out)) ⌝ }
-    ensures { λ _. ⌜ now (out .exit) ≡ arraysOf (λ k. getD figures k noFigure) t (length (now (out .entry))) ⌝ }
-{
-    for k in 0..t {
-        let f = figures[k];
-        loops::put(out, k, f.num);
-    }
-    write_denominators(figures, t, &mut out[t..]);
 }

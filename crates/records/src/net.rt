@@ -4,9 +4,8 @@
 ghost use mathlib.Core.Path.{_≡_};
 ghost use mathlib.Core.List.{List, _∷_};
 ghost use Prim.Native.Nat.{_+_, _-_, _*_, _≤_, _<_};
-ghost use lib.ListN.{length, replicate};
-ghost use Rattle.loops.specs.Loops.{all, upto, written};
-ghost use Rattle.fraction.specs.Exact.{noFigure};
+ghost use lib.ListN.{length};
+ghost use Rattle.loops.specs.Loops.{all, upto};
 ghost use Rattle.network.specs.declared.Arc.{Arc};
 ghost use Rattle.network.specs.declared.Nodes.{Nodes};
 ghost use Rattle.fraction.specs.Words.{wordOf};
@@ -323,15 +322,14 @@ fn has_room(net: Net, room: usize) -> bool
     false
 }
 
-// The figures of a network's record, in their order.
-fn figures_of(net: Net) -> [Fraction; 704]
-    requires { ⌜ (net .n ≤ 32) × (net .m ≤ 96) ⌝ }
-    ensures { λ r. ⌜ r ≡ written (figures (net .n) (net .m)) (figureOf net) (replicate 704 noFigure) ⌝ }
+// The figures' numerators, as many denominators, and zeros behind them.
+fn write_figures(net: Net, out: &mut [i32])
+    requires { ⌜ (net .n ≤ 32) × (net .m ≤ 96) × (1408 ≤ length (now out)) ⌝ }
+    ensures { λ _. ⌜ now (out .exit) ≡ arraysOf (figureOf net) (figures (net .n) (net .m)) (length (now (out .entry))) ⌝ }
 {
     let n = net.n;
     let t = n + 7 * net.m;
-    let z = network::no_figure();
-    let mut at = [z; 704];
+    let mut dens = [0i32; 704];
     for k in 0..t {
         let mut f = network::no_figure();
         if k < n {
@@ -342,9 +340,10 @@ fn figures_of(net: Net) -> [Fraction; 704]
             let a = net.arcs[j];
             f = role_figure(a, d % 7);
         }
-        at[k] = f;
+        loops::put(out, k, f.num);
+        dens[k] = f.den_word();
     }
-    at
+    crate::write_denominators(&dens[..t], &mut out[t..]);
 }
 
 // The sizes, the numerators and the denominators.
@@ -354,7 +353,7 @@ fn write_sized(net: Net, out: &mut [i32])
 {
     loops::put(out, 0, fraction::words::word_of(net.n));
     loops::put(out, 1, fraction::words::word_of(net.m));
-    crate::write_figures(figures_of(net), net.n + 7 * net.m, &mut out[2..]);
+    write_figures(net, &mut out[2..]);
 }
 
 // A network's record, and zeros behind it; zeros alone where it has no room.

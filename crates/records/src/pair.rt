@@ -4,15 +4,13 @@ ghost use mathlib.Core.List.{_∷_};
 ghost use Prim.Native.Nat.{_+_, _-_, _*_, _≤_};
 ghost use lib.Dec.{eqb};
 ghost use lib.IntN.{pos};
-ghost use lib.ListN.{length, replicate};
+ghost use lib.ListN.{length};
 ghost use Rattle.integer.specs.Whole.{eqZ};
-ghost use Rattle.loops.specs.Loops.{all, upto, written};
-ghost use Rattle.fraction.specs.Exact.{noFigure};
+ghost use Rattle.loops.specs.Loops.{all, upto};
 ghost use Rattle.fraction.specs.Words.{word, wordOf};
 ghost use Rattle.records.specs.Arrays.{arraysOf};
 ghost use Rattle.records.specs.Pair.{hasSizes, isFraction, isPair, priceTurn, flowTurn, pairOf, pairFigure, pairRoom, pairWords};
 use crate::Size;
-use fraction::Fraction;
 use network::pair::Pair;
 
 // Whether the word at a place is this number.
@@ -118,14 +116,13 @@ pub fn read_pair(words: &[i32], n: usize, m: usize) -> Pair
 
 // ---- writing
 
-// The figures of a pair's record, in their order.
-fn figures_of(n: usize, m: usize, pair: Pair) -> [Fraction; 704]
-    requires { ⌜ (n ≤ 32) × (m ≤ 96) ⌝ }
-    ensures { λ r. ⌜ r ≡ written (n + m) (pairFigure n pair) (replicate 704 noFigure) ⌝ }
+// The figures' numerators, as many denominators, and zeros behind them.
+fn write_figures(n: usize, m: usize, pair: Pair, out: &mut [i32])
+    requires { ⌜ (n ≤ 32) × (m ≤ 96) × (256 ≤ length (now out)) ⌝ }
+    ensures { λ _. ⌜ now (out .exit) ≡ arraysOf (pairFigure n pair) (n + m) (length (now (out .entry))) ⌝ }
 {
     let t = n + m;
-    let z = network::no_figure();
-    let mut at = [z; 704];
+    let mut dens = [0i32; 128];
     for k in 0..t {
         let mut f = network::no_figure();
         if k + 1 <= n {
@@ -133,9 +130,10 @@ fn figures_of(n: usize, m: usize, pair: Pair) -> [Fraction; 704]
         } else {
             f = pair.flow[k - n + 1];
         }
-        at[k] = f;
+        loops::put(out, k, f.num);
+        dens[k] = f.den_word();
     }
-    at
+    crate::write_denominators(&dens[..t], &mut out[t..]);
 }
 
 // Whether the sizes are within the limits, and the room is what question 1 asks for.
@@ -155,7 +153,7 @@ fn write_sized(n: usize, m: usize, pair: Pair, out: &mut [i32])
 {
     loops::put(out, 0, fraction::words::word_of(n));
     loops::put(out, 1, fraction::words::word_of(m));
-    crate::write_figures(figures_of(n, m, pair), n + m, &mut out[2..]);
+    write_figures(n, m, pair, &mut out[2..]);
 }
 
 // A pair's record, and zeros behind it; zeros alone where it has no room.
