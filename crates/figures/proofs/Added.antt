@@ -17,7 +17,8 @@ use Rattle.network.specs.declared.Arc.{Arc}
 use Rattle.network.specs.Network.{isTouching, isRoot, sideOf}
 use Rattle.figures.specs.declared.Sum.{Sum}
 use Rattle.figures.specs.declared.Sums.{Sums}
-use Rattle.figures.specs.Figures.{sumAt, balanceBy}
+use Rattle.figures.specs.Figures.{balanceBy}
+use Rattle.figures.specs.internal.Listed.{sumAt}
 
 -- one balance replaced: there, and elsewhere
 module _ (s r : Sums) (k : ℕ) (v : Worked) (e : r .at ≡ set (s .at) k (record { w = v })) where

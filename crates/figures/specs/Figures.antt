@@ -2,12 +2,11 @@
 use mathlib.Core.Bool.{Bool, true, false, _&&_, not}
 use mathlib.Core.List.{List, [], _∷_}
 use Prim.Native.Nat.{ℕ, _+_}
-use lib.ListN.{getD}
 use Rattle.loops.specs.Loops.{all, upto}
 use Rattle.fraction.specs.declared.Fraction.{Fraction}
 use Rattle.fraction.specs.declared.Worked.{Worked}
 use Rattle.fraction.specs.declared.Worked.the-variants.{Fits}
-use Rattle.fraction.specs.Exact.{noFigure, zeroFraction, isLess, isSame}
+use Rattle.fraction.specs.Exact.{zeroFraction, isLess, isSame}
 use Rattle.fraction.specs.Formula.{isFit, figureOf, _⊕_, _⊖_, _⊗_}
 use Rattle.network.specs.declared.Arc.{Arc}
 use Rattle.network.specs.declared.Net.{Net}
@@ -16,7 +15,6 @@ use Rattle.network.specs.Network.{arcAt, supplyAt, isTouching, isRoot, sideOf}
 use Rattle.network.specs.Pair.{priceAt, flowAt}
 use Rattle.slackness.specs.Slackness.{keepsRule}
 use Rattle.records.specs.Questions.{Question, _asks_}
-use Rattle.figures.specs.declared.Sums.{Sums}
 
 -- ---- the balance of node i: multiplier × flow over the arcs touching it; "sums start at 0 and run over the arcs upward"
 
@@ -30,19 +28,11 @@ balanceTurn net pair i j w = balanceBy (isTouching (arcAt net (j + 1)) i) (sideO
 unfoldable pub balanceOf : Net → Pair → ℕ → Worked
 balanceOf net pair i = upto (balanceTurn net pair i) (net .m) (Fits zeroFraction)
 
--- a node's balance, where those of the nodes 0 to 32 are listed
-abbrev pub sumAt : Sums → ℕ → Worked
-sumAt s i = getD (s .at) i (record { w = Fits noFigure }) .w
-
 -- ---- "reduced cost d = c - a × price(from) - b × price(to), the last term absent for a root arc"
 
 abbrev pub reducedBy : Bool → Arc → Fraction → Fraction → Worked
 reducedBy true t p q = Fits (t .cost) ⊖ Fits (t .a) ⊗ Fits p
 reducedBy false t p q = Fits (t .cost) ⊖ Fits (t .a) ⊗ Fits p ⊖ Fits (t .b) ⊗ Fits q
-
--- by a list of prices, and by those of a pair
-abbrev pub costIn : List Fraction → Arc → Worked
-costIn price t = reducedBy (isRoot t) t (getD price (t .from) noFigure) (getD price (t .to) noFigure)
 
 unfoldable pub reducedCost : Arc → Pair → Worked
 reducedCost t pair = reducedBy (isRoot t) t (priceAt pair (t .from)) (priceAt pair (t .to))
@@ -89,11 +79,8 @@ keepsRuleAt net pair j =
 
 unfoldable pub testQuestions : Net → Pair → List Question
 testQuestions net pair =
-    -- "Do all balances, reduced costs and the value fit?"
-    (9 asks allFit net pair)
-    -- "Balanced at every node?"
-    ∷ ((10 asks all (isBalanced net pair) (net .n))
-    -- "Within all bounds?"
-    ∷ ((11 asks all (isWithinAt net pair) (net .m))
-    -- "Price rule kept?"
-    ∷ ((12 asks all (keepsRuleAt net pair) (net .m)) ∷ [])))
+    9 asks allFit net pair
+    ∷ 10 asks all (isBalanced net pair) (net .n)
+    ∷ 11 asks all (isWithinAt net pair) (net .m)
+    ∷ 12 asks all (keepsRuleAt net pair) (net .m)
+    ∷ []

@@ -21,9 +21,9 @@ use Rattle.records.specs.Network.{sizesRight, figuresRight, endsRight, multipli
 use Rattle.network.specs.Pair.{withPrice, withFlow}
 use Rattle.records.specs.Pair.{hasSizes, isPair, pairOf as pairRead}
 use Rattle.survivors.specs.Survivors.{arcRank, rankOf, packNode, packArc, packedOf}
-use Rattle.records.specs.Arrays.{arraysOf}
+use Rattle.records.specs.Arrays.{arraysOf, hasRoom, recordOf}
 use Rattle.fraction.specs.Words.{wordOf}
-use Rattle.records.specs.Network.{roleFigure, figureOf, hasRoom, networkOf}
+use Rattle.records.specs.Network.{roleFigure, figureOf, networkOf}
 use Rattle.figures.specs.Figures.{balanceOf, reducedCost, valueOf, allFit, isWithin, testQuestions}
 use Rattle.slackness.specs.Slackness.{isAt, keepsRule}
 use Rattle.optimality.specs.Test.{pairQuestions}
@@ -49,7 +49,7 @@ use Rattle.reduction.specs.Reduce.{isRoomy, reduceTable, refusalOf, answerOf, o
 use Rattle.restoration.specs.declared.Answer.{Answer as AnswerBack}
 use Rattle.restoration.specs.declared.Answer.the-variants.{Restored, Refused as RefusedBack}
 use Rattle.restoration.specs.Restore.{isRoomy as isRoomyBack, offerTable, runTable, restoreTable, refusalOf as refusalBack, answerOf as answerBack, outOf, valuesOf, broughtBack}
-use Rattle.records.specs.Pair.{pairFigure, pairRoom, pairWords}
+use Rattle.records.specs.Pair.{pairFigure, pairWords}
 use Rattle.text.specs.Text.{separator, digit, pieces, valueFrom, wordsIn, wordsOf}
 use Rattle.text.specs.Line.{digitsIn, digits, behindSpaces, spaced, lineOf}
 use Rattle.answers.specs.Answers.{recordLines, reduceText}
@@ -251,5 +251,5 @@ abbrev pub table : List Row
 table = A ∷ A-text ∷ A-back ∷ A-back-text ∷ B ∷ E ∷ F ∷ G ∷ H ∷ I ∷ J ∷ []
 
 pub marked : All table
-unfolding gcd gcdBy build upto count all any scan isOperand isProper fitted reduceOf sumOf productOf differenceOf quotientOf negationOf reciprocalOf isLess isSame isZero isFinite fromWords denWord pairOf _⊕_ _⊖_ _⊗_ _⊘_ ⊝_ withArc withSupply withNode without applied isTouching degreeOf touchingAfter isRoot farEnd sideOf figureAt sizesRight figuresRight endsRight multipliersRight questions roleOf isPermitted isEnd hasEnds arcIn isWeighted netOf readOf rankOf packNode packArc packedOf arraysOf wordOf roleFigure figureOf hasRoom networkOf withPrice withFlow hasSizes isPair pairRead balanceOf reducedCost valueOf allFit isWithin isAt keepsRule testQuestions pairQuestions onlyWhere noFlowWhere fits supplyLess dropped lowerBack figure restored quoteAt upward nextFrom runBy runOf backFrom wayBack closed bare bareNode bareBack forcedOut singleArc singleBack isOpenRoot isCostlier hasPair costlyArc sameSign tighter imageOf merged kept twoArcs twoBack hasSignAt signedAfter isFree isApart crossedArc crossedAt crossing crossingBack arcRank spreadOf stackRecord Stack.stackOf sameWords isRoomy reduceTable isRoomyBack offerTable runTable restoreTable broughtBack pairFigure pairRoom pairWords separator digit pieces valueFrom wordsIn wordsOf digitsIn digits behindSpaces spaced lineOf recordLines reduceText stackSplit splitSized splitOf restoreText
+unfolding gcd gcdBy build upto count all any scan isOperand isProper fitted reduceOf sumOf productOf differenceOf quotientOf negationOf reciprocalOf isLess isSame isZero isFinite fromWords denWord pairOf _⊕_ _⊖_ _⊗_ _⊘_ ⊝_ withArc withSupply withNode without applied isTouching degreeOf touchingAfter isRoot farEnd sideOf figureAt sizesRight figuresRight endsRight multipliersRight questions roleOf isPermitted isEnd hasEnds arcIn isWeighted netOf readOf rankOf packNode packArc packedOf arraysOf wordOf roleFigure figureOf hasRoom recordOf networkOf withPrice withFlow hasSizes isPair pairRead balanceOf reducedCost valueOf allFit isWithin isAt keepsRule testQuestions pairQuestions onlyWhere noFlowWhere fits supplyLess dropped lowerBack figure restored quoteAt upward nextFrom runBy runOf backFrom wayBack closed bare bareNode bareBack forcedOut singleArc singleBack isOpenRoot isCostlier hasPair costlyArc sameSign tighter imageOf merged kept twoArcs twoBack hasSignAt signedAfter isFree isApart crossedArc crossedAt crossing crossingBack arcRank spreadOf stackRecord Stack.stackOf sameWords isRoomy reduceTable isRoomyBack offerTable runTable restoreTable broughtBack pairFigure pairWords separator digit pieces valueFrom wordsIn wordsOf digitsIn digits behindSpaces spaced lineOf recordLines reduceText stackSplit splitSized splitOf restoreText
 marked = (refl, (refl, (refl, (refl, (refl, (refl, (refl, (refl, (refl, (refl, (refl, tt)))))))))))

@@ -31,21 +31,13 @@ use Rattle.optimality.specs.declared.Examined.{Examined}
 abbrev pub pairIn : Net → List ℤ → Pair
 pairIn net ys = pairOf ys (net .n) (net .m)
 
--- of a pair's words, on a network
+-- of a pair's words, on a network: "Has the pair the reduced sizes, length and only fractions? 8", then 9 to 12
 unfoldable pub pairQuestions : Net → List ℤ → List Question
-pairQuestions net ys =
-    -- "Has the pair the reduced sizes, length and only fractions?"
-    (8 asks isPair ys (net .n) (net .m))
-    -- 9 to 12
-    ∷ testQuestions net (pairIn net ys)
+pairQuestions net ys = 8 asks isPair ys (net .n) (net .m) ∷ testQuestions net (pairIn net ys)
 
--- of a call, by the words of the network and the pair and the room for values
+-- of a call, by the words of the network and the pair and the room for values ("2 for the test on its own"): 1, 2 to 5, then 8 to 12 "of the network given"
 unfoldable pub testTable : List ℤ → List ℤ → ℕ → List Question
-testTable xs ys room =
-    -- "Are the lent outputs and scratch long enough?", "values .. 2 for the test on its own"
-    (1 asks leb 2 room)
-    -- 2 to 5; then 8 to 12 "of the network given"
-    ∷ (questions xs ++ pairQuestions (readOf xs) ys)
+testTable xs ys room = 1 asks leb 2 room ∷ (questions xs ++ pairQuestions (readOf xs) ys)
 
 -- ---- 8 to 12 on a network: the first that is answered by no, 0 where none is; then the pair, and its value
 
@@ -90,5 +82,5 @@ pub record Tested (xs ys : List ℤ) (room : ℕ) (r : Answer) (values : List �
   pub number : numberOf r ≡ firstNo (testTable xs ys room)
   pub values-are : values ≡ valuesBy (firstNo (testTable xs ys room)) (readOf xs) (pairIn (readOf xs) ys) room
   -- where none of 1 to 5 applies, exactly the proven pairs pass
-  pub exactly : firstNo ((1 asks leb 2 room) ∷ questions xs) ≡ 0 → (r ≡ Passed) ↔ Proven (readOf xs) ys
+  pub exactly : firstNo (1 asks leb 2 room ∷ questions xs) ≡ 0 → (r ≡ Passed) ↔ Proven (readOf xs) ys
   pub least : r ≡ Passed → Least (readOf xs) ys values

@@ -1,4 +1,4 @@
--- Two parallel arrays and a network's record, where they have room.
+-- Two parallel arrays, and a record of them, where they have room.
 use mathlib.Core.Path.{_≡_, refl, sym, ap, ap₂, _∙_}
 use mathlib.Core.Bool.{true}
 use mathlib.Core.List.{List, [], _∷_, _++_}
@@ -14,9 +14,7 @@ use Rattle.fraction.specs.declared.Fraction.{Fraction}
 use Rattle.fraction.specs.Exact.{denWord}
 use Rattle.fraction.proofs.Laws.{and-both}
 use Rattle.fraction.specs.Words.{word, wordOf}
-use Rattle.network.specs.declared.Net.{Net}
-use Rattle.records.specs.Arrays.{numerators, denominators, arraysOf}
-use Rattle.records.specs.Network.{figures, figureOf, hasRoom, networkOf}
+use Rattle.records.specs.Arrays.{numerators, denominators, arraysOf, hasRoom, recordOf}
 
 -- the first of what was written over a longer list
 take-front : {A : Type 0} (xs ys : List A) → take (length xs) (xs ++ ys) ≡ xs
@@ -48,16 +46,17 @@ both-filled f {t} {d = d} {s} {e} {v} h k l =
     dens : take t v ≡ build t (λ k. denWord (f k .den))
     dens = ap (take t) (filled-all k l) ∙ take-written t _ e
 
-pub room-is : (net : Net) (room : ℕ) → hasRoom net room ≡ true → (net .n ≤ 32) × (net .m ≤ 96) × (1410 ≤ room)
+-- where a record has room
+pub room-is : (least n m room : ℕ) → hasRoom least n m room ≡ true → (n ≤ 32) × (m ≤ 96) × (least ≤ room)
 unfolding hasRoom
-room-is net room e =
-    let a = and-both (leb (net .n) 32) _ e in
-    let b = and-both (leb (net .m) 96) _ (a .1) in
+room-is least n m room e =
+    let a = and-both (leb n 32) _ e in
+    let b = and-both (leb m 96) _ (a .1) in
     (leb-true _ _ (a .0), leb-true _ _ (b .0), leb-true _ _ (b .1))
 
-pub is-room : (net : Net) (room : ℕ) → net .n ≤ 32 → net .m ≤ 96 → 1410 ≤ room → hasRoom net room ≡ true
-unfolding hasRoom
-is-room net room h k l = rw (le-leb _ _ h, le-leb _ _ k, le-leb _ _ l)
+pub with-room : (least n m : ℕ) (f : ℕ → Fraction) (t room : ℕ) → n ≤ 32 → m ≤ 96 → least ≤ room → recordOf least n m f t room ≡ wordOf n ∷ wordOf m ∷ arraysOf f t (room - 2)
+unfolding hasRoom recordOf
+with-room least n m f t room h k l = rw (le-leb _ _ h, le-leb _ _ k, le-leb _ _ l)
 
 -- ---- the words of two parallel arrays that have room
 
@@ -76,8 +75,3 @@ module _ (f : ℕ → Fraction) (t room : ℕ) where
 
       e : t + k ≡ length (numerators f t) + k
       e = rw length-build refl
-
--- a network's record, where it has room
-pub network-written : (net : Net) (room : ℕ) → net .n ≤ 32 → net .m ≤ 96 → 1410 ≤ room → networkOf net room ≡ wordOf (net .n) ∷ wordOf (net .m) ∷ arraysOf (figureOf net) (figures (net .n) (net .m)) (room - 2)
-unfolding networkOf
-network-written net room h k l = rw (is-room net room h k l)

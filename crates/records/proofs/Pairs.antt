@@ -5,12 +5,11 @@ use Prim.Native.Nat.{ℕ, _+_, _-_, _*_, _/_, _≤_, _<_}
 use native.Mathlib.Omega.{arith}
 use lib.Dec.{eqb, leb}
 use lib.IntN.{ℤ, pos, negsuc}
-use borrow.Author.Tests.{le-leb, leb-true, leb-false, ne-eqb}
+use borrow.Author.Tests.{leb-false, ne-eqb}
 use Rattle.integer.specs.Whole.{eqZ}
-use Rattle.fraction.proofs.Laws.{never, and-both}
+use Rattle.fraction.proofs.Laws.{never}
 use Rattle.records.specs.declared.Size.the-variants.{Is, Off}
 use Rattle.records.specs.Network.{sizeOf}
-use Rattle.records.specs.Pair.{pairRoom}
 
 -- a word that is a number, by what it is as a size up to that number
 pub size-is : (z : ℤ) (n k : ℕ) → sizeOf z n ≡ Is k → eqb k n ≡ eqZ z (pos n)
@@ -42,14 +41,3 @@ module _ (len n m : ℕ) where
 
   pub long-half : 2 ≤ len → n ≤ (len - 2) / 2 → (len - 2) / 2 - n ≡ m → eqb len (2 + 2 * ((len - 2) / 2)) ≡ eqb len (2 + 2 * (n + m))
   long-half l h k = let e : 2 + 2 * ((len - 2) / 2) ≡ 2 + 2 * (n + m) = omega arith in ap (eqb len) e
-
-pub room-is : (n m room : ℕ) → pairRoom n m room ≡ true → (n ≤ 32) × (m ≤ 96) × (258 ≤ room)
-unfolding pairRoom
-room-is n m room e =
-    let a = and-both (leb n 32) _ e in
-    let b = and-both (leb m 96) _ (a .1) in
-    (leb-true _ _ (a .0), leb-true _ _ (b .0), leb-true _ _ (b .1))
-
-pub is-room : (n m room : ℕ) → n ≤ 32 → m ≤ 96 → 258 ≤ room → pairRoom n m room ≡ true
-unfolding pairRoom
-is-room n m room h k l = rw (le-leb _ _ h, le-leb _ _ k, le-leb _ _ l)

@@ -15,8 +15,7 @@ use Rattle.fraction.specs.Words.{word}
 use Rattle.records.specs.Arrays.{figureAt}
 use Rattle.network.specs.Pair.{priceAt, flowAt}
 use Rattle.records.specs.Pair.{pairOf}
-use Rattle.records.proofs.Arrays.{first-at, second-at}
-use Rattle.records.proofs.Pairs.{is-room}
+use Rattle.records.proofs.Arrays.{first-at, second-at, with-room}
 use Rattle.records.proofs.Paired.{price-read, flow-read}
 use Rattle.records.specs.Pair.{pairFigure, pairWords}
 use Rattle.records.specs.Values.{twoWords, fourWords, withValue}
@@ -35,7 +34,7 @@ module _ (n m : ℕ) (pair : Pair) (room : ℕ) (h : n ≤ 32) (k : m ≤ 96) (l
   figure-read i b d =
       let e : 2 + i ≡ suc (suc i) = omega (arith, add-one i, add-one (suc i)) in
       let q : 2 + (n + m) + i ≡ suc (suc (n + m + i)) = omega (arith, add-one (n + m + i), add-one (suc (n + m + i))) in
-      rw (is-room n m room h k l, e, q, first-at (pairFigure n pair) (n + m) (room - 2) i b, second-at (pairFigure n pair) (n + m) (room - 2) i b)
+      rw (with-room 258 n m (pairFigure n pair) (n + m) room h k l, e, q, first-at (pairFigure n pair) (n + m) (room - 2) i b, second-at (pairFigure n pair) (n + m) (room - 2) i b)
       (words-read (pairFigure n pair i) d)
 
   price-figure : (i : ℕ) → i < n → pairFigure n pair i ≡ priceAt pair (i + 1)

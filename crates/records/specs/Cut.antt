@@ -1,14 +1,11 @@
 -- The words of a record without the zeros behind it (01, "Records"): as many as its sizes say.
 use mathlib.Core.List.{List}
-use Prim.Native.Nat.{ℕ, _+_, _*_}
+use Prim.Native.Nat.{_+_, _*_}
 use lib.IntN.{ℤ}
 use lib.ListN.{take}
 use Rattle.network.specs.declared.Net.{Net}
 use Rattle.records.specs.Network.{figures}
 
--- of a network's record, and of a pair's
+-- of a network's record
 abbrev pub cutNetwork : Net → List ℤ → List ℤ
 cutNetwork net zs = take (2 + 2 * figures (net .n) (net .m)) zs
-
-abbrev pub cutPair : ℕ → ℕ → List ℤ → List ℤ
-cutPair n m ys = take (2 + 2 * (n + m)) ys

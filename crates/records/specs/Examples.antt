@@ -10,8 +10,8 @@ use Rattle.fraction.specs.Exact.{isProper, isOperand, isSame, fromWords, denWor
 use Rattle.fraction.specs.Words.{wordOf}
 use Rattle.network.specs.Network.{isRoot, withArc, withSupply, withNode}
 use Rattle.records.specs.Questions.{firstNo}
-use Rattle.records.specs.Arrays.{figureAt, arraysOf}
-use Rattle.records.specs.Network.{sizesRight, figuresRight, endsRight, multipliersRight, questions, roleOf, isPermitted, isEnd, hasEnds, arcIn, isWeighted, netOf, readOf, roleFigure, figureOf, hasRoom, networkOf}
+use Rattle.records.specs.Arrays.{figureAt, arraysOf, hasRoom, recordOf}
+use Rattle.records.specs.Network.{sizesRight, figuresRight, endsRight, multipliersRight, questions, roleOf, isPermitted, isEnd, hasEnds, arcIn, isWeighted, netOf, readOf, roleFigure, figureOf, networkOf}
 
 -- the network of 01's instance A
 abbrev pub given : List ℤ
@@ -42,5 +42,5 @@ unfolding gcd gcdBy all isProper isOperand isSame fromWords isZero isRoot figure
 asked = (refl, (refl, (refl, (refl, (refl, (refl, (refl, tt)))))))
 
 pub written-back : networkOf (readOf given) 1410 ≡ given ++ zeros 1360
-unfolding upto build fromWords denWord withArc withSupply withNode figureAt sizesRight arcIn netOf readOf arraysOf wordOf roleFigure figureOf hasRoom networkOf
+unfolding upto build fromWords denWord withArc withSupply withNode figureAt sizesRight arcIn netOf readOf arraysOf wordOf roleFigure figureOf hasRoom recordOf networkOf
 written-back = refl

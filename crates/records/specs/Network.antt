@@ -5,10 +5,10 @@ use Prim.Native.Nat.{ℕ, _+_, _-_, _*_, _/_, _%_}
 use lib.Dec.{eqb, ltb, leb}
 use lib.IntN.{ℤ, pos, negsuc}
 use lib.ListN.{length}
-use Rattle.loops.specs.Loops.{all, upto, zeros}
+use Rattle.loops.specs.Loops.{all, upto}
 use Rattle.fraction.specs.declared.Fraction.{Fraction}
 use Rattle.fraction.specs.Exact.{noLower, noUpper, isProper, isSame, isZero}
-use Rattle.fraction.specs.Words.{word, wordOf, wholeOf, naturalOf}
+use Rattle.fraction.specs.Words.{word, wholeOf, naturalOf}
 use Rattle.network.specs.declared.Arc.{Arc}
 use Rattle.network.specs.declared.Net.{Net}
 use Rattle.network.specs.Network.{emptyNet, arcAt, supplyAt, isNumber, isRoot, withArc, withNode}
@@ -16,7 +16,7 @@ use Rattle.network.specs.ArcList.{replaced}
 use Rattle.records.specs.declared.Size.{Size}
 use Rattle.records.specs.declared.Size.the-variants.{Is, Off}
 use Rattle.records.specs.Questions.{Question, _asks_}
-use Rattle.records.specs.Arrays.{figureAt, arraysOf}
+use Rattle.records.specs.Arrays.{figureAt, recordOf}
 
 -- "n + 7m": the supplies, then the arcs' figures
 abbrev pub figures : ℕ → ℕ → ℕ
@@ -140,11 +140,6 @@ figureBy false net k = roleFigure (arcAt net ((k - net .n) / 7 + 1)) ((k - net .
 unfoldable pub figureOf : Net → ℕ → Fraction
 figureOf net k = figureBy (ltb k (net .n)) net k
 
--- sizes within the limits, and the room that question 1 asks for
-unfoldable pub hasRoom : Net → ℕ → Bool
-hasRoom net room = leb (net .n) 32 && (leb (net .m) 96 && leb 1410 room)
-
--- "n, m; then n + 7m numerators; then as many denominators", and zeros: room words; zeros alone where it has no room
+-- "n, m; then n + 7m numerators; then as many denominators"
 unfoldable pub networkOf : Net → ℕ → List ℤ
-networkOf net room =
-    cond (hasRoom net room) (wordOf (net .n) ∷ wordOf (net .m) ∷ arraysOf (figureOf net) (figures (net .n) (net .m)) (room - 2)) (zeros room)
+networkOf net room = recordOf 1410 (net .n) (net .m) (figureOf net) (figures (net .n) (net .m)) room

@@ -1,18 +1,18 @@
 -- A pair's record (01, "Records"): question 8, the pair that it holds, and the record of a pair.
 use mathlib.Core.Bool.{Bool, true, false, cond, _&&_}
-use mathlib.Core.List.{List, _∷_}
+use mathlib.Core.List.{List}
 use Prim.Native.Nat.{ℕ, _+_, _-_, _*_}
 use lib.Dec.{eqb, leb}
 use lib.IntN.{ℤ, pos}
 use lib.ListN.{length}
 use Rattle.integer.specs.Whole.{eqZ}
-use Rattle.loops.specs.Loops.{all, upto, zeros}
+use Rattle.loops.specs.Loops.{all, upto}
 use Rattle.fraction.specs.declared.Fraction.{Fraction}
 use Rattle.fraction.specs.Exact.{isProper}
-use Rattle.fraction.specs.Words.{word, wordOf}
+use Rattle.fraction.specs.Words.{word}
 use Rattle.network.specs.declared.pair.Pair.{Pair}
 use Rattle.network.specs.Pair.{noPair, priceAt, flowAt, withPrice, withFlow}
-use Rattle.records.specs.Arrays.{figureAt, arraysOf}
+use Rattle.records.specs.Arrays.{figureAt, recordOf}
 
 -- ---- 8. "Has the pair the reduced sizes, length and only fractions?"
 
@@ -47,10 +47,6 @@ pairOf ys n m = pairBy (leb n 32 && leb m 96) ys n m
 unfoldable pub pairFigure : ℕ → Pair → ℕ → Fraction
 pairFigure n pair k = cond (leb (k + 1) n) (priceAt pair (k + 1)) (flowAt pair (k - n + 1))
 
--- sizes within the limits, and the room that question 1 asks for
-unfoldable pub pairRoom : ℕ → ℕ → ℕ → Bool
-pairRoom n m room = leb n 32 && (leb m 96 && leb 258 room)
-
--- "n, m; then n + m numerators; then denominators", and zeros: room words; zeros alone where it has no room
+-- "n, m; then n + m numerators; then denominators"
 unfoldable pub pairWords : ℕ → ℕ → Pair → ℕ → List ℤ
-pairWords n m pair room = cond (pairRoom n m room) (wordOf n ∷ wordOf m ∷ arraysOf (pairFigure n pair) (n + m) (room - 2)) (zeros room)
+pairWords n m pair room = recordOf 258 n m (pairFigure n pair) (n + m) room

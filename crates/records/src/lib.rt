@@ -2,10 +2,10 @@
 ghost use mathlib.Core.Path.{_≡_};
 ghost use mathlib.Core.List.{_++_};
 ghost use Prim.Native.Nat.{_+_, _-_, _≤_};
-ghost use lib.ListN.{length};
+ghost use lib.ListN.{length, set};
 ghost use Rattle.loops.specs.Loops.{zeros};
-ghost use Rattle.fraction.specs.Words.{word, naturalOf};
-ghost use Rattle.records.specs.Arrays.{figureAt};
+ghost use Rattle.fraction.specs.Words.{word, wordOf, naturalOf};
+ghost use Rattle.records.specs.Arrays.{figureAt, hasRoom};
 ghost use Rattle.records.specs.Network.{sizeOf};
 use fraction::Fraction;
 
@@ -76,6 +76,24 @@ pub fn number_at(xs: &[i32], at: usize) -> usize
 }
 
 // ---- writing
+
+// Whether the sizes are within the limits, and there are at least so many words of room.
+pub(crate) fn has_room(least: usize, n: usize, m: usize, room: usize) -> bool
+    ensures { λ r. ⌜ r ≡ hasRoom least n m room ⌝ }
+{
+    if n <= 32 {
+        return m <= 96 && least <= room;
+    }
+    false
+}
+
+// The sizes, over the first two words.
+pub(crate) fn write_sizes(n: usize, m: usize, out: &mut [i32])
+    ensures { λ _. ⌜ now (out .exit) ≡ set (set (now (out .entry)) 0 (wordOf n)) 1 (wordOf m) ⌝ }
+{
+    loops::put(out, 0, fraction::words::word_of(n));
+    loops::put(out, 1, fraction::words::word_of(m));
+}
 
 // The denominators of figures, and zeros behind them: the rest of an output slice, behind the numerators.
 pub(crate) fn write_denominators(dens: &[i32], rest: &mut [i32])

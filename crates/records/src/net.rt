@@ -13,7 +13,7 @@ ghost use Rattle.network.specs.Network.{emptyNet};
 ghost use Rattle.network.specs.ArcList.{noArcs, nodesOf, joined};
 ghost use Rattle.records.specs.Arrays.{figureAt, arraysOf};
 ghost use Rattle.records.specs.Questions.{firstNo};
-ghost use Rattle.records.specs.Network.{figures, sizesRight, roleOf, isPermitted, isInForm, isEnd, hasEnds, arcIn, isWeightedAt, questions, nodeTurn, arcTurn, netOf, readOf, loadTurn, loaded, roleFigure, figureOf, hasRoom, networkOf};
+ghost use Rattle.records.specs.Network.{figures, sizesRight, roleOf, isPermitted, isInForm, isEnd, hasEnds, arcIn, isWeightedAt, questions, nodeTurn, arcTurn, netOf, readOf, loadTurn, loaded, roleFigure, figureOf, networkOf};
 use crate::Size;
 use fraction::Fraction;
 use network::Arc;
@@ -312,16 +312,6 @@ pub fn role_figure(t: Arc, role: usize) -> Fraction
     }
 }
 
-// Whether the sizes are within the limits, and the room is what question 1 asks for.
-fn has_room(net: Net, room: usize) -> bool
-    ensures { λ r. ⌜ r ≡ hasRoom net room ⌝ }
-{
-    if net.n <= 32 {
-        return net.m <= 96 && 1410 <= room;
-    }
-    false
-}
-
 // The figures' numerators, as many denominators, and zeros behind them.
 fn write_figures(net: Net, out: &mut [i32])
     requires { ⌜ (net .n ≤ 32) × (net .m ≤ 96) × (1408 ≤ length (now out)) ⌝ }
@@ -351,8 +341,7 @@ fn write_sized(net: Net, out: &mut [i32])
     requires { ⌜ (net .n ≤ 32) × (net .m ≤ 96) × (1410 ≤ length (now out)) ⌝ }
     ensures { λ _. ⌜ now (out .exit) ≡ wordOf (net .n) ∷ wordOf (net .m) ∷ arraysOf (figureOf net) (figures (net .n) (net .m)) (length (now (out .entry)) - 2) ⌝ }
 {
-    loops::put(out, 0, fraction::words::word_of(net.n));
-    loops::put(out, 1, fraction::words::word_of(net.m));
+    crate::write_sizes(net.n, net.m, out);
     write_figures(net, &mut out[2..]);
 }
 
@@ -360,7 +349,7 @@ fn write_sized(net: Net, out: &mut [i32])
 pub fn write_network(net: Net, out: &mut [i32])
     ensures { λ _. ⌜ now (out .exit) ≡ networkOf net (length (now (out .entry))) ⌝ }
 {
-    if has_room(net, out.len()) {
+    if crate::has_room(1410, net.n, net.m, out.len()) {
         write_sized(net, out);
     } else {
         loops::clear(out);

@@ -9,7 +9,7 @@ ghost use Rattle.integer.specs.Whole.{eqZ};
 ghost use Rattle.loops.specs.Loops.{all, upto};
 ghost use Rattle.fraction.specs.Words.{word, wordOf};
 ghost use Rattle.records.specs.Arrays.{arraysOf};
-ghost use Rattle.records.specs.Pair.{hasSizes, isFraction, isPair, priceTurn, flowTurn, pairOf, pairFigure, pairRoom, pairWords};
+ghost use Rattle.records.specs.Pair.{hasSizes, isFraction, isPair, priceTurn, flowTurn, pairOf, pairFigure, pairWords};
 use crate::Size;
 use network::pair::Pair;
 
@@ -136,23 +136,12 @@ fn write_figures(n: usize, m: usize, pair: Pair, out: &mut [i32])
     crate::write_denominators(&dens[..t], &mut out[t..]);
 }
 
-// Whether the sizes are within the limits, and the room is what question 1 asks for.
-fn has_room(n: usize, m: usize, room: usize) -> bool
-    ensures { λ r. ⌜ r ≡ pairRoom n m room ⌝ }
-{
-    if n <= 32 {
-        return m <= 96 && 258 <= room;
-    }
-    false
-}
-
 // The sizes, the numerators and the denominators.
 fn write_sized(n: usize, m: usize, pair: Pair, out: &mut [i32])
     requires { ⌜ (n ≤ 32) × (m ≤ 96) × (258 ≤ length (now out)) ⌝ }
     ensures { λ _. ⌜ now (out .exit) ≡ wordOf n ∷ wordOf m ∷ arraysOf (pairFigure n pair) (n + m) (length (now (out .entry)) - 2) ⌝ }
 {
-    loops::put(out, 0, fraction::words::word_of(n));
-    loops::put(out, 1, fraction::words::word_of(m));
+    crate::write_sizes(n, m, out);
     write_figures(n, m, pair, &mut out[2..]);
 }
 
@@ -160,7 +149,7 @@ fn write_sized(n: usize, m: usize, pair: Pair, out: &mut [i32])
 pub fn write_pair(n: usize, m: usize, pair: Pair, out: &mut [i32])
     ensures { λ _. ⌜ now (out .exit) ≡ pairWords n m pair (length (now (out .entry))) ⌝ }
 {
-    if has_room(n, m, out.len()) {
+    if crate::has_room(258, n, m, out.len()) {
         write_sized(n, m, pair, out);
     } else {
         loops::clear(out);

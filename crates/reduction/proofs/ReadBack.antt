@@ -1,18 +1,16 @@
 -- A network's record, cut to its length, passes the questions 2 to 5 and is read as that network; a pair's passes question 8 and is read as the whole.
 use mathlib.Core.Path.{_≡_, refl, sym, ap, ap₂, _∙_}
-use mathlib.Core.Bool.{Bool, true, false, cond, not, _&&_}
+use mathlib.Core.Bool.{Bool, true, false, cond, not}
 use mathlib.Core.List.{List, [], _∷_}
 use mathlib.Core.Logic.{_⊎_, inl, inr, ⊎-elim}
 use Prim.Native.Nat.{ℕ, zero, suc, _+_, _-_, _*_, _/_, _%_, _≤_, _<_}
-use native.Mathlib.Numerals.{add-one}
 use native.Mathlib.Omega.{arith}
-use lib.Dec.{ltb, leb}
+use lib.Dec.{ltb}
 use lib.IntN.{ℤ, pos}
 use lib.ListN.{length, getD, take, replicate, length-append, length-replicate}
 use lib.Seq.{length-take-le, getD-take, getD-append-add, ext-getD}
-use borrow.Author.Tests.{le-leb, leb-true, leb-false, le-ltb, lt-ltb, ltb-true, ltb-false, eq-eqb}
+use borrow.Author.Tests.{le-leb, le-ltb, lt-ltb, ltb-true, ltb-false, eq-eqb}
 use Rattle.integer.specs.Gcd.{gcd-pos, gcd-le}
-use Rattle.loops.specs.Loops.{upto}
 use Rattle.loops.proofs.Laws.{length-build, each-all}
 use Rattle.fraction.specs.declared.Fraction.{Fraction}
 use Rattle.fraction.specs.Exact.{Proper, most, noFigure, noLower, noUpper, isProper, isOperand, isSame, isZero, fromWords}
@@ -20,20 +18,16 @@ use Rattle.fraction.specs.Words.{word, wordOf, wholeOf}
 use Rattle.fraction.proofs.Laws.{is-proper}
 use Rattle.network.specs.declared.Arc.{Arc}
 use Rattle.network.specs.declared.Net.{Net}
-use Rattle.network.specs.declared.pair.Pair.{Pair}
 use Rattle.network.specs.Network.{noArc, arcAt, supplyAt, isHere, isRoot}
 use Rattle.network.specs.Legal.{Bound, LegalArc, Legal, Gapless}
-use Rattle.network.specs.Pair.{noPair, priceAt, flowAt}
 use Rattle.network.proofs.Numbers.{puts, puts-long, puts-out, puts-in, getD-all, by-number}
 use Rattle.network.proofs.Kept.{here-within}
 use Rattle.records.specs.Questions.{firstNo}
 use Rattle.records.specs.Arrays.{figureAt, arraysOf}
 use Rattle.records.specs.Network.{figures, sizesRight, roleOf, isPermitted, isInForm, isEnd, hasEnds, arcIn, isWeighted, isWeightedAt, questions, readOf, roleFigure, figureBy, figureOf, networkOf}
-use Rattle.records.specs.Pair.{hasSizes, isFraction, isPair, priceTurn, flowTurn, pairBy, pairOf, pairFigure, pairWords}
-use Rattle.records.specs.Cut.{cutNetwork, cutPair}
+use Rattle.records.specs.Cut.{cutNetwork}
 use Rattle.records.proofs.Questions.{asked}
-use Rattle.records.proofs.Arrays.{first-at, second-at, network-written}
-use Rattle.records.proofs.Pairs.{is-room}
+use Rattle.records.proofs.Arrays.{first-at, second-at, with-room}
 use Rattle.records.proofs.Legal.{Permitted, permitted-is, net-is, read-is}
 use Rattle.records.proofs.Written.{words-read}
 
@@ -243,51 +237,10 @@ module _ {net : Net} (g : Legal net) (u : Gapless net) where
 
 -- a network's record
 pub network-back : (net : Net) (room : ℕ) → Legal net → Gapless net → ((i : ℕ) → (i ≡ 0) ⊎ (net .n < i) → supplyAt net i ≡ noFigure) → 1410 ≤ room → (firstNo (questions (cutNetwork net (networkOf net room))) ≡ 0) × (readOf (cutNetwork net (networkOf net room)) ≡ net)
+unfolding networkOf
 network-back net room g u bare l = (none-held g u _ held, net-held g u _ held bare)
   where
     held : Holds (cutNetwork net (networkOf net room)) (net .n) (net .m) (figures (net .n) (net .m)) (figureOf net)
     held =
-        rw (network-written net room (g .few-nodes) (g .few-arcs) l)
+        rw (with-room 1410 (net .n) (net .m) (figureOf net) (figures (net .n) (net .m)) room (g .few-nodes) (g .few-arcs) l)
         (cut-holds (net .n) (net .m) (figures (net .n) (net .m)) room (figureOf net) (g .few-nodes) (g .few-arcs) (omega (arith, g .few-nodes, g .few-arcs)))
-
--- ---- a pair's record
-
-pair-proper : (n m : ℕ) (pair : Pair) → ((i : ℕ) → 1 ≤ i → i ≤ n → Proper (priceAt pair i)) → ((j : ℕ) → 1 ≤ j → j ≤ m → Proper (flowAt pair j)) → (k : ℕ) → k < n + m → Proper (pairFigure n pair k)
-unfolding pairFigure
-pair-proper n m pair price flow k l = by (leb (k + 1) n) refl
-  where
-    by : (b : Bool) → leb (k + 1) n ≡ b → Proper (cond b (priceAt pair (k + 1)) (flowAt pair (k - n + 1)))
-    by true e = price (k + 1) (omega arith) (leb-true (k + 1) n e)
-    by false e = flow (k - n + 1) (omega arith) (omega (arith, leb-false (k + 1) n e))
-
-pub pair-back : (n m : ℕ) (pair : Pair) (room : ℕ) → n ≤ 32 → m ≤ 96 → 258 ≤ room → ((i : ℕ) → 1 ≤ i → i ≤ n → Proper (priceAt pair i)) → ((j : ℕ) → 1 ≤ j → j ≤ m → Proper (flowAt pair j)) → isPair (cutPair n m (pairWords n m pair room)) n m ≡ true
-unfolding isPair hasSizes pairWords
-pair-back n m pair room h k l price flow =
-    rw (is-room n m room h k l)
-    (rw (w .first, w .second, eq-eqb _ _ (w .long), eq-eqb n n refl, eq-eqb m m refl)
-    (each-all (isFraction words (n + m)) (n + m) (λ i b. rw (w .figure i b (proper i b .operand .den-in)) (is-proper _ (proper i b)))))
-  where
-    words : List ℤ
-    words = take (2 + 2 * (n + m)) (wordOf n ∷ wordOf m ∷ arraysOf (pairFigure n pair) (n + m) (room - 2))
-
-    w : Holds words n m (n + m) (pairFigure n pair)
-    w = cut-holds n m (n + m) room (pairFigure n pair) h k (omega arith)
-
-    proper : (i : ℕ) → i < n + m → Proper (pairFigure n pair i)
-    proper = pair-proper n m pair price flow
-
--- the pair that it holds is the one of the whole words
-upto-same : {S : Type 0} (f g : ℕ → S → S) (n : ℕ) (s : S) → ((i : ℕ) → i < n → (s : S) → f i s ≡ g i s) → upto f n s ≡ upto g n s
-unfolding upto
-upto-same f g zero s h = refl
-upto-same f g (suc n) s h = rw (upto-same f g n s (λ i l. h i (omega (arith, add-one n)))) (h n (omega arith) _)
-
-pub pair-cut : (n m : ℕ) (ys : List ℤ) → pairOf (cutPair n m ys) n m ≡ pairOf ys n m
-unfolding pairOf
-pair-cut n m ys = by (leb n 32 && leb m 96)
-  where
-    by : (b : Bool) → pairBy b (cutPair n m ys) n m ≡ pairBy b ys n m
-    by true =
-        rw (upto-same (priceTurn (cutPair n m ys) (n + m)) (priceTurn ys (n + m)) n noPair (λ i l s. rw (cut-figure ys (n + m) i (omega arith))))
-        (upto-same (flowTurn (cutPair n m ys) n (n + m)) (flowTurn ys n (n + m)) m _ (λ j l s. rw (cut-figure ys (n + m) (n + j) (omega arith))))
-    by false = refl

@@ -17,7 +17,8 @@ use Rattle.fraction.proofs.Laws.{and-both, never}
 use Rattle.network.specs.declared.Arc.{Arc}
 use Rattle.network.specs.declared.Net.{Net}
 use Rattle.network.specs.Network.{noArc, emptyNet, arcAt, supplyAt, isHere, isRoot, withArc, withSupply, withNode}
-use Rattle.survivors.specs.Survivors.{rankOf, placed, renumbered, withSizes, behindNodes, behindArcs, packNode, packArc, packedOf}
+use Rattle.survivors.specs.Survivors.{rankOf, renumbered, withSizes, behindNodes, behindArcs, packNode, packArc, packedOf}
+use Rattle.survivors.specs.internal.Ranks.{placed}
 use Rattle.network.specs.Legal.{LegalArc, Legal}
 use Rattle.network.proofs.Numbers.{number, getD-all}
 use Rattle.network.proofs.Kept.{here-number, moved, arc-kept}

@@ -1,9 +1,7 @@
 -- What is left of a network, numbered from 1 (01, "Records"), and a pair of it at the original numbers.
 use mathlib.Core.Bool.{Bool, true, false, cond, _&&_}
-use mathlib.Core.List.{List}
 use Prim.Native.Nat.{ℕ, _+_}
 use lib.Dec.{ltb, leb}
-use lib.ListN.{getD}
 use Rattle.loops.specs.Loops.{build, count, upto}
 use Rattle.fraction.specs.declared.Fraction.{Fraction}
 use Rattle.fraction.specs.Exact.{noFigure}
@@ -28,10 +26,6 @@ between i k t = record { from = i; to = k; cost = t .cost; lower = t .lower; upp
 
 abbrev pub renumbered : Net → Arc → Arc
 renumbered net t = between (rankOf net (t .from)) (rankOf net (t .to)) t
-
--- the new number of node i, where those of the numbers 0 to 32 are listed
-abbrev pub placed : List ℕ → ℕ → ℕ
-placed l i = cond (ltb i 33) (getD l i 0) (getD l 32 0)
 
 abbrev pub withSizes : Net → ℕ → ℕ → Net
 withSizes p n m = record { n = n; m = m; here = p .here; supply = p .supply; arcs = p .arcs }

@@ -8,7 +8,8 @@ use Rattle.network.specs.Network.{arcAt, noArc}
 use Rattle.network.specs.Pair.{flowAt}
 use Rattle.figures.proofs.Laws.{past}
 use Rattle.figures.proofs.Added.{added}
-use Rattle.figures.specs.Figures.{balanceOf, balanceTurn, sumAt}
+use Rattle.figures.specs.Figures.{balanceOf, balanceTurn}
+use Rattle.figures.specs.internal.Listed.{sumAt}
 use Rattle.figures.specs.declared.Sum.{Sum}
 use borrow.Author.Needs.{needs}
 use lib.ListN.{length, length-set}

@@ -1,0 +1,20 @@
+-- Balances and prices as lists have them.
+use mathlib.Core.List.{List}
+use Prim.Native.Nat.{ℕ}
+use lib.ListN.{getD}
+use Rattle.fraction.specs.declared.Fraction.{Fraction}
+use Rattle.fraction.specs.declared.Worked.{Worked}
+use Rattle.fraction.specs.declared.Worked.the-variants.{Fits}
+use Rattle.fraction.specs.Exact.{noFigure}
+use Rattle.network.specs.declared.Arc.{Arc}
+use Rattle.network.specs.Network.{isRoot}
+use Rattle.figures.specs.declared.Sums.{Sums}
+use Rattle.figures.specs.Figures.{reducedBy}
+
+-- a node's balance, where those of the nodes 0 to 32 are listed
+abbrev pub sumAt : Sums → ℕ → Worked
+sumAt s i = getD (s .at) i (record { w = Fits noFigure }) .w
+
+-- an arc's reduced cost, by a list of prices
+abbrev pub costIn : List Fraction → Arc → Worked
+costIn price t = reducedBy (isRoot t) t (getD price (t .from) noFigure) (getD price (t .to) noFigure)
