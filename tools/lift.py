@@ -5,8 +5,8 @@ The borrow checker plans nothing for a function with a `&[S]` or `&mut [S]`, S a
 library `borrow`) hold at any element type. So this makes a twin crate, in a temporary folder: the function as it stands, S an array
 of as many bytes, and a stub of each function that it calls. Rattle makes the twin's Kinds, Reads, Lts and Tie. S's row is put for
 the array's, and these are written, in the crate's proofs/:
-    Lent/Rec.antt                                 what the rules need of S
-    Lent/FN/Kinds.antt, Reads.antt, Lts.antt      the part of FN; a caller's part cites the first two
+    Lent/Rec.antt                                 what the rules need of S, in the crate that declares it
+    Lent/FN/Kinds.antt, Reads.antt, Lts.antt      the part of FN; a caller's part, in any crate, cites the first two
     FN/Proof/Tie.antt                             the needs at FN's contract, and `close`
 and, where there is none, FN/Proof.antt with a hole for each need, to be filled as a covered function's is. Then run rt fmt.
 Nothing here is trusted: antt checks each file as any proof of an author's, and refuses a stale one.
@@ -31,6 +31,18 @@ USES = {l.split(':')[0].strip(): l.split(':')[1].split() for l in open(os.path.j
 
 def strip_comments(t):
     return re.sub(r'//[^\n]*', '', t)
+
+
+CONST = re.compile(r'^(?:pub(?:\(crate\))? )?const (\w+): usize = ([^;]+);\n', re.M)
+VALUES = {}  # the constants of the crates below and of this one
+
+
+def with_values(t):
+    """A source with each constant's value for its name, and neither the constants nor the `use` lines that name one."""
+    for name, value in CONST.findall(t):
+        VALUES[name] = eval(re.sub(r'(?:\w+::)*([A-Z]\w*)', lambda mm: str(VALUES[mm.group(1)]), value))
+    t = re.sub(r'^use (?:\w+::)+([A-Z_]+);\n', lambda mm: '' if mm.group(1) in VALUES else mm.group(0), CONST.sub('', t), flags=re.M)
+    return re.sub(r'(?<![\w:])(?:[a-z]\w*::)*([A-Z][A-Z_]*)\b(?!::)', lambda mm: str(VALUES.get(mm.group(1), mm.group(0))), t)
 
 
 def close_of(t, i):
@@ -75,12 +87,12 @@ class Crate:
         self.name, self.root = name, os.path.join(repo, 'crates', name)
         self.cr, self.pr, self.files, self.lent = 'Rattle·' + name, 'Rattle·' + name + '·proofs.proofs', {}, None
         for d, _, fs in os.walk(os.path.join(self.root, 'src')):
-            for f in fs:
+            for f in sorted(fs, key=lambda f: f != 'lib.rt'):  # constants stand in lib.rt
                 if f.endswith('.rt'):
                     p = os.path.relpath(os.path.join(d, f), os.path.join(self.root, 'src'))[:-3].split(os.sep)
                     t = open(os.path.join(d, f)).read()
                     self.lent = re.search(r'^// lent: (?:(\w+)::)?(\w+) \[(\w+); (\d+)\]', t, re.M) or self.lent
-                    self.files[() if p in (['lib'], ['main']) else tuple(p)] = (os.path.join(d, f), items(strip_comments(t)))
+                    self.files[() if p in (['lib'], ['main']) else tuple(p)] = (os.path.join(d, f), items(with_values(strip_comments(t))))
         self.types = {n: (mp, k, t) for mp, (_, its) in self.files.items() for k, n, t, b in its if k in ('struct', 'enum', 'type')}
         self.fns = {mp + (n,): (t, b) for mp, (_, its) in self.files.items() for k, n, t, b in its if k == 'fn'}
 
@@ -143,9 +155,10 @@ class Crate:
             open(dst, 'w').write('\n\n'.join(['ghost use Prim.Native.Nat.{_≤_};'] + uses + out) + '\n')
 
 
-HERE = Crate(crate)
+ALL = {c: Crate(c) for c in USES if c in USES.get(crate, []) + [crate] and os.path.isdir(os.path.join(repo, 'crates', c))}  # lowest first
+HERE = ALL[crate]
 IN, S, ELEM, K = HERE.lent.groups()
-ALL = {c: Crate(c) for c in USES.get(crate, []) if os.path.isdir(os.path.join(repo, 'crates', c))}
+ALL = {c: ALL[c] for c in USES.get(crate, []) if c in ALL}
 ALL[crate] = HERE
 HOME = ALL[IN or crate]  # the crate that declares the struct
 assert ELEM[0] == 'i', 'the twin is an array of signed integers'
@@ -217,11 +230,11 @@ def moved(path):
     mm = re.match(re.escape(PR) + r'\.(.+)\.(Kinds|Reads|Lts)$', path)
     if mm and tuple(mm.group(1).split('.')) in LISTS:
         return '%s.Lent.%s.%s' % (PR, lent(mm.group(1).split('.')), mm.group(2))
-    for c in NAMED:  # a list's function of another crate: its Kinds and Reads are made here, over its facade
+    for c in NAMED:  # a list's function of another crate: its Kinds and Reads stand there
         path = path.replace(ALL[c].pr + '.', ALL[c].cr + '.proofs.')
         mm = re.match(re.escape(ALL[c].cr) + r'\.proofs\.(.+)\.(Kinds|Reads)$', path)
         if mm and (c, tuple(mm.group(1).split('.'))) in AWAY:
-            return '%s.Lent.%s.%s' % (PR, lent([c] + mm.group(1).split('.')), mm.group(2))
+            return '%s.proofs.Lent.%s.%s' % (ALL[c].cr, lent(mm.group(1).split('.')), mm.group(2))
     return path
 
 
@@ -285,7 +298,7 @@ def lift(text, what):
     used = set(re.findall(NAME, body))
     heads = [MADE + ' ' + what]
     heads += ['use %s as %s' % (p, alias(p)) if alias(p) != p.split('.')[-1] else 'use ' + p for p in sorted(paths) if alias(p) in used]
-    if 'Rec' in used: heads.append('use %s.Lent.Rec' % PR)
+    if 'Rec' in used: heads.append('use %s.Lent.Rec' % (HOME.cr + '.proofs' if IN else PR))
     return '\n'.join(heads) + '\n\n' + re.sub(r'\n{2,}', '\n\n', body).strip('\n') + '\n'
 
 
@@ -372,12 +385,6 @@ with tempfile.TemporaryDirectory() as tmp:
     for c, ps in NAMED.items():
         a = rt('check', c)
         if a.returncode: sys.exit('the twin of %s: %s' % (c, (a.stdout + a.stderr)[-3000:]))
-        rt('dev', c, '--generated', os.path.join(tmp, 'away-' + c))
-        for q in [q for d, q in AWAY if d == c]:
-            for f in ('Kinds', 'Reads'):
-                src = os.path.join(tmp, 'away-' + c, ALL[c].cr + '·proofs', 'proofs', *q, f + '.antt')
-                write(os.path.join(proofs, 'Lent', lent((c,) + q), f + '.antt'), lift(open(src).read(), f + ' of ' + c + ' ' + '.'.join(q)))
-            write(os.path.join(proofs, 'Lent', lent((c,) + q) + '.antt'), MADE + '\npub mod Kinds\npub mod Reads\n')
     for p in LISTS:
         if only and p[-1] not in only: continue
         dot, sl, into = '.'.join(p), os.path.join(*p), os.path.join(tmp, 'crates', crate, 'src')
@@ -403,9 +410,9 @@ with tempfile.TemporaryDirectory() as tmp:
             write(pf, skeleton(p, run.stdout + run.stderr, get('Proof')))
         print('lifted', dot, flush=True)
 
-here = sorted(lent(p) for p in LISTS + [(c,) + q for c, q in AWAY] if os.path.exists(os.path.join(proofs, 'Lent', lent(p))))
-write(os.path.join(proofs, 'Lent.antt'), MADE + '\npub mod Rec\n' + ''.join('pub mod %s\n' % n for n in here))
-write(os.path.join(proofs, 'Lent/Rec.antt'), MADE + f'''
+here = sorted(lent(p) for p in LISTS if os.path.exists(os.path.join(proofs, 'Lent', lent(p))))
+write(os.path.join(proofs, 'Lent.antt'), MADE + ('' if IN else '\npub mod Rec') + '\n' + ''.join('pub mod %s\n' % n for n in here))
+if not IN: write(os.path.join(proofs, 'Lent/Rec.antt'), MADE + f'''
 -- The list's record, as the borrow checker's rules take it.
 --     row            its type;   by-value, named     its MIR type by value, and behind a reference
 --     none           what lies past the list's end

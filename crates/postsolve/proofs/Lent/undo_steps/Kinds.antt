@@ -16,7 +16,7 @@ use denote.Struct.Laws as StructLaws
 use mathlib.Core.List as L
 use mathlib.Core.Path
 use mir.Syntax
-use Rattle.postsolve.proofs.Lent.Rec
+use Rattle.network.proofs.Lent.Rec
 
 abbrev pub ps : L.List (FnKinds.PK 2)
 ps = L._∷_ (ShrSlice.pShrS (Signed.SInt Syntax.w32) 0 tt) (L._∷_ (FnKinds.pNum Syntax.w64) (L._∷_ (Value.pVal record { ty = Declared.row network-proofs-pair-Pair·.the-type; one = Path.refl; val = StructLaws.val network-proofs-pair-Pair·.the-type network-proofs-pair-Pair-Laws·.the-laws; tells = StructLaws.tells network-proofs-pair-Pair·.the-type network-proofs-pair-Pair-Laws·.the-laws; still = StructLaws.still network-proofs-pair-Pair·.the-type network-proofs-pair-Pair-Laws·.the-copy Exit.yes; row = Rows.whole (Declared.row network-proofs-pair-Pair·.the-type); rd = λ x. x; mk = λ x. x } λ M 𝓤 H A W. record { copies = StructLaws.copy network-proofs-pair-Pair·.the-type network-proofs-pair-Pair-Laws·.the-copy 𝓤 H A W; lawful = StructLaws.lawful network-proofs-pair-Pair·.the-type network-proofs-pair-Pair-Laws·.the-laws 𝓤 H A W; makes = StructLaws.makes network-proofs-pair-Pair·.the-type network-proofs-pair-Pair-Laws·.the-plain 𝓤 H A; in-mem = Local.mem-whole 𝓤 H A W (Declared.row network-proofs-pair-Pair·.the-type); of-mem = Local.whole-mem 𝓤 H A W (Declared.row network-proofs-pair-Pair·.the-type) }) (L._∷_ (MutSlice.pMutS Rec.row 1 tt) L.[])))

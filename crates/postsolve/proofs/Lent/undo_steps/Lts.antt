@@ -47,7 +47,7 @@ use mir.Syntax
 use mir.Val
 use prog.Wp
 use types.Kit
-use Rattle.postsolve.proofs.Lent.Rec
+use Rattle.network.proofs.Lent.Rec
 
 abbrev pub q17 : Row.Entry
 q17 = (7, Rows.any-gone Syntax.tyBool)

@@ -14,7 +14,7 @@ use denote.Struct.Laws as StructLaws
 use mathlib.Core.List as L
 use mathlib.Core.Path
 use mir.Syntax
-use Rattle.postsolve.proofs.Lent.Rec
+use Rattle.network.proofs.Lent.Rec
 
 abbrev pub ps : L.List (FnKinds.PK 2)
 ps = L._∷_ (ShrSlice.pShrS (Signed.SInt Syntax.w32) 0 tt) (L._∷_ (FnKinds.pNum Syntax.w64) (L._∷_ (Value.pVal record { ty = Declared.row Back·.the-type; one = Path.refl; val = StructLaws.val Back·.the-type Back-Laws·.the-laws; tells = StructLaws.tells Back·.the-type Back-Laws·.the-laws; still = StructLaws.still Back·.the-type Back-Laws·.the-copy Exit.yes; row = Rows.whole (Declared.row Back·.the-type); rd = λ x. x; mk = λ x. x } λ M 𝓤 H A W. record { copies = StructLaws.copy Back·.the-type Back-Laws·.the-copy 𝓤 H A W; lawful = StructLaws.lawful Back·.the-type Back-Laws·.the-laws 𝓤 H A W; makes = StructLaws.makes Back·.the-type Back-Laws·.the-plain 𝓤 H A; in-mem = Local.mem-whole 𝓤 H A W (Declared.row Back·.the-type); of-mem = Local.whole-mem 𝓤 H A W (Declared.row Back·.the-type) }) (L._∷_ (MutSlice.pMutS Rec.row 1 tt) L.[])))

@@ -35,7 +35,7 @@ use mathlib.Core.Path
 use mir.Syntax
 use prog.Wp
 use types.Kit
-use Rattle.records.proofs.Lent.Rec
+use Rattle.network.proofs.Lent.Rec
 
 abbrev pub q22 : Row.Entry
 q22 = (6, Rows.any-gone Syntax.tyUnit)

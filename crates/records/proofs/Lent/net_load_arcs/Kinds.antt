@@ -5,7 +5,7 @@ use borrow.Kind.ShrSlice
 use denote.Signed
 use mathlib.Core.List as L
 use mir.Syntax
-use Rattle.records.proofs.Lent.Rec
+use Rattle.network.proofs.Lent.Rec
 
 abbrev pub ps : L.List (FnKinds.PK 2)
 ps = L._∷_ (MutSlice.pMutS Rec.row 0 tt) (L._∷_ (ShrSlice.pShrS (Signed.SInt Syntax.w32) 1 tt) (L._∷_ (FnKinds.pNum Syntax.w64) (L._∷_ (FnKinds.pNum Syntax.w64) (L._∷_ (FnKinds.pNum Syntax.w64) L.[]))))

@@ -35,7 +35,7 @@ use mir.Syntax
 use mir.Val
 use prog.Wp
 use types.Kit
-use Rattle.records.proofs.Lent.Rec
+use Rattle.network.proofs.Lent.Rec
 
 abbrev pub q22 : Row.Entry
 q22 = (7, Rows.any-gone Rec.by-value)

@@ -49,7 +49,7 @@ use mathlib.Core.Path
 use mir.Syntax
 use prog.Wp
 use types.Kit
-use Rattle.reduction.proofs.Lent.Rec
+use Rattle.network.proofs.Lent.Rec
 
 abbrev pub q35 : Row.Entry
 q35 = (5, Rows.any-gone Rec.by-value)

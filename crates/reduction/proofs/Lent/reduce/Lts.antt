@@ -43,7 +43,7 @@ use mathlib.Core.Path
 use mir.Syntax
 use prog.Wp
 use types.Kit
-use Rattle.reduction.proofs.Lent.Rec
+use Rattle.network.proofs.Lent.Rec
 
 abbrev pub q47 : Row.Entry
 q47 = (7, Rows.any-gone Syntax.tyUnit)

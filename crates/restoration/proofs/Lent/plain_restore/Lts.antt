@@ -49,7 +49,7 @@ use mathlib.Core.Path
 use mir.Syntax
 use prog.Wp
 use types.Kit
-use Rattle.restoration.proofs.Lent.Rec
+use Rattle.network.proofs.Lent.Rec
 
 abbrev pub q36 : Row.Entry
 q36 = (7, Rows.any-gone Rec.by-value)

@@ -14,7 +14,7 @@ use denote.Signed
 use mathlib.Core.List as L
 use mathlib.Core.Path
 use mir.Syntax
-use Rattle.restoration.proofs.Lent.Rec
+use Rattle.network.proofs.Lent.Rec
 
 abbrev pub ps : L.List (FnKinds.PK 7)
 ps = L._∷_ (ShrSlice.pShrS (Signed.SInt Syntax.w32) 0 tt) (L._∷_ (ShrSlice.pShrS (Signed.SInt Syntax.w32) 1 tt) (L._∷_ (ShrSlice.pShrS (Signed.SInt Syntax.w32) 2 tt) (L._∷_ (MutSlice.pMutS (Signed.SInt Syntax.w32) 3 tt) (L._∷_ (MutSlice.pMutS (Signed.SInt Syntax.w32) 4 tt) (L._∷_ (MutSlice.pMutS (Signed.SInt Syntax.w32) 5 tt) (L._∷_ (MutSlice.pMutS Rec.row 6 tt) L.[]))))))

@@ -71,7 +71,7 @@ use mathlib.Core.Path
 use mir.Syntax
 use prog.Wp
 use types.Kit
-use Rattle.restoration.proofs.Lent.Rec
+use Rattle.network.proofs.Lent.Rec
 
 abbrev pub q61 : Syntax.Ty
 q61 = Syntax.tyArray Rec.by-value 97

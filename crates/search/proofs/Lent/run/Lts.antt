@@ -48,7 +48,7 @@ use mathlib.Core.Path
 use mir.Syntax
 use prog.Wp
 use types.Kit
-use Rattle.search.proofs.Lent.Rec
+use Rattle.network.proofs.Lent.Rec
 
 abbrev pub q41 : Row.Entry
 q41 = (11, Rows.any-gone Syntax.tyUnit)

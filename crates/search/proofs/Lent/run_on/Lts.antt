@@ -45,7 +45,7 @@ use mathlib.Core.Path
 use mir.Syntax
 use prog.Wp
 use types.Kit
-use Rattle.search.proofs.Lent.Rec
+use Rattle.network.proofs.Lent.Rec
 
 abbrev pub q21 : Row.Entry
 q21 = (5, Rows.any-gone Syntax.tyBool)

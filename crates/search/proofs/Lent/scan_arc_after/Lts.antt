@@ -35,7 +35,7 @@ use mir.Syntax
 use mir.Val
 use prog.Wp
 use types.Kit
-use Rattle.search.proofs.Lent.Rec
+use Rattle.network.proofs.Lent.Rec
 
 abbrev pub q7 : Row.Entry
 q7 = (5, Rows.any-gone Rec.by-value)

@@ -12,7 +12,7 @@ use denote.Struct.Laws as StructLaws
 use mathlib.Core.List as L
 use mathlib.Core.Path
 use mir.Syntax
-use Rattle.search.proofs.Lent.Rec
+use Rattle.network.proofs.Lent.Rec
 
 abbrev pub ps : L.List (FnKinds.PK 1)
 ps = L._∷_ (ShrSlice.pShrS Rec.row 0 tt) (L._∷_ (FnKinds.pNum Syntax.w64) (L._∷_ (FnKinds.pNum Syntax.w64) L.[]))

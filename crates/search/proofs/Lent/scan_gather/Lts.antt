@@ -45,7 +45,7 @@ use mir.Syntax
 use mir.Val
 use prog.Wp
 use types.Kit
-use Rattle.search.proofs.Lent.Rec
+use Rattle.network.proofs.Lent.Rec
 
 abbrev pub q17 : Row.Entry
 q17 = (9, Rows.any-gone Syntax.tyBool)

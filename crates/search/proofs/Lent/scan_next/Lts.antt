@@ -61,7 +61,7 @@ use mir.Syntax
 use mir.Val
 use prog.Wp
 use types.Kit
-use Rattle.search.proofs.Lent.Rec
+use Rattle.network.proofs.Lent.Rec
 
 abbrev pub q29 : Row.Entry
 q29 = (13, Rows.any-gone Syntax.tyBool)

@@ -60,7 +60,7 @@ use mathlib.Core.Path
 use mir.Syntax
 use prog.Wp
 use types.Kit
-use Rattle.search.proofs.Lent.Rec
+use Rattle.network.proofs.Lent.Rec
 
 abbrev pub q19 : Row.Entry
 q19 = (5, Rows.any-gone Rec.by-value)

@@ -71,7 +71,7 @@ use mir.Syntax
 use mir.Val
 use prog.Wp
 use types.Kit
-use Rattle.search.proofs.Lent.Rec
+use Rattle.network.proofs.Lent.Rec
 
 abbrev pub q44 : Row.Entry
 q44 = (20, Rows.any-gone Syntax.tyPtr)

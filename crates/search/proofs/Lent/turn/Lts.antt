@@ -56,7 +56,7 @@ use mathlib.Core.Path
 use mir.Syntax
 use prog.Wp
 use types.Kit
-use Rattle.search.proofs.Lent.Rec
+use Rattle.network.proofs.Lent.Rec
 
 abbrev pub q35 : Row.Entry
 q35 = (8, Rows.any-gone Syntax.tyUnit)
