@@ -10,11 +10,8 @@ use lib.ListN.{List·getD-append, length, getD, take, drop, set, replicate, leng
 use lib.Seq.{getD-at, drop-cons, set-at, take-all}
 use borrow.Rule.Slice.PartMut.{midOf, putMid}
 use mathlib.Core.List.{append-nil}
-use Rattle.loops.specs.Loops.{build, written, upto, tally, count, all, any, scan, onward, runs}
-use mathlib.Core.Option.{Option, some, none}
+use Rattle.loops.specs.Loops.{build, written, upto, tally, count, all, any, scan}
 use mathlib.Core.Bool.{Bool, true, false, _&&_, and-false, _||_, not, Bool·not-not}
-use lib.Dec.{eqb}
-use borrow.Author.Tests.{eqb-true, eqb-false}
 
 module _ {A : Type 0} where
   -- one store behind what is written
@@ -86,14 +83,6 @@ module _ {A : Type 0} where
   pub part-long : (a : ℕ) (xs : List A) → length (midOf a (length xs - a) xs) ≡ length xs - a
   part-long a xs = ap length (part-in a xs) ∙ length-drop a xs
 
-  front-one : (v : A) (d : List A) → 0 < length d → take 1 (set d 0 v) ≡ v ∷ []
-  front-one v [] h = absurd (not-suc-le-zero h)
-  front-one v (x ∷ d) h = refl
-
-  -- one word, and the rest lent
-  pub part-headed : (v : A) (d : List A) {L D Q : List A} → L ≡ set d 0 v → D ≡ Q → 0 < length d → putMid 1 (length L - 1) L D ≡ v ∷ Q
-  part-headed v d {L} {D} {Q} l e h = part-back 1 L D ∙ rw (l, e) (ap (λ (t : List A). t ++ Q) (front-one v d h))
-
   front-two : (v w : A) (d : List A) → 2 ≤ length d → take 2 (set (set d 0 v) 1 w) ≡ v ∷ w ∷ []
   front-two v w [] h = absurd (not-suc-le-zero h)
   front-two v w (x ∷ []) h = absurd (not-suc-le-zero (le-of-suc-le-suc h))
@@ -120,9 +109,6 @@ counted-yes {p} {m} {j} {n} h l t e = record { upto = omega arith; small = omega
 pub counted-no : {p : ℕ → Bool} {m j n n′ : ℕ} → Counted p m j n → j < m → p j ≡ false → n′ ≡ n → Counted p m (j + 1) n′
 unfolding count
 counted-no {p} {m} {j} {n} h l t e = record { upto = omega arith; small = omega arith; is = rw (e, add-one j, t, h .is) refl }
-
-pub counted-all : {p : ℕ → Bool} {m j n : ℕ} → Counted p m j n → m ≤ j → n ≡ count p m
-counted-all {p} {m} {j} h l = let e : j ≡ m = omega arith in h .is ∙ rw e refl
 
 -- ---- a loop that asks p of 0, .., n - 1, and stops at the first that fails: at its head, with all below i passed
 pub record Passed (p : ℕ → Bool) (n i : ℕ) : Type 0 where
@@ -230,33 +216,6 @@ module _ {A : Type 0} (alt : A → (ℕ → A) → ℕ → A) (nil : A) where
   unfolding scan
   scanned-all {f} {k} {lo} {i} h l = let e : lo + k - i ≡ 0 = omega arith in sym (h .is ∙ rw e refl)
 
--- ---- a loop that takes a step a turn, until there is none, or f have been taken: at its head, in the state s after n of them
-module _ {S : Type 0} (step : S → Option S) where
-  pub record Running (f : ℕ) (s₀ : S) (n : ℕ) (s : S) : Type 0 where
-    pub upto : n ≤ f
-    pub is : runs step f s₀ ≡ runs step (f - n) s
-
-  pub running-none : (f : ℕ) (s : S) → Running f s 0 s
-  running-none f s = let e : f - 0 ≡ f = omega arith in record { upto = omega arith; is = rw e refl }
-
-  pub running-more : {f : ℕ} {s₀ : S} {n : ℕ} {s t : S} → Running f s₀ n s → n < f → step s ≡ some t → Running f s₀ (n + 1) t
-  unfolding runs
-  running-more {f} {s₀} {n} {s} {t} h l e =
-      let q : f - n ≡ suc (f - (n + 1)) = omega (arith, add-one (f - (n + 1))) in
-      record { upto = omega arith; is = h .is ∙ rw (q, e) refl }
-
-  runs-stops : (f : ℕ) (s : S) → step s ≡ none → runs step f s ≡ s
-  unfolding runs
-  runs-stops zero s e = refl
-  runs-stops (suc f) s e = rw e refl
-
-  pub running-ends : {f : ℕ} {s₀ : S} {n : ℕ} {s : S} → Running f s₀ n s → step s ≡ none → s ≡ runs step f s₀
-  running-ends {s = s} h e = sym (h .is ∙ runs-stops _ s e)
-
-  pub running-all : {f : ℕ} {s₀ : S} {n : ℕ} {s : S} → Running f s₀ n s → f ≤ n → s ≡ runs step f s₀
-  unfolding runs
-  running-all {f} {n = n} h l = let e : f - n ≡ 0 = omega arith in sym (h .is ∙ rw e refl)
-
 -- what holds of each place's answer, and of none, holds of what a scan finds
 pub scan-each : {A : Type 0} (alt : A → (ℕ → A) → ℕ → A) (nil : A) (P : A → Type 0) → P nil → ((a : A) (g : ℕ → A) (j : ℕ) → P a → P (g j) → P (alt a g j)) → (f : ℕ → A) (k lo : ℕ) → ((i : ℕ) → lo ≤ i → i < lo + k → P (f i)) → P (scan alt nil f k lo)
 unfolding scan
@@ -295,14 +254,6 @@ count-under p q (suc n) k l t f h =
     by true false f c = absurd (let e = f refl in let z : _≡_ {A = ℕ} 0 1 = cc in omega arith)
     by false true f c = omega arith
     by false false f c = c
-
--- two tests that agree but at k, where only the first passes
-pub count-less : (p q : ℕ → Bool) (n k : ℕ) → k < n → p k ≡ true → q k ≡ false → ((i : ℕ) → (i ≡ k → ⊥) → q i ≡ p i) → count q n < count p n
-count-less p q n k l t f h = count-under p q n k l t f (λ i e. by i e (eqb i k) refl)
-  where
-    by : (i : ℕ) → q i ≡ true → (s : Bool) → eqb i k ≡ s → p i ≡ true
-    by i e true r = rw (eqb-true i k r) t
-    by i e false r = sym (h i (eqb-false i k r)) ∙ e
 
 pub count-some : (p : ℕ → Bool) (n k : ℕ) → k < n → p k ≡ true → 1 ≤ count p n
 count-some p n k l t = omega (arith, count-under p (λ _. false) n k l t refl (λ i e. absurd (let z : _≡_ {A = ℕ} 0 1 = cc in omega arith)))
@@ -348,26 +299,3 @@ pub upto-keeps : {S : Type 0} (P : S → Type 0) (f : ℕ → S → S) → ((i :
 unfolding upto
 upto-keeps P f keep zero s h = h
 upto-keeps P f keep (suc n) s h = keep n _ (upto-keeps P f keep n s h)
-
-pub runs-keeps : {S : Type 0} (P : S → Type 0) (step : S → Option S) → ((s t : S) → step s ≡ some t → P s → P t) → (f : ℕ) (s : S) → P s → P (runs step f s)
-unfolding runs
-runs-keeps {S} P step keep zero s h = h
-runs-keeps {S} P step keep (suc f) s h = by (step s) refl (λ t q. runs-keeps P step keep f t q)
-  where
-    by : (o : Option S) → step s ≡ o → ((t : S) → P t → P (runs step f t)) → P (onward o s (runs step f))
-    by none e rest = h
-    by (some t) e rest = rest t (keep s t e h)
-
--- where each step keeps P and lowers a measure, that many steps from a state in P are enough: none is left
-pub runs-done-in : {S : Type 0} (step : S → Option S) (P : S → Type 0) (μ : S → ℕ) → ((s t : S) → step s ≡ some t → P s → P t × (μ t < μ s)) → (f : ℕ) (s : S) → P s → μ s ≤ f → step (runs step f s) ≡ none
-unfolding runs
-runs-done-in {S} step P μ falls zero s p h = by (step s) refl
-  where
-    by : (o : Option S) → step s ≡ o → step s ≡ none
-    by none e = e
-    by (some t) e = absurd (omega (arith, falls s t e p .1))
-runs-done-in {S} step P μ falls (suc f) s p h = by (step s) refl (λ t r q. runs-done-in step P μ falls f t r q)
-  where
-    by : (o : Option S) → step s ≡ o → ((t : S) → P t → μ t ≤ f → step (runs step f t) ≡ none) → step (onward o s (runs step f)) ≡ none
-    by none e rest = e
-    by (some t) e rest = rest t (falls s t e p .0) (omega (arith, falls s t e p .1))

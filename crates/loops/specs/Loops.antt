@@ -1,7 +1,6 @@
 -- The shapes of loops that the other definitions are said with.
 use mathlib.Core.List.{List, [], _∷_, _++_}
 use mathlib.Core.Bool.{Bool, true, false, _&&_, _||_}
-use mathlib.Core.Option.{Option, some, none}
 use Prim.Native.Nat.{ℕ, zero, suc, _+_}
 use lib.ListN.{drop, replicate}
 use lib.IntN.{ℤ, pos}
@@ -47,12 +46,3 @@ any p (suc n) = any p n || p n
 unfoldable pub scan : {A : Type 0} → (A → (ℕ → A) → ℕ → A) → A → (ℕ → A) → ℕ → ℕ → A
 scan alt nil f zero i = nil
 scan alt nil f (suc k) i = alt (f i) (scan alt nil f k) (suc i)
-
-abbrev pub onward : {S : Type 0} → Option S → S → (S → S) → S
-onward none s g = s
-onward (some t) s g = g t
-
--- a step again and again, at most f times, until there is none
-unfoldable pub runs : {S : Type 0} → (S → Option S) → ℕ → S → S
-runs step zero s = s
-runs step (suc f) s = onward (step s) s (runs step f)

@@ -6,7 +6,7 @@ use mathlib.Core.List.{List, [], _∷_, List·Memᴰ, List·Memᴰ·head, List·
 use mathlib.Core.Bool.{Bool, true, false, cond}
 use mathlib.Core.Option.{some}
 use Prim.Native.Nat.{ℕ, zero, suc, _<_}
-use native.Mathlib.Decide.{ℕ-discrete, decLt}
+use native.Mathlib.Decide.{ℕ-discrete}
 use native.Mathlib.Omega.{arith}
 use lib.Dec.{T}
 use Rattle.algebra.proofs.Solver.{_:+_, _:*_, :0, _:=_, ring1}
@@ -214,18 +214,6 @@ count-above kept c (suc n) k h = go (ℕ-discrete c n) (kept-dec (kept n)) (λ g
     go (yes e) (no q) f = absurd (q (subst (λ t. T (kept t)) e k))
     go (no d) (yes q) f = let g : count kept c < count kept n = f (omega arith) in rw (count-keep kept n q) (omega arith)
     go (no d) (no q) f = rw (count-drop kept n q) (f (omega arith))
-
--- so two survivors have two numbers
-pub count-inj : (kept : ℕ → Bool) (c d : ℕ) → T (kept c) → T (kept d) → count kept c ≡ count kept d → c ≡ d
-count-inj kept c d hc hd e = go (decLt c d) (decLt d c)
-  where
-    clash : (x y : ℕ) → x ≡ y → x < y → ⊥
-    clash x y e h = omega arith
-
-    go : Dec (c < d) → Dec (d < c) → c ≡ d
-    go (yes h) q = absurd (clash (count kept c) (count kept d) e (count-above kept c d hc h))
-    go (no n) (yes h) = absurd (clash (count kept d) (count kept c) (sym e) (count-above kept d c hd h))
-    go (no n) (no m) = omega arith
 
 pickN : {A B : Type 0} → Dec A → Dec B → ℕ → ℕ → ℕ
 pickN (yes a) (yes b) u v = u

@@ -1,14 +1,13 @@
--- One reduction step, and a whole reduction. A step turns N into N′; `back` (postsolve) turns a pair of N′ into a pair of N.
--- The constant is part of the program, so that a step leaves the value as it is; `total-shift` is the form for programs whose constant is not written down.
+-- One reduction step, and steps one after the other. A step turns N into N′; `back` (postsolve) turns a pair of N′ into a pair of N.
+-- The constant is part of the program, so that a step leaves the value as it is.
 use mathlib.Core.Path.{_≡_, refl, sym, _∙_, ap, subst, fun-ext}
 use Rattle.algebra.proofs.Ring.{combo}
-use Rattle.algebra.proofs.Solver.{_:+_, _:*_, _:-_, :1, _:=_, ring4, ring5}
+use Rattle.algebra.proofs.Solver.{_:+_, _:*_, _:-_, :1, _:=_, ring5}
 use Rattle.algebra.specs.Rat.{ℚ, _+ℚ_, -ℚ_, 1ℚ as 𝟙}
 use Rattle.algebra.proofs.Rat.{ℚ-ring}
 use mathlib.Core.Logic.{_↔_}
 use Prim.Native.Nat.{ℕ}
-use Rattle.presolve.specs.LP.{LP, Pair, Feasible, Solved, NoFlow, Optimal, value, total, brings}
-use Rattle.presolve.proofs.Duality.{weak-duality}
+use Rattle.presolve.specs.LP.{LP, Pair, Feasible, Solved, NoFlow, value, total, brings}
 
 pub record SoundStep (N N′ : LP) (back : Pair → Pair) : Type 0 where
   -- an optimal pair, brought back, is optimal
@@ -17,11 +16,6 @@ pub record SoundStep (N N′ : LP) (back : Pair → Pair) : Type 0 where
   pub same-value : (s : Pair) → value N (back s .flow) ≡ value N′ (s .flow)
   -- the step loses no feasible program
   pub keeps-flow : (x : ℕ → ℚ) → Feasible N x → (x′ : ℕ → ℚ) × Feasible N′ x′
-
--- without the constants: the shift is what the constant has gained
-pub total-shift : {N N′ : LP} {back : Pair → Pair} → SoundStep N N′ back → (s : Pair) → total N (back s .flow) ≡ total N′ (s .flow) +ℚ (N′ .constant +ℚ -ℚ N .constant)
-total-shift {N} {N′} {back} h s = combo ℚ-ring 𝟙 (h .same-value s)
-    (ring4 ℚ-ring (total N (back s .flow)) (total N′ (s .flow)) (N .constant) (N′ .constant) (λ t u k l. t :- (u :+ (l :- k)) := :1 :* (k :+ t :- (l :+ u))) refl)
 
 pub stay : (N : LP) → SoundStep N N (λ s. s)
 stay N = record { solved = λ s h. h; same-value = λ s. refl; keeps-flow = λ x f. (x, f) }
@@ -36,20 +30,6 @@ then {back′} h k = record {
 -- the same step with `back` written otherwise
 pub same-back : {N N′ : LP} {back back′ : Pair → Pair} → ((s : Pair) → back s ≡ back′ s) → SoundStep N N′ back → SoundStep N N′ back′
 same-back {N} {N′} e h = subst (SoundStep N N′) (fun-ext e) h
-
--- a list of steps, the last one undone first (a loop keeps one sound step from the first program to the current one, and goes on by `then`)
-pub data Reduction : LP → LP → (Pair → Pair) → Type 0 where
-  end : {N : LP} → Reduction N N (λ s. s)
-  next : {N N′ N″ : LP} {back back′ : Pair → Pair} → SoundStep N N′ back → Reduction N′ N″ back′ → Reduction N N″ (λ s. back (back′ s))
-
--- THE COMMON ARGUMENT: a reduction is a sound step, whatever its rules
-pub whole : {N N′ : LP} {back : Pair → Pair} → Reduction N N′ back → SoundStep N N′ back
-whole (end {N}) = stay N
-whole (next h r) = then h (whole r)
-
--- the restored flow has the least value, which is the reduced program's
-pub restored : {N N′ : LP} {back : Pair → Pair} → SoundStep N N′ back → (s : Pair) → Solved N′ s → Optimal N (back s .flow)
-restored {N} {back} h s g = weak-duality N (back s) (h .solved s g)
 
 -- no flow at the end: none at the beginning
 pub no-flow : {N N′ : LP} {back : Pair → Pair} → SoundStep N N′ back → NoFlow N′ → NoFlow N
@@ -83,17 +63,3 @@ shifted {N} {N′} {back} r k = record {
   where
     k′ : ℚ
     k′ = N′ .constant +ℚ (k +ℚ -ℚ N .constant)
-
--- THE WHOLE REDUCTION: a pair that is optimal in the reduced program, whatever constant that is read with, is restored to a pair that is optimal in the first, of least value; the two
--- totals differ by what the constant has gained
-pub record Restored (N N′ : LP) (back : Pair → Pair) (s : Pair) : Type 0 where
-  pub solved : Solved N (back s)
-  pub optimal : Optimal N (back s .flow)
-  pub same-value : value N (back s .flow) ≡ value N′ (s .flow)
-  pub total-is : total N (back s .flow) ≡ total N′ (s .flow) +ℚ (N′ .constant +ℚ -ℚ N .constant)
-
-pub restoring : {N N′ : LP} {back : Pair → Pair} → SoundStep N N′ back → (k : ℚ) (s : Pair) → Solved (with-constant N′ k) s → Restored N N′ back s
-restoring {N} {N′} {back} r k s h = record { solved = r .solved s g; optimal = restored r s g; same-value = r .same-value s; total-is = total-shift r s }
-  where
-    g : Solved N′ s
-    g = solved-constant N′ k s .1 h

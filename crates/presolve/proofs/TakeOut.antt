@@ -13,7 +13,6 @@ use Rattle.algebra.proofs.Sum.{range-once}
 use Rattle.presolve.proofs.Named.{once-mem}
 use Rattle.presolve.specs.LP.{Column}
 use Rattle.presolve.proofs.Removed.{Removed}
-use Rattle.presolve.proofs.Closed.{ClosedArc}
 use Rattle.presolve.proofs.Costly.{FreeRoot, CostlyArc}
 use Rattle.presolve.specs.Net.{out, Working, touch, column, lpOf, columnAt, rhsAt}
 use Rattle.presolve.proofs.Net.{root-of, costly-apart, Sane, column-in, gone-out, rhs-in, rhs-out, row-out}
@@ -71,10 +70,6 @@ module _ (w : Working) (S : Sane w) (j : ℕ) (h : j < w .m) (k : T (w .arc? j))
         where
           mem : (c : ℕ) → c < w .m → List·Memᴰ c (range (w .m))
           mem c l = once-mem (range-once c (w .m) l)
-
-  -- rule 1
-  pub closed-arc : w .arc j .lower ≡ some ξ → w .arc j .upper ≡ some ξ → ClosedArc (lpOf w) (lpOf (arc-out w j ξ)) j ξ
-  closed-arc l u = record { lower-is = ap (λ c. c .lower) (column-in w j k) ∙ l; upper-is = ap (λ c. c .upper) (column-in w j k) ∙ u; removed = arc-out-removed }
 
 -- rule 4: the arc alone. Its root arcs stand at its two ends.
 pub costly-arc : (w : Working) (S : Sane w) (n r₁ r₂ : ℕ) (h : n < w .m) (k : T (w .arc? n)) (h₁ : r₁ < w .m) (k₁ : T (w .arc? r₁)) (h₂ : r₂ < w .m) (k₂ : T (w .arc? r₂)) (l : ℚ)

@@ -70,9 +70,13 @@ wordsIn [] = some []
 wordsIn ([] ∷ ps) = wordsIn ps
 wordsIn ((b ∷ p) ∷ ps) = both (wordOf (b ∷ p)) (wordsIn ps)
 
--- the words of a text, of at most 24576 bytes; none where it is refused
+-- the most bytes of a text
+abbrev pub maxBytes : ℕ
+maxBytes = 24576
+
+-- the words of a text; none where it is refused
 unfoldable pub wordsOf : List ℕ → Option (List ℤ)
-wordsOf text = cond (leb (length text) 24576) (wordsIn (pieces text)) none
+wordsOf text = cond (leb (length text) maxBytes) (wordsIn (pieces text)) none
 
 -- words for which there is room
 abbrev pub fitted : ℕ → Option (List ℤ) → Option (List ℤ)

@@ -9,7 +9,10 @@ ghost use Rattle.text.specs.Placed.{Put};
 ghost use Rattle.text.specs.Pass.{afterValue, afterDigit, afterMinus, afterSeparator, after, endedAt, ended, Sound, Stored, closed, Passed};
 
 // The most bytes of a text.
-const LIMIT: usize = 24576;
+pub const MAX_BYTES: usize = 24576;
+
+// The most words of a text: at least one byte stands between two.
+pub const MAX_WORDS: usize = MAX_BYTES / 2;
 
 // What reading a text answers: how many words it has, or that it is refused.
 pub enum Reading {
@@ -212,7 +215,7 @@ fn refuse(words: &mut [i32]) -> Reading
 pub fn read_words(text: &[u8], words: &mut [i32]) -> Reading
     ensures { λ r. ⌜ Read (now (text .entry)) (length (now (words .entry))) r (now (words .exit)) ⌝ }
 {
-    if text.len() > LIMIT {
+    if text.len() > MAX_BYTES {
         return refuse(words);
     }
     loops::clear(words);

@@ -3,7 +3,7 @@ use borrow.Author.Needs.{needs}
 use mathlib.Core.Path.{_≡_, _∙_}
 use mathlib.Core.Bool.{true}
 use native.Mathlib.Omega.{arith}
-use lib.IntN.{ℤ, pos, negℤ, _+ℤ_, _-ℤ_, +ℤ-idl, negℤ-negℤ}
+use lib.IntN.{pos, negℤ, _+ℤ_, _-ℤ_, +ℤ-idl, negℤ-negℤ}
 use lib.Signed.{ltZ, mag, natAbs-le}
 use mir.Syntax.{w64}
 use mir.Val.{SFits, toZ, ofZ}
@@ -47,8 +47,5 @@ cast-result-2 c =
 returns : tie.Need-returns
 returns c = rw (turned c, toZ-pos w64 (c .before .fits .z .sfits)) (negative-size (c .before .args .z) (negative c))
 
-returns-2 : tie.Need-returns-2
-returns-2 c = search needs
-
 pub size-spec : {M : Type 1} → statement M
-size-spec = tie.close (tie.spec add-result sub-result cast-result add-result-2 cast-result-2 returns returns-2)
+size-spec = tie.close (tie.spec add-result sub-result cast-result add-result-2 cast-result-2 returns (λ c. search needs))

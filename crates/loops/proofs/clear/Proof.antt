@@ -25,5 +25,4 @@ returns : tie.Need-returns Inv-loop μ-loop
 returns c = filled-whole (c .before .loop .inv) (omega arith) (omega arith) ∙ build-const _ _
 
 pub clear-spec : {M : Type 1} → statement M
-clear-spec =
-    tie.close (tie.spec Inv-loop μ-loop loop-holds (λ c. search needs) (λ c. search needs) (λ c. search needs) (λ c. search needs) loop-again (λ c. search needs) returns)
+clear-spec = tie.close (tie.spec Inv-loop μ-loop loop-holds (λ c. search needs) (λ c. search needs) (λ c. search needs) (λ c. search needs) loop-again (λ c. search needs) returns)

@@ -28,19 +28,4 @@ returns-4 : tie.Need-returns-4
 returns-4 c = rw (c .enum-told3 .given .1)
 
 pub after-digit-spec : {M : Type 1} → statement M
-after-digit-spec =
-    tie.close
-    (tie.spec
-    (λ c. search needs)
-    (λ c κs. search needs)
-    (λ c. search needs)
-    (λ c κs. search needs)
-    (λ c. search needs)
-    mul-after-value
-    add-after-value
-    (λ c κs. search needs)
-    (λ c. search needs)
-    returns
-    returns-2
-    returns-3
-    returns-4)
+after-digit-spec = tie.close (tie.spec (λ c. search needs) (λ c κs. search needs) (λ c. search needs) (λ c κs. search needs) (λ c. search needs) mul-after-value add-after-value (λ c κs. search needs) (λ c. search needs) returns returns-2 returns-3 returns-4)

@@ -36,15 +36,4 @@ returns c =
     cleared-all _ (c .before .loop .inv) (omega arith)
 
 pub clear-spec : {M : Type 1} → statement M
-clear-spec =
-    tie.close
-    (tie.spec
-    Inv-loop
-    μ-loop
-    loop-holds
-    (λ c. search needs)
-    add-i
-    loop-less
-    loop-again
-    same-length
-    returns)
+clear-spec = tie.close (tie.spec Inv-loop μ-loop loop-holds (λ c. search needs) add-i loop-less loop-again same-length returns)

@@ -21,17 +21,4 @@ returns-4 : tie.Need-returns-4
 returns-4 c = rw (c .enum-told3 .given .1) (stored-none _ _)
 
 pub end-word-spec : {M : Type 1} → statement M
-end-word-spec =
-    tie.close
-    (tie.spec
-    (λ c. search needs)
-    (λ c. search needs)
-    (λ c. search needs)
-    signed-word-requires
-    (λ c κs. search needs)
-    (λ c. search needs)
-    returns
-    returns-2
-    (λ c. search needs)
-    returns-3
-    returns-4)
+end-word-spec = tie.close (tie.spec (λ c. search needs) (λ c. search needs) (λ c. search needs) signed-word-requires (λ c κs. search needs) (λ c. search needs) returns returns-2 (λ c. search needs) returns-3 returns-4)

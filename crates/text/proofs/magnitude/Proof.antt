@@ -36,5 +36,4 @@ returns-2 : tie.Need-returns-2
 returns-2 c = rw (back (c .before))
 
 pub magnitude-spec : {M : Type 1} → statement M
-magnitude-spec =
-    tie.close (tie.spec cast-result sub-result cast-result-2 cast-result-3 returns returns-2)
+magnitude-spec = tie.close (tie.spec cast-result sub-result cast-result-2 cast-result-3 returns returns-2)

@@ -36,20 +36,4 @@ returns : tie.Need-returns Inv-loop μ-loop
 returns c = rw (c .close .ensures, c .before .after-separator .ensures) (passing-all (c .before .before .before .before .before .before .loop .inv) (c .before .before .before .before .before .loop-test .left) (c .before .before .before .end-word .ensures))
 
 pub pass-spec : {M : Type 1} → statement M
-pass-spec =
-    tie.close
-    (tie.spec
-    Inv-loop
-    μ-loop
-    loop-holds
-    (λ c. search needs)
-    store-ended-requires
-    step-requires
-    (λ c. search needs)
-    (λ c. search needs)
-    loop-again
-    end-word-requires
-    (λ c κs. search needs)
-    (λ c κs. search needs)
-    same-length
-    returns)
+pass-spec = tie.close (tie.spec Inv-loop μ-loop loop-holds (λ c. search needs) store-ended-requires step-requires (λ c. search needs) (λ c. search needs) loop-again end-word-requires (λ c κs. search needs) (λ c κs. search needs) same-length returns)

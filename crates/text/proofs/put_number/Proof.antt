@@ -17,15 +17,4 @@ returns-2 c =
     rw (decimal-other (c .before .before .before .before .before .before .before .args .z) (rw (toZ-ofZ f) at (c .before .before .before .before .before .if1 .left))) (rw (c .before .before .before .magnitude2 .ensures, toZ-ofZ f) at (c .before .before .put-digits2 .ensures))
 
 pub put-number-spec : {M : Type 1} → statement M
-put-number-spec =
-    tie.close
-    (tie.spec
-    (λ c κs. search needs)
-    (λ c κs. search needs)
-    (λ c κs. search needs)
-    (λ c κs. search needs)
-    (λ c κs. search needs)
-    (λ c. search needs)
-    returns
-    (λ c. search needs)
-    returns-2)
+put-number-spec = tie.close (tie.spec (λ c κs. search needs) (λ c κs. search needs) (λ c κs. search needs) (λ c κs. search needs) (λ c κs. search needs) (λ c. search needs) returns (λ c. search needs) returns-2)

@@ -36,5 +36,4 @@ returns-2 c =
     rw (c .if1 .left) (toZ-pos w32 (omega arith))
 
 pub signed-word-spec : {M : Type 1} → statement M
-signed-word-spec =
-    tie.close (tie.spec cast-result sub-result cast-result-2 cast-result-3 returns returns-2)
+signed-word-spec = tie.close (tie.spec cast-result sub-result cast-result-2 cast-result-3 returns returns-2)

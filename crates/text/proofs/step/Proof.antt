@@ -31,17 +31,4 @@ unfolding after
 returns-4 c = rw (← c .before .before .before .before .is-separator .ensures, c .before .before .before .if1 .left, ← c .before .before .is-digit .ensures, c .before .if2 .left, ne-eqb _ _ (c .if3 .left))
 
 pub step-spec : {M : Type 1} → statement M
-step-spec =
-    tie.close
-    (tie.spec
-    (λ c κs. search needs)
-    (λ c κs. search needs)
-    returns
-    (λ c κs. search needs)
-    sub-after-digit
-    (λ c. search needs)
-    after-digit-requires
-    returns-2
-    (λ c κs. search needs)
-    returns-3
-    returns-4)
+step-spec = tie.close (tie.spec (λ c κs. search needs) (λ c κs. search needs) returns (λ c κs. search needs) sub-after-digit (λ c. search needs) after-digit-requires returns-2 (λ c κs. search needs) returns-3 returns-4)

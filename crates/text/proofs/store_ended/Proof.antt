@@ -14,5 +14,4 @@ unfolding ended
 returns-2 c = rw (← c .before .is-separator .ensures, c .if1 .left) (stored-none _ _)
 
 pub store-ended-spec : {M : Type 1} → statement M
-store-ended-spec =
-    tie.close (tie.spec (λ c κs. search needs) (λ c κs. search needs) (λ c. search needs) returns returns-2)
+store-ended-spec = tie.close (tie.spec (λ c κs. search needs) (λ c κs. search needs) (λ c. search needs) returns returns-2)

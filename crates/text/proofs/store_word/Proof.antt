@@ -12,6 +12,4 @@ returns-2 : tie.Need-returns-2
 returns-2 c = stored-out _ _ _ (c .if1 .left)
 
 pub store-word-spec : {M : Type 1} → statement M
-store-word-spec =
-    tie.close
-    (tie.spec (λ c. search needs) (λ c. search needs) (λ c. search needs) (λ c. search needs) (λ c. search needs) returns returns-2)
+store-word-spec = tie.close (tie.spec (λ c. search needs) (λ c. search needs) (λ c. search needs) (λ c. search needs) (λ c. search needs) returns returns-2)

@@ -13,5 +13,4 @@ unfolding differenceOf
 returns-2 c = rw (← c .before .before .negation .ensures, c .enum-told .given .1)
 
 pub difference-spec : {M : Type 1} → statement M
-difference-spec =
-    tie.close (tie.spec (λ c κs. search needs) (λ c. search needs) (λ c κs. search needs) (λ c. search needs) returns returns-2)
+difference-spec = tie.close (tie.spec (λ c κs. search needs) (λ c. search needs) (λ c κs. search needs) (λ c. search needs) returns returns-2)

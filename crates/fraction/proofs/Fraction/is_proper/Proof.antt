@@ -17,6 +17,4 @@ unfolding isProper
 returns-3 c = rw (← c .before .is-operand .ensures, c .if2 .left)
 
 pub is-proper-spec : {M : Type 1} → statement M
-is-proper-spec =
-    tie.close
-    (tie.spec returns (λ c κs. search needs) (λ c κs. search needs) (λ c. search needs) (λ c κs. search needs) returns-2 returns-3)
+is-proper-spec = tie.close (tie.spec returns (λ c κs. search needs) (λ c κs. search needs) (λ c. search needs) (λ c κs. search needs) returns-2 returns-3)

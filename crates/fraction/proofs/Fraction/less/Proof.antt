@@ -19,5 +19,4 @@ unfolding isLess
 returns-3 c = rw (ne-eqb _ _ (c .before .if1 .left)) (c .cross-less2 .ensures)
 
 pub less-spec : {M : Type 1} → statement M
-less-spec =
-    tie.close (tie.spec returns (λ c κs. search needs) returns-2 (λ c κs. search needs) returns-3)
+less-spec = tie.close (tie.spec returns (λ c κs. search needs) returns-2 (λ c κs. search needs) returns-3)

@@ -16,12 +16,4 @@ unfolding productOf
 returns-2 c = rw (← c .before .operands .ensures, c .if1 .left)
 
 pub product-spec : {M : Type 1} → statement M
-product-spec =
-    tie.close
-    (tie.spec
-    (λ c κs. search needs)
-    (λ c κs. search needs)
-    (λ c κs. search needs)
-    (λ c κs. search needs)
-    returns
-    returns-2)
+product-spec = tie.close (tie.spec (λ c κs. search needs) (λ c κs. search needs) (λ c κs. search needs) (λ c κs. search needs) returns returns-2)

@@ -13,6 +13,4 @@ unfolding quotientOf
 returns-2 c = rw (← c .before .before .reciprocal .ensures, c .enum-told .given .1)
 
 pub quotient-spec : {M : Type 1} → statement M
-quotient-spec =
-    tie.close
-    (tie.spec (λ c κs. search needs) (λ c. search needs) (λ c κs. search needs) (λ c. search needs) returns returns-2)
+quotient-spec = tie.close (tie.spec (λ c κs. search needs) (λ c. search needs) (λ c κs. search needs) (λ c. search needs) returns returns-2)

@@ -41,15 +41,4 @@ unfolding reciprocalOf
 returns-3 c = rw (← c .before .is-operand .ensures, c .if1 .left)
 
 pub reciprocal-spec : {M : Type 1} → statement M
-reciprocal-spec =
-    tie.close
-    (tie.spec
-    (λ c κs. search needs)
-    (λ c κs. search needs)
-    returns
-    cast-with-sign
-    (λ c κs. search needs)
-    cast-t7
-    cast-t8
-    returns-2
-    returns-3)
+reciprocal-spec = tie.close (tie.spec (λ c κs. search needs) (λ c κs. search needs) returns cast-with-sign (λ c κs. search needs) cast-t7 cast-t8 returns-2 returns-3)

@@ -81,20 +81,4 @@ returns-5 : tie.Need-returns-5
 returns-5 c = ap (λ (n : ℤ). Fits (over n (c .before .before .before .before .before .before .before .args .d / c .before .before .before .divisor .result))) (narrow-is (c .before .before .before .before .before .before .before .args .z) _ (made c) (c .before .before .if3 .left)) ∙ sym (answer (c .before .before .before) (c .before .if4 .left) ∙ fitted-yes _ _ (rw natAbs-signed (c .before .before .if3 .left)) (c .before .if4 .left))
 
 pub reduced-spec : {M : Type 1} → statement M
-reduced-spec =
-    tie.close
-    (tie.spec
-    returns
-    (λ c κs. search needs)
-    returns-2
-    (λ c κs. search needs)
-    (λ c κs. search needs)
-    div-n
-    div-m
-    returns-3
-    returns-4
-    (λ c. search needs)
-    (λ c κs. search needs)
-    cast-t11
-    (λ c. search needs)
-    returns-5)
+reduced-spec = tie.close (tie.spec returns (λ c κs. search needs) returns-2 (λ c κs. search needs) (λ c κs. search needs) div-n div-m returns-3 returns-4 (λ c. search needs) (λ c κs. search needs) cast-t11 (λ c. search needs) returns-5)

@@ -20,12 +20,4 @@ unfolding sumOf
 returns-2 c = rw (← c .before .operands .ensures, c .if1 .left)
 
 pub sum-spec : {M : Type 1} → statement M
-sum-spec =
-    tie.close
-    (tie.spec
-    (λ c κs. search needs)
-    cross-sum-requires
-    (λ c κs. search needs)
-    (λ c κs. search needs)
-    returns
-    returns-2)
+sum-spec = tie.close (tie.spec (λ c κs. search needs) cross-sum-requires (λ c κs. search needs) (λ c κs. search needs) returns returns-2)
