@@ -10,7 +10,6 @@ use lib.Dec.{ltb, lit≤}
 use lib.IntN.{ℤ, pos}
 use lib.ListN.{List·getD-append, length, getD, set, length-set, length-append}
 use lib.Seq.{getD-set-same, getD-set-other, getD-append-add}
-use mathlib.Core.Bool.{Bool, true, false, cond}
 use borrow.Author.Tests.{le-leb, lt-ltb}
 use Rattle.fraction.specs.declared.Fraction.{Fraction}
 use Rattle.fraction.specs.Exact.{most, noFigure, fromWords, denWord}
@@ -18,8 +17,9 @@ use Rattle.network.specs.declared.ArcUpdate.{ArcUpdate}
 use Rattle.fraction.specs.Words.{wordOf, wholeOf}
 use Rattle.step.specs.declared.Old.{Old}
 use Rattle.step.specs.declared.Step.{Step}
+use Rattle.step.proofs.Lines.{split}
 use Rattle.step.proofs.Each.{All}
-use Rattle.step.proofs.Small.{SmallFigure, SmallUpdate, SmallOld, SmallStep}
+use Rattle.step.proofs.Laws.{SmallFigure, SmallUpdate, SmallOld, SmallStep}
 use Rattle.log.specs.Log.{updateFigures, numberFigures, figuresOf, withFigure, withFigures, withStep, logged, figureIn, numberIn, updateIn, numbersIn, oldFrom, ruleIn, placeIn, oldIn, Holds}
 
 -- ---- one figure
@@ -63,27 +63,14 @@ figure-at zs at (f ∷ fs) l zero h s p e =
 figure-at zs at (f ∷ fs) l (suc r) h s p e =
     figure-at (withFigure zs at f) (at + 2) fs (rw (figure-long zs at f) (omega (arith, l, add-one (length fs)))) r (omega (arith, h, add-one r, add-one (length fs))) s p (omega (arith, e, add-one r))
 
-module _ {zs : List ℤ} {at : ℕ} where
-  stands-left : (fs gs : List Fraction) → Stands zs at (fs ++ gs) → Stands zs at fs
-  stands-left fs gs w =
-      record {
-        figure = λ r h s p e.
-            let g = List·getD-append fs gs noFigure r h in
-            w .figure r (rw (length-append fs gs) (omega arith)) (rw g s) p e ∙ g;
-      }
+-- the first of them, and those behind, from p on
+stands-left : {zs : List ℤ} {at : ℕ} (fs gs : List Fraction) → Stands zs at (fs ++ gs) → Stands zs at fs
+stands-left fs gs w = record { figure = λ r h s p e. let g = List·getD-append fs gs noFigure r h in w .figure r (rw (length-append fs gs) (omega arith)) (rw g s) p e ∙ g }
 
-  stands-right : (fs gs : List Fraction) (p : ℕ) → p ≡ at + 2 * length fs → Stands zs at (fs ++ gs) → Stands zs p gs
-  stands-right fs gs p e w =
-      record {
-        figure = λ r h s q f.
-            let g = getD-append-add fs gs r noFigure in
-            w .figure (length fs + r) (rw (length-append fs gs) (omega arith)) (rw g s) q (omega (arith, e, f)) ∙ g;
-      }
+stands-right : {zs : List ℤ} {at : ℕ} (fs gs : List Fraction) (p : ℕ) → p ≡ at + 2 * length fs → Stands zs at (fs ++ gs) → Stands zs p gs
+stands-right fs gs p e w = record { figure = λ r h s q f. let g = getD-append-add fs gs r noFigure in w .figure (length fs + r) (rw (length-append fs gs) (omega arith)) (rw g s) q (omega (arith, e, f)) ∙ g }
 
 -- ---- what stands there is read
-
-one-small : 1 ≤ most
-one-small = lit≤ tt
 
 number-is : (zs : List ℤ) (p n : ℕ) → n ≤ most → figureIn zs p ≡ wholeOf n → numberIn zs p ≡ n
 unfolding wordOf
@@ -93,24 +80,24 @@ update-is : (zs : List ℤ) (at : ℕ) (u : ArcUpdate) → SmallUpdate u → Sta
 unfolding updateIn
 update-is zs at u s w =
     rw (
-      number-is zs at _ (s .number) (w .figure 0 (omega arith) one-small at (omega arith)),
-      number-is zs (at + 2) _ (s .arc .from) (w .figure 1 (omega arith) one-small (at + 2) (omega arith)),
-      number-is zs (at + 4) _ (s .arc .to) (w .figure 2 (omega arith) one-small (at + 4) (omega arith)),
-      w .figure 3 (omega arith) (s .arc .cost) (at + 6) (omega arith),
-      w .figure 4 (omega arith) (s .arc .lower) (at + 8) (omega arith),
-      w .figure 5 (omega arith) (s .arc .upper) (at + 10) (omega arith),
-      w .figure 6 (omega arith) (s .arc .a) (at + 12) (omega arith),
-      w .figure 7 (omega arith) (s .arc .b) (at + 14) (omega arith),
+      number-is zs at _ (s .0) (w .figure 0 (omega arith) (lit≤ tt) at (omega arith)),
+      number-is zs (at + 2) _ (s .1 .0) (w .figure 1 (omega arith) (lit≤ tt) (at + 2) (omega arith)),
+      number-is zs (at + 4) _ (s .1 .1 .0) (w .figure 2 (omega arith) (lit≤ tt) (at + 4) (omega arith)),
+      w .figure 3 (omega arith) (s .1 .1 .1 .0) (at + 6) (omega arith),
+      w .figure 4 (omega arith) (s .1 .1 .1 .1 .0) (at + 8) (omega arith),
+      w .figure 5 (omega arith) (s .1 .1 .1 .1 .1 .0) (at + 10) (omega arith),
+      w .figure 6 (omega arith) (s .1 .1 .1 .1 .1 .1 .0) (at + 12) (omega arith),
+      w .figure 7 (omega arith) (s .1 .1 .1 .1 .1 .1 .1 .0) (at + 14) (omega arith),
     )
 
 numbers-is : (zs : List ℤ) (at : ℕ) (old : Old) → SmallOld old → Stands zs at (numberFigures (old .new)) → numbersIn zs at ≡ old .new
 unfolding numbersIn
 numbers-is zs at old s w =
     rw (
-      number-is zs at _ (s .first) (w .figure 0 (omega arith) one-small at (omega arith)),
-      number-is zs (at + 2) _ (s .second) (w .figure 1 (omega arith) one-small (at + 2) (omega arith)),
-      number-is zs (at + 4) _ (s .third) (w .figure 2 (omega arith) one-small (at + 4) (omega arith)),
-      number-is zs (at + 6) _ (s .fourth) (w .figure 3 (omega arith) one-small (at + 6) (omega arith)),
+      number-is zs at _ (s .new .0) (w .figure 0 (omega arith) (lit≤ tt) at (omega arith)),
+      number-is zs (at + 2) _ (s .new .1 .0) (w .figure 1 (omega arith) (lit≤ tt) (at + 2) (omega arith)),
+      number-is zs (at + 4) _ (s .new .1 .1 .0) (w .figure 2 (omega arith) (lit≤ tt) (at + 4) (omega arith)),
+      number-is zs (at + 6) _ (s .new .1 .1 .1 .0) (w .figure 3 (omega arith) (lit≤ tt) (at + 6) (omega arith)),
     )
 
 old-is : (zs : List ℤ) (at rule place : ℕ) (old : Old) → SmallOld old → Stands zs at (figuresOf rule place old) → oldFrom zs at ≡ old
@@ -122,12 +109,12 @@ old-is zs at rule place old s w =
     let behind-three = stands-right (updateFigures (old .three)) _ (at + 56) (omega arith) behind-two in
     let behind-four = stands-right (updateFigures (old .four)) _ (at + 72) (omega arith) behind-three in
     rw (
-      number-is zs (at + 4) _ (s .node) (w .figure 2 (omega arith) one-small (at + 4) (omega arith)),
+      number-is zs (at + 4) _ (s .node) (w .figure 2 (omega arith) (lit≤ tt) (at + 4) (omega arith)),
       w .figure 3 (omega arith) (s .supply) (at + 6) (omega arith),
-      update-is zs (at + 8) _ (s .one) (stands-left (updateFigures (old .one)) _ behind),
-      update-is zs (at + 24) _ (s .two) (stands-left (updateFigures (old .two)) _ behind-one),
-      update-is zs (at + 40) _ (s .three) (stands-left (updateFigures (old .three)) _ behind-two),
-      update-is zs (at + 56) _ (s .four) (stands-left (updateFigures (old .four)) _ behind-three),
+      update-is zs (at + 8) _ (s .arcs .0) (stands-left (updateFigures (old .one)) _ behind),
+      update-is zs (at + 24) _ (s .arcs .1 .0) (stands-left (updateFigures (old .two)) _ behind-one),
+      update-is zs (at + 40) _ (s .arcs .1 .1 .0) (stands-left (updateFigures (old .three)) _ behind-two),
+      update-is zs (at + 56) _ (s .arcs .1 .1 .1 .0) (stands-left (updateFigures (old .four)) _ behind-three),
       numbers-is zs (at + 72) old s behind-four,
     )
 
@@ -135,19 +122,11 @@ old-is zs at rule place old s w =
 
 step-long : (zs : List ℤ) (k : ℕ) (s : Step) → length (withStep zs k s) ≡ length zs
 unfolding withStep
-step-long zs k s = by (ltb k 128)
-  where
-    by : (b : Bool) → length (cond b (withFigures zs (80 * k) (figuresOf (s .rule) (s .place) (s .change .old))) zs) ≡ length zs
-    by true = figures-long zs (80 * k) _
-    by false = refl
+step-long zs k s = split (ltb k 128) (λ e. rw e (figures-long zs (80 * k) _)) (λ e. rw e)
 
 step-below : (zs : List ℤ) (k p : ℕ) (s : Step) → p + 1 < 80 * k → figureIn (withStep zs k s) p ≡ figureIn zs p
 unfolding withStep
-step-below zs k p s h = by (ltb k 128)
-  where
-    by : (b : Bool) → figureIn (cond b (withFigures zs (80 * k) (figuresOf (s .rule) (s .place) (s .change .old))) zs) p ≡ figureIn zs p
-    by true = figures-below zs (80 * k) p _ h
-    by false = refl
+step-below zs k p s h = split (ltb k 128) (λ e. rw e (figures-below zs (80 * k) p _ h)) (λ e. rw e)
 
 pub logged-long : (k : ℕ) (ss : List Step) (zs : List ℤ) → length (logged k ss zs) ≡ length zs
 unfolding logged
@@ -164,8 +143,8 @@ step-is : (zs : List ℤ) (k : ℕ) (s : Step) → k < 128 → SmallStep s → S
 unfolding ruleIn placeIn oldIn
 step-is zs k s h small w =
     rw (lt-ltb k 128 h) (
-      number-is zs (80 * k) _ (small .rule) (w .figure 0 (omega arith) one-small (80 * k) (omega arith)),
-      (number-is zs (80 * k + 2) _ (small .place) (w .figure 1 (omega arith) one-small (80 * k + 2) (omega arith)), old-is zs (80 * k) _ _ _ (small .old) w),
+      number-is zs (80 * k) _ (small .rule) (w .figure 0 (omega arith) (lit≤ tt) (80 * k) (omega arith)),
+      (number-is zs (80 * k + 2) _ (small .place) (w .figure 1 (omega arith) (lit≤ tt) (80 * k + 2) (omega arith)), old-is zs (80 * k) _ _ _ (small .old) w),
     )
 
 pub logged-holds : (k : ℕ) (ss : List Step) (zs : List ℤ) → All SmallStep ss → k + length ss ≤ 128 → 10240 ≤ length zs → Holds (logged k ss zs) k ss
@@ -179,8 +158,4 @@ logged-holds k (s ∷ ss) zs small few room =
     below = omega (arith, few, add-one (length ss))
 
     stands : Stands (logged (suc k) ss (withStep zs k s)) (80 * k) (figuresOf (s .rule) (s .place) (s .change .old))
-    stands =
-        record {
-          figure = λ r h d p e.
-              logged-below (suc k) ss (withStep zs k s) p (omega (arith, h, e, add-one k)) ∙ rw (lt-ltb k 128 below) (figure-at zs (80 * k) _ (omega (arith, room, below)) r h d p e);
-        }
+    stands = record { figure = λ r h d p e. logged-below (suc k) ss (withStep zs k s) p (omega (arith, h, e, add-one k)) ∙ rw (lt-ltb k 128 below) (figure-at zs (80 * k) _ (omega (arith, room, below)) r h d p e) }

@@ -1,5 +1,5 @@
 -- Figures written one after the other.
-use mathlib.Core.Path.{_≡_, refl, ap, _∙_}
+use mathlib.Core.Path.{_≡_, refl, _∙_}
 use mathlib.Core.List.{List, [], _∷_, _++_}
 use Prim.Native.Nat.{ℕ, _+_, _*_}
 use native.Mathlib.Numerals.{add-one}
@@ -34,30 +34,13 @@ eight-written zs at a b c d e f g h =
     figures-append zs at (at + 8) (a ∷ b ∷ c ∷ d ∷ []) (e ∷ f ∷ g ∷ h ∷ []) refl ∙ rw (four-written zs at a b c d, four-written (withFigure (withFigure (withFigure (withFigure zs at a) (at + 2) b) (at + 4) c) (at + 6) d) (at + 8) e f g h, ten, twelve, fourteen)
 
 -- a step's figures, part by part
-module _ (zs : List ℤ) (at rule place : ℕ) (old : Old) where
-  abbrev head : List ℤ
-  head = withFigure (withFigure (withFigure (withFigure zs at (wholeOf rule)) (at + 2) (wholeOf place)) (at + 4) (wholeOf (old .node))) (at + 6) (old .supply)
-
-  abbrev one : List ℤ
-  one = withFigures head (at + 8) (updateFigures (old .one))
-
-  abbrev two : List ℤ
-  two = withFigures one (at + 24) (updateFigures (old .two))
-
-  abbrev three : List ℤ
-  three = withFigures two (at + 40) (updateFigures (old .three))
-
-  abbrev four : List ℤ
-  four = withFigures three (at + 56) (updateFigures (old .four))
-
-  pub step-written : withFigures zs at (figuresOf rule place old) ≡ withFigures four (at + 72) (numberFigures (old .new))
-  step-written =
-      figures-append zs at (at + 8) (wholeOf rule ∷ wholeOf place ∷ wholeOf (old .node) ∷ old .supply ∷ []) others refl
-      ∙ ap (λ (ys : List ℤ). withFigures ys (at + 8) others) (four-written zs at _ _ _ _)
-      ∙ figures-append head (at + 8) (at + 24) (updateFigures (old .one)) _ (omega arith)
-      ∙ figures-append one (at + 24) (at + 40) (updateFigures (old .two)) _ (omega arith)
-      ∙ figures-append two (at + 40) (at + 56) (updateFigures (old .three)) _ (omega arith)
-      ∙ figures-append three (at + 56) (at + 72) (updateFigures (old .four)) _ (omega arith)
-    where
-      others : List Fraction
-      others = updateFigures (old .one) ++ (updateFigures (old .two) ++ (updateFigures (old .three) ++ (updateFigures (old .four) ++ numberFigures (old .new))))
+pub step-written : (zs : List ℤ) (at rule place : ℕ) (old : Old)
+    → withFigures zs at (figuresOf rule place old)
+    ≡ withFigures (withFigures (withFigures (withFigures (withFigures (withFigure (withFigure (withFigure (withFigure zs at (wholeOf rule)) (at + 2) (wholeOf place)) (at + 4) (wholeOf (old .node))) (at + 6) (old .supply)) (at + 8) (updateFigures (old .one))) (at + 24) (updateFigures (old .two))) (at + 40) (updateFigures (old .three))) (at + 56) (updateFigures (old .four))) (at + 72) (numberFigures (old .new))
+step-written zs at rule place old =
+    figures-append zs at (at + 8) (wholeOf rule ∷ wholeOf place ∷ wholeOf (old .node) ∷ old .supply ∷ []) _ refl
+    ∙ rw (four-written zs at (wholeOf rule) (wholeOf place) (wholeOf (old .node)) (old .supply))
+    (figures-append _ (at + 8) (at + 24) (updateFigures (old .one)) _ (omega arith)
+    ∙ figures-append _ (at + 24) (at + 40) (updateFigures (old .two)) _ (omega arith)
+    ∙ figures-append _ (at + 40) (at + 56) (updateFigures (old .three)) _ (omega arith)
+    ∙ figures-append _ (at + 56) (at + 72) (updateFigures (old .four)) _ (omega arith))

@@ -1,4 +1,4 @@
--- The log: the steps of a run in the lent words, 80 words a step: 40 figures of two words each, a numerator and a denominator.
+-- The log: the steps of a run in the lent words, each as 40 figures of two words, a numerator and a denominator.
 use mathlib.Core.Path.{_≡_}
 use mathlib.Core.Bool.{cond}
 use mathlib.Core.List.{List, [], _∷_, _++_}
@@ -14,6 +14,14 @@ use Rattle.fraction.specs.Words.{wholeOf}
 use Rattle.step.specs.declared.Numbers.{Numbers}
 use Rattle.step.specs.declared.Old.{Old}
 use Rattle.step.specs.declared.Step.{Step}
+use Rattle.network.specs.Limits.{maxSteps}
+
+-- the words of a step, and those of the steps of the longest run
+abbrev pub stepWords : ℕ
+stepWords = 80
+
+abbrev pub logWords : ℕ
+logWords = stepWords * maxSteps
 
 -- ---- the figures of a step; a whole number is itself over 1
 
@@ -42,7 +50,7 @@ withFigures zs at (f ∷ fs) = withFigures (withFigure zs at f) (at + 2) fs
 
 -- step k, from 0; nothing is written where there is no such step
 unfoldable pub withStep : List ℤ → ℕ → Step → List ℤ
-withStep zs k s = cond (ltb k 128) (withFigures zs (80 * k) (figuresOf (s .rule) (s .place) (s .change .old))) zs
+withStep zs k s = cond (ltb k maxSteps) (withFigures zs (stepWords * k) (figuresOf (s .rule) (s .place) (s .change .old))) zs
 
 -- steps from number k on
 unfoldable pub logged : ℕ → List Step → List ℤ → List ℤ
@@ -53,7 +61,7 @@ logged k (s ∷ ss) zs = logged (suc k) ss (withStep zs k s)
 
 -- where step k stands; behind the last where there is no such step
 abbrev pub startOf : ℕ → ℕ
-startOf k = cond (ltb k 128) (80 * k) 10240
+startOf k = cond (ltb k maxSteps) (stepWords * k) logWords
 
 unfoldable pub figureIn : List ℤ → ℕ → Fraction
 figureIn zs at = fromWords (word zs at) (word zs (at + 1))

@@ -1,20 +1,27 @@
-// The log: the steps of a run in the lent words, 80 words a step.
+// The log: the steps of a run in the lent words, as many words for each.
 ghost use mathlib.Core.Path.{_≡_};
-ghost use Prim.Native.Nat.{_≤_};
+ghost use Prim.Native.Nat.{_*_, _≤_};
 ghost use Rattle.fraction.specs.Words.{word};
 ghost use Rattle.fraction.specs.Words.{wholeOf};
-ghost use Rattle.log.specs.Log.{updateFigures, numberFigures, withFigure, withFigures, figuresOf, withStep, startOf, figureIn, numberIn, updateIn, numbersIn, ruleIn, placeIn, oldIn};
+ghost use Rattle.log.specs.Log.{logWords, updateFigures, numberFigures, withFigure, withFigures, figuresOf, withStep, startOf, figureIn, numberIn, updateIn, numbersIn, ruleIn, placeIn, oldIn};
 use fraction::Fraction;
 use network::Arc;
 use network::ArcUpdate;
+use network::MAX_STEPS;
 use step::Numbers;
 use step::Old;
 use step::Step;
 
+// The words of a step: 40 figures of two words each.
+pub const STEP_WORDS: usize = 80;
+
+// The words of the steps of the longest run.
+pub const LOG_WORDS: usize = STEP_WORDS * MAX_STEPS;
+
 // ---- written
 
 fn put_figure(words: &mut [i32], at: usize, f: Fraction)
-    requires { ⌜ at ≤ 20000 ⌝ }
+    requires { ⌜ at ≤ 3 * logWords ⌝ }
     ensures { λ _. ⌜ now (words .exit) ≡ withFigure (now (words .entry)) at f ⌝ }
 {
     loops::put(words, at, f.num);
@@ -23,7 +30,7 @@ fn put_figure(words: &mut [i32], at: usize, f: Fraction)
 
 // A whole number, over 1.
 fn put_number(words: &mut [i32], at: usize, k: usize)
-    requires { ⌜ at ≤ 20000 ⌝ }
+    requires { ⌜ at ≤ 3 * logWords ⌝ }
     ensures { λ _. ⌜ now (words .exit) ≡ withFigure (now (words .entry)) at (wholeOf k) ⌝ }
 {
     loops::put(words, at, fraction::words::word_of(k));
@@ -32,7 +39,7 @@ fn put_number(words: &mut [i32], at: usize, k: usize)
 
 // An old arc: its number and its seven figures.
 fn put_update(words: &mut [i32], at: usize, u: ArcUpdate)
-    requires { ⌜ at ≤ 12000 ⌝ }
+    requires { ⌜ at ≤ 2 * logWords ⌝ }
     ensures { λ _. ⌜ now (words .exit) ≡ withFigures (now (words .entry)) at (updateFigures u) ⌝ }
 {
     let t = u.arc;
@@ -47,7 +54,7 @@ fn put_update(words: &mut [i32], at: usize, u: ArcUpdate)
 }
 
 fn put_numbers(words: &mut [i32], at: usize, new: Numbers)
-    requires { ⌜ at ≤ 12000 ⌝ }
+    requires { ⌜ at ≤ 2 * logWords ⌝ }
     ensures { λ _. ⌜ now (words .exit) ≡ withFigures (now (words .entry)) at (numberFigures new) ⌝ }
 {
     put_number(words, at, new.first);
@@ -56,9 +63,9 @@ fn put_numbers(words: &mut [i32], at: usize, new: Numbers)
     put_number(words, at + 6, new.fourth);
 }
 
-// The 80 words of a step.
+// The words of a step.
 fn put_old(words: &mut [i32], at: usize, rule: usize, place: usize, old: Old)
-    requires { ⌜ at ≤ 10240 ⌝ }
+    requires { ⌜ at ≤ logWords ⌝ }
     ensures { λ _. ⌜ now (words .exit) ≡ withFigures (now (words .entry)) at (figuresOf rule place old) ⌝ }
 {
     put_number(words, at, rule);
@@ -76,10 +83,10 @@ fn put_old(words: &mut [i32], at: usize, rule: usize, place: usize, old: Old)
 pub fn store(words: &mut [i32], k: usize, s: Step)
     ensures { λ _. ⌜ now (words .exit) ≡ withStep (now (words .entry)) k s ⌝ }
 {
-    if k < 128 {
+    if k < MAX_STEPS {
         let c = s.change;
         let old = c.old;
-        put_old(words, 80 * k, s.rule, s.place, old);
+        put_old(words, STEP_WORDS * k, s.rule, s.place, old);
     }
 }
 
@@ -95,21 +102,21 @@ fn word_in(words: &[i32], at: usize) -> i32
 }
 
 fn figure_in(words: &[i32], at: usize) -> Fraction
-    requires { ⌜ at ≤ 20000 ⌝ }
+    requires { ⌜ at ≤ 3 * logWords ⌝ }
     ensures { λ x. ⌜ x ≡ figureIn (now (words .entry)) at ⌝ }
 {
     Fraction::from_words(word_in(words, at), word_in(words, at + 1))
 }
 
 fn number_in(words: &[i32], at: usize) -> usize
-    requires { ⌜ at ≤ 20000 ⌝ }
+    requires { ⌜ at ≤ 3 * logWords ⌝ }
     ensures { λ x. ⌜ x ≡ numberIn (now (words .entry)) at ⌝ }
 {
     fraction::words::natural_of(figure_in(words, at))
 }
 
 fn update_in(words: &[i32], at: usize) -> ArcUpdate
-    requires { ⌜ at ≤ 12000 ⌝ }
+    requires { ⌜ at ≤ 2 * logWords ⌝ }
     ensures { λ x. ⌜ x ≡ updateIn (now (words .entry)) at ⌝ }
 {
     let number = number_in(words, at);
@@ -133,7 +140,7 @@ fn update_in(words: &[i32], at: usize) -> ArcUpdate
 }
 
 fn numbers_in(words: &[i32], at: usize) -> Numbers
-    requires { ⌜ at ≤ 12000 ⌝ }
+    requires { ⌜ at ≤ 2 * logWords ⌝ }
     ensures { λ x. ⌜ x ≡ numbersIn (now (words .entry)) at ⌝ }
 {
     let first = number_in(words, at);
@@ -150,9 +157,13 @@ fn numbers_in(words: &[i32], at: usize) -> Numbers
 
 // Where step k stands; behind the last where there is no such step.
 fn start(k: usize) -> usize
-    ensures { λ r. ⌜ (r ≡ startOf k) × (r ≤ 10240) ⌝ }
+    ensures { λ r. ⌜ (r ≡ startOf k) × (r ≤ logWords) ⌝ }
 {
-    if k < 128 { 80 * k } else { 10240 }
+    if k < MAX_STEPS {
+        STEP_WORDS * k
+    } else {
+        LOG_WORDS
+    }
 }
 
 // The rule of step k.

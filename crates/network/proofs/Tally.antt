@@ -59,9 +59,6 @@ tallied-le {net} {ds} {j} h i = by (ltb i 33) refl
     by true e = omega (arith, h .is i (ltb-true i 33 e), count-le (λ k. isTouching (arcAt net k) i) j)
     by false e = let g : 33 ≤ i = ltb-false i 33 e in rw (List·getD-eq-default ds 0 {n = i} (omega (arith, h .long))) (omega arith)
 
-pub tallied-other : {net : Net} {ds : List ℕ} {j : ℕ} → Tallied net ds j → (f t : ℕ) → (f ≡ t → ⊥) → getD (raised ds f) t 0 ≤ 97
-tallied-other {net} {ds} h f t n = rw (raised-other ds f t (λ q. n (sym q))) (tallied-le h t)
-
 -- an arc from f to t is counted, at both ends or at its one
 pub tallied-two : {net : Net} {ds one to : List ℕ} {j : ℕ} → Tallied net ds j → j < 97 → (arcAt net j .from ≡ arcAt net j .to → ⊥) → one ≡ raised ds (arcAt net j .from) → to ≡ raised one (arcAt net j .to) → Tallied net to (j + 1)
 unfolding count isTouching

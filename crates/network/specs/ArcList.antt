@@ -3,6 +3,7 @@ use mathlib.Core.List.{List, [], _∷_}
 use Prim.Native.Nat.{ℕ, zero, suc}
 use lib.ListN.{getD, set, replicate}
 use Rattle.loops.specs.Loops.{build}
+use Rattle.network.specs.Limits.{arcPlaces}
 use Rattle.network.specs.declared.Arc.{Arc}
 use Rattle.network.specs.declared.Net.{Net}
 use Rattle.network.specs.declared.Nodes.{Nodes}
@@ -35,7 +36,7 @@ noArcs k = replicate k noArc
 
 -- the arcs at their numbers
 unfoldable pub arcsIn : List Arc → List Arc
-arcsIn xs = build 97 (recordAt xs)
+arcsIn xs = build arcPlaces (recordAt xs)
 
 -- what a network is beside its arcs, and the network of both
 abbrev pub nodesOf : Net → Nodes

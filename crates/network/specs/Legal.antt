@@ -6,6 +6,7 @@ use Prim.Native.Nat.{ℕ, _≤_, _<_}
 use lib.ListN.{length}
 use Rattle.fraction.specs.declared.Fraction.{Fraction}
 use Rattle.fraction.specs.Exact.{Proper, noLower, noUpper, isZero}
+use Rattle.network.specs.Limits.{maxNodes, maxArcs, nodePlaces, arcPlaces}
 use Rattle.network.specs.declared.Arc.{Arc}
 use Rattle.network.specs.declared.Net.{Net}
 use Rattle.network.specs.Network.{noArc, arcAt, supplyAt, isHere, isRoot}
@@ -28,11 +29,11 @@ pub record LegalArc (net : Net) (t : Arc) : Type 0 where
   pub b-zero : isZero (t .b) ≡ isRoot t
 
 pub record Legal (net : Net) : Type 0 where
-  pub here-long : length (net .here) ≡ 33
-  pub supply-long : length (net .supply) ≡ 33
-  pub arcs-long : length (net .arcs) ≡ 97
-  pub few-nodes : net .n ≤ 32
-  pub few-arcs : net .m ≤ 96
+  pub here-long : length (net .here) ≡ nodePlaces
+  pub supply-long : length (net .supply) ≡ nodePlaces
+  pub arcs-long : length (net .arcs) ≡ arcPlaces
+  pub few-nodes : net .n ≤ maxNodes
+  pub few-arcs : net .m ≤ maxArcs
   -- numbers begin at 1
   pub no-node : isHere net 0 ≡ false
   pub no-arc : arcAt net 0 .from ≡ 0

@@ -1,3 +1,4 @@
+pub mod Limits
 pub mod Network
 pub mod ArcList
 pub mod Legal

@@ -8,6 +8,7 @@ use lib.ListN.{getD, set, replicate}
 use Rattle.loops.specs.Loops.{count, scan}
 use Rattle.fraction.specs.declared.Fraction.{Fraction}
 use Rattle.fraction.specs.Exact.{noFigure}
+use Rattle.network.specs.Limits.{maxNodes, maxArcs, nodePlaces, arcPlaces}
 use Rattle.network.specs.declared.Arc.{Arc}
 use Rattle.network.specs.declared.Net.{Net}
 use Rattle.network.specs.declared.ArcUpdate.{ArcUpdate}
@@ -21,7 +22,7 @@ noArc = record { from = 0; to = 0; cost = noFigure; lower = noFigure; upper = no
 
 -- no node and no arc yet, of n and m
 abbrev pub emptyNet : ℕ → ℕ → Net
-emptyNet n m = record { n = n; m = m; here = replicate 33 false; supply = replicate 33 noFigure; arcs = replicate 97 noArc }
+emptyNet n m = record { n = n; m = m; here = replicate nodePlaces false; supply = replicate nodePlaces noFigure; arcs = replicate arcPlaces noArc }
 
 -- arc j, the supply r of node i, and whether node i is in use
 abbrev pub arcAt : Net → ℕ → Arc
@@ -43,13 +44,13 @@ isNumber top k = leb 1 k && leb k top
 
 -- replaced, where there is such a number: arc j, the supply of node i, whether node i is in use
 unfoldable pub withArc : Net → ℕ → Arc → Net
-withArc net j t = record { n = net .n; m = net .m; here = net .here; supply = net .supply; arcs = cond (isNumber 96 j) (set (net .arcs) j t) (net .arcs) }
+withArc net j t = record { n = net .n; m = net .m; here = net .here; supply = net .supply; arcs = cond (isNumber maxArcs j) (set (net .arcs) j t) (net .arcs) }
 
 unfoldable pub withSupply : Net → ℕ → Fraction → Net
-withSupply net i r = record { n = net .n; m = net .m; here = net .here; supply = cond (isNumber 32 i) (set (net .supply) i r) (net .supply); arcs = net .arcs }
+withSupply net i r = record { n = net .n; m = net .m; here = net .here; supply = cond (isNumber maxNodes i) (set (net .supply) i r) (net .supply); arcs = net .arcs }
 
 abbrev pub setHere : Net → ℕ → Bool → Net
-setHere net i h = record { n = net .n; m = net .m; here = cond (isNumber 32 i) (set (net .here) i h) (net .here); supply = net .supply; arcs = net .arcs }
+setHere net i h = record { n = net .n; m = net .m; here = cond (isNumber maxNodes i) (set (net .here) i h) (net .here); supply = net .supply; arcs = net .arcs }
 
 -- node i put in use, with its supply; node i dropped
 unfoldable pub withNode : Net → ℕ → Fraction → Net
@@ -88,14 +89,14 @@ isTouching t i = eqb (t .from) i || eqb (t .to) i
 
 -- "degree is the number of arcs touching a node; a root arc counts once"
 unfoldable pub degreeOf : Net → ℕ → ℕ
-degreeOf net i = count (λ j. isTouching (arcAt net j) i) 97
+degreeOf net i = count (λ j. isTouching (arcAt net j) i) arcPlaces
 
--- the degrees of the nodes 0 to 32; one more at number f
+-- the degrees of the nodes, at their places; one more at number f
 abbrev pub raised : List ℕ → ℕ → List ℕ
-raised ds f = cond (ltb f 33) (set ds f (getD ds f 0 + 1)) ds
+raised ds f = cond (ltb f nodePlaces) (set ds f (getD ds f 0 + 1)) ds
 
 pub record Countable (ds : List ℕ) : Type 0 where
-  pub few : (i : ℕ) → getD ds i 0 ≤ 97
+  pub few : (i : ℕ) → getD ds i 0 ≤ arcPlaces
 
 -- one more at each end of an arc
 abbrev pub countedAt : List ℕ → Arc → List ℕ
@@ -103,10 +104,10 @@ countedAt ds t = cond (isRoot t) (raised ds (t .from)) (raised (raised ds (t .fr
 
 -- the degrees by the arcs of the numbers up to m
 abbrev pub numbersTo : ℕ → ℕ
-numbersTo m = cond (ltb m 96) (m + 1) 97
+numbersTo m = cond (ltb m maxArcs) (m + 1) arcPlaces
 
 abbrev pub AreDegreesTo : Net → ℕ → List ℕ → Type 0
-AreDegreesTo net m ds = (i : ℕ) → i < 33 → getD ds i 0 ≡ count (λ j. isTouching (arcAt net j) i) (numbersTo m)
+AreDegreesTo net m ds = (i : ℕ) → i < nodePlaces → getD ds i 0 ≡ count (λ j. isTouching (arcAt net j) i) (numbersTo m)
 
 -- the first arc after number k that touches node i; 0 where there is none
 abbrev pub orNext : ℕ → (ℕ → ℕ) → ℕ → ℕ
@@ -117,7 +118,7 @@ abbrev pub touchAt : Net → ℕ → ℕ → ℕ
 touchAt net i j = cond (isTouching (arcAt net j) i) j 0
 
 unfoldable pub touchingAfter : Net → ℕ → ℕ → ℕ
-touchingAfter net i k = scan orNext 0 (touchAt net i) (96 - k) (k + 1)
+touchingAfter net i k = scan orNext 0 (touchAt net i) (maxArcs - k) (k + 1)
 
 -- the end that is not the from node; 0 for a root arc, which has none
 unfoldable pub farEnd : Arc → ℕ

@@ -6,12 +6,13 @@ use Rattle.presolve.specs.LP as LP
 use Rattle.fraction.specs.declared.Fraction.{Fraction}
 use Rattle.fraction.specs.Exact.{noFigure}
 use Rattle.fraction.specs.Value.{value}
+use Rattle.network.specs.Limits.{maxNodes, maxArcs, nodePlaces, arcPlaces}
 use Rattle.network.specs.declared.pair.Pair.{Pair}
 use Rattle.network.specs.Network.{isNumber}
 
 -- no price and no flow yet
 abbrev pub noPair : Pair
-noPair = record { price = replicate 33 noFigure; flow = replicate 97 noFigure }
+noPair = record { price = replicate nodePlaces noFigure; flow = replicate arcPlaces noFigure }
 
 -- the price p of node i, and the flow of arc j
 abbrev pub priceAt : Pair → ℕ → Fraction
@@ -22,10 +23,10 @@ flowAt pair j = getD (pair .flow) j noFigure
 
 -- replaced, where there is such a number
 unfoldable pub withPrice : Pair → ℕ → Fraction → Pair
-withPrice pair i f = record { price = cond (isNumber 32 i) (set (pair .price) i f) (pair .price); flow = pair .flow }
+withPrice pair i f = record { price = cond (isNumber maxNodes i) (set (pair .price) i f) (pair .price); flow = pair .flow }
 
 unfoldable pub withFlow : Pair → ℕ → Fraction → Pair
-withFlow pair j f = record { price = pair .price; flow = cond (isNumber 96 j) (set (pair .flow) j f) (pair .flow) }
+withFlow pair j f = record { price = pair .price; flow = cond (isNumber maxArcs j) (set (pair .flow) j f) (pair .flow) }
 
 -- ---- in exact numbers
 

@@ -9,6 +9,7 @@ use Rattle.presolve.specs.Net as Exact
 use Rattle.fraction.specs.declared.Fraction.{Fraction}
 use Rattle.fraction.specs.Exact.{isFinite}
 use Rattle.fraction.specs.Value.{value}
+use Rattle.network.specs.Limits.{nodePlaces, arcPlaces}
 use Rattle.network.specs.declared.Arc.{Arc}
 use Rattle.network.specs.declared.Net.{Net}
 use Rattle.network.specs.Network.{arcAt, supplyAt, isHere}
@@ -20,12 +21,12 @@ boundOf z = cond (isFinite z) (some (value z)) none
 abbrev pub exactArc : Arc → Exact.Arc
 exactArc t = record { from = t .from; to = t .to; cost = value (t .cost); lower = boundOf (t .lower); upper = boundOf (t .upper); a = value (t .a); b = value (t .b) }
 
--- numbers below 33 are the places of nodes, and below 97 those of arcs; which of them are in use
+-- the places of nodes and of arcs, and which of them are in use
 unfoldable pub exactOf : Net → Working
 exactOf net =
     record {
-      n = 33;
-      m = 97;
+      n = nodePlaces;
+      m = arcPlaces;
       node? = isHere net;
       arc? = λ j. not (eqb (arcAt net j .from) 0);
       constant = 0ℚ;

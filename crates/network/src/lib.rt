@@ -5,13 +5,29 @@ ghost use mathlib.Core.List.{List};
 ghost use lib.ListN.{getD};
 ghost use Rattle.network.specs.declared.Arc.{Arc};
 ghost use Rattle.fraction.specs.Exact.{noFigure};
+ghost use Rattle.network.specs.Limits.{arcPlaces};
 ghost use Rattle.network.specs.ArcList.{nodesOf, joined};
-ghost use Rattle.network.specs.Network.{noArc, emptyNet, arcAt, supplyAt, isHere, withSupply, without, applied};
-ghost use Rattle.network.specs.Network.{isTouching, degreeOf, raised, countedAt, Countable, touchingAfter, isRoot, farEnd, sideOf, noUpdate, noSupplyUpdate, noEdit, editOne};
+ghost use Rattle.network.specs.Network.{noArc, emptyNet, arcAt, withSupply, without, applied};
+ghost use Rattle.network.specs.Network.{isTouching, raised, countedAt, Countable, isRoot, farEnd, sideOf, noUpdate, noSupplyUpdate, noEdit, editOne};
 use fraction::Fraction;
 
 pub mod list;
 pub mod pair;
+
+// The most nodes.
+pub const MAX_NODES: usize = 32;
+
+// The most arcs.
+pub const MAX_ARCS: usize = 96;
+
+// The places of nodes' numbers, which are from 1: place 0 is no node's.
+pub const NODE_PLACES: usize = MAX_NODES + 1;
+
+// The places of arcs' numbers: place 0 is no arc's.
+pub const ARC_PLACES: usize = MAX_ARCS + 1;
+
+// The most steps of a reduction.
+pub const MAX_STEPS: usize = MAX_NODES + MAX_ARCS;
 
 // An arc's seven figures: its from and to node, cost c, lower bound l, upper bound u, multipliers a and b.
 // A number not in use has from 0.
@@ -29,17 +45,17 @@ pub struct Arc {
 pub struct Net {
     pub n: usize,
     pub m: usize,
-    pub here: [bool; 33],
-    pub supply: [Fraction; 33],
-    pub arcs: [Arc; 97],
+    pub here: [bool; NODE_PLACES],
+    pub supply: [Fraction; NODE_PLACES],
+    pub arcs: [Arc; ARC_PLACES],
 }
 
 // What a network is beside its arcs, which may stand in a lent list.
 pub struct Nodes {
     pub n: usize,
     pub m: usize,
-    pub here: [bool; 33],
-    pub supply: [Fraction; 33],
+    pub here: [bool; NODE_PLACES],
+    pub supply: [Fraction; NODE_PLACES],
 }
 
 // An arc for a number; none where the number is 0.
@@ -104,9 +120,9 @@ pub fn empty_net(n: usize, m: usize) -> Net
     Net {
         n,
         m,
-        here: [false; 33],
-        supply: [f; 33],
-        arcs: [a; 97],
+        here: [false; NODE_PLACES],
+        supply: [f; NODE_PLACES],
+        arcs: [a; ARC_PLACES],
     }
 }
 
@@ -125,7 +141,7 @@ pub fn nodes_of(net: Net) -> Nodes
 }
 
 // A network of nodes and arcs.
-pub fn join(nodes: Nodes, arcs: [Arc; 97]) -> Net
+pub fn join(nodes: Nodes, arcs: [Arc; ARC_PLACES]) -> Net
     ensures { λ r. ⌜ r ≡ joined nodes arcs ⌝ }
 {
     let here = nodes.here;
@@ -150,40 +166,20 @@ pub fn arc_of(p: ArcUpdate) -> Arc
 pub fn arc_at(net: Net, j: usize) -> Arc
     ensures { λ r. ⌜ r ≡ arcAt net j ⌝ }
 {
-    if j < 97 {
+    if j < ARC_PLACES {
         return net.arcs[j];
     }
     no_arc()
 }
 
-// The supply of node i.
-pub fn supply_at(net: Net, i: usize) -> Fraction
-    ensures { λ r. ⌜ r ≡ supplyAt net i ⌝ }
-{
-    if i < 33 {
-        return net.supply[i];
-    }
-    no_figure()
-}
-
 // The supply of node i, by the supplies of all nodes.
-pub fn supply_of(supply: [Fraction; 33], i: usize) -> Fraction
+pub fn supply_of(supply: [Fraction; NODE_PLACES], i: usize) -> Fraction
     ensures { λ r. ⌜ r ≡ getD supply i noFigure ⌝ }
 {
-    if i < 33 {
+    if i < NODE_PLACES {
         return supply[i];
     }
     no_figure()
-}
-
-// Whether node i is in use.
-pub fn is_here(net: Net, i: usize) -> bool
-    ensures { λ r. ⌜ r ≡ isHere net i ⌝ }
-{
-    if i < 33 {
-        return net.here[i];
-    }
-    false
 }
 
 // The supply of node i replaced.
@@ -193,7 +189,7 @@ fn put_supply(mut nodes: Nodes, i: usize, f: Fraction) -> Nodes
     if i < 1 {
         return nodes;
     }
-    if i < 33 {
+    if i < NODE_PLACES {
         nodes.supply[i] = f;
         return nodes;
     }
@@ -207,7 +203,7 @@ fn drop_node(mut nodes: Nodes, i: usize) -> Nodes
     if i < 1 {
         return nodes;
     }
-    if i < 33 {
+    if i < NODE_PLACES {
         nodes.here[i] = false;
         return nodes;
     }
@@ -231,37 +227,23 @@ pub fn touches(t: Arc, i: usize) -> bool
     t.from == i || t.to == i
 }
 
-// The degree of node i: how many arcs touch it.
-pub fn degree(net: Net, i: usize) -> usize
-    ensures { λ r. ⌜ r ≡ degreeOf net i ⌝ }
-{
-    let mut d: usize = 0;
-    for j in 0..97 {
-        let t = net.arcs[j];
-        if touches(t, i) {
-            d += 1;
-        }
-    }
-    d
-}
-
 // The degree of each node, at its number.
 pub struct Degrees {
-    pub at: [usize; 33],
+    pub at: [usize; NODE_PLACES],
 }
 
 // One more at number i.
-fn add_one(at: &mut [usize; 33], i: usize)
-    requires { ⌜ getD (now at) i 0 ≤ 97 ⌝ }
+fn add_one(at: &mut [usize; NODE_PLACES], i: usize)
+    requires { ⌜ getD (now at) i 0 ≤ arcPlaces ⌝ }
     ensures { λ _. ⌜ now (at .exit) ≡ raised (now (at .entry)) i ⌝ }
 {
-    if i < 33 {
+    if i < NODE_PLACES {
         at[i] += 1;
     }
 }
 
 // One more at each end of an arc.
-pub(crate) fn count_ends(at: &mut [usize; 33], t: Arc)
+pub(crate) fn count_ends(at: &mut [usize; NODE_PLACES], t: Arc)
     requires { ⌜ Countable (now at) ⌝ }
     ensures { λ _. ⌜ now (at .exit) ≡ countedAt (now (at .entry)) t ⌝ }
 {
@@ -269,22 +251,6 @@ pub(crate) fn count_ends(at: &mut [usize; 33], t: Arc)
     if t.from != t.to {
         add_one(at, t.to);
     }
-}
-
-// The first arc after number k that touches node i; 0 where there is none.
-pub fn touching(net: Net, i: usize, k: usize) -> usize
-    ensures { λ r. ⌜ r ≡ touchingAfter net i k ⌝ }
-{
-    if 96 <= k {
-        return 0;
-    }
-    for j in k + 1..97 {
-        let t = net.arcs[j];
-        if touches(t, i) {
-            return j;
-        }
-    }
-    0
 }
 
 // Whether an arc is a root arc.

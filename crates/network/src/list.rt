@@ -8,10 +8,13 @@ ghost use lib.ListN.{length};
 ghost use Rattle.network.specs.declared.Nodes.{Nodes};
 ghost use Rattle.network.specs.ArcList.{recordAt, replaced, replacedAll, noArcs, arcsIn, netIn};
 ghost use Rattle.network.specs.Network.{AreDegreesTo, touchingAfter};
+use crate::ARC_PLACES;
 use crate::Arc;
 use crate::ArcUpdate;
 use crate::Degrees;
 use crate::Edit;
+use crate::MAX_ARCS;
+use crate::NODE_PLACES;
 
 // How many records there are.
 pub fn count(arcs: &[Arc]) -> usize
@@ -58,13 +61,13 @@ pub fn clear(arcs: &mut [Arc])
 }
 
 // The arcs at their numbers, by value.
-pub fn view(arcs: &[Arc]) -> [Arc; 97]
+pub fn view(arcs: &[Arc]) -> [Arc; ARC_PLACES]
     ensures { λ r. ⌜ r ≡ arcsIn (now (arcs .entry)) ⌝ }
 {
     let z = crate::no_arc();
-    let mut at = [z; 97];
+    let mut at = [z; ARC_PLACES];
     let mut j = 0;
-    while j < 97 {
+    while j < ARC_PLACES {
         at[j] = read(arcs, j);
         j += 1;
     }
@@ -75,11 +78,11 @@ pub fn view(arcs: &[Arc]) -> [Arc; 97]
 pub fn touching(arcs: &[Arc], i: usize, k: usize) -> usize
     ensures { λ r. ⌜ ((nodes : Nodes) → r ≡ touchingAfter (netIn nodes (now (arcs .entry))) i k) ⌝ }
 {
-    if 96 <= k {
+    if MAX_ARCS <= k {
         return 0;
     }
     let mut j = k + 1;
-    while j < 97 {
+    while j < ARC_PLACES {
         let t = read(arcs, j);
         if crate::touches(t, i) {
             return j;
@@ -93,9 +96,9 @@ pub fn touching(arcs: &[Arc], i: usize, k: usize) -> usize
 pub fn degrees(arcs: &[Arc], m: usize) -> Degrees
     ensures { λ r. ⌜ ((nodes : Nodes) → AreDegreesTo (netIn nodes (now (arcs .entry))) m (r .at)) ⌝ }
 {
-    let mut at: [usize; 33] = [0; 33];
+    let mut at: [usize; NODE_PLACES] = [0; NODE_PLACES];
     let mut j = 0;
-    while j < 97 {
+    while j < ARC_PLACES {
         if m < j {
             return Degrees { at };
         }

@@ -41,9 +41,6 @@ module _ (ys : List ℤ) (n m : ℕ) (h : n ≤ 32) (k : m ≤ 96) where
   pub flow-read : (j : ℕ) → j < m → flowAt (pairOf ys n m) (j + 1) ≡ figureAt ys (n + m) (n + j)
   flow-read j l = rw pair-is (puts-in (λ j. figureAt ys (n + m) (n + j)) (replicate 97 noFigure) noFigure m j l (omega arith))
 
-  pub no-price-read : (i : ℕ) → (i ≡ 0) ⊎ (n < i) → priceAt (pairOf ys n m) i ≡ noFigure
-  no-price-read i l = rw pair-is (puts-out (figureAt ys (n + m)) (replicate 33 noFigure) noFigure n i l ∙ getD-all 33 i noFigure)
-
   pub no-flow-read : (j : ℕ) → (j ≡ 0) ⊎ (m < j) → flowAt (pairOf ys n m) j ≡ noFigure
   no-flow-read j l = rw pair-is (puts-out (λ j. figureAt ys (n + m) (n + j)) (replicate 97 noFigure) noFigure m j l ∙ getD-all 97 j noFigure)
 

@@ -69,6 +69,14 @@ absent n (q ∷ qs) h e = let a = and-both (not (eqb (q .number) n)) _ h in by (
     by true h e k = k e
     by false h e k = never (let z = eq-eqb (q .number) n e in let w : not true ≡ true = rw z at h in cc)
 
+-- so where it is the first of both, the first table has none, and it is the first of the second
+pub behind : (n : ℕ) (qs rs : List Question) → isNumbered qs ≡ true → isAbsent n qs ≡ true → firstNo (qs ++ rs) ≡ n → (firstNo qs ≡ 0) × (firstNo rs ≡ n)
+behind n qs rs h a e = by (firstNo qs) refl
+  where
+    by : (q : ℕ) → firstNo qs ≡ q → (firstNo qs ≡ 0) × (firstNo rs ≡ n)
+    by zero z = (z, sym (goes-on qs rs h z) ∙ e)
+    by (suc q) z = absurd (absent n qs a (sym (stops qs rs (λ y. omega (arith, add-one q, sym z ∙ y))) ∙ e))
+
 -- where no number of the table is above n, neither is the first no
 abbrev pub isUpTo : ℕ → List Question → Bool
 isUpTo n [] = true

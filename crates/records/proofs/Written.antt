@@ -1,22 +1,24 @@
 -- The pair and the values read back from the words written are those written.
-use mathlib.Core.Path.{_≡_, refl, sym, ap, _∙_}
-use mathlib.Core.List.{List, _∷_, _++_}
+use mathlib.Core.Path.{_≡_, refl, sym, ap, ap₂, _∙_}
+use mathlib.Core.List.{List, [], _∷_, _++_}
 use Prim.Native.Nat.{ℕ, zero, suc, _+_, _-_, _≤_, _<_}
 use native.Mathlib.Numerals.{add-one}
 use native.Mathlib.Omega.{arith}
 use lib.IntN.{ℤ, pos}
 use lib.ListN.{length, set}
-use borrow.Author.Tests.{le-leb, lt-leb}
+use lib.Seq.{getD-append-add}
+use borrow.Author.Tests.{le-leb}
 use Rattle.loops.specs.Loops.{zeros}
 use Rattle.fraction.specs.declared.Fraction.{Fraction}
 use Rattle.fraction.specs.Exact.{most, fromWords, denWord}
 use Rattle.network.specs.declared.pair.Pair.{Pair}
 use Rattle.fraction.specs.Words.{word}
-use Rattle.records.specs.Arrays.{figureAt}
+use Rattle.records.specs.Arrays.{figureAt, arraysOf}
 use Rattle.network.specs.Pair.{priceAt, flowAt}
 use Rattle.records.specs.Pair.{pairOf}
 use Rattle.records.proofs.Arrays.{first-at, second-at, with-room}
 use Rattle.records.proofs.Paired.{price-read, flow-read}
+use Rattle.records.proofs.Put.{price-figure, flow-figure}
 use Rattle.records.specs.Pair.{pairFigure, pairWords}
 use Rattle.records.specs.Values.{twoWords, fourWords, withValue}
 
@@ -25,34 +27,31 @@ pub words-read : (x : Fraction) → x .den ≤ most → fromWords (x .num) (denW
 unfolding fromWords denWord
 words-read x h = rw (le-leb (x .den) most h) refl
 
+-- figure k of a record of sizes v and w and t figures
+pub figure-written : (v w : ℤ) (f : ℕ → Fraction) (t room k : ℕ) → k < t → f k .den ≤ most → figureAt (v ∷ w ∷ arraysOf f t room) t k ≡ f k
+unfolding figureAt
+figure-written v w f t room k l d =
+    let e : 2 + t + k ≡ 2 + (t + k) = omega arith in
+    ap₂ fromWords (getD-append-add (v ∷ w ∷ []) (arraysOf f t room) k (pos 0) ∙ first-at f t room k l)
+    (ap (word (v ∷ w ∷ arraysOf f t room)) e ∙ getD-append-add (v ∷ w ∷ []) (arraysOf f t room) (t + k) (pos 0) ∙ second-at f t room k l)
+    ∙ words-read (f k) d
+
 -- ---- a pair's record
 
 module _ (n m : ℕ) (pair : Pair) (room : ℕ) (h : n ≤ 32) (k : m ≤ 96) (l : 258 ≤ room) where
   -- figure i of the record
   pub figure-read : (i : ℕ) → i < n + m → pairFigure n pair i .den ≤ most → figureAt (pairWords n m pair room) (n + m) i ≡ pairFigure n pair i
-  unfolding figureAt pairWords
-  figure-read i b d =
-      let e : 2 + i ≡ suc (suc i) = omega (arith, add-one i, add-one (suc i)) in
-      let q : 2 + (n + m) + i ≡ suc (suc (n + m + i)) = omega (arith, add-one (n + m + i), add-one (suc (n + m + i))) in
-      rw (with-room 258 n m (pairFigure n pair) (n + m) room h k l, e, q, first-at (pairFigure n pair) (n + m) (room - 2) i b, second-at (pairFigure n pair) (n + m) (room - 2) i b)
-      (words-read (pairFigure n pair i) d)
-
-  price-figure : (i : ℕ) → i < n → pairFigure n pair i ≡ priceAt pair (i + 1)
-  unfolding pairFigure
-  price-figure i b = rw (le-leb (i + 1) n (omega arith))
-
-  flow-figure : (j : ℕ) → pairFigure n pair (n + j) ≡ flowAt pair (j + 1)
-  unfolding pairFigure
-  flow-figure j = let e : n + j - n + 1 ≡ j + 1 = omega arith in rw (lt-leb (n + j + 1) n (omega arith), e)
+  unfolding pairWords
+  figure-read i b d = rw (with-room 258 n m (pairFigure n pair) (n + m) room h k l) (figure-written _ _ (pairFigure n pair) (n + m) (room - 2) i b d)
 
   pub price-written : (i : ℕ) → i < n → priceAt pair (i + 1) .den ≤ most → priceAt (pairOf (pairWords n m pair room) n m) (i + 1) ≡ priceAt pair (i + 1)
   price-written i b d =
-      let e = price-figure i b in
+      let e = price-figure n pair i b in
       price-read (pairWords n m pair room) n m h k i b ∙ figure-read i (omega arith) (rw e d) ∙ e
 
   pub flow-written : (j : ℕ) → j < m → flowAt pair (j + 1) .den ≤ most → flowAt (pairOf (pairWords n m pair room) n m) (j + 1) ≡ flowAt pair (j + 1)
   flow-written j b d =
-      let e = flow-figure j in
+      let e = flow-figure n pair j in
       flow-read (pairWords n m pair room) n m h k j b ∙ figure-read (n + j) (omega arith) (rw e d) ∙ e
 
 -- ---- values over the first words of a slice of zeros, and read back

@@ -8,6 +8,7 @@ use Rattle.loops.specs.Loops.{build, zeros}
 use Rattle.fraction.specs.declared.Fraction.{Fraction}
 use Rattle.fraction.specs.Exact.{fromWords, denWord}
 use Rattle.fraction.specs.Words.{word, wordOf}
+use Rattle.network.specs.Limits.{maxNodes, maxArcs}
 
 -- figure k of t: two sizes come first, then t numerators, then t denominators
 unfoldable pub figureAt : List ℤ → ℕ → ℕ → Fraction
@@ -25,7 +26,7 @@ arraysOf f t room = numerators f t ++ (denominators f t ++ zeros (room - t - t))
 
 -- sizes within the limits, and at least so many words of room
 unfoldable pub hasRoom : ℕ → ℕ → ℕ → ℕ → Bool
-hasRoom least n m room = leb n 32 && (leb m 96 && leb least room)
+hasRoom least n m room = leb n maxNodes && (leb m maxArcs && leb least room)
 
 -- "sizes come first, then two parallel arrays", of t figures, and zeros: room words; zeros alone where it has no room
 unfoldable pub recordOf : ℕ → ℕ → ℕ → (ℕ → Fraction) → ℕ → ℕ → List ℤ

@@ -6,6 +6,9 @@ use lib.ListN.{take}
 use Rattle.network.specs.declared.Net.{Net}
 use Rattle.records.specs.Network.{figures}
 
--- of a network's record
+-- of a network's record, and of a pair's
 abbrev pub cutNetwork : Net → List ℤ → List ℤ
 cutNetwork net zs = take (2 + 2 * figures (net .n) (net .m)) zs
+
+abbrev pub cutPair : Net → List ℤ → List ℤ
+cutPair net ys = take (2 + 2 * (net .n + net .m)) ys

@@ -1,14 +1,15 @@
 -- What the questions answer of some records, and a record read and written.
 use mathlib.Core.Path.{_≡_, refl}
 use mathlib.Core.List.{List, [], _∷_, _++_}
-use Prim.Native.Nat.{ℕ}
+use Prim.Native.Nat.{ℕ, _-_}
 use lib.IntN.{ℤ, pos, negsuc}
-use lib.ListN.{set}
+use lib.ListN.{length, set}
 use Rattle.integer.specs.Gcd.{gcd, gcdBy}
 use Rattle.loops.specs.Loops.{zeros, all, upto, build}
 use Rattle.fraction.specs.Exact.{isProper, isOperand, isSame, fromWords, denWord, isZero}
 use Rattle.fraction.specs.Words.{wordOf}
 use Rattle.network.specs.Network.{isRoot, withArc, withSupply, withNode}
+use Rattle.records.specs.Limits.{networkRoom}
 use Rattle.records.specs.Questions.{firstNo}
 use Rattle.records.specs.Arrays.{figureAt, arraysOf, hasRoom, recordOf}
 use Rattle.records.specs.Network.{sizesRight, figuresRight, endsRight, multipliersRight, questions, roleOf, isPermitted, isEnd, hasEnds, arcIn, isWeighted, netOf, readOf, roleFigure, figureOf, networkOf}
@@ -41,6 +42,6 @@ pub asked : AllRight table
 unfolding gcd gcdBy all isProper isOperand isSame fromWords isZero isRoot figureAt sizesRight figuresRight endsRight multipliersRight questions roleOf isPermitted isEnd hasEnds arcIn isWeighted
 asked = (refl, (refl, (refl, (refl, (refl, (refl, (refl, tt)))))))
 
-pub written-back : networkOf (readOf given) 1410 ≡ given ++ zeros 1360
+pub written-back : networkOf (readOf given) networkRoom ≡ given ++ zeros (networkRoom - length given)
 unfolding upto build fromWords denWord withArc withSupply withNode figureAt sizesRight arcIn netOf readOf arraysOf wordOf roleFigure figureOf hasRoom recordOf networkOf
 written-back = refl

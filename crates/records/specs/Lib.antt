@@ -1,3 +1,4 @@
+pub mod Limits
 pub mod Arrays
 pub mod Questions
 pub mod Network
@@ -7,3 +8,4 @@ pub mod Stack
 pub mod Logged
 pub mod Values
 pub mod Examples
+pub mod internal

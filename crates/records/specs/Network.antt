@@ -11,10 +11,12 @@ use Rattle.fraction.specs.Exact.{noLower, noUpper, isProper, isSame, isZero}
 use Rattle.fraction.specs.Words.{word, wholeOf, naturalOf}
 use Rattle.network.specs.declared.Arc.{Arc}
 use Rattle.network.specs.declared.Net.{Net}
+use Rattle.network.specs.Limits.{maxNodes, maxArcs}
 use Rattle.network.specs.Network.{emptyNet, arcAt, supplyAt, isNumber, isRoot, withArc, withNode}
 use Rattle.network.specs.ArcList.{replaced}
 use Rattle.records.specs.declared.Size.{Size}
 use Rattle.records.specs.declared.Size.the-variants.{Is, Off}
+use Rattle.records.specs.Limits.{networkRoom}
 use Rattle.records.specs.Questions.{Question, _asks_}
 use Rattle.records.specs.Arrays.{figureAt, recordOf}
 
@@ -41,7 +43,7 @@ abbrev pub mOf : List ℤ → ℕ
 mOf xs = naturalOf (word xs 1)
 
 unfoldable pub sizesRight : List ℤ → Bool
-sizesRight xs = isSize 32 (word xs 0) && (isSize 96 (word xs 1) && eqb (length xs) (2 + 2 * figures (nOf xs) (mOf xs)))
+sizesRight xs = isSize maxNodes (word xs 0) && (isSize maxArcs (word xs 1) && eqb (length xs) (2 + 2 * figures (nOf xs) (mOf xs)))
 
 -- ---- 3. "Is each figure a fraction in form, or a permitted mark?"
 
@@ -142,4 +144,4 @@ figureOf net k = figureBy (ltb k (net .n)) net k
 
 -- "n, m; then n + 7m numerators; then as many denominators"
 unfoldable pub networkOf : Net → ℕ → List ℤ
-networkOf net room = recordOf 1410 (net .n) (net .m) (figureOf net) (figures (net .n) (net .m)) room
+networkOf net room = recordOf networkRoom (net .n) (net .m) (figureOf net) (figures (net .n) (net .m)) room

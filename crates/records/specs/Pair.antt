@@ -11,7 +11,9 @@ use Rattle.fraction.specs.declared.Fraction.{Fraction}
 use Rattle.fraction.specs.Exact.{isProper}
 use Rattle.fraction.specs.Words.{word}
 use Rattle.network.specs.declared.pair.Pair.{Pair}
+use Rattle.network.specs.Limits.{maxNodes, maxArcs}
 use Rattle.network.specs.Pair.{noPair, priceAt, flowAt, withPrice, withFlow}
+use Rattle.records.specs.Limits.{pairRoom}
 use Rattle.records.specs.Arrays.{figureAt, recordOf}
 
 -- ---- 8. "Has the pair the reduced sizes, length and only fractions?"
@@ -39,7 +41,7 @@ pairBy true ys n m = upto (flowTurn ys n (n + m)) m (upto (priceTurn ys (n + m))
 pairBy false ys n m = noPair
 
 unfoldable pub pairOf : List ℤ → ℕ → ℕ → Pair
-pairOf ys n m = pairBy (leb n 32 && leb m 96) ys n m
+pairOf ys n m = pairBy (leb n maxNodes && leb m maxArcs) ys n m
 
 -- ---- the record of a pair
 
@@ -49,4 +51,4 @@ pairFigure n pair k = cond (leb (k + 1) n) (priceAt pair (k + 1)) (flowAt pair (
 
 -- "n, m; then n + m numerators; then denominators"
 unfoldable pub pairWords : ℕ → ℕ → Pair → ℕ → List ℤ
-pairWords n m pair room = recordOf 258 n m (pairFigure n pair) (n + m) room
+pairWords n m pair room = recordOf pairRoom n m (pairFigure n pair) (n + m) room

@@ -3,16 +3,43 @@ ghost use mathlib.Core.Path.{_≡_};
 ghost use mathlib.Core.List.{_++_};
 ghost use Prim.Native.Nat.{_+_, _-_, _≤_};
 ghost use lib.ListN.{length, set};
-ghost use Rattle.loops.specs.Loops.{zeros};
+ghost use Rattle.loops.specs.Loops.{written, zeros};
+ghost use Rattle.fraction.specs.Exact.{denWord};
 ghost use Rattle.fraction.specs.Words.{word, wordOf, naturalOf};
+ghost use Rattle.network.specs.Limits.{maxNodes};
 ghost use Rattle.records.specs.Arrays.{figureAt, hasRoom};
 ghost use Rattle.records.specs.Network.{sizeOf};
+ghost use Rattle.records.specs.internal.Put.{ofNode};
 use fraction::Fraction;
+use network::MAX_ARCS;
+use network::MAX_NODES;
+use network::NODE_PLACES;
 
 pub mod net;
 pub mod pair;
 pub mod stack;
 pub mod values;
+
+// The most figures of a network's record.
+pub const NETWORK_FIGURES: usize = MAX_NODES + 7 * MAX_ARCS;
+
+// The most figures of a pair's record.
+pub const PAIR_FIGURES: usize = MAX_NODES + MAX_ARCS;
+
+// The least words of a lent network: two sizes, then two words for each figure.
+pub const NETWORK_WORDS: usize = 2 + 2 * NETWORK_FIGURES;
+
+// The least words of a lent pair: the same.
+pub const PAIR_WORDS: usize = 2 + 2 * PAIR_FIGURES;
+
+// The least words of a lent stack: the number of steps, then two words for each.
+pub const STACK_WORDS: usize = 1 + 2 * network::MAX_STEPS;
+
+// The least words of lent values: two values, of two words each.
+pub const VALUE_WORDS: usize = 4;
+
+// The least words of scratch: the log of the longest run.
+pub const SCRATCH_WORDS: usize = log::LOG_WORDS;
 
 // A size within its limit.
 pub enum Size {
@@ -81,8 +108,8 @@ pub fn number_at(xs: &[i32], at: usize) -> usize
 pub(crate) fn has_room(least: usize, n: usize, m: usize, room: usize) -> bool
     ensures { λ r. ⌜ r ≡ hasRoom least n m room ⌝ }
 {
-    if n <= 32 {
-        return m <= 96 && least <= room;
+    if n <= MAX_NODES {
+        return m <= MAX_ARCS && least <= room;
     }
     false
 }
@@ -93,6 +120,24 @@ pub(crate) fn write_sizes(n: usize, m: usize, out: &mut [i32])
 {
     loops::put(out, 0, fraction::words::word_of(n));
     loops::put(out, 1, fraction::words::word_of(m));
+}
+
+// Figure k: its numerator over word k of the output, its denominator over word k of those kept for behind.
+pub(crate) fn put_figure(f: Fraction, k: usize, out: &mut [i32], dens: &mut [i32])
+    ensures { λ _. ⌜ (now (out .exit) ≡ set (now (out .entry)) k (f .num)) × (now (dens .exit) ≡ set (now (dens .entry)) k (denWord (f .den))) ⌝ }
+{
+    loops::put(out, k, f.num);
+    loops::put(dens, k, f.den_word());
+}
+
+// The figures of the nodes 1 to n, which are the first n of a record.
+pub(crate) fn put_nodes(at: [Fraction; NODE_PLACES], n: usize, out: &mut [i32], dens: &mut [i32])
+    requires { ⌜ (n ≤ maxNodes) × (n ≤ length (now out)) × (n ≤ length (now dens)) ⌝ }
+    ensures { λ _. ⌜ (now (out .exit) ≡ written n (λ k. ofNode at k .num) (now (out .entry))) × (now (dens .exit) ≡ written n (λ k. denWord (ofNode at k .den)) (now (dens .entry))) ⌝ }
+{
+    for k in 0..n {
+        put_figure(at[k + 1], k, out, dens);
+    }
 }
 
 // The denominators of figures, and zeros behind them: the rest of an output slice, behind the numerators.

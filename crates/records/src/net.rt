@@ -8,15 +8,23 @@ ghost use lib.ListN.{length};
 ghost use Rattle.loops.specs.Loops.{all, upto};
 ghost use Rattle.network.specs.declared.Arc.{Arc};
 ghost use Rattle.network.specs.declared.Nodes.{Nodes};
+ghost use Rattle.fraction.specs.Exact.{denWord};
 ghost use Rattle.fraction.specs.Words.{wordOf};
+ghost use Rattle.network.specs.Limits.{maxNodes, maxArcs, arcPlaces};
 ghost use Rattle.network.specs.Network.{emptyNet};
 ghost use Rattle.network.specs.ArcList.{noArcs, nodesOf, joined};
+ghost use Rattle.records.specs.Limits.{networkFigures, networkRoom};
 ghost use Rattle.records.specs.Arrays.{figureAt, arraysOf};
 ghost use Rattle.records.specs.Questions.{firstNo};
 ghost use Rattle.records.specs.Network.{figures, sizesRight, roleOf, isPermitted, isInForm, isEnd, hasEnds, arcIn, isWeightedAt, questions, nodeTurn, arcTurn, netOf, readOf, loadTurn, loaded, roleFigure, figureOf, networkOf};
+ghost use Rattle.records.specs.internal.Put.{sevenPut};
 use crate::Size;
 use fraction::Fraction;
+use network::ARC_PLACES;
 use network::Arc;
+use network::MAX_ARCS;
+use network::MAX_NODES;
+use network::NODE_PLACES;
 use network::Net;
 use network::Nodes;
 
@@ -36,9 +44,9 @@ fn figure_in(xs: &[i32], t: usize, k: usize) -> Fraction
 pub(crate) fn has_sizes(xs: &[i32]) -> bool
     ensures { λ r. ⌜ r ≡ sizesRight (now (xs .entry)) ⌝ }
 {
-    match crate::size_at(xs, 0, 32) {
+    match crate::size_at(xs, 0, MAX_NODES) {
         Size::Off => false,
-        Size::Is(n) => match crate::size_at(xs, 1, 96) {
+        Size::Is(n) => match crate::size_at(xs, 1, MAX_ARCS) {
             Size::Off => false,
             Size::Is(m) => xs.len() == 2 + 2 * (n + 7 * m),
         },
@@ -199,14 +207,14 @@ fn no_nodes(n: usize, m: usize) -> Nodes
     Nodes {
         n,
         m,
-        here: [false; 33],
-        supply: [f; 33],
+        here: [false; NODE_PLACES],
+        supply: [f; NODE_PLACES],
     }
 }
 
 // Nodes 1 to n, with their supplies, whatever the arcs.
 fn read_nodes(xs: &[i32], n: usize, m: usize) -> Nodes
-    requires { ⌜ (n ≤ 32) × (m ≤ 96) × (2 + 2 * (n + 7 * m) ≤ length (now xs)) ⌝ }
+    requires { ⌜ (n ≤ maxNodes) × (m ≤ maxArcs) × (2 + 2 * (n + 7 * m) ≤ length (now xs)) ⌝ }
     ensures { λ r. ⌜ ((arcs : List Arc) → joined r arcs ≡ upto (nodeTurn (now (xs .entry)) (n + 7 * m)) n (joined (nodesOf (emptyNet n m)) arcs)) ⌝ }
 {
     let t = n + 7 * m;
@@ -220,12 +228,12 @@ fn read_nodes(xs: &[i32], n: usize, m: usize) -> Nodes
 }
 
 // Arcs 1 to m, whatever the nodes.
-fn read_arcs(xs: &[i32], n: usize, t: usize, m: usize) -> [Arc; 97]
-    requires { ⌜ (m ≤ 96) × (2 + 2 * t ≤ length (now xs)) × (n + 7 * m ≤ t) ⌝ }
-    ensures { λ r. ⌜ ((nodes : Nodes) → joined nodes r ≡ upto (arcTurn (now (xs .entry)) n t) m (joined nodes (noArcs 97))) ⌝ }
+fn read_arcs(xs: &[i32], n: usize, t: usize, m: usize) -> [Arc; ARC_PLACES]
+    requires { ⌜ (m ≤ maxArcs) × (2 + 2 * t ≤ length (now xs)) × (n + 7 * m ≤ t) ⌝ }
+    ensures { λ r. ⌜ ((nodes : Nodes) → joined nodes r ≡ upto (arcTurn (now (xs .entry)) n t) m (joined nodes (noArcs arcPlaces))) ⌝ }
 {
     let z = network::no_arc();
-    let mut at = [z; 97];
+    let mut at = [z; ARC_PLACES];
     for j in 0..m {
         let a = arc_in(xs, n, t, j);
         at[j + 1] = a;
@@ -235,7 +243,7 @@ fn read_arcs(xs: &[i32], n: usize, t: usize, m: usize) -> [Arc; 97]
 
 // The network of a record with these sizes.
 fn read_sized(xs: &[i32], n: usize, m: usize) -> Net
-    requires { ⌜ (n ≤ 32) × (m ≤ 96) × (2 + 2 * (n + 7 * m) ≤ length (now xs)) ⌝ }
+    requires { ⌜ (n ≤ maxNodes) × (m ≤ maxArcs) × (2 + 2 * (n + 7 * m) ≤ length (now xs)) ⌝ }
     ensures { λ r. ⌜ r ≡ netOf (now (xs .entry)) n m ⌝ }
 {
     network::join(read_nodes(xs, n, m), read_arcs(xs, n, n + 7 * m, m))
@@ -297,48 +305,39 @@ pub fn load(arcs: &mut [Arc], network: &[i32])
 
 // ---- writing
 
-// An arc's seven figures, in their order.
-pub fn role_figure(t: Arc, role: usize) -> Fraction
-    ensures { λ r. ⌜ r ≡ roleFigure t role ⌝ }
+// An arc's seven figures, in their order, from place k on.
+fn put_arc(t: Arc, k: usize, out: &mut [i32], dens: &mut [i32])
+    requires { ⌜ k ≤ networkFigures ⌝ }
+    ensures { λ _. ⌜ (now (out .exit) ≡ sevenPut (λ r. roleFigure t r .num) k (now (out .entry))) × (now (dens .exit) ≡ sevenPut (λ r. denWord (roleFigure t r .den)) k (now (dens .entry))) ⌝ }
 {
-    match role {
-        0 => fraction::words::whole(t.from),
-        1 => fraction::words::whole(t.to),
-        2 => t.cost,
-        3 => t.lower,
-        4 => t.upper,
-        5 => t.a,
-        _ => t.b,
-    }
+    crate::put_figure(fraction::words::whole(t.from), k, out, dens);
+    crate::put_figure(fraction::words::whole(t.to), k + 1, out, dens);
+    crate::put_figure(t.cost, k + 2, out, dens);
+    crate::put_figure(t.lower, k + 3, out, dens);
+    crate::put_figure(t.upper, k + 4, out, dens);
+    crate::put_figure(t.a, k + 5, out, dens);
+    crate::put_figure(t.b, k + 6, out, dens);
 }
 
 // The figures' numerators, as many denominators, and zeros behind them.
 fn write_figures(net: Net, out: &mut [i32])
-    requires { ⌜ (net .n ≤ 32) × (net .m ≤ 96) × (1408 ≤ length (now out)) ⌝ }
+    requires { ⌜ (net .n ≤ maxNodes) × (net .m ≤ maxArcs) × (2 * networkFigures ≤ length (now out)) ⌝ }
     ensures { λ _. ⌜ now (out .exit) ≡ arraysOf (figureOf net) (figures (net .n) (net .m)) (length (now (out .entry))) ⌝ }
 {
     let n = net.n;
-    let t = n + 7 * net.m;
-    let mut dens = [0i32; 704];
-    for k in 0..t {
-        let mut f = network::no_figure();
-        if k < n {
-            f = net.supply[k + 1];
-        } else {
-            let d = k - n;
-            let j = d / 7 + 1;
-            let a = net.arcs[j];
-            f = role_figure(a, d % 7);
-        }
-        loops::put(out, k, f.num);
-        dens[k] = f.den_word();
+    let m = net.m;
+    let mut dens = [0i32; crate::NETWORK_FIGURES];
+    crate::put_nodes(net.supply, n, out, &mut dens);
+    for j in 0..m {
+        put_arc(net.arcs[j + 1], n + 7 * j, out, &mut dens);
     }
+    let t = n + 7 * m;
     crate::write_denominators(&dens[..t], &mut out[t..]);
 }
 
 // The sizes, the numerators and the denominators.
 fn write_sized(net: Net, out: &mut [i32])
-    requires { ⌜ (net .n ≤ 32) × (net .m ≤ 96) × (1410 ≤ length (now out)) ⌝ }
+    requires { ⌜ (net .n ≤ maxNodes) × (net .m ≤ maxArcs) × (networkRoom ≤ length (now out)) ⌝ }
     ensures { λ _. ⌜ now (out .exit) ≡ wordOf (net .n) ∷ wordOf (net .m) ∷ arraysOf (figureOf net) (figures (net .n) (net .m)) (length (now (out .entry)) - 2) ⌝ }
 {
     crate::write_sizes(net.n, net.m, out);
@@ -349,7 +348,7 @@ fn write_sized(net: Net, out: &mut [i32])
 pub fn write_network(net: Net, out: &mut [i32])
     ensures { λ _. ⌜ now (out .exit) ≡ networkOf net (length (now (out .entry))) ⌝ }
 {
-    if crate::has_room(1410, net.n, net.m, out.len()) {
+    if crate::has_room(crate::NETWORK_WORDS, net.n, net.m, out.len()) {
         write_sized(net, out);
     } else {
         loops::clear(out);

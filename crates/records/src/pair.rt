@@ -8,9 +8,13 @@ ghost use lib.ListN.{length};
 ghost use Rattle.integer.specs.Whole.{eqZ};
 ghost use Rattle.loops.specs.Loops.{all, upto};
 ghost use Rattle.fraction.specs.Words.{word, wordOf};
+ghost use Rattle.network.specs.Limits.{maxNodes, maxArcs};
+ghost use Rattle.records.specs.Limits.{pairFigures, pairRoom};
 ghost use Rattle.records.specs.Arrays.{arraysOf};
 ghost use Rattle.records.specs.Pair.{hasSizes, isFraction, isPair, priceTurn, flowTurn, pairOf, pairFigure, pairWords};
 use crate::Size;
+use network::MAX_ARCS;
+use network::MAX_NODES;
 use network::pair::Pair;
 
 // Whether the word at a place is this number.
@@ -75,7 +79,7 @@ pub fn is_pair(pair: &[i32], n: usize, m: usize) -> bool
 
 // Prices of the nodes 1 to n.
 fn read_prices(pair: Pair, words: &[i32], t: usize, n: usize) -> Pair
-    requires { ⌜ n ≤ 32 ⌝ }
+    requires { ⌜ n ≤ maxNodes ⌝ }
     ensures { λ r. ⌜ r ≡ upto (priceTurn (now (words .entry)) t) n pair ⌝ }
 {
     let mut at = pair;
@@ -88,7 +92,7 @@ fn read_prices(pair: Pair, words: &[i32], t: usize, n: usize) -> Pair
 
 // Flows of the arcs 1 to m.
 fn read_flows(pair: Pair, words: &[i32], n: usize, t: usize, m: usize) -> Pair
-    requires { ⌜ (n ≤ 32) × (m ≤ 96) ⌝ }
+    requires { ⌜ (n ≤ maxNodes) × (m ≤ maxArcs) ⌝ }
     ensures { λ r. ⌜ r ≡ upto (flowTurn (now (words .entry)) n t) m pair ⌝ }
 {
     let mut at = pair;
@@ -104,10 +108,10 @@ pub fn read_pair(words: &[i32], n: usize, m: usize) -> Pair
     ensures { λ r. ⌜ r ≡ pairOf (now (words .entry)) n m ⌝ }
 {
     let p = network::pair::no_pair();
-    if 32 < n {
+    if MAX_NODES < n {
         return p;
     }
-    if 96 < m {
+    if MAX_ARCS < m {
         return p;
     }
     let q = read_prices(p, words, n + m, n);
@@ -118,27 +122,21 @@ pub fn read_pair(words: &[i32], n: usize, m: usize) -> Pair
 
 // The figures' numerators, as many denominators, and zeros behind them.
 fn write_figures(n: usize, m: usize, pair: Pair, out: &mut [i32])
-    requires { ⌜ (n ≤ 32) × (m ≤ 96) × (256 ≤ length (now out)) ⌝ }
+    requires { ⌜ (n ≤ maxNodes) × (m ≤ maxArcs) × (2 * pairFigures ≤ length (now out)) ⌝ }
     ensures { λ _. ⌜ now (out .exit) ≡ arraysOf (pairFigure n pair) (n + m) (length (now (out .entry))) ⌝ }
 {
-    let t = n + m;
-    let mut dens = [0i32; 128];
-    for k in 0..t {
-        let mut f = network::no_figure();
-        if k + 1 <= n {
-            f = pair.price[k + 1];
-        } else {
-            f = pair.flow[k - n + 1];
-        }
-        loops::put(out, k, f.num);
-        dens[k] = f.den_word();
+    let mut dens = [0i32; crate::PAIR_FIGURES];
+    crate::put_nodes(pair.price, n, out, &mut dens);
+    for j in 0..m {
+        crate::put_figure(pair.flow[j + 1], n + j, out, &mut dens);
     }
+    let t = n + m;
     crate::write_denominators(&dens[..t], &mut out[t..]);
 }
 
 // The sizes, the numerators and the denominators.
 fn write_sized(n: usize, m: usize, pair: Pair, out: &mut [i32])
-    requires { ⌜ (n ≤ 32) × (m ≤ 96) × (258 ≤ length (now out)) ⌝ }
+    requires { ⌜ (n ≤ maxNodes) × (m ≤ maxArcs) × (pairRoom ≤ length (now out)) ⌝ }
     ensures { λ _. ⌜ now (out .exit) ≡ wordOf n ∷ wordOf m ∷ arraysOf (pairFigure n pair) (n + m) (length (now (out .entry)) - 2) ⌝ }
 {
     crate::write_sizes(n, m, out);
@@ -149,7 +147,7 @@ fn write_sized(n: usize, m: usize, pair: Pair, out: &mut [i32])
 pub fn write_pair(n: usize, m: usize, pair: Pair, out: &mut [i32])
     ensures { λ _. ⌜ now (out .exit) ≡ pairWords n m pair (length (now (out .entry))) ⌝ }
 {
-    if crate::has_room(258, n, m, out.len()) {
+    if crate::has_room(crate::PAIR_WORDS, n, m, out.len()) {
         write_sized(n, m, pair, out);
     } else {
         loops::clear(out);

@@ -3,7 +3,10 @@ ghost use mathlib.Core.Path.{_≡_};
 ghost use Prim.Native.Nat.{_+_, _*_, _≤_};
 ghost use lib.ListN.{length};
 ghost use Rattle.loops.specs.Loops.{written};
+ghost use Rattle.network.specs.Limits.{maxSteps};
+ghost use Rattle.records.specs.Limits.{stackRoom};
 ghost use Rattle.records.specs.Logged.{stackWord, withStack, isStackOf};
+use network::MAX_STEPS;
 
 // Word k of the record of s steps.
 pub fn word_at(log: &[i32], s: usize, k: usize) -> i32
@@ -20,7 +23,7 @@ pub fn word_at(log: &[i32], s: usize, k: usize) -> i32
 
 // The record of s steps, over the first words of a slice that has room.
 fn write_words(log: &[i32], s: usize, out: &mut [i32])
-    requires { ⌜ (s ≤ 128) × (257 ≤ length (now out)) ⌝ }
+    requires { ⌜ (s ≤ maxSteps) × (stackRoom ≤ length (now out)) ⌝ }
     ensures { λ _. ⌜ now (out .exit) ≡ written (1 + 2 * s) (stackWord (now (log .entry)) s) (now (out .entry)) ⌝ }
 {
     let end = 1 + 2 * s;
@@ -33,18 +36,18 @@ fn write_words(log: &[i32], s: usize, out: &mut [i32])
 pub fn write(log: &[i32], s: usize, out: &mut [i32])
     ensures { λ _. ⌜ now (out .exit) ≡ withStack (now (log .entry)) s (now (out .entry)) ⌝ }
 {
-    if s <= 128 {
-        if 257 <= out.len() {
+    if s <= MAX_STEPS {
+        if crate::STACK_WORDS <= out.len() {
             write_words(log, s, out);
         }
     }
 }
 
-// Whether the words are the record of the s steps in the log, of which a run has at most 128.
+// Whether the words are the record of the s steps in the log.
 pub fn is_stack(log: &[i32], s: usize, stack: &[i32]) -> bool
     ensures { λ r. ⌜ r ≡ isStackOf (now (log .entry)) s (now (stack .entry)) ⌝ }
 {
-    if 128 < s {
+    if MAX_STEPS < s {
         return false;
     }
     let end = 1 + 2 * s;

@@ -15,7 +15,7 @@ use Rattle.loops.specs.Loops.{tally, count}
 use Rattle.loops.proofs.Laws.{count-same, count-shift, count-le}
 use Rattle.fraction.proofs.Laws.{never}
 use Rattle.algebra.specs.Sum.{range}
-use Rattle.presolve.proofs.Renumber.{Numbering, end, drop, keep, count-inj, find, find-is}
+use Rattle.presolve.proofs.Renumber.{Numbering, end, drop, keep, find, find-is}
 use Rattle.presolve.proofs.Renumber as Renumber
 use Rattle.network.proofs.Sane.{is-true}
 
@@ -67,9 +67,6 @@ module _ (p : ℕ → Bool) where
   -- a number is found by its rank
   pub found : (n i : ℕ) → i < n → p i ≡ true → find p n (count p i + 1 - 1) ≡ i
   found n i h e = let q : count p i + 1 - 1 ≡ Renumber.count p i = omega (arith, count-is i) in rw q (find-is p n i h (subst T (sym e) tt))
-
-  pub one-rank : (i j : ℕ) → p i ≡ true → p j ≡ true → count p i ≡ count p j → i ≡ j
-  one-rank i j e f q = count-inj p i j (subst T (sym e) tt) (subst T (sym f) tt) (count-is i ∙ q ∙ sym (count-is j))
 
 -- ---- lists of them
 

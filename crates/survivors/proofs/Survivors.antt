@@ -10,13 +10,11 @@ use lib.ListN.{set, replicate}
 use borrow.Author.Tests.{lt-ltb, ltb-true, ltb-false, eq-eqb, ne-eqb}
 use Rattle.loops.specs.Loops.{upto, tally, count}
 use Rattle.loops.proofs.Laws.{count-le, count-shift}
-use Rattle.algebra.proofs.Solver.{_:+_, _:-_, :0, _:=_, ring1}
 use Rattle.algebra.specs.Rat.{ℚ, _+ℚ_, 0ℚ}
-use Rattle.algebra.proofs.Rat.{ℚ-ring}
 use Rattle.algebra.specs.Sum.{range, only}
 use Rattle.algebra.proofs.Sum.{range-mem}
-use Rattle.presolve.specs.LP.{LP, Pair, Solved, total}
-use Rattle.presolve.proofs.Step.{SoundStep, then, total-shift}
+use Rattle.presolve.specs.LP.{LP, Pair, Solved}
+use Rattle.presolve.proofs.Step.{SoundStep, then}
 use Rattle.presolve.proofs.Renumber.{Numbering, Renumbered, survivor, find, renumber-sound}
 use Rattle.presolve.proofs.Spare.{listed, Spare, spare-sound}
 use Rattle.presolve.specs.Net.{column, columnAt, rhsAt}
@@ -31,10 +29,10 @@ use Rattle.survivors.specs.Survivors.{rankOf, arcRank, renumbered, behin
 use Rattle.network.specs.Legal.{Legal, Gapless}
 use Rattle.network.specs.Program.{exactArc, exactOf, programOf}
 use Rattle.network.proofs.Numbers.{number}
-use Rattle.network.proofs.Kept.{here-within, used-within, here-number, used-number}
+use Rattle.network.proofs.Kept.{here-number, used-number}
 use Rattle.survivors.proofs.Packed.{rank-root, packed-legal}
 use Rattle.network.proofs.Sane.{is-true, used-from, sane}
-use Rattle.survivors.proofs.Ranks.{rank-is, count-more, found, one-rank, numbers, numbering, mem-numbers, run-numbering, packs, packs-at}
+use Rattle.survivors.proofs.Ranks.{rank-is, count-more, found, numbers, numbering, mem-numbers, run-numbering, packs, packs-at}
 
 -- ---- the survivors, list by list
 
@@ -121,13 +119,6 @@ module _ {net : Net} (g : Legal net) where
       let h = used-number g j (used-from g j e) in
       rw (packed-is net, rank-arc j e) (packs-at (isUsed net) (λ k. renumbered net (arcAt net k)) (replicate 97 noArc) noArc 96 j unused-0 (omega arith) (omega arith) e)
 
-  -- two have two
-  pub node-alone : (i k : ℕ) → isHere net i ≡ true → isHere net k ≡ true → rankOf net i ≡ rankOf net k → i ≡ k
-  node-alone i k e f q = one-rank (isHere net) i k e f (omega (arith, rank-node i e, rank-node k f))
-
-  pub arc-alone : (j k : ℕ) → isUsed net j ≡ true → isUsed net k ≡ true → arcRank net j ≡ arcRank net k → j ≡ k
-  arc-alone j k e f q = one-rank (isUsed net) j k e f (omega (arith, rank-arc j e, rank-arc k f))
-
   nodes-numbered : Numbering (isHere net) (rankOf net) (range 33) (numbers (packedOf net .n))
   nodes-numbered = rw nodes-left (numbering (isHere net) (rankOf net) 33 (λ i l e. rank-node i e))
 
@@ -176,12 +167,6 @@ module _ {net : Net} (g : Legal net) where
         node-in = node-within;
         arc-in = λ k a b. used-from (packed-legal g) k (arc-within k a b);
       }
-
-  pub node-up : (k : ℕ) → isHere (packedOf net) k ≡ true → (1 ≤ k) × (k ≤ packedOf net .n)
-  node-up = here-within (packed-legal g)
-
-  pub arc-up : (k : ℕ) → isUsed (packedOf net) k ≡ true → (1 ≤ k) × (k ≤ packedOf net .m)
-  arc-up k e = let h = packed-legal g in used-within h k (used-from h k e)
 
 -- ---- a pair of the survivors, read at their new numbers; 0 elsewhere
 
@@ -248,10 +233,6 @@ module _ {net : Net} (g : Legal net) where
   pub survivors-sound : SoundStep (programOf net) (programOf (packedOf net)) (spread net)
   survivors-sound = then (renumber-sound renumbers (λ _. 0ℚ)) (spare-sound spare)
 
--- a pair that is optimal among the survivors is optimal in the whole, and its cost is the same
+-- a pair that is optimal among the survivors is optimal in the whole
 pub survivors-solved : (net : Net) → Legal net → (s : Pair) → Solved (programOf (packedOf net)) s → Solved (programOf net) (spread net s)
 survivors-solved net g s h = survivors-sound g .solved s h
-
-pub survivors-total : (net : Net) → Legal net → (s : Pair) → total (programOf net) (spread net s .flow) ≡ total (programOf (packedOf net)) (s .flow)
-unfolding exactOf
-survivors-total net g s = total-shift (survivors-sound g) s ∙ ring1 ℚ-ring (total (programOf (packedOf net)) (s .flow)) (λ t. t :+ (:0 :- :0) := t) refl

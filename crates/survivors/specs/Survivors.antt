@@ -4,10 +4,11 @@ use Prim.Native.Nat.{ℕ, _+_}
 use lib.Dec.{ltb, leb}
 use Rattle.loops.specs.Loops.{build, count, upto}
 use Rattle.fraction.specs.declared.Fraction.{Fraction}
-use Rattle.fraction.specs.Exact.{noFigure}
+use Rattle.fraction.specs.Exact.{zeroFraction}
 use Rattle.network.specs.declared.Arc.{Arc}
 use Rattle.network.specs.declared.Net.{Net}
 use Rattle.network.specs.declared.pair.Pair.{Pair}
+use Rattle.network.specs.Limits.{maxNodes, maxArcs, nodePlaces, arcPlaces}
 use Rattle.network.specs.Network.{emptyNet, arcAt, supplyAt, isHere, isUsed, withArc, withNode}
 use Rattle.network.specs.Pair.{priceAt, flowAt}
 
@@ -15,10 +16,10 @@ use Rattle.network.specs.Pair.{priceAt, flowAt}
 
 -- the new number of node i: how many nodes up to it are left
 unfoldable pub rankOf : Net → ℕ → ℕ
-rankOf net i = count (λ k. isHere net k && leb k i) 33
+rankOf net i = count (λ k. isHere net k && leb k i) nodePlaces
 
 unfoldable pub arcRank : Net → ℕ → ℕ
-arcRank net j = count (λ k. isUsed net k && leb k j) 97
+arcRank net j = count (λ k. isUsed net k && leb k j) arcPlaces
 
 -- an arc with these ends
 abbrev pub between : ℕ → ℕ → Arc → Arc
@@ -37,7 +38,7 @@ behindNodes true false net i p = p
 behindNodes false room net i p = p
 
 unfoldable pub packNode : Net → ℕ → Net → Net
-packNode net i p = behindNodes (isHere net (i + 1)) (ltb (p .n) 32) net (i + 1) p
+packNode net i p = behindNodes (isHere net (i + 1)) (ltb (p .n) maxNodes) net (i + 1) p
 
 -- arc j + 1 of net, where it is left, behind the arcs of p
 abbrev pub behindArcs : Bool → Bool → Net → Arc → Net → Net
@@ -46,19 +47,19 @@ behindArcs false true net t p = withArc (withSizes p (p .n) (p .m + 1)) (p .m + 
 behindArcs false false net t p = p
 
 unfoldable pub packArc : Net → ℕ → Net → Net
-packArc net j p = behindArcs (ltb (arcAt net (j + 1) .from) 1) (ltb (p .m) 96) net (arcAt net (j + 1)) p
+packArc net j p = behindArcs (ltb (arcAt net (j + 1) .from) 1) (ltb (p .m) maxArcs) net (arcAt net (j + 1)) p
 
 unfoldable pub packedOf : Net → Net
-packedOf net = upto (packArc net) 96 (upto (packNode net) 32 (emptyNet 0 0))
+packedOf net = upto (packArc net) maxArcs (upto (packNode net) maxNodes (emptyNet 0 0))
 
 -- ---- a pair at the original numbers
 
--- prices of the nodes in use, flows of the arcs in use
+-- prices of the nodes in use, flows of the arcs in use, and 0 elsewhere until the way back restores a figure there
 abbrev pub spreadPrice : Net → Pair → ℕ → Fraction
-spreadPrice net pair i = cond (isHere net i) (priceAt pair (rankOf net i)) noFigure
+spreadPrice net pair i = cond (isHere net i) (priceAt pair (rankOf net i)) zeroFraction
 
 abbrev pub spreadFlow : Net → Pair → ℕ → Fraction
-spreadFlow net pair j = cond (isUsed net j) (flowAt pair (arcRank net j)) noFigure
+spreadFlow net pair j = cond (isUsed net j) (flowAt pair (arcRank net j)) zeroFraction
 
 unfoldable pub spreadOf : Net → Pair → Pair
-spreadOf net pair = record { price = build 33 (spreadPrice net pair); flow = build 97 (spreadFlow net pair) }
+spreadOf net pair = record { price = build nodePlaces (spreadPrice net pair); flow = build arcPlaces (spreadFlow net pair) }

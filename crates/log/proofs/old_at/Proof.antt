@@ -4,27 +4,6 @@ use borrow.Author.Needs.{needs}
 use Rattle.log.proofs.old_at.Statement.{statement}
 use Rattle.log.proofs.old_at.Tie as tie
 
-returns : tie.Need-returns
-unfolding oldIn oldFrom
-returns c = rw (c .numbers-in .ensures, c .before .update-in4 .ensures, c .before .before .update-in3 .ensures, c .before .before .before .update-in2 .ensures, c .before .before .before .before .update-in .ensures, c .before .before .before .before .before .figure-in .ensures, c .before .before .before .before .before .before .number-in .ensures, c .before .before .before .before .before .before .before .start .ensures .0)
-
 pub old-at-spec : {M : Type 1} → statement M
-old-at-spec =
-    tie.close
-    (tie.spec
-    (λ c κs. search needs)
-    (λ c. search needs)
-    (λ c κs. search needs)
-    (λ c. search needs)
-    (λ c κs. search needs)
-    (λ c. search needs)
-    (λ c κs. search needs)
-    (λ c. search needs)
-    (λ c κs. search needs)
-    (λ c. search needs)
-    (λ c κs. search needs)
-    (λ c. search needs)
-    (λ c κs. search needs)
-    (λ c. search needs)
-    (λ c κs. search needs)
-    returns)
+unfolding oldFrom oldIn
+old-at-spec = tie.close (tie.spec (search needs) (λ c. search needs) (search needs) (λ c. search needs) (search needs) (λ c. search needs) (search needs) (λ c. search needs) (search needs) (λ c. search needs) (search needs) (λ c. search needs) (search needs) (λ c. search needs) (search needs) (λ c. rw (c .numbers-in .ensures, c .before .update-in4 .ensures, c .before .before .update-in3 .ensures, c .before .before .before .update-in2 .ensures, c .before .before .before .before .update-in .ensures, c .before .before .before .before .before .figure-in .ensures, c .before .before .before .before .before .before .number-in .ensures, c .before .before .before .before .before .before .before .start .ensures .0)))

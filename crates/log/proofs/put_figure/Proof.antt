@@ -5,10 +5,6 @@ use borrow.Author.Needs.{needs}
 use Rattle.log.proofs.put_figure.Statement.{statement}
 use Rattle.log.proofs.put_figure.Tie as tie
 
-returns : tie.Need-returns
-unfolding withFigure
-returns c = rw (c .before .put2 .ensures, c .before .before .before .before .before .put .ensures, back32 (c .before .before .before .before .before .before .before .before .args .f .num) (search needs), back32 (c .before .before .den-word .result) (search needs), c .before .before .den-word .ensures)
-
 pub put-figure-spec : {M : Type 1} → statement M
-put-figure-spec =
-    tie.close (tie.spec (λ c κs. search needs) (λ c. search needs) (λ c κs. search needs) (λ c κs. search needs) (λ c. search needs) returns)
+unfolding withFigure
+put-figure-spec = tie.close (tie.spec (search needs) (search needs) (search needs) (search needs) (search needs) (λ c. rw (c .before .put2 .ensures, c .before .before .before .before .before .put .ensures, back32 (c .before .before .before .before .before .before .before .before .args .f .num) (search needs), back32 (c .before .before .den-word .result) (search needs), c .before .before .den-word .ensures)))

@@ -6,10 +6,6 @@ use borrow.Author.Needs.{needs}
 use Rattle.log.proofs.put_number.Statement.{statement}
 use Rattle.log.proofs.put_number.Tie as tie
 
-returns : tie.Need-returns
-unfolding withFigure denWord
-returns c = rw (c .before .put2 .ensures, c .before .before .before .before .put .ensures, back32 (c .before .before .before .before .before .word-of .result) (search needs), c .before .before .before .before .before .word-of .ensures)
-
 pub put-number-spec : {M : Type 1} → statement M
-put-number-spec =
-    tie.close (tie.spec (λ c κs. search needs) (λ c κs. search needs) (λ c. search needs) (λ c κs. search needs) (λ c. search needs) returns)
+unfolding denWord withFigure
+put-number-spec = tie.close (tie.spec (search needs) (search needs) (search needs) (search needs) (search needs) (λ c. rw (c .before .put2 .ensures, c .before .before .before .before .put .ensures, back32 (c .before .before .before .before .before .word-of .result) (search needs), c .before .before .before .before .before .word-of .ensures)))

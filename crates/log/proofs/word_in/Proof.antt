@@ -7,8 +7,5 @@ use native.Mathlib.Omega.{arith}
 use Rattle.log.proofs.word_in.Statement.{statement}
 use Rattle.log.proofs.word_in.Tie as tie
 
-returns-2 : tie.Need-returns-2
-returns-2 c = sym (List·getD-eq-default (c .before .args .words .now) (pos 0) {n = c .before .args .at} (omega arith))
-
 pub word-in-spec : {M : Type 1} → statement M
-word-in-spec = tie.close (tie.spec (λ c. search needs) (λ c. search needs) (λ c. search needs) returns-2)
+word-in-spec = tie.close (tie.spec (λ c. search needs) (λ c. search needs) (λ c. search needs) (λ c. sym (List·getD-eq-default (c .before .args .words .now) (pos 0) {n = c .before .args .at} (omega arith))))

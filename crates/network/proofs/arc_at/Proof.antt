@@ -14,5 +14,4 @@ returns-2 c =
     rw (List·getD-eq-default (c .before .before .args .t1 .arcs) noArc {n = c .before .before .args .j} (omega arith)) (c .no-arc .ensures)
 
 pub arc-at-spec : {M : Type 1} → statement M
-arc-at-spec =
-    tie.close (tie.spec (λ c. search needs) (λ c. search needs) (λ c. search needs) (λ c κs. search needs) returns-2)
+arc-at-spec = tie.close (tie.spec (λ c. search needs) (λ c. search needs) (λ c. search needs) (λ c κs. search needs) returns-2)

@@ -7,6 +7,4 @@ returns : tie.Need-returns
 returns c = rw (c .edit-one .ensures, c .before .no-supply-update2 .ensures, c .before .before .no-supply-update .ensures, c .before .before .before .no-update .ensures)
 
 pub no-edit-spec : {M : Type 1} → statement M
-no-edit-spec =
-    tie.close
-    (tie.spec (λ c κs. search needs) (λ c κs. search needs) (λ c κs. search needs) (λ c κs. search needs) returns)
+no-edit-spec = tie.close (tie.spec (λ c κs. search needs) (λ c κs. search needs) (λ c κs. search needs) (λ c κs. search needs) returns)

@@ -14,5 +14,4 @@ returns-2 c =
     rw (List·getD-eq-default (c .before .before .args .t1) noFigure {n = c .before .before .args .i} (omega arith)) (c .no-figure .ensures)
 
 pub supply-of-spec : {M : Type 1} → statement M
-supply-of-spec =
-    tie.close (tie.spec (λ c. search needs) (λ c. search needs) (λ c. search needs) (λ c κs. search needs) returns-2)
+supply-of-spec = tie.close (tie.spec (λ c. search needs) (λ c. search needs) (λ c. search needs) (λ c κs. search needs) returns-2)

@@ -10,5 +10,4 @@ unfolding figureAt
 returns c = rw (c .from-words .ensures, back32 (c .before .before .word-behind .result) (search needs), back32 (c .before .word-behind2 .result) (search needs), c .before .word-behind2 .ensures, c .before .before .word-behind .ensures)
 
 pub figure-at-spec : {M : Type 1} → statement M
-figure-at-spec =
-    tie.close (tie.spec (λ c κs. search needs) (λ c κs. search needs) (λ c κs. search needs) returns)
+figure-at-spec = tie.close (tie.spec (λ c κs. search needs) (λ c κs. search needs) (λ c κs. search needs) returns)

@@ -26,5 +26,4 @@ returns-4 : tie.Need-returns-4
 returns-4 c = rw (List·getD-eq-default (c .before .args .xs .now) (pos 0) {n = c .before .args .at} (omega arith), le-leb 0 (c .before .args .limit) (omega arith))
 
 pub size-at-spec : {M : Type 1} → statement M
-size-at-spec =
-    tie.close (tie.spec (λ c. search needs) (λ c. search needs) returns cast-k returns-2 returns-3 returns-4)
+size-at-spec = tie.close (tie.spec (λ c. search needs) (λ c. search needs) returns cast-k returns-2 returns-3 returns-4)

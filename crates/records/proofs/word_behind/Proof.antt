@@ -18,17 +18,4 @@ returns-4 : tie.Need-returns-4
 returns-4 c = sym (List·getD-eq-default (c .before .before .before .args .xs .now) (pos 0) {n = 2 + c .before .before .before .args .t + c .before .before .before .args .k} (omega arith))
 
 pub word-behind-spec : {M : Type 1} → statement M
-word-behind-spec =
-    tie.close
-    (tie.spec
-    returns
-    (λ c. search needs)
-    returns-2
-    (λ c. search needs)
-    (λ c. search needs)
-    (λ c. search needs)
-    (λ c. search needs)
-    (λ c. search needs)
-    (λ c. search needs)
-    (λ c. search needs)
-    returns-4)
+word-behind-spec = tie.close (tie.spec returns (λ c. search needs) returns-2 (λ c. search needs) (λ c. search needs) (λ c. search needs) (λ c. search needs) (λ c. search needs) (λ c. search needs) (λ c. search needs) returns-4)

@@ -26,22 +26,4 @@ returns : tie.Need-returns Inv-loop μ-loop
 returns c = rw (part-back, c .before .clear .ensures, part-long) (filled-self (c .before .before .before .before .before .args .dens .now) (c .before .before .before .before .loop .inv) (omega arith))
 
 pub write-denominators-spec : {M : Type 1} → statement M
-write-denominators-spec =
-    tie.close
-    (tie.spec
-    Inv-loop
-    μ-loop
-    loop-holds
-    (λ c. search needs)
-    (λ c. search needs)
-    (λ c κs. search needs)
-    (λ c. search needs)
-    (λ c. search needs)
-    loop-again
-    (λ c. search needs)
-    (λ c. search needs)
-    (λ c. search needs)
-    (λ c. search needs)
-    (λ c κs. search needs)
-    (λ c. search needs)
-    returns)
+write-denominators-spec = tie.close (tie.spec Inv-loop μ-loop loop-holds (λ c. search needs) (λ c. search needs) (λ c κs. search needs) (λ c. search needs) (λ c. search needs) loop-again (λ c. search needs) (λ c. search needs) (λ c. search needs) (λ c. search needs) (λ c κs. search needs) (λ c. search needs) returns)

@@ -18,13 +18,4 @@ unfolding keepsRule
 returns-3 c = rw (← c .before .before .before .less .ensures, c .before .before .if1 .left, ← c .before .less2 .ensures, c .if2 .left) refl
 
 pub keeps-rule-spec : {M : Type 1} → statement M
-keeps-rule-spec =
-    tie.close
-    (tie.spec
-    (λ c κs. search needs)
-    (λ c κs. search needs)
-    returns
-    (λ c κs. search needs)
-    (λ c κs. search needs)
-    returns-2
-    returns-3)
+keeps-rule-spec = tie.close (tie.spec (λ c κs. search needs) (λ c κs. search needs) returns (λ c κs. search needs) (λ c κs. search needs) returns-2 returns-3)

@@ -31,18 +31,4 @@ returns : tie.Need-returns Inv-loop μ-loop
 returns c = filled-whole (c .before .loop .inv .0) (omega arith) (omega arith)
 
 pub node-ranks-spec : {M : Type 1} → statement M
-node-ranks-spec =
-    tie.close
-    (tie.spec
-    Inv-loop
-    μ-loop
-    loop-holds
-    (λ c. search needs)
-    (λ c. search needs)
-    (λ c. search needs)
-    (λ c. search needs)
-    (λ c. search needs)
-    (λ c. search needs)
-    loop-again
-    (λ c. search needs)
-    returns)
+node-ranks-spec = tie.close (tie.spec Inv-loop μ-loop loop-holds (λ c. search needs) (λ c. search needs) (λ c. search needs) (λ c. search needs) (λ c. search needs) (λ c. search needs) loop-again (λ c. search needs) returns)

@@ -11,6 +11,4 @@ returns-2 : tie.Need-returns-2
 returns-2 c = rw (le-ltb _ _ (c .before .if1 .left))
 
 pub rank-in-spec : {M : Type 1} → statement M
-rank-in-spec =
-    tie.close
-    (tie.spec (λ c. search needs) (λ c. search needs) returns (λ c. search needs) returns-2)
+rank-in-spec = tie.close (tie.spec (λ c. search needs) (λ c. search needs) returns (λ c. search needs) returns-2)

@@ -1,4 +1,4 @@
--- `postsolve::spread_flows` meets its contract.
+-- `survivors::spread_flows` meets its contract.
 use Prim.Native.Nat.{_+_, _-_, _≤_, ℕ}
 use Rattle.fraction.specs.Exact.{noFigure}
 use Rattle.loops.proofs.Laws.{Counted, Filled, counted-no, counted-none, counted-yes, filled-more, filled-none, filled-whole}
@@ -42,7 +42,7 @@ turn c =
     (λ w. let u = in-use c (w .0 .taken) in (w .3 ∙ c .before .before .before .no-figure .ensures ∙ rw (u, rank-is p 97 j (omega arith) u, ← h .is) (sym (List·getD-eq-default (c .before .before .before .before .before .before .before .args .t2 .flow) noFigure {n = c .before .before .before .before .before .loop .d + 1} (omega (arith, w .1 .left)))), counted-yes h (omega arith) u (w .2)))
     (λ w.
     let u : isUsed (c .before .before .before .before .before .before .before .args .t1) j ≡ false = rw (eq-eqb (arcAt (c .before .before .before .before .before .before .before .args .t1) j .from) 0 (omega (arith, w .0 .left))) in
-    (w .2 ∙ c .before .before .before .no-figure .ensures ∙ rw u, counted-no h (omega arith) u (w .1)))
+    (w .2 ∙ rw u, counted-no h (omega arith) u (w .1)))
     v)
     (c .if1 .came)
 
@@ -60,22 +60,4 @@ returns c =
     filled-whole (c .before .loop .inv .0) (omega arith) size
 
 pub spread-flows-spec : {M : Type 1} → statement M
-spread-flows-spec =
-    tie.close
-    (tie.spec
-    Inv-loop
-    μ-loop
-    (λ c κs. search needs)
-    loop-holds
-    (λ c κs. search needs)
-    (λ c. search needs)
-    (λ c. search needs)
-    (λ c. search needs)
-    (λ c. search needs)
-    (λ c. search needs)
-    (λ c. search needs)
-    (λ c. search needs)
-    (λ c. search needs)
-    (λ c. search needs)
-    loop-again
-    returns)
+spread-flows-spec = tie.close (tie.spec Inv-loop μ-loop (λ c κs. search needs) loop-holds (λ c κs. search needs) (λ c. search needs) (λ c. search needs) (λ c. search needs) (λ c. search needs) (λ c. search needs) (λ c. search needs) (λ c. search needs) (λ c. search needs) (λ c. search needs) loop-again returns)

@@ -1,4 +1,4 @@
--- `postsolve::spread_prices` meets its contract.
+-- `survivors::spread_prices` meets its contract.
 use Prim.Native.Nat.{_+_, _-_, _≤_, ℕ}
 use Rattle.fraction.specs.Exact.{noFigure}
 use Rattle.loops.proofs.Laws.{Counted, Filled, counted-no, counted-none, counted-yes, filled-more, filled-none, filled-whole}
@@ -35,7 +35,7 @@ turn c =
     (λ v.
     ⊎-elim
     (λ w. (w .3 ∙ c .before .before .no-figure .ensures ∙ rw (w .0 .taken, rank-is p 33 i (omega arith) (w .0 .taken), ← h .is) (sym (List·getD-eq-default (c .before .before .before .before .before .before .args .t2 .price) noFigure {n = c .before .before .before .before .loop .d + 1} (omega (arith, w .1 .left)))), counted-yes h (omega arith) (w .0 .taken) (w .2)))
-    (λ w. (w .2 ∙ c .before .before .no-figure .ensures ∙ rw (w .0 .left), counted-no h (omega arith) (w .0 .left) (w .1)))
+    (λ w. (w .2 ∙ rw (w .0 .left), counted-no h (omega arith) (w .0 .left) (w .1)))
     v)
     (c .if1 .came)
 
@@ -53,21 +53,4 @@ returns c =
     filled-whole (c .before .loop .inv .0) (omega arith) size
 
 pub spread-prices-spec : {M : Type 1} → statement M
-spread-prices-spec =
-    tie.close
-    (tie.spec
-    Inv-loop
-    μ-loop
-    (λ c κs. search needs)
-    loop-holds
-    (λ c κs. search needs)
-    (λ c. search needs)
-    (λ c. search needs)
-    (λ c. search needs)
-    (λ c. search needs)
-    (λ c. search needs)
-    (λ c. search needs)
-    (λ c. search needs)
-    (λ c. search needs)
-    loop-again
-    returns)
+spread-prices-spec = tie.close (tie.spec Inv-loop μ-loop (λ c κs. search needs) loop-holds (λ c κs. search needs) (λ c. search needs) (λ c. search needs) (λ c. search needs) (λ c. search needs) (λ c. search needs) (λ c. search needs) (λ c. search needs) (λ c. search needs) loop-again returns)

@@ -4,7 +4,8 @@ use mathlib.Core.List.{List}
 use Prim.Native.Nat.{ℕ}
 use lib.Dec.{ltb}
 use lib.ListN.{getD}
+use Rattle.network.specs.Limits.{maxNodes, nodePlaces}
 
--- the new number of node i, where those of the numbers 0 to 32 are listed
+-- the new number of node i, where those of all places are listed
 abbrev pub placed : List ℕ → ℕ → ℕ
-placed l i = cond (ltb i 33) (getD l i 0) (getD l 32 0)
+placed l i = cond (ltb i nodePlaces) (getD l i 0) (getD l maxNodes 0)

@@ -20,42 +20,11 @@ abbrev μ-loop : tie.MeasureT-loop
 loop-holds : tie.Need-loop-holds Inv-loop μ-loop
 loop-holds c = filled-none _ _ _
 
-no-arc-requires : tie.Need-no-arc-requires Inv-loop μ-loop
-no-arc-requires c κs = search needs
-
-add-replace : tie.Need-add-replace Inv-loop μ-loop
-add-replace c = search needs
-
-replace-requires : tie.Need-replace-requires Inv-loop μ-loop
-replace-requires c κs = search needs
-
-add-i : tie.Need-add-i Inv-loop μ-loop
-add-i c = search needs
-
-loop-less : tie.Need-loop-less Inv-loop μ-loop
-loop-less c = search needs
-
 loop-again : tie.Need-loop-again Inv-loop μ-loop
 loop-again c = filled-next (c .before .before .before .before .before .loop .inv) (omega arith) (omega arith) (c .before .before .before .no-arc .ensures) (c .before .replace .ensures)
-
-same-length : tie.Need-same-length Inv-loop μ-loop
-same-length c = search needs
 
 returns : tie.Need-returns Inv-loop μ-loop
 returns c = filled-whole (c .before .loop .inv) (omega arith) (omega arith) ∙ build-const _ _
 
 pub clear-spec : {M : Type 1} → statement M
-clear-spec =
-    tie.close
-    (tie.spec
-    Inv-loop
-    μ-loop
-    loop-holds
-    no-arc-requires
-    add-replace
-    replace-requires
-    add-i
-    loop-less
-    loop-again
-    same-length
-    returns)
+clear-spec = tie.close (tie.spec Inv-loop μ-loop loop-holds (λ c κs. search needs) (λ c. search needs) (λ c κs. search needs) (λ c. search needs) (λ c. search needs) loop-again (λ c. search needs) returns)

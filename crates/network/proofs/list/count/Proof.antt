@@ -4,8 +4,5 @@ use borrow.Author.Needs.{needs}
 use Rattle.network.proofs.list.count.Statement.{statement}
 use Rattle.network.proofs.list.count.Proof.Tie as tie
 
-returns : tie.Need-returns
-returns c = search needs
-
 pub count-spec : {M : Type 1} → statement M
-count-spec = tie.close (tie.spec returns)
+count-spec = tie.close (tie.spec (λ c. search needs))

@@ -35,16 +35,4 @@ returns-2 : tie.Need-returns-2 Inv-loop μ-loop
 returns-2 c = λ nodes. tallied-to (c .before .loop .inv nodes) (inr (c .loop-test .left))
 
 pub degrees-spec : {M : Type 1} → statement M
-degrees-spec =
-    tie.close
-    (tie.spec
-    Inv-loop
-    μ-loop
-    loop-holds
-    returns
-    (λ c κs. search needs)
-    count-ends-requires
-    (λ c. search needs)
-    (λ c. search needs)
-    loop-again
-    returns-2)
+degrees-spec = tie.close (tie.spec Inv-loop μ-loop loop-holds returns (λ c κs. search needs) count-ends-requires (λ c. search needs) (λ c. search needs) loop-again returns-2)

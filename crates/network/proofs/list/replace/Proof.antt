@@ -9,15 +9,6 @@ use Rattle.network.proofs.list.replace.Proof.Tie as tie
 returns : tie.Need-returns
 returns c = replaced-low _ _ _ (c .if1 .taken)
 
-mul-t : tie.Need-mul-t
-mul-t c = search needs
-
-slice-set-from-t : tie.Need-slice-set-from-t
-slice-set-from-t c = search needs
-
-same-length : tie.Need-same-length
-same-length c = search needs
-
 returns-2 : tie.Need-returns-2
 returns-2 c = replaced-in _ (c .before .before .args .j) _ (omega arith)
 
@@ -25,4 +16,4 @@ returns-3 : tie.Need-returns-3
 returns-3 c = replaced-past _ (c .before .before .args .j) _ (omega arith)
 
 pub replace-spec : {M : Type 1} → statement M
-replace-spec = tie.close (tie.spec returns mul-t slice-set-from-t same-length returns-2 returns-3)
+replace-spec = tie.close (tie.spec returns (λ c. search needs) (λ c. search needs) (λ c. search needs) returns-2 returns-3)

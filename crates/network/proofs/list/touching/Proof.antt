@@ -39,18 +39,4 @@ unfolding touchingAfter
 returns-3 c = λ nodes. scanned-all _ _ (c .before .loop .inv nodes) (omega arith)
 
 pub touching-spec : {M : Type 1} → statement M
-touching-spec =
-    tie.close
-    (tie.spec
-    Inv-loop
-    μ-loop
-    returns
-    (λ c. search needs)
-    loop-holds
-    (λ c κs. search needs)
-    (λ c κs. search needs)
-    returns-2
-    (λ c. search needs)
-    (λ c. search needs)
-    loop-again
-    returns-3)
+touching-spec = tie.close (tie.spec Inv-loop μ-loop returns (λ c. search needs) loop-holds (λ c κs. search needs) (λ c κs. search needs) returns-2 (λ c. search needs) (λ c. search needs) loop-again returns-3)

@@ -13,5 +13,4 @@ returns-2 c = let long : length (c .before .before .args .t1 .flow) ≡ 97 = sea
     rw (List·getD-eq-default (c .before .before .args .t1 .flow) noFigure {n = c .before .before .args .j} (omega arith)) (c .no-figure .ensures)
 
 pub flow-at-spec : {M : Type 1} → statement M
-flow-at-spec =
-    tie.close (tie.spec (λ c. search needs) (λ c. search needs) (λ c. search needs) (λ c κs. search needs) returns-2)
+flow-at-spec = tie.close (tie.spec (λ c. search needs) (λ c. search needs) (λ c. search needs) (λ c κs. search needs) returns-2)

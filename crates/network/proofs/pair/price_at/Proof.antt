@@ -13,5 +13,4 @@ returns-2 c = let long : length (c .before .before .args .t1 .price) ≡ 33 = se
     rw (List·getD-eq-default (c .before .before .args .t1 .price) noFigure {n = c .before .before .args .i} (omega arith)) (c .no-figure .ensures)
 
 pub price-at-spec : {M : Type 1} → statement M
-price-at-spec =
-    tie.close (tie.spec (λ c. search needs) (λ c. search needs) (λ c. search needs) (λ c κs. search needs) returns-2)
+price-at-spec = tie.close (tie.spec (λ c. search needs) (λ c. search needs) (λ c. search needs) (λ c κs. search needs) returns-2)

@@ -9,24 +9,4 @@ unfolding arcIn
 returns c = rw (c .figure-in7 .ensures, c .before .figure-in6 .ensures, c .before .before .figure-in5 .ensures, c .before .before .before .figure-in4 .ensures, c .before .before .before .before .figure-in3 .ensures, c .before .before .before .before .before .natural-of2 .ensures, c .before .before .before .before .before .before .figure-in2 .ensures, c .before .before .before .before .before .before .before .natural-of .ensures, c .before .before .before .before .before .before .before .before .figure-in .ensures)
 
 pub arc-in-spec : {M : Type 1} → statement M
-arc-in-spec =
-    tie.close
-    (tie.spec
-    (λ c. search needs)
-    (λ c. search needs)
-    (λ c κs. search needs)
-    (λ c κs. search needs)
-    (λ c. search needs)
-    (λ c κs. search needs)
-    (λ c κs. search needs)
-    (λ c. search needs)
-    (λ c κs. search needs)
-    (λ c. search needs)
-    (λ c κs. search needs)
-    (λ c. search needs)
-    (λ c κs. search needs)
-    (λ c. search needs)
-    (λ c κs. search needs)
-    (λ c. search needs)
-    (λ c κs. search needs)
-    returns)
+arc-in-spec = tie.close (tie.spec (λ c. search needs) (λ c. search needs) (λ c κs. search needs) (λ c κs. search needs) (λ c. search needs) (λ c κs. search needs) (λ c κs. search needs) (λ c. search needs) (λ c κs. search needs) (λ c. search needs) (λ c κs. search needs) (λ c. search needs) (λ c κs. search needs) (λ c. search needs) (λ c κs. search needs) (λ c. search needs) (λ c κs. search needs) returns)

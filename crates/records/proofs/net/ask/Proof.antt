@@ -40,19 +40,4 @@ returns-5 : tie.Need-returns-5
 returns-5 c = asked _ _ _ (sym (c .before .before .before .before .before .before .before .before .before .has-sizes .ensures) ∙ c .before .before .before .before .before .before .before .before .if1 .taken) (c .before .before .before .before .before .before .before .number-at .ensures) (c .before .before .before .before .before .before .number-at2 .ensures) (sym (c .before .before .before .before .before .all-in-form .ensures) ∙ c .before .before .before .before .if2 .taken) (sym (c .before .before .before .all-ends .ensures) ∙ c .before .before .if3 .taken) (sym (c .before .all-weighted .ensures) ∙ c .if4 .taken)
 
 pub ask-spec : {M : Type 1} → statement M
-ask-spec =
-    tie.close
-    (tie.spec
-    (λ c κs. search needs)
-    returns
-    (λ c κs. search needs)
-    (λ c κs. search needs)
-    mul-t
-    add-t
-    all-in-form-requires
-    returns-2
-    all-ends-requires
-    returns-3
-    all-weighted-requires
-    returns-4
-    returns-5)
+ask-spec = tie.close (tie.spec (λ c κs. search needs) returns (λ c κs. search needs) (λ c κs. search needs) mul-t add-t all-in-form-requires returns-2 all-ends-requires returns-3 all-weighted-requires returns-4 returns-5)

@@ -12,15 +12,4 @@ unfolding figureAt
 returns c = rw (c .from-words .ensures, back32 (word (c .before .before .before .args .xs .now) (2 + c .before .before .before .args .k)) (c .before .before .num .given), back32 (word (c .before .before .before .args .xs .now) (2 + c .before .before .before .args .t + c .before .before .before .args .k)) (c .before .den .given))
 
 pub figure-in-spec : {M : Type 1} → statement M
-figure-in-spec =
-    tie.close
-    (tie.spec
-    (λ c. search needs)
-    (λ c. search needs)
-    (λ c. search needs)
-    (λ c. search needs)
-    (λ c. search needs)
-    (λ c. search needs)
-    (λ c. search needs)
-    (λ c κs. search needs)
-    returns)
+figure-in-spec = tie.close (tie.spec (λ c. search needs) (λ c. search needs) (λ c. search needs) (λ c. search needs) (λ c. search needs) (λ c. search needs) (λ c. search needs) (λ c κs. search needs) returns)

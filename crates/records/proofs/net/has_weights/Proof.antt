@@ -19,22 +19,4 @@ unfolding isWeighted arcIn isRoot
 returns-3 c = rw (← c .before .before .before .before .before .before .before .before .before .figure-in .ensures, ← c .before .before .before .before .before .before .before .before .is-zero .ensures, c .before .before .before .before .before .before .before .if1 .left, ← c .before .before .before .before .figure-in3 .ensures, ← c .before .before .figure-in4 .ensures, ← c .before .before .before .natural-of .ensures, ← c .before .natural-of2 .ensures, ne-eqb _ _ (c .if2 .left), ← c .before .before .before .before .before .before .figure-in2 .ensures, ← c .before .before .before .before .before .is-zero2 .ensures)
 
 pub has-weights-spec : {M : Type 1} → statement M
-has-weights-spec =
-    tie.close
-    (tie.spec
-    (λ c. search needs)
-    (λ c. search needs)
-    (λ c. search needs)
-    (λ c κs. search needs)
-    (λ c κs. search needs)
-    returns
-    (λ c. search needs)
-    (λ c κs. search needs)
-    (λ c κs. search needs)
-    (λ c κs. search needs)
-    (λ c κs. search needs)
-    (λ c. search needs)
-    (λ c κs. search needs)
-    (λ c κs. search needs)
-    returns-2
-    returns-3)
+has-weights-spec = tie.close (tie.spec (λ c. search needs) (λ c. search needs) (λ c. search needs) (λ c κs. search needs) (λ c κs. search needs) returns (λ c. search needs) (λ c κs. search needs) (λ c κs. search needs) (λ c κs. search needs) (λ c κs. search needs) (λ c. search needs) (λ c κs. search needs) (λ c κs. search needs) returns-2 returns-3)

@@ -11,15 +11,6 @@ use Rattle.records.proofs.net.load.Proof.Tie as tie
 few : (c : tie.After-number-at2) → Sized (c .before .before .before .before .args .network .now) (c .before .number-at .result) (c .number-at2 .result)
 few c = rw (c .before .number-at .ensures, c .number-at2 .ensures) (sizes-are _ (sym (c .before .before .before .has-sizes .ensures) ∙ c .before .before .if1 .taken))
 
-has-sizes-requires : tie.Need-has-sizes-requires
-has-sizes-requires c κs = search needs
-
-number-at-requires : tie.Need-number-at-requires
-number-at-requires c κs = search needs
-
-number-at-requires-2 : tie.Need-number-at-requires-2
-number-at-requires-2 c κs = search needs
-
 mul-load-arcs : tie.Need-mul-load-arcs
 mul-load-arcs c = let h = few (c .before) in let b = h .few-arcs in search needs
 
@@ -28,9 +19,6 @@ add-load-arcs c = let h = few (c .before) in let a = h .few-nodes in let b = h .
 
 load-arcs-requires : tie.Need-load-arcs-requires
 load-arcs-requires c κs = let h = few (c .before) in (omega (arith, h .long), omega arith)
-
-same-length : tie.Need-same-length
-same-length c = search needs
 
 returns : tie.Need-returns
 unfolding loaded
@@ -41,15 +29,4 @@ unfolding loaded
 returns-2 c = rw (← c .before .has-sizes .ensures, c .if1 .left)
 
 pub load-spec : {M : Type 1} → statement M
-load-spec =
-    tie.close
-    (tie.spec
-    has-sizes-requires
-    number-at-requires
-    number-at-requires-2
-    mul-load-arcs
-    add-load-arcs
-    load-arcs-requires
-    same-length
-    returns
-    returns-2)
+load-spec = tie.close (tie.spec (λ c κs. search needs) (λ c κs. search needs) (λ c κs. search needs) mul-load-arcs add-load-arcs load-arcs-requires (λ c. search needs) returns returns-2)

@@ -18,21 +18,6 @@ abbrev μ-loop : tie.MeasureT-loop
 loop-holds : tie.Need-loop-holds Inv-loop μ-loop
 loop-holds c = folded-none _ _ _
 
-arc-in-requires : tie.Need-arc-in-requires Inv-loop μ-loop
-arc-in-requires c κs = search needs
-
-add-replace : tie.Need-add-replace Inv-loop μ-loop
-add-replace c = search needs
-
-replace-requires : tie.Need-replace-requires Inv-loop μ-loop
-replace-requires c κs = search needs
-
-add-j : tie.Need-add-j Inv-loop μ-loop
-add-j c = search needs
-
-loop-less : tie.Need-loop-less Inv-loop μ-loop
-loop-less c = search needs
-
 loop-again : tie.Need-loop-again Inv-loop μ-loop
 loop-again c = folded-more _ (c .before .before .before .before .before .loop .inv) (omega arith) (rw (c .before .before .before .arc-in .ensures) at (c .before .replace .ensures))
 
@@ -43,17 +28,4 @@ returns : tie.Need-returns Inv-loop μ-loop
 returns c = folded-all _ (c .before .loop .inv) (omega arith)
 
 pub load-arcs-spec : {M : Type 1} → statement M
-load-arcs-spec =
-    tie.close
-    (tie.spec
-    Inv-loop
-    μ-loop
-    loop-holds
-    arc-in-requires
-    add-replace
-    replace-requires
-    add-j
-    loop-less
-    loop-again
-    same-length
-    returns)
+load-arcs-spec = tie.close (tie.spec Inv-loop μ-loop loop-holds (λ c κs. search needs) (λ c. search needs) (λ c κs. search needs) (λ c. search needs) (λ c. search needs) loop-again same-length returns)

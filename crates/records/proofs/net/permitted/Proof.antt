@@ -22,14 +22,4 @@ unfolding isPermitted
 returns-4 c = rw (← c .before .before .before .is-proper .ensures, c .before .before .if1 .left, ← c .before .role-of .ensures, ne-eqb _ _ (c .match .rest .0 .1), ne-eqb _ _ (c .match .rest .1))
 
 pub permitted-spec : {M : Type 1} → statement M
-permitted-spec =
-    tie.close
-    (tie.spec
-    (λ c κs. search needs)
-    returns
-    (λ c κs. search needs)
-    (λ c κs. search needs)
-    (λ c κs. search needs)
-    returns-2
-    returns-3
-    returns-4)
+permitted-spec = tie.close (tie.spec (λ c κs. search needs) returns (λ c κs. search needs) (λ c κs. search needs) (λ c κs. search needs) returns-2 returns-3 returns-4)

@@ -28,18 +28,4 @@ returns : tie.Need-returns Inv-loop μ-loop
 returns c = λ nodes. folded-all _ (c .before .loop .inv nodes) (omega arith)
 
 pub read-arcs-spec : {M : Type 1} → statement M
-read-arcs-spec =
-    tie.close
-    (tie.spec
-    Inv-loop
-    μ-loop
-    (λ c κs. search needs)
-    loop-holds
-    (λ c κs. search needs)
-    (λ c. search needs)
-    (λ c. search needs)
-    (λ c. search needs)
-    (λ c. search needs)
-    (λ c. search needs)
-    loop-again
-    returns)
+read-arcs-spec = tie.close (tie.spec Inv-loop μ-loop (λ c κs. search needs) loop-holds (λ c κs. search needs) (λ c. search needs) (λ c. search needs) (λ c. search needs) (λ c. search needs) (λ c. search needs) loop-again returns)

@@ -37,5 +37,4 @@ unfolding readOf
 returns-2 c = rw (← c .before .before .has-sizes .ensures, c .before .if1 .left) (c .no-nodes .ensures)
 
 pub read-beside-spec : {M : Type 1} → statement M
-read-beside-spec =
-    tie.close (tie.spec (λ c κs. search needs) (λ c κs. search needs) (λ c κs. search needs) read-nodes-requires returns (λ c κs. search needs) returns-2)
+read-beside-spec = tie.close (tie.spec (λ c κs. search needs) (λ c κs. search needs) (λ c κs. search needs) read-nodes-requires returns (λ c κs. search needs) returns-2)

@@ -11,6 +11,4 @@ unfolding netOf
 returns c = c .join .ensures ∙ c .before .read-arcs .ensures _ ∙ ap (upto (arcTurn _ _ _) _) (c .before .before .read-nodes .ensures _)
 
 pub read-sized-spec : {M : Type 1} → statement M
-read-sized-spec =
-    tie.close
-    (tie.spec (λ c κs. search needs) (λ c. search needs) (λ c. search needs) (λ c κs. search needs) (λ c κs. search needs) returns)
+read-sized-spec = tie.close (tie.spec (λ c κs. search needs) (λ c. search needs) (λ c. search needs) (λ c κs. search needs) (λ c κs. search needs) returns)

@@ -18,6 +18,4 @@ unfolding hasSizes
 returns-3 c = rw (← c .before .is-long .ensures, c .if1 .left) refl
 
 pub has-sizes-spec : {M : Type 1} → statement M
-has-sizes-spec =
-    tie.close
-    (tie.spec (λ c κs. search needs) (λ c κs. search needs) (λ c κs. search needs) returns returns-2 returns-3)
+has-sizes-spec = tie.close (tie.spec (λ c κs. search needs) (λ c κs. search needs) (λ c κs. search needs) returns returns-2 returns-3)

@@ -23,6 +23,4 @@ unfolding isPair
 returns-2 c = rw (← c .before .has-sizes .ensures, c .if1 .left) refl
 
 pub is-pair-spec : {M : Type 1} → statement M
-is-pair-spec =
-    tie.close
-    (tie.spec (λ c κs. search needs) add-all-fractions (λ c κs. search needs) returns returns-2)
+is-pair-spec = tie.close (tie.spec (λ c κs. search needs) add-all-fractions (λ c κs. search needs) returns returns-2)

@@ -19,14 +19,4 @@ unfolding pairOf
 returns-3 c = rw (le-leb _ 32 (c .before .before .before .if1 .left), le-leb _ 96 (c .before .before .if2 .left)) (rw (c .before .read-prices .ensures, c .before .before .before .before .no-pair .ensures) at (c .read-flows .ensures))
 
 pub read-pair-spec : {M : Type 1} → statement M
-read-pair-spec =
-    tie.close
-    (tie.spec
-    (λ c κs. search needs)
-    returns
-    returns-2
-    (λ c. search needs)
-    (λ c κs. search needs)
-    (λ c. search needs)
-    (λ c κs. search needs)
-    returns-3)
+read-pair-spec = tie.close (tie.spec (λ c κs. search needs) returns returns-2 (λ c. search needs) (λ c κs. search needs) (λ c. search needs) (λ c κs. search needs) returns-3)

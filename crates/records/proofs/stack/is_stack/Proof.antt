@@ -42,21 +42,4 @@ unfolding isStackOf
 returns-4 c = rw (le-leb _ _ (c .before .if1 .left)) (sym (same-long _ _ (λ e. c .if2 .left (e ∙ length-build _ _))))
 
 pub is-stack-spec : {M : Type 1} → statement M
-is-stack-spec =
-    tie.close
-    (tie.spec
-    Inv-loop
-    μ-loop
-    returns
-    (λ c. search needs)
-    (λ c. search needs)
-    loop-holds
-    (λ c. search needs)
-    (λ c. search needs)
-    (λ c κs. search needs)
-    returns-2
-    (λ c. search needs)
-    (λ c. search needs)
-    loop-again
-    returns-3
-    returns-4)
+is-stack-spec = tie.close (tie.spec Inv-loop μ-loop returns (λ c. search needs) (λ c. search needs) loop-holds (λ c. search needs) (λ c. search needs) (λ c κs. search needs) returns-2 (λ c. search needs) (λ c. search needs) loop-again returns-3 returns-4)

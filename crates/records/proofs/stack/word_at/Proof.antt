@@ -19,17 +19,4 @@ unfolding stackWord
 returns-3 c = rw (back32 (c .word-of3 .result) (search needs), ne-eqb _ _ (c .before .before .before .if1 .left), lt-leb _ _ (c .before .before .if2 .left)) (rw (c .before .place-at .ensures) at (c .word-of3 .ensures))
 
 pub word-at-spec : {M : Type 1} → statement M
-word-at-spec =
-    tie.close
-    (tie.spec
-    (λ c κs. search needs)
-    returns
-    (λ c. search needs)
-    (λ c κs. search needs)
-    (λ c κs. search needs)
-    returns-2
-    (λ c. search needs)
-    (λ c. search needs)
-    (λ c κs. search needs)
-    (λ c κs. search needs)
-    returns-3)
+word-at-spec = tie.close (tie.spec (λ c κs. search needs) returns (λ c. search needs) (λ c κs. search needs) (λ c κs. search needs) returns-2 (λ c. search needs) (λ c. search needs) (λ c κs. search needs) (λ c κs. search needs) returns-3)
