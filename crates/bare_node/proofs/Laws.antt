@@ -1,39 +1,38 @@
 -- Rule 2 keeps the laws of a rule.
-use mathlib.Core.Path.{_≡_, refl, sym, ap, _∙_, subst}
-use mathlib.Core.Bool.{Bool, true, false}
+use mathlib.Core.Path.{_≡_, refl, sym, ap, _∙_}
+use mathlib.Core.Bool.{true, false}
 use mathlib.Core.List.{[]}
 use mathlib.Core.Logic.{_⊎_, inl, inr, ⊎-elim}
 use Prim.Native.Nat.{ℕ}
 use native.Mathlib.Omega.{arith}
 use lib.Dec.{lit≤}
-use native.Mathlib.Decide.{ℕ-discrete}
 use borrow.Author.Tests.{eqb-true, not-true}
 use Rattle.algebra.specs.Rat.{0ℚ}
 use Rattle.presolve.specs.LP as LP
 use Rattle.presolve.proofs.Named.{once-mem}
 use Rattle.presolve.proofs.Bare.{Untouched, bare-back, bare-sound, bare-no-flow}
-use Rattle.presolve.proofs.Net.{rhs-out}
 use Rattle.fraction.specs.Exact.{noFigure, isZero}
 use Rattle.algebra.proofs.Sum.{none}
 use Rattle.fraction.specs.Value.{value}
 use Rattle.fraction.proofs.Formulas.{zero-proper, zero-is, nonzero-value}
 use Rattle.network.specs.declared.Net.{Net}
 use Rattle.network.specs.declared.Edit.{Edit}
-use Rattle.network.specs.Network.{arcAt, supplyAt, isHere, isTouching, degreeOf, noUpdate, noSupplyUpdate, editOne, applied}
+use Rattle.network.specs.Network.{arcAt, supplyAt, isHere, isTouching, degreeOf, noUpdate, noSupplyUpdate, editOne}
 use Rattle.network.specs.Legal.{Legal}
+use Rattle.network.specs.Pair.{withPrice, withFlow}
 use Rattle.network.specs.Program.{exactOf, programOf}
 use Rattle.network.proofs.Kept.{here-number}
+use Rattle.step.specs.declared.Change.{Change}
 use Rattle.step.specs.declared.Outcome.{Outcome}
 use Rattle.step.specs.declared.Outcome.the-variants.{NoFlow, Changes}
-use Rattle.step.specs.Back.{oldOne}
-use Rattle.step.proofs.Frame.{no-updates, no-names, supply-same, here-same, node-gone}
-use Rattle.step.proofs.Fewer.{Tame, fewer}
-use Rattle.step.proofs.Exactly.{false-not, zero-figure, listed-node, rhs-is, alone, column-kept, rhs-off, rhs-on}
-use Rattle.step.proofs.Lines.{Answers, only-met, flow-met, change-is, not-shown, not-changed, restored-is, met}
-use Rattle.step.proofs.Removing.{dropped-legal, no-level, still-off}
-use Rattle.step.proofs.Node.{arcs-here, among}
-use Rattle.step.proofs.Figures.{itself, price-restored}
-use Rattle.step.proofs.Laws.{no-old, Right, RuleLaws}
+use Rattle.step.specs.Back.{oldOne, restored}
+use Rattle.step.proofs.Frame.{no-level, no-names, supply-same}
+use Rattle.step.proofs.Exactly.{zero-figure, listed-node, rhs-is, alone, column-kept, rhs-off}
+use Rattle.step.proofs.Lines.{Answers, only-met, flow-met, not-shown, not-changed, restored-is, met}
+use Rattle.step.proofs.Removing.{dropped-framed, rhs-after}
+use Rattle.step.proofs.Node.{arcs-here}
+use Rattle.step.proofs.Figures.{itself, price-put}
+use Rattle.step.proofs.Laws.{no-old, Right, right-of, RuleLaws}
 use Rattle.bare_node.specs.BareNode.{bare, bareNode, bareBack, rule}
 
 abbrev dropping : ℕ → Edit
@@ -54,50 +53,26 @@ bare-met net i a e =
 
 module _ (net : Net) (g : Legal net) (i : ℕ) {x : Outcome} (m : Bare net i x) where
   no-arc : (k : ℕ) → isTouching (arcAt net k) i ≡ true → ⊥
-  no-arc = among net g i (m .here) (arcs-here net g i (m .here) [] (m .bare) tt)
+  no-arc = arcs-here net g i (m .here) [] (m .bare) tt .all
 
   untouched : Untouched (programOf net) i
   untouched k l = alone net g i [] no-arc k none
 
-  rhs-same : isZero (supplyAt net i) ≡ true → (s : ℕ) (b : Bool) → isHere net s ≡ b → Dec (s ≡ i) → programOf (applied net (dropping i)) .rhs s ≡ programOf net .rhs s
-  unfolding exactOf
-  rhs-same zero s true h (no n) =
-      rhs-on net (dropping i) s (here-same net (dropping i) s (λ l. n) ∙ h) ∙ ap value (supply-same net (dropping i) s (λ l. absurd (omega arith)) (λ l. absurd (omega arith))) ∙ sym (rhs-is net g s h)
-  rhs-same zero s true h (yes e) = rhs-off net (dropping i) s (rw e (node-gone net (dropping i) g (here-number g i (m .here)))) ∙ sym (rw e (rhs-is net g i (m .here) ∙ zero-figure _ zero))
-  rhs-same zero s false h d = rhs-off net (dropping i) s (still-off net g (dropping i) s h) ∙ sym (rhs-out (exactOf net) s (false-not h))
-
-  right : isZero (supplyAt net i) ≡ true → Right net (record { edit = dropping i; old = oldOne i noFigure noUpdate }) (bareBack (oldOne i noFigure noUpdate))
-  unfolding bareBack exactOf
-  right zero =
-      record {
-        legal = dropped-legal net g 0 noSupplyUpdate noSupplyUpdate i no-level no-level (λ k l t. absurd (no-arc k t));
-        fewer = fewer g (dropping i) (no-updates (Tame net) (inl refl)) (inl (m .here));
-        handed-on = record { arcs = no-old g; named = λ x u. u; node = here-number g i (m .here) .1; supply = lit≤ tt; first = omega arith; second = omega arith; third = omega arith; fourth = omega arith };
-        exact = bare-back i 0ℚ;
-        sound =
-            record {
-              shift = 0ℚ;
-              sound =
-                  bare-sound 0ℚ
-                  (record {
-                    bare = untouched;
-                    rows-same = refl;
-                    cols-same = refl;
-                    same = λ k l. column-kept net (dropping i) k (no-names k);
-                    rhs-is = λ s l. rhs-same zero s (isHere net s) refl (ℕ-discrete s i);
-                    constant-is = refl;
-                  });
-            };
-        agrees = λ pair z q. rw (restored-is q) (price-restored (itself z) i _ (here-number g i (m .here)) (inl zero-proper) zero-is);
-      }
+  right : {c : Change} → isZero (supplyAt net i) ≡ true → Changes (record { edit = dropping i; old = oldOne i noFigure noUpdate }) ≡ Changes c → Right net c (bareBack (c .old))
+  unfolding bareBack exactOf restored withFlow withPrice
+  right zero e =
+      right-of g bareBack e (dropped-framed net 0 noSupplyUpdate noSupplyUpdate i no-level no-level (λ k l t. absurd (no-arc k t))) (inl (m .here))
+      (record { arcs = no-old g; named = λ x u. u; node = here-number g i (m .here) .1; supply = lit≤ tt; new = omega arith }) (bare-back i 0ℚ)
+      (record { shift = 0ℚ; sound = bare-sound 0ℚ (record { bare = untouched; rows-same = refl; cols-same = refl; same = λ k l. column-kept net (dropping i) k (no-names k); rhs-is = λ s l. rhs-after net g (dropping i) (programOf net .rhs) (λ s h n. ap value (supply-same net (dropping i) s (λ l. absurd (omega arith)) (λ l. absurd (omega arith))) ∙ sym (rhs-is net s h)) (λ h. sym (rhs-is net i h ∙ zero-figure _ zero)) (λ s h. sym (rhs-off net s h)) s; constant-is = refl }) })
+      (λ pair z r q. rw (restored-is q) (price-put (itself z) i _ (here-number g i (m .here)) (zero-proper, zero-is)))
 
   no-flow : isZero (supplyAt net i) ≡ false → LP.NoFlow (programOf net)
-  no-flow nonzero = bare-no-flow i untouched (once-mem (listed-node net g i (m .here))) (λ z. nonzero-value (g .supply-proper i (m .here)) nonzero (sym (rhs-is net g i (m .here)) ∙ z))
+  no-flow nonzero = bare-no-flow i untouched (once-mem (listed-node net g i (m .here))) (λ z. nonzero-value (g .supply-proper i (m .here)) nonzero (sym (rhs-is net i (m .here)) ∙ z))
 
 -- RULE 2
 pub laws : {P : Net → Type 0} → RuleLaws P rule
 laws = record {
   few-places = omega arith;
   no-flow = λ net g p i e. let m = bare-met net i tt e in ⊎-elim (λ z. no-flow net g i m (z .0)) (λ z. not-shown (z .1)) (m .shows);
-  right = λ net g p i e. let m = bare-met net i tt e in ⊎-elim (λ z. not-changed (z .1)) (λ z. subst (λ c. Right net c (bareBack (c .old))) (sym (change-is (z .1))) (right net g i m (z .0))) (m .shows);
+  right = λ net g p i e. let m = bare-met net i tt e in ⊎-elim (λ z. not-changed (z .1)) (λ z. right net g i m (z .0) (z .1)) (m .shows);
 }

@@ -6,6 +6,7 @@ use Rattle.fraction.specs.declared.Fraction.{Fraction}
 use Rattle.fraction.specs.Exact.{zeroFraction, noFigure, isZero}
 use Rattle.network.specs.declared.Net.{Net}
 use Rattle.network.specs.declared.pair.Pair.{Pair}
+use Rattle.network.specs.Limits.{maxNodes}
 use Rattle.network.specs.Network.{supplyAt, isHere, degreeOf, noUpdate, noSupplyUpdate, editOne}
 use Rattle.step.specs.declared.Old.{Old}
 use Rattle.step.specs.declared.Outcome.{Outcome}
@@ -33,4 +34,4 @@ unfoldable pub bareBack : Old → Pair → Undone
 bareBack old pair = Restores (priceOnly (old .node) zeroFraction)
 
 abbrev pub rule : Rule
-rule = record { last = 32; at = bareNode; back = bareBack }
+rule = record { last = maxNodes; at = bareNode; back = bareBack }

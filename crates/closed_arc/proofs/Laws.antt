@@ -48,13 +48,13 @@ module _ (net : Net) (g : Legal net) (j : ℕ) (used : 1 ≤ arcAt net j .from) 
   right : {c : Change} → arcAt net j .lower ≡ arcAt net j .upper → droppedAt net j (arcAt net j .lower) ≡ Changes c → Right net c (lowerBack (c .old))
   right same dropped =
       let proper = both-proper (g .used j used .lower-bound) (rw (← same) at (g .used j used .upper-bound)) in
-      lower-right net g j used dropped
-      (λ e r. closed-sound (record { lower-is = ap (λ k. k .lower) (column-is net g j used) ∙ bound-is proper; upper-is = ap (λ k. k .upper) (column-is net g j used) ∙ ap boundOf (sym same) ∙ bound-is proper; removed = r }))
+      lower-right net g j used proper dropped
+      (λ e r. closed-sound (record { lower-is = ap (λ k. k .lower) (column-is net j used) ∙ bound-is proper; upper-is = ap (λ k. k .upper) (column-is net j used) ∙ ap boundOf (sym same) ∙ bound-is proper; removed = r }))
 
   no-flow : isLess (arcAt net j .upper) (arcAt net j .lower) ≡ true → LP.NoFlow (programOf net)
   no-flow crossed =
       let c = crossing (g .used j used .lower-bound) (g .used j used .upper-bound) crossed in
-      closed-no-flow _ _ (once-mem (listed-arc net g j used)) (ap (λ k. k .lower) (column-is net g j used) ∙ c .0) (ap (λ k. k .upper) (column-is net g j used) ∙ c .1) (c .2)
+      closed-no-flow _ _ (once-mem (listed-arc net g j used)) (ap (λ k. k .lower) (column-is net j used) ∙ c .0) (ap (λ k. k .upper) (column-is net j used) ∙ c .1) (c .2)
 
 -- RULE 1
 pub laws : {P : Net → Type 0} → RuleLaws P rule

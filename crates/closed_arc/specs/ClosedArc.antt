@@ -6,6 +6,7 @@ use Rattle.fraction.specs.declared.Fraction.{Fraction}
 use Rattle.fraction.specs.Exact.{isLess, isSame}
 use Rattle.network.specs.declared.Net.{Net}
 use Rattle.network.specs.declared.Arc.{Arc}
+use Rattle.network.specs.Limits.{maxArcs}
 use Rattle.network.specs.Network.{arcAt, supplyAt}
 use Rattle.step.specs.declared.Outcome.{Outcome}
 use Rattle.step.specs.Outcome.{_>>=_, _>>_, onlyWhere, noFlowWhere}
@@ -26,4 +27,4 @@ closedArc net j = closed j (arcAt net j) (supplyAt net (arcAt net j .from)) (sup
 
 -- "Back: flow l."
 abbrev pub rule : Rule
-rule = record { last = 96; at = closedArc; back = lowerBack }
+rule = record { last = maxArcs; at = closedArc; back = lowerBack }

@@ -14,6 +14,7 @@ use Rattle.network.specs.declared.Side.{Side}
 use Rattle.network.specs.declared.ArcUpdate.{ArcUpdate}
 use Rattle.network.specs.declared.Edit.{Edit}
 use Rattle.network.specs.declared.pair.Pair.{Pair}
+use Rattle.network.specs.Limits.{maxNodes, maxArcs}
 use Rattle.network.specs.Network.{noSupplyUpdate, arcAt, supplyAt, isHere, degreeOf, isTouching, touchingAfter, orNext, isRoot, sideOf}
 use Rattle.network.specs.Pair.{flowAt}
 use Rattle.step.specs.declared.FlowUpdate.{FlowUpdate}
@@ -40,7 +41,7 @@ hasSignAt t i below = signBy (isTouching t i) below (sideOf t i .e)
 
 -- the first such arc after number k; 0 where there is none
 unfoldable pub signedAfter : Net → ℕ → Bool → ℕ → ℕ
-signedAfter net i below k = scan orNext 0 (λ j. cond (hasSignAt (arcAt net j) i below) j 0) (96 - k) (k + 1)
+signedAfter net i below k = scan orNext 0 (λ j. cond (hasSignAt (arcAt net j) i below) j 0) (maxArcs - k) (k + 1)
 
 abbrev pub firstN : Net → ℕ → ℕ
 firstN net i = signedAfter net i true 0
@@ -157,4 +158,4 @@ crossingBack old pair = do
   Restores (record { one = flowOf n2 y; two = flowOf n1 x; three = flowOf p2 w; four = flowOf p1 z; price = priceOf i p q })
 
 abbrev pub rule : Rule
-rule = record { last = 32; at = crossing; back = crossingBack }
+rule = record { last = maxNodes; at = crossing; back = crossingBack }

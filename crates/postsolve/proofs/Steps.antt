@@ -16,7 +16,7 @@ use Rattle.network.proofs.Lists.{length-replaced-by, updates-put}
 use Rattle.step.specs.declared.Step.{Step}
 use Rattle.step.specs.Back.{oldArcsOf}
 use Rattle.step.specs.Run.{Way, backOf, wayBack}
-use Rattle.step.proofs.PutBack.{putBackAll}
+use Rattle.step.proofs.Laws.{putBackAll}
 use Rattle.rules.specs.Table.{rules}
 use Rattle.log.specs.Log.{ruleIn, oldIn, Holds}
 use Rattle.postsolve.specs.Postsolve.{downFrom, arcsTurn, arcsBack}

@@ -3,7 +3,7 @@ use mathlib.Core.Path.{_≡_, refl, sym, ap, ap₂, _∙_, subst}
 use mathlib.Core.Bool.{true, false}
 use mathlib.Core.List.{[], _∷_}
 use mathlib.Core.Logic.{_⊎_, inl, inr, ⊎-elim}
-use Prim.Native.Nat.{ℕ, _≤_}
+use Prim.Native.Nat.{ℕ}
 use native.Mathlib.Omega.{arith}
 use borrow.Author.Tests.{eqb-true}
 use Rattle.algebra.proofs.Ring.{combo}
@@ -29,7 +29,7 @@ use Rattle.network.specs.declared.Side.{Side}
 use Rattle.network.specs.declared.pair.Pair.{Pair}
 use Rattle.network.specs.Network.{arcAt, supplyAt, isHere, degreeOf, touchingAfter, sideOf, withArc, withSupply, without, applied}
 use Rattle.network.specs.Legal.{Legal}
-use Rattle.network.specs.Pair.{exactPair}
+use Rattle.network.specs.Pair.{withPrice, withFlow, exactPair}
 use Rattle.network.specs.Program.{programOf}
 use Rattle.network.proofs.Kept.{here-number}
 use Rattle.network.proofs.Bounds.{not-under, not-over, under, over}
@@ -41,14 +41,14 @@ use Rattle.step.specs.declared.Restored.{Restored}
 use Rattle.step.specs.declared.Undone.the-variants.{Restores}
 use Rattle.step.specs.Dropped.{supplyLess, dropping}
 use Rattle.step.specs.Back.{oldOne, restored}
-use Rattle.step.proofs.Small.{supply-small}
-use Rattle.step.proofs.Touch.{These, touches, touching-first}
-use Rattle.step.proofs.Exactly.{listed-node, column-is, rhs-is, spokeOf, spoke-at, alone}
-use Rattle.step.proofs.Lines.{Answers, only-met, flow-met, fits-met, change-is, not-shown, not-changed, figure-met, restored-is}
-use Rattle.step.proofs.Removing.{supply-less, dropped-legal, dropped-fewer, no-level, level-less, one-removed, after}
-use Rattle.step.proofs.Node.{arcs-here, among, used-at, quote-exactly}
-use Rattle.step.proofs.Figures.{Sized, Holds, itself, both-restored, over-exactly}
-use Rattle.step.proofs.Laws.{no-old, Right, RuleLaws}
+use Rattle.step.proofs.Frame.{no-level}
+use Rattle.step.proofs.Touch.{touching-first}
+use Rattle.step.proofs.Exactly.{listed-node, rhs-is, spokeOf, alone}
+use Rattle.step.proofs.Lines.{Answers, only-met, flow-met, fits-met, not-shown, not-changed, figure-met, restored-is}
+use Rattle.step.proofs.Removing.{supply-less, dropped-framed, level-less, one-removed, after}
+use Rattle.step.proofs.Node.{AtNode, ArcsAt, arcs-here}
+use Rattle.step.proofs.Figures.{Sized, Holds, itself, flow-put, price-put, over-exactly}
+use Rattle.step.proofs.Laws.{supply-small, no-old, Right, right-of, RuleLaws}
 use Rattle.single_arc.specs.SingleArc.{forcedOut, singleArc, singleBack, rule}
 
 -- ---- what an answer says
@@ -103,17 +103,14 @@ module _ (net : Net) (g : Legal net) (i : ℕ) {x : Outcome} (m : Single net i x
   abbrev N : LP.LP
   N = programOf net
 
-  one : These (touches net i) 0 (j ∷ [])
+  one : ArcsAt net i (j ∷ [])
   one = arcs-here net g i (m .here) _ (m .single) (touching-first net i 0, tt)
 
-  abbrev touch : touches net i j ≡ true
-  touch = one .each .0 .passes
-
-  used : 1 ≤ t .from
-  used = used-at net g i (m .here) j touch
+  abbrev at : AtNode net i j
+  at = one .each .0
 
   single-at : SingleAt N i (spokeOf net i j)
-  single-at = record { listed-i = listed-node net g i (m .here); at-j = spoke-at net g i j (m .here) touch; alone = λ c l n. alone net g i (j ∷ []) (among net g i (m .here) one) c (step n none) }
+  single-at = record { listed-i = listed-node net g i (m .here); at-j = at .spoke; alone = λ c l n. alone net g i (j ∷ []) (one .all) c (step n none) }
 
   abbrev v : Fraction
   v = m .v
@@ -123,11 +120,11 @@ module _ (net : Net) (g : Legal net) (i : ℕ) {x : Outcome} (m : Single net i x
 
   -- the flow that the rule works out is the forced one
   flow-is : value v ≡ forced N i (spokeOf net i j)
-  flow-is = over-gives (given (supplyAt net i)) (given (w .e)) v (m .flow) ∙ ap (λ r. r *ℚ invℚ (value (w .e))) (sym (rhs-is net g i (m .here)))
+  flow-is = over-gives (given (supplyAt net i)) (given (w .e)) v (m .flow) ∙ ap (λ r. r *ℚ invℚ (value (w .e))) (sym (rhs-is net i (m .here)))
 
   removed : {x : Fraction} → supplyLess (w .other) (supplyAt net (w .other)) (w .o) v ≡ Fits x → Removed N (after net g j (dropping j (w .other) x 0 noFigure i) (value v)) j (value v)
   unfolding applied withArc withSupply without
-  removed {x} q = one-removed net g j (record { node = w .other; supply = x }) (record { node = 0; supply = noFigure }) i (value v) used (record { stays = stays; goes = λ h. goes })
+  removed {x} q = one-removed net g j (record { node = w .other; supply = x }) (record { node = 0; supply = noFigure }) i (value v) (at .used) stays (λ h. goes)
     where
       ends : (s : ℕ) → (s ≡ i → ⊥) → N .col j .coef s ≡ only (w .other) (value (w .o)) s
       ends s n = single-at .at-j .ends s ∙ ap (λ k. k +ℚ only (w .other) (value (w .o)) s) (only-other i s (value (w .e)) (λ e. n (sym e))) ∙ ring1 ℚ-ring (only (w .other) (value (w .o)) s) (λ o. :0 :+ o := o) refl
@@ -139,51 +136,42 @@ module _ (net : Net) (g : Legal net) (i : ℕ) {x : Outcome} (m : Single net i x
       goes =
           combo ℚ-ring (value (supplyAt net i)) (mulℚ-inv (value (w .e)) (single-at .at-j .nonzero))
           (ring3 ℚ-ring (value (supplyAt net i)) (value (w .e)) (invℚ (value (w .e))) (λ r e i. :0 :- (r :- e :* (r :* i)) := r :* (e :* i :- :1)) refl)
-          ∙ ap₂ (λ k f. value (supplyAt net i) +ℚ -ℚ (k *ℚ f)) (sym (spoke-e (single-at .at-j))) (sym (flow-is ∙ ap (λ r. r *ℚ invℚ (value (w .e))) (rhs-is net g i (m .here))))
+          ∙ ap₂ (λ k f. value (supplyAt net i) +ℚ -ℚ (k *ℚ f)) (sym (spoke-e (single-at .at-j))) (sym (flow-is ∙ ap (λ r. r *ℚ invℚ (value (w .e))) (rhs-is net i (m .here))))
 
   within : isLess v (t .lower) ≡ false → isLess (t .upper) v ≡ false → InBounds (N .col j) (forced N i (spokeOf net i j))
   within a b =
       record {
-        above = λ z e. subst (λ k. z ≤ℚ k) flow-is (not-under proper (g .used j used .lower-bound) a z (sym (ap (λ k. k .lower) (column-is net g j used)) ∙ e));
-        below = λ z e. subst (λ k. k ≤ℚ z) flow-is (not-over proper (g .used j used .upper-bound) b z (sym (ap (λ k. k .upper) (column-is net g j used)) ∙ e));
+        above = λ z e. subst (λ k. z ≤ℚ k) flow-is (not-under proper (at .legal .lower-bound) a z (sym (ap (λ k. k .lower) (at .column)) ∙ e));
+        below = λ z e. subst (λ k. k ≤ℚ z) flow-is (not-over proper (at .legal .upper-bound) b z (sym (ap (λ k. k .upper) (at .column)) ∙ e));
       }
 
   outside : Outside t v → ¬ (InBounds (N .col j) (forced N i (spokeOf net i j)))
   outside (inl a) k =
-      let u = under proper (g .used j used .lower-bound) a in
-      u .1 (subst (λ z. value (t .lower) ≤ℚ z) (sym flow-is) (k .above _ (ap (λ k. k .lower) (column-is net g j used) ∙ u .0)))
+      let u = under proper (at .legal .lower-bound) a in
+      u .1 (subst (λ z. value (t .lower) ≤ℚ z) (sym flow-is) (k .above _ (ap (λ k. k .lower) (at .column) ∙ u .0)))
   outside (inr b) k =
-      let u = over proper (g .used j used .upper-bound) b in
-      u .1 (subst (λ z. z ≤ℚ value (t .upper)) (sym flow-is) (k .below _ (ap (λ k. k .upper) (column-is net g j used) ∙ u .0)))
+      let u = over proper (at .legal .upper-bound) b in
+      u .1 (subst (λ z. z ≤ℚ value (t .upper)) (sym flow-is) (k .below _ (ap (λ k. k .upper) (at .column) ∙ u .0)))
 
-  no-flow : Outside t v → LP.NoFlow N
-  no-flow o = single-no-flow single-at (outside o)
+  undone : (pair : Pair) → Sized pair → (r : Restored) → singleBack (oldOne i (supplyAt net i) (record { number = j; arc = t })) pair ≡ Restores r → Holds (restored pair r) (single-back N i (spokeOf net i j) (exactPair pair))
+  unfolding singleBack restored withFlow withPrice
+  undone pair z r e =
+      let v = figure-met _ _ e in
+      let p = figure-met _ _ (v .2) in
+      let a = same (ap (λ r. r *ℚ invℚ (value (w .e))) (sym (rhs-is net i (m .here)))) (over-exactly (given _) (given _)) (v .0) (v .1) in
+      rw (restored-is (p .2)) (price-put (flow-put (itself z) j (v .0) (at .number) a) i (p .0) (here-number g i (m .here)) (at .quotes pair (p .0) (p .1)))
 
   right : {c : Change} → Forced i j t w (supplyAt net i) (supplyAt net (w .other)) v (Changes c) → Right net c (singleBack (c .old))
-  unfolding singleBack
   right f =
-      subst (λ c. Right net c (singleBack (c .old))) (sym (change-is (f .is)))
-      (record {
-        legal = dropped-legal net g j _ _ i (supply-less (w .other) _ _ _ (f .supply)) no-level (λ k l t. ⊎-elim (λ e. e) (λ z. absurd z) (among net g i (m .here) one k t));
-        fewer = dropped-fewer net g j _ _ i used;
-        handed-on = record { arcs = ((one .each .0 .within, refl), no-old g .1); named = λ x u. u; node = here-number g i (m .here) .1; supply = supply-small g i (m .here); first = omega arith; second = omega arith; third = omega arith; fourth = omega arith };
-        exact = single-back N i (spokeOf net i j);
-        sound = record { shift = _; sound = single-sound (record { place = single-at; within = within (f .not-below) (f .not-above); removed = subst (λ ξ. Removed N (after net g j (dropping j (w .other) (f .s) 0 noFigure i) ξ) j ξ) flow-is (removed (f .supply)) }) };
-        agrees = λ pair z q. undone pair z q;
-      })
-    where
-      undone : (pair : Pair) → Sized pair → {r : Restored} → singleBack (oldOne i (supplyAt net i) (record { number = j; arc = t })) pair ≡ Restores r → Holds (restored pair r) (single-back N i (spokeOf net i j) (exactPair pair))
-      undone pair z e =
-          let v = figure-met _ _ e in
-          let p = figure-met _ _ (v .2) in
-          let a = same (ap (λ r. r *ℚ invℚ (value (w .e))) (sym (rhs-is net g i (m .here)))) (over-exactly (given _) (given _)) (v .0) (v .1) in
-          let b = quote-exactly net g i (m .here) j touch pair (p .0) (p .1) in
-          rw (restored-is (p .2)) (both-restored (itself z) j (v .0) i (p .0) (one .each .0 .above, one .each .0 .within) (inl (a .0)) (a .1) (here-number g i (m .here)) (inl (b .0)) (b .1))
+      right-of g singleBack (f .is) (dropped-framed net j _ _ i (supply-less (w .other) _ _ _ (f .supply)) no-level (λ k l t. ⊎-elim (λ e. e) (λ z. absurd z) (one .all k t))) (inl (m .here))
+      (record { arcs = ((at .number .1, refl), no-old g .1); named = λ x u. u; node = here-number g i (m .here) .1; supply = supply-small g i (m .here); new = omega arith }) (single-back N i (spokeOf net i j))
+      (record { shift = _; sound = single-sound (record { place = single-at; within = within (f .not-below) (f .not-above); removed = subst (λ ξ. Removed N (after net g j (dropping j (w .other) (f .s) 0 noFigure i) ξ) j ξ) flow-is (removed (f .supply)) }) })
+      undone
 
 -- RULE 3
 pub laws : {P : Net → Type 0} → RuleLaws P rule
 laws = record {
   few-places = omega arith;
-  no-flow = λ net g p i e. let m = single-met net i tt e in ⊎-elim (λ o. no-flow net g i (m .0) (o .0)) (λ f. not-shown (f .is)) (m .1);
+  no-flow = λ net g p i e. let m = single-met net i tt e in ⊎-elim (λ o. single-no-flow (single-at net g i (m .0)) (outside net g i (m .0) (o .0))) (λ f. not-shown (f .is)) (m .1);
   right = λ net g p i e. let m = single-met net i tt e in ⊎-elim (λ o. not-changed (o .1)) (right net g i (m .0)) (m .1);
 }

@@ -9,6 +9,7 @@ use Rattle.network.specs.declared.Arc.{Arc}
 use Rattle.network.specs.declared.Net.{Net}
 use Rattle.network.specs.declared.Side.{Side}
 use Rattle.network.specs.declared.pair.Pair.{Pair}
+use Rattle.network.specs.Limits.{maxNodes}
 use Rattle.network.specs.Network.{arcAt, supplyAt, isHere, degreeOf, touchingAfter, sideOf}
 use Rattle.step.specs.declared.Old.{Old}
 use Rattle.step.specs.declared.Outcome.{Outcome}
@@ -49,4 +50,4 @@ singleBack old pair = do
   Restores (flowAndPrice (old .one .number) v i p)
 
 abbrev pub rule : Rule
-rule = record { last = 32; at = singleArc; back = singleBack }
+rule = record { last = maxNodes; at = singleArc; back = singleBack }

@@ -1,42 +1,89 @@
 -- A legal network in exact numbers: its arcs as they are seen from their nodes, and what a sound change is.
-use mathlib.Core.Path.{_≡_, sym, ap, _∙_, subst}
+use mathlib.Core.Path.{_≡_, sym, ap, _∙_, subst, refl}
 use mathlib.Core.Bool.{Bool, true, false, cond, not}
 use mathlib.Core.List.{List}
-use mathlib.Core.Logic.{⊎-elim}
+use mathlib.Core.Logic.{⊎-elim, _⊎_, inl, inr}
 use Prim.Native.Nat.{ℕ, _≤_, _<_}
 use native.Mathlib.Omega.{arith}
 use lib.Dec.{T, eqb}
-use borrow.Author.Tests.{eqb-false, ne-eqb, not-true}
-use Rattle.algebra.specs.Rat.{ℚ, 0ℚ, _+ℚ_}
+use borrow.Author.Tests.{eqb-false, ne-eqb, eqb-true}
+use Rattle.algebra.specs.Rat.{ℚ, 0ℚ, _+ℚ_, -ℚ_}
 use Rattle.algebra.proofs.Sum.{Absent, Once, range-once}
 use Rattle.algebra.specs.Sum.{only}
 use Rattle.presolve.proofs.Named.{absent-mem}
 use Rattle.presolve.specs.LP.{LP, Pair, Solved, NoFlow}
-use Rattle.presolve.proofs.Step.{SoundStep, with-constant, feasible-constant, solved-constant, stay, then, shifted, no-flow}
+use Rattle.presolve.proofs.Step.{SoundStep, with-constant, feasible-constant, solved-constant, stay, then, shifted as moved-by, no-flow}
 use Rattle.presolve.proofs.Price.{root, only-zero}
 use Rattle.presolve.proofs.Spoke.{Spoke, SpokeAt}
-use Rattle.presolve.specs.Net.{columnAt}
+use Rattle.presolve.specs.Net.{columnAt, Working, rhsAt, lpOf}
 use Rattle.presolve.proofs.Net.{tail-of, head-of, column-in, column-out, column-same, touch-off, rhs-in, rhs-out}
 use Rattle.presolve.specs.Net as Exact
 use Rattle.presolve.proofs.Net as ExactLaws
+use Rattle.presolve.proofs.Rewire.{Rewired}
 use Rattle.fraction.specs.declared.Fraction.{Fraction}
 use Rattle.fraction.specs.Exact.{zeroFraction, isZero}
 use Rattle.fraction.specs.Value.{value}
 use Rattle.fraction.proofs.Value.{same-is}
-use Rattle.fraction.proofs.Formulas.{zero-is}
+use Rattle.fraction.proofs.Formulas.{zero-is, Nonzero}
 use Rattle.fraction.proofs.Laws.{never}
 use Rattle.network.specs.declared.Arc.{Arc}
 use Rattle.network.specs.declared.Net.{Net}
 use Rattle.network.specs.declared.Edit.{Edit}
 use Rattle.network.specs.Network.{noArc, arcAt, supplyAt, isHere, isTouching, isRoot, farEnd, sideOf, updatesOf, applied}
-use Rattle.network.specs.Legal.{Legal}
+use Rattle.network.specs.Legal.{Legal, LegalArc}
 use Rattle.network.specs.Program.{exactArc, exactOf, programOf}
+use Rattle.network.specs.declared.Side.{Side}
 use Rattle.network.proofs.Sane.{sane, is-true as true-is}
 use Rattle.network.proofs.Kept.{here-number, used-number, touching-used}
-use Rattle.step.proofs.Frame.{Unnamed, arc-same}
-use Rattle.step.proofs.Sides.{seen}
+use Rattle.step.proofs.Frame.{Unnamed, arc-same, here-same, node-gone}
 use Rattle.step.proofs.Each.{Any, any-mem}
 use Rattle.step.proofs.Lines.{split, or-neither}
+
+-- ---- a legal arc, seen from a node that it touches
+
+-- an arc that touches a node is seen from its from node, or from its to node, where that is another
+abbrev Seen : Arc → ℕ → Type 0
+Seen t i = ((t .from ≡ i) × (sideOf t i ≡ record { e = t .a; o = t .b; other = farEnd t })) ⊎ ((t .from ≡ i → ⊥) × (t .to ≡ i) × (sideOf t i ≡ record { e = t .b; o = t .a; other = t .from }))
+
+seen : (t : Arc) (i : ℕ) → isTouching t i ≡ true → Seen t i
+unfolding isTouching sideOf
+seen t i e = split (eqb (t .from) i) (λ a. inl (eqb-true _ _ a, rw a)) (λ a. inr (eqb-false _ _ a, eqb-true _ _ (rw a at e), rw a))
+
+-- an arc that is no root arc has another end, in use, and a multiplier there that is not zero
+pub record Far (net : Net) (i : ℕ) (w : Side) : Type 0 where
+  pub here : isHere net (w .other) ≡ true
+  pub apart : w .other ≡ i → ⊥
+  pub o-nonzero : Nonzero (w .o)
+
+-- a root arc has no other end, and the multiplier 0
+abbrev pub End : Net → ℕ → Side → Type 0
+End net i w = ((w .other ≡ 0) × (isZero (w .o) ≡ true)) ⊎ Far net i w
+
+module _ {net : Net} {t : Arc} (g : LegalArc net t) (i : ℕ) (touches : isTouching t i ≡ true) where
+  a-nonzero : Nonzero (t .a)
+  a-nonzero = record { proper = g .a-proper; nonzero = g .a-nonzero }
+
+  b-nonzero : isRoot t ≡ false → Nonzero (t .b)
+  b-nonzero n = record { proper = g .b-proper; nonzero = g .b-zero ∙ n }
+
+  -- the multiplier at the node is not zero
+  pub near : Nonzero (sideOf t i .e)
+  unfolding isRoot
+  near = ⊎-elim (λ w. rw (w .1) a-nonzero) (λ w. rw (w .2) (b-nonzero (ne-eqb (t .from) (t .to) (λ z. w .0 (z ∙ w .1))))) (seen t i touches)
+
+  pub far : isRoot t ≡ false → Far net i (sideOf t i)
+  unfolding isRoot farEnd
+  far n =
+      ⊎-elim
+      (λ w. rw (w .1, n) (record { here = g .to-here; apart = λ z. eqb-false (t .from) (t .to) n (w .0 ∙ sym z); o-nonzero = b-nonzero n }))
+      (λ w. rw (w .2) (record { here = g .from-here; apart = w .0; o-nonzero = a-nonzero })) (seen t i touches)
+
+  pub no-far : isRoot t ≡ true → (sideOf t i .other ≡ 0) × (isZero (sideOf t i .o) ≡ true)
+  unfolding isRoot farEnd
+  no-far n = ⊎-elim (λ w. rw (w .1, n) (refl, g .b-zero ∙ n)) (λ w. absurd (w .0 (eqb-true (t .from) (t .to) n ∙ w .1))) (seen t i touches)
+
+  pub end : End net i (sideOf t i)
+  end = split (isRoot t) (λ e. inl (no-far e)) (λ e. inr (far e))
 
 -- ---- what is in
 
@@ -51,12 +98,23 @@ pub arc-in : (net : Net) (j : ℕ) → 1 ≤ arcAt net j .from → T (exactOf ne
 unfolding exactOf
 arc-in net j l = is-true {b = not (eqb (arcAt net j .from) 0)} (rw (ne-eqb (arcAt net j .from) 0 (λ e. omega arith)))
 
-pub in-use : (net : Net) (j : ℕ) → T (exactOf net .arc? j) → 1 ≤ arcAt net j .from
-unfolding exactOf
-in-use net j t = let n = eqb-false (arcAt net j .from) 0 (not-true _ (true-is _ t)) in omega arith
-
 pub arc-off : (net : Net) (j : ℕ) → arcAt net j ≡ noArc → ¬ (T (exactOf net .arc? j))
-arc-off net j e t = absurd (omega (arith, in-use net j t, ap (λ (t : Arc). t .from) e))
+unfolding exactOf
+arc-off net j e t = never (let f = sym (ap (λ (t : Arc). not (eqb (t .from) 0)) e) ∙ true-is _ t in cc)
+
+module _ (net : Net) where
+  -- the column of an arc in use; the right-hand side of a node in use, and of one that isn't
+  pub column-is : (j : ℕ) → 1 ≤ arcAt net j .from → programOf net .col j ≡ Exact.column (exactArc (arcAt net j))
+  unfolding exactOf
+  column-is j l = column-in (exactOf net) j (arc-in net j l)
+
+  pub rhs-is : (i : ℕ) → isHere net i ≡ true → programOf net .rhs i ≡ value (supplyAt net i)
+  unfolding exactOf
+  rhs-is i e = rhs-in (exactOf net) i (is-true e)
+
+  pub rhs-off : (i : ℕ) → isHere net i ≡ false → programOf net .rhs i ≡ 0ℚ
+  unfolding exactOf
+  rhs-off i e = rhs-out (exactOf net) i (false-not e)
 
 -- a figure that is zero has the value 0
 pub zero-figure : (x : Fraction) → isZero x ≡ true → value x ≡ 0ℚ
@@ -75,15 +133,6 @@ module _ (net : Net) (g : Legal net) where
   pub listed-node : (i : ℕ) → isHere net i ≡ true → Once i (programOf net .rows)
   unfolding exactOf
   listed-node i e = range-once i 33 (omega (arith, here-number g i e .1))
-
-  -- the column of an arc in use, and the right-hand side of a node in use
-  pub column-is : (j : ℕ) → 1 ≤ arcAt net j .from → programOf net .col j ≡ Exact.column (exactArc (arcAt net j))
-  unfolding exactOf
-  column-is j l = column-in (exactOf net) j (arc-in net j l)
-
-  pub rhs-is : (i : ℕ) → isHere net i ≡ true → programOf net .rhs i ≡ value (supplyAt net i)
-  unfolding exactOf
-  rhs-is i e = rhs-in (exactOf net) i (is-true e)
 
 -- ---- an arc as it is seen from a node
 
@@ -141,20 +190,10 @@ module _ (net : Net) (g : Legal net) where
 
 -- ---- before and after a change
 
-module _ (net : Net) (c : Edit) where
-  -- a column that it does not name
-  pub column-kept : (j : ℕ) → Unnamed (updatesOf c) j → columnAt (exactOf (applied net c)) j ≡ columnAt (exactOf net) j
-  unfolding exactOf
-  column-kept j u = let e = arc-same net c j u in column-same (exactOf net) (exactOf (applied net c)) j (ap (λ (t : Arc). not (eqb (t .from) 0)) e) (ap exactArc e)
-
-  -- the right-hand side of a node that is not in use, or is dropped
-  pub rhs-off : (i : ℕ) → isHere (applied net c) i ≡ false → programOf (applied net c) .rhs i ≡ 0ℚ
-  unfolding exactOf
-  rhs-off i e = rhs-out (exactOf (applied net c)) i (false-not e)
-
-  pub rhs-on : (i : ℕ) → isHere (applied net c) i ≡ true → programOf (applied net c) .rhs i ≡ value (supplyAt (applied net c) i)
-  unfolding exactOf
-  rhs-on i e = rhs-in (exactOf (applied net c)) i (is-true e)
+-- a column that a change does not name
+pub column-kept : (net : Net) (c : Edit) (j : ℕ) → Unnamed (updatesOf c) j → columnAt (exactOf (applied net c)) j ≡ columnAt (exactOf net) j
+unfolding exactOf
+column-kept net c j u = let e = arc-same net c j u in column-same (exactOf net) (exactOf (applied net c)) j (ap (λ (t : Arc). not (eqb (t .from) 0)) e) (ap exactArc e)
 
 -- ---- sound steps between networks, whatever constant they add
 
@@ -166,7 +205,7 @@ pub sound-stay : (net : Net) → SoundTo net net (λ s. s)
 sound-stay net = record { shift = programOf net .constant; sound = stay (programOf net) }
 
 pub sound-then : {a b c : Net} {back back′ : Pair → Pair} → SoundTo a b back → SoundTo b c back′ → SoundTo a c (λ s. back (back′ s))
-sound-then x y = record { shift = _; sound = then (x .sound) (shifted (y .sound) (x .shift)) }
+sound-then x y = record { shift = _; sound = then (x .sound) (moved-by (y .sound) (x .shift)) }
 
 -- an optimal pair after it, brought back, is optimal before it
 pub sound-solved : {a b : Net} {back : Pair → Pair} → SoundTo a b back → (s : Pair) → Solved (programOf b) s → Solved (programOf a) (back s)
@@ -175,3 +214,34 @@ sound-solved {b = b} x s h = x .sound .solved s (solved-constant (programOf b) (
 -- no flow after it: none before it
 pub sound-no-flow : {a b : Net} {back : Pair → Pair} → SoundTo a b back → NoFlow (programOf b) → NoFlow (programOf a)
 sound-no-flow {a} {b} x n = no-flow (x .sound) (λ y f. n y (feasible-constant (programOf b) (x .shift) y .1 f))
+
+-- ---- a change that drops a node, as a step between two networks in exact numbers: what rules 5 and 6 share
+
+-- a network in exact numbers, read with the constant k
+abbrev pub shifted : Net → ℚ → Working
+shifted net k =
+    record { n = exactOf net .n; m = exactOf net .m; node? = exactOf net .node?; arc? = exactOf net .arc?; constant = k; supply = exactOf net .supply; arc = exactOf net .arc }
+
+pub sound-shifted : (net net′ : Net) (k : ℚ) {back : Pair → Pair} → SoundStep (programOf net) (lpOf (shifted net′ k)) back → SoundTo net net′ back
+unfolding columnAt rhsAt
+sound-shifted net net′ k h = record { shift = k; sound = h }
+
+-- the change c drops a node in use, and whatever it names is among `names`
+module _ (net : Net) (g : Legal net) (c : Edit) (here : isHere net (c .gone) ≡ true) (names : List ℕ) where
+  pub rewired : ((j : ℕ) → Absent j names → Unnamed (updatesOf c) j) → (far : ℕ) (v gain : ℚ) → T (isHere net far) ⊎ (v ≡ 0ℚ) →
+      ((s : ℕ) → isHere net s ≡ true → value (supplyAt (applied net c) s) ≡ value (supplyAt net s) +ℚ -ℚ only far v s) →
+      Rewired (exactOf net) (shifted (applied net c) (0ℚ +ℚ gain)) (c .gone) names far v gain
+  unfolding exactOf
+  rewired unnamed far v gain f supplies =
+      record {
+        n-same = refl;
+        m-same = refl;
+        node-in = is-true here;
+        node-out = false-not (node-gone net c g (here-number g _ here));
+        nodes = λ s l n. here-same net c s (λ _. n);
+        far-in = f;
+        supplies = λ s l n t. supplies s (true-is _ t);
+        arcs-in = λ j l a. ap (λ t. not (eqb (t .from) 0)) (arc-same net c j (unnamed j a));
+        arcs = λ j l a. ap exactArc (arc-same net c j (unnamed j a));
+        constants = refl;
+      }

@@ -15,8 +15,8 @@ use Rattle.network.specs.declared.Edit.{Edit}
 use Rattle.network.specs.Network.{noArc, arcAt, isHere, withArc, withSupply, without, withUpdate, withUpdates, updatesOf, withSupplyUpdate, applied}
 use Rattle.network.specs.Legal.{Legal}
 use Rattle.network.proofs.Kept.{here-number, used-number, arc-either, here-either}
-use Rattle.step.proofs.Each.{All}
-use Rattle.step.proofs.Frame.{node-gone}
+use Rattle.step.proofs.Each.{All, all-map}
+use Rattle.step.proofs.Frame.{Puts, Tame, Framed, node-gone}
 use Rattle.step.proofs.Touch.{unlike}
 use Rattle.step.proofs.Lines.{split}
 
@@ -46,13 +46,6 @@ module _ {net : Net} (g : Legal net) where
 
 -- ---- a change that puts arcs only at numbers in use, and drops a node or an arc in use
 
--- what is put is no arc, or stands at a number in use
-abbrev pub Tame : Net → ArcUpdate → Type 0
-Tame net p = (p .arc ≡ noArc) ⊎ (1 ≤ p .number → 1 ≤ arcAt net (p .number) .from)
-
-abbrev pub Tamed : Net → Edit → Type 0
-Tamed net c = All (Tame net) (updatesOf c)
-
 -- an arc in use that is dropped; or the node that is dropped is in use
 pub record LostArc (net : Net) (c : Edit) : Type 0 where
   pub number : ℕ
@@ -74,15 +67,15 @@ module _ (net : Net) where
       put i v h (inl z) = unlike (rw z at h)
       put i v h (inr u) = rw (v .1) (le-leb 1 _ (u (v .0)))
 
-  change-under : (c : Edit) → Tamed net c → (i : ℕ) → hasArc (applied net c) i ≡ true → hasArc net i ≡ true
+  change-under : (c : Edit) → Framed net c → (i : ℕ) → hasArc (applied net c) i ≡ true → hasArc net i ≡ true
   unfolding applied withSupply without
-  change-under c w = updates-under (updatesOf c) net w (λ i h. h)
+  change-under c f = updates-under (updatesOf c) net (all-map (λ p (h : Puts net (c .gone) p × Tame net p). h .1) (updatesOf c) (f .arcs)) (λ i h. h)
 
   pub nodes-under : (c : Edit) (i : ℕ) → isHere (applied net c) i ≡ true → isHere net i ≡ true
   unfolding applied withArc withSupply
   nodes-under c i h = ⊎-elim (λ e. sym e ∙ h) (λ w. unlike (sym (w .2) ∙ h)) (here-either (withSupplyUpdate (withSupplyUpdate (withUpdates net (updatesOf c)) (c .left)) (c .right)) (c .gone) i)
 
-pub fewer : {net : Net} → Legal net → (c : Edit) → Tamed net c → Lost net c → Fewer net c
+pub fewer : {net : Net} → Legal net → (c : Edit) → Framed net c → Lost net c → Fewer net c
 fewer {net} g c w (inl e) =
     let a = count-mono (hasArc net) (hasArc (applied net c)) 97 (change-under net c w) in
     let b = count-under (isHere net) (isHere (applied net c)) 33 (c .gone) (omega (arith, here-number g _ e .1)) e (node-gone net c g (here-number g _ e)) (nodes-under net c) in

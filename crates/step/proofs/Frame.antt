@@ -2,12 +2,12 @@
 use mathlib.Core.Path.{_≡_, refl, sym, ap, _∙_}
 use mathlib.Core.Bool.{true, false}
 use mathlib.Core.List.{List, [], _∷_}
-use mathlib.Core.Logic.{inl, inr, ⊎-elim}
+use mathlib.Core.Logic.{_⊎_, inl, inr, ⊎-elim}
 use Prim.Native.Nat.{ℕ, zero, suc, _≤_}
 use native.Mathlib.Omega.{arith}
 use lib.ListN.{length, getD, drop}
 use lib.Seq.{getD-set-same}
-use borrow.Author.Tests.{le-leb}
+use borrow.Author.Tests.{le-leb, ne-eqb}
 use Rattle.fraction.specs.declared.Fraction.{Fraction}
 use Rattle.fraction.specs.Exact.{Proper, noFigure}
 use Rattle.network.specs.declared.Arc.{Arc}
@@ -27,16 +27,28 @@ pub record Puts (net : Net) (gone : ℕ) (p : ArcUpdate) : Type 0 where
   pub may : MayPut net (p .number) (p .arc)
   pub clear : 1 ≤ gone → isTouching (p .arc) gone ≡ false
 
+-- it is no arc, or stands at a number in use
+abbrev pub Tame : Net → ArcUpdate → Type 0
+Tame net p = (p .arc ≡ noArc) ⊎ (1 ≤ p .number → 1 ≤ arcAt net (p .number) .from)
+
 -- a supply of a node is a fraction in form; number 0 is no node
 abbrev pub Levels : SupplyUpdate → Type 0
 Levels l = 1 ≤ l .node → Proper (l .supply)
 
 -- a change whose parts are legal: whatever touches the dropped node is among the arcs that it replaces
 pub record Framed (net : Net) (c : Edit) : Type 0 where
-  pub arcs : All (Puts net (c .gone)) (updatesOf c)
+  pub arcs : All (λ p. Puts net (c .gone) p × Tame net p) (updatesOf c)
   pub left : Levels (c .left)
   pub right : Levels (c .right)
   pub only : (j : ℕ) → 1 ≤ c .gone → isTouching (arcAt net j) (c .gone) ≡ true → Any (λ p. j ≡ p .number) (updatesOf c)
+
+-- no arc may be put at any number, and no supply is set
+pub no-arc-puts : (net : Net) (gone k : ℕ) → Puts net gone (record { number = k; arc = noArc }) × Tame net (record { number = k; arc = noArc })
+unfolding isTouching
+no-arc-puts net gone k = (record { may = inl refl; clear = λ l. rw (ne-eqb 0 gone (λ e. omega arith)) }, inl refl)
+
+pub no-level : {f : Fraction} → Levels (record { node = 0; supply = f })
+no-level l = absurd (omega arith)
 
 -- the numbers of updates: j is none of them. Number 0 names nothing.
 abbrev pub Unnamed : List ArcUpdate → ℕ → Type 0
@@ -113,13 +125,16 @@ pub framed-kept : (net : Net) → Legal net → (c : Edit) → Framed net c → 
 unfolding applied withSupply without
 framed-kept net g c f = node-kept (supply-kept (supply-kept now _ _ (f .left)) _ _ (f .right)) (c .gone) free
   where
+    puts : All (Puts net (c .gone)) (updatesOf c)
+    puts = all-map (λ p (h : Puts net (c .gone) p × Tame net p). h .0) (updatesOf c) (f .arcs)
+
     now : Legal (withUpdates net (updatesOf c))
-    now = puts-kept (c .gone) (updatesOf c) g (f .arcs)
+    now = puts-kept (c .gone) (updatesOf c) g puts
 
     free : 1 ≤ c .gone → (j : ℕ) → isTouching (arcAt (withUpdates net (updatesOf c)) j) (c .gone) ≡ false
     free l j =
         split (isTouching (arcAt (withUpdates net (updatesOf c)) j) (c .gone))
-        (λ e. let s = puts-still (c .gone) (updatesOf c) g (f .arcs) l j (used-number now j (touching-used now j (c .gone) l e)) e in absurd (none-any (λ p. j ≡ p .number) (updatesOf c) (s .0) (f .only j l (s .1))))
+        (λ e. let s = puts-still (c .gone) (updatesOf c) g puts l j (used-number now j (touching-used now j (c .gone) l e)) e in absurd (none-any (λ p. j ≡ p .number) (updatesOf c) (s .0) (f .only j l (s .1))))
         (λ e. e)
 
 -- ---- what stands where after a change

@@ -1,15 +1,11 @@
 pub mod Each
-pub mod Small
 pub mod Frame
-pub mod Sides
 pub mod Touch
 pub mod Fewer
 pub mod Exactly
-pub mod Rewiring
 pub mod Lines
 pub mod Figures
 pub mod Laws
-pub mod PutBack
 pub mod Removing
 pub mod Node
 pub mod RunLaws

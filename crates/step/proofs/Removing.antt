@@ -1,6 +1,6 @@
 -- An arc is dropped at a known flow, and a node with it or none: what rules 1, 3 and 4 share.
-use mathlib.Core.Path.{_≡_, refl, sym, ap, ap₂, _∙_, subst}
-use mathlib.Core.Bool.{Bool, true, false, cond}
+use mathlib.Core.Path.{_≡_, refl, sym, ap, ap₂, _∙_}
+use mathlib.Core.Bool.{true, false, cond}
 use mathlib.Core.Logic.{inl, inr}
 use Prim.Native.Nat.{ℕ, _≤_}
 use native.Mathlib.Omega.{arith}
@@ -19,11 +19,11 @@ use Rattle.presolve.proofs.Step.{SoundStep, with-constant}
 use Rattle.presolve.proofs.Named.{once-mem}
 use Rattle.presolve.proofs.Removed.{Removed}
 use Rattle.presolve.proofs.Closed.{closed-back}
-use Rattle.presolve.proofs.Net.{gone-out, row-out, rhs-out}
+use Rattle.presolve.proofs.Net.{gone-out, row-out}
 use Rattle.fraction.specs.declared.Fraction.{Fraction}
 use Rattle.fraction.specs.declared.Worked.{Worked}
 use Rattle.fraction.specs.declared.Worked.the-variants.{Fits}
-use Rattle.fraction.specs.Exact.{Proper, noFigure, noLower}
+use Rattle.fraction.specs.Exact.{Proper, noFigure}
 use Rattle.fraction.specs.Value.{value}
 use Rattle.fraction.specs.Formula.{_⊖_, _⊗_}
 use Rattle.fraction.proofs.Formulas.{Gives, given, minus-gives, times-gives, minus-fits}
@@ -32,32 +32,25 @@ use Rattle.network.specs.declared.Net.{Net}
 use Rattle.network.specs.declared.SupplyUpdate.{SupplyUpdate}
 use Rattle.network.specs.declared.Edit.{Edit}
 use Rattle.network.specs.Network.{noArc, arcAt, supplyAt, isHere, isTouching, isRoot, farEnd, sideOf, withArc, withSupply, without, editOne, applied}
-use Rattle.network.specs.Legal.{Bound, Legal}
+use Rattle.network.specs.Legal.{Legal}
+use Rattle.network.specs.Pair.{withPrice, withFlow}
 use Rattle.network.specs.Program.{exactOf, programOf}
 use Rattle.network.proofs.Sane.{sane}
 use Rattle.network.proofs.Kept.{here-number, used-number}
 use Rattle.step.specs.declared.Change.{Change}
 use Rattle.step.specs.declared.Outcome.{Outcome}
 use Rattle.step.specs.declared.Outcome.the-variants.{NoFlow, Changes}
-use Rattle.step.specs.Back.{oldArc, oldOne}
+use Rattle.step.specs.Back.{oldArc, oldOne, restored}
 use Rattle.step.specs.Dropped.{supplyLess, dropping, dropped, droppedAt, lowerBack}
-use Rattle.step.proofs.Frame.{Puts, Levels, no-updates, no-names, framed-kept, arc-stands, supply-put, supply-left, long-supply, here-same, node-gone}
+use Rattle.step.proofs.Frame.{Levels, Framed, no-arc-puts, no-names, arc-stands, supply-put, supply-left, long-supply, here-same, node-gone}
 use Rattle.step.proofs.Touch.{unlike}
-use Rattle.step.proofs.Fewer.{Tame, Fewer, fewer, nodes-under}
-use Rattle.step.proofs.Exactly.{false-not, arc-off, listed-arc, rhs-is, spoke-at, column-kept, rhs-off, rhs-on}
-use Rattle.step.proofs.Lines.{Answers, fits-met, change-is, restored-is, not-shown, split}
-use Rattle.step.proofs.Figures.{Formed, itself, flow-restored}
-use Rattle.step.proofs.Laws.{no-old, Right}
+use Rattle.step.proofs.Fewer.{nodes-under}
+use Rattle.step.proofs.Exactly.{false-not, arc-off, listed-arc, rhs-is, spoke-at, column-kept, rhs-off}
+use Rattle.step.proofs.Lines.{Answers, fits-met, restored-is, not-shown, split}
+use Rattle.step.proofs.Figures.{itself, flow-put}
+use Rattle.step.proofs.Laws.{no-old, Right, right-of}
 
 -- ---- what is left is legal
-
--- no arc may be put at any number, and no supply is set
-pub no-arc-puts : (net : Net) (gone k : ℕ) → Puts net gone (record { number = k; arc = noArc })
-unfolding isTouching
-no-arc-puts net gone k = record { may = inl refl; clear = λ l. rw (ne-eqb 0 gone (λ e. omega arith)) }
-
-pub no-level : {f : Fraction} → Levels (record { node = 0; supply = f })
-no-level l = absurd (omega arith)
 
 -- the supply of an end less what flows there is in form, where there is such an end
 pub less-proper : (end : ℕ) (x y : Worked) {z : Fraction} → cond (eqb end 0) (Fits noFigure) (x ⊖ y) ≡ Fits z → 1 ≤ end → Proper z
@@ -67,21 +60,11 @@ pub supply-less : (end : ℕ) (s e v : Fraction) {x : Fraction} → supplyLess e
 unfolding supplyLess
 supply-less end s e v q l = less-proper end (Fits s) (Fits e ⊗ Fits v) q l
 
-module _ (net : Net) (g : Legal net) where
-  -- arc j dropped, with two supplies, and a node dropped that no other arc touches
-  pub dropped-legal : (j : ℕ) (left right : SupplyUpdate) (gone : ℕ) → Levels left → Levels right → ((k : ℕ) → 1 ≤ gone → isTouching (arcAt net k) gone ≡ true → k ≡ j) → Legal (applied net (editOne (record { number = j; arc = noArc }) left right gone))
-  dropped-legal j left right gone a b only =
-      framed-kept net g _
-      (record {
-        arcs = (no-arc-puts net gone j, no-updates (Puts net gone) (no-arc-puts net gone 0) .1);
-        left = a;
-        right = b;
-        only = λ k l t. inl (only k l t);
-      })
-
-  pub dropped-fewer : (j : ℕ) (left right : SupplyUpdate) (gone : ℕ) → 1 ≤ arcAt net j .from → Fewer net (editOne (record { number = j; arc = noArc }) left right gone)
-  dropped-fewer j left right gone u =
-      fewer g _ (inl refl, no-updates (Tame net) (inl refl) .1) (inr (record { number = j; used = u; dropped = arc-stands net _ g 0 (used-number g j u) (no-names j .1) }))
+-- arc j dropped, with two supplies, and a node dropped that no other arc touches
+pub dropped-framed : (net : Net) (j : ℕ) (left right : SupplyUpdate) (gone : ℕ) → Levels left → Levels right → ((k : ℕ) → 1 ≤ gone → isTouching (arcAt net k) gone ≡ true → k ≡ j) → Framed net (editOne (record { number = j; arc = noArc }) left right gone)
+dropped-framed net j left right gone a b only =
+    let none = no-arc-puts net gone in
+    record { arcs = (none j, (none 0, (none 0, (none 0, tt)))); left = a; right = b; only = λ k l t. inl (only k l t) }
 
 -- ---- in exact numbers
 
@@ -103,29 +86,34 @@ level-less net end r e v h is q s l =
     ∙ ap (λ k. value (supplyAt net s) +ℚ -ℚ k) (ap (λ k. only end k s) (mul-comm (value e) (value v)) ∙ only-scale end (value v) (value e) s ∙ mul-comm (value v) (only end (value e) s))
 
 module _ (net : Net) (g : Legal net) where
-  -- a node that is not in use stays so
-  pub still-off : (c : Edit) (s : ℕ) → isHere net s ≡ false → isHere (applied net c) s ≡ false
-  still-off c s h = split (isHere (applied net c) s) (λ e. unlike (sym h ∙ nodes-under net c s e)) (λ e. e)
+  -- the right-hand sides after a change: of the nodes that stay, of the one that is dropped, and of those that are not in use, which stay so
+  pub rhs-after : (c : Edit) (f : ℕ → ℚ) → ((s : ℕ) → isHere net s ≡ true → (s ≡ c .gone → ⊥) → value (supplyAt (applied net c) s) ≡ f s) → (isHere net (c .gone) ≡ true → 0ℚ ≡ f (c .gone)) → ((s : ℕ) → isHere net s ≡ false → 0ℚ ≡ f s) → (s : ℕ) → programOf (applied net c) .rhs s ≡ f s
+  rhs-after c f stays goes off s =
+      split (isHere net s) (λ h. by h (ℕ-discrete s (c .gone)))
+      (λ h. rhs-off (applied net c) s (split (isHere (applied net c) s) (λ e. unlike (sym h ∙ nodes-under net c s e)) (λ e. e)) ∙ off s h)
+    where
+      by : isHere net s ≡ true → Dec (s ≡ c .gone) → programOf (applied net c) .rhs s ≡ f s
+      by h (no n) = rhs-is (applied net c) s (here-same net c s (λ l. n) ∙ h) ∙ stays s h n
+      by h (yes z) = let k = rw z at h in rhs-off (applied net c) s (rw z (node-gone net c g (here-number g (c .gone) k))) ∙ rw z (goes k)
 
   -- the program after it, where arc j was at the flow ξ
   abbrev pub after : ℕ → Edit → ℚ → LP
   after j c ξ = with-constant (programOf (applied net c)) (0ℚ +ℚ programOf net .col j .cost *ℚ ξ)
 
-  -- the supplies of the nodes that stay, and of the one that is dropped
-  pub record Settles (j : ℕ) (c : Edit) (ξ : ℚ) : Type 0 where
-    pub stays : (s : ℕ) → isHere net s ≡ true → (s ≡ c .gone → ⊥) → value (supplyAt (applied net c) s) ≡ value (supplyAt net s) +ℚ -ℚ (programOf net .col j .coef s *ℚ ξ)
-    pub goes : isHere net (c .gone) ≡ true → 0ℚ ≡ value (supplyAt net (c .gone)) +ℚ -ℚ (programOf net .col j .coef (c .gone) *ℚ ξ)
-
-  pub one-removed : (j : ℕ) (left right : SupplyUpdate) (gone : ℕ) (ξ : ℚ) → 1 ≤ arcAt net j .from → Settles j (editOne (record { number = j; arc = noArc }) left right gone) ξ → Removed (programOf net) (after j (editOne (record { number = j; arc = noArc }) left right gone) ξ) j ξ
+  -- by the supplies of the nodes that stay, and of the one that is dropped
+  pub one-removed : (j : ℕ) (left right : SupplyUpdate) (gone : ℕ) (ξ : ℚ) → 1 ≤ arcAt net j .from
+      → ((s : ℕ) → isHere net s ≡ true → (s ≡ gone → ⊥) → value (supplyAt (applied net (editOne (record { number = j; arc = noArc }) left right gone)) s) ≡ value (supplyAt net s) +ℚ -ℚ (programOf net .col j .coef s *ℚ ξ))
+      → (isHere net gone ≡ true → 0ℚ ≡ value (supplyAt net gone) +ℚ -ℚ (programOf net .col j .coef gone *ℚ ξ))
+      → Removed (programOf net) (after j (editOne (record { number = j; arc = noArc }) left right gone) ξ) j ξ
   unfolding exactOf
-  one-removed j left right gone ξ used b =
+  one-removed j left right gone ξ used stays goes =
       record {
         rows-same = refl;
         cols-same = refl;
         listed = listed-arc net g j used;
         same = λ k m n. column-kept net c k ((λ l. n), no-names k .1);
         gone = gone-out (exactOf (applied net c)) j (arc-off (applied net c) j (arc-stands net c g 0 (used-number g j used) (no-names j .1)));
-        rhs-is = λ s m. by s (isHere net s) refl (ℕ-discrete s gone);
+        rhs-is = λ s m. rhs-after c (λ s. programOf net .rhs s +ℚ -ℚ (programOf net .col j .coef s *ℚ ξ)) (λ s h n. stays s h n ∙ before s h) (λ h. goes h ∙ before gone h) off s;
         constant-is = refl;
       }
     where
@@ -133,15 +121,10 @@ module _ (net : Net) (g : Legal net) where
       c = editOne (record { number = j; arc = noArc }) left right gone
 
       before : (s : ℕ) → isHere net s ≡ true → value (supplyAt net s) +ℚ -ℚ (programOf net .col j .coef s *ℚ ξ) ≡ programOf net .rhs s +ℚ -ℚ (programOf net .col j .coef s *ℚ ξ)
-      before s h = ap (λ r. r +ℚ -ℚ (programOf net .col j .coef s *ℚ ξ)) (sym (rhs-is net g s h))
+      before s h = ap (λ r. r +ℚ -ℚ (programOf net .col j .coef s *ℚ ξ)) (sym (rhs-is net s h))
 
-      by : (s : ℕ) (b : Bool) → isHere net s ≡ b → Dec (s ≡ gone) → programOf (applied net c) .rhs s ≡ programOf net .rhs s +ℚ -ℚ (programOf net .col j .coef s *ℚ ξ)
-      by s true h (no n) = rhs-on net c s (here-same net c s (λ l. n) ∙ h) ∙ b .stays s h n ∙ before s h
-      by s true h (yes z) = rhs-off net c s (rw z (node-gone net c g (here-number g gone (rw z at h)))) ∙ rw (← z) at (b .goes (rw z at h)) ∙ before s h
-      by s false h d =
-          rhs-off net c s (still-off c s h)
-          ∙ ring1 ℚ-ring ξ (λ x. :0 := :0 :- :0 :* x) refl
-          ∙ ap₂ (λ r k. r +ℚ -ℚ (k *ℚ ξ)) (sym (rhs-out (exactOf net) s (false-not h))) (sym (row-out (exactOf net) (sane g) j s (once-mem (listed-arc net g j used)) (false-not h)))
+      off : (s : ℕ) → isHere net s ≡ false → 0ℚ ≡ programOf net .rhs s +ℚ -ℚ (programOf net .col j .coef s *ℚ ξ)
+      off s h = ring1 ℚ-ring ξ (λ x. :0 := :0 :- :0 :* x) refl ∙ ap₂ (λ r k. r +ℚ -ℚ (k *ℚ ξ)) (sym (rhs-off net s h)) (sym (row-out (exactOf net) (sane g) j s (once-mem (listed-arc net g j used)) (false-not h)))
 
   -- rules 1 and 4: arc j dropped at the flow v
   pub flow-removed : (j : ℕ) (v : Fraction) {x y : Fraction} → 1 ≤ arcAt net j .from
@@ -149,7 +132,7 @@ module _ (net : Net) (g : Legal net) where
       → supplyLess (farEnd (arcAt net j)) (supplyAt net (arcAt net j .to)) (arcAt net j .b) v ≡ Fits y
       → Removed (programOf net) (after j (dropping j (arcAt net j .from) x (farEnd (arcAt net j)) y 0) (value v)) j (value v)
   unfolding applied withArc withSupply without isTouching sideOf farEnd isRoot
-  flow-removed j v {x} {y} used p q = one-removed j (record { node = t .from; supply = x }) (record { node = farEnd t; supply = y }) 0 (value v) used (record { stays = λ s h n. stays s h; goes = λ h. unlike (sym (g .no-node) ∙ h) })
+  flow-removed j v {x} {y} used p q = one-removed j (record { node = t .from; supply = x }) (record { node = farEnd t; supply = y }) 0 (value v) used (λ s h n. stays s h) (λ h. unlike (sym (g .no-node) ∙ h))
     where
       t : Arc
       t = arcAt net j
@@ -187,27 +170,19 @@ dropped-met net j v a e =
     let s = fits-met a _ _ (r .2) in
     record { r = r .0; s = s .0; r-is = r .1; s-is = s .1; is = s .2 }
 
-lower-formed : {f : Fraction} → Bound noLower f → Formed f
-lower-formed (inl p) = inl p
-lower-formed (inr e) = inr (ap (λ (f : Fraction). f .den) e)
-
 -- arc j dropped at its lower bound is right, if it is a sound step in exact numbers
-pub lower-right : (net : Net) (g : Legal net) (j : ℕ) {c : Change} → 1 ≤ arcAt net j .from → droppedAt net j (arcAt net j .lower) ≡ Changes c
+pub lower-right : (net : Net) (g : Legal net) (j : ℕ) {c : Change} → 1 ≤ arcAt net j .from → Proper (arcAt net j .lower) → droppedAt net j (arcAt net j .lower) ≡ Changes c
     → ((e : Edit) → Removed (programOf net) (after net g j e (value (arcAt net j .lower))) j (value (arcAt net j .lower)) → SoundStep (programOf net) (after net g j e (value (arcAt net j .lower))) (closed-back j (value (arcAt net j .lower))))
     → Right net c (lowerBack (c .old))
-unfolding lowerBack
-lower-right net g j {c} used e sound =
+unfolding lowerBack restored withFlow withPrice
+lower-right net g j {c} used proper e sound =
     let t = arcAt net j in
     let d : Dropped net j (t .lower) (Changes c) = dropped-met net j (t .lower) tt e in
-    subst (λ c. Right net c (lowerBack (c .old))) (sym (change-is (d .is)))
-    (record {
-      legal = dropped-legal net g j _ _ 0 (supply-less (t .from) _ _ _ (d .r-is)) (supply-less (farEnd t) _ _ _ (d .s-is)) (λ k l. absurd (omega arith));
-      fewer = dropped-fewer net g j _ _ 0 used;
-      handed-on = record { arcs = ((used-number g j used .1, refl), no-old g .1); named = λ x u. u; node = omega arith; supply = lit≤ tt; first = omega arith; second = omega arith; third = omega arith; fourth = omega arith };
-      exact = closed-back j (value (t .lower));
-      sound = record { shift = _; sound = sound _ (flow-removed net g j (t .lower) used (d .r-is) (d .s-is)) };
-      agrees = λ pair z q. rw (restored-is q) (flow-restored (itself z) j (t .lower) (used-number g j used) (lower-formed (g .used j used .lower-bound)) refl);
-    })
+    right-of g lowerBack (d .is) (dropped-framed net j _ _ 0 (supply-less (t .from) _ _ _ (d .r-is)) (supply-less (farEnd t) _ _ _ (d .s-is)) (λ k l. absurd (omega arith)))
+    (inr (record { number = j; used = used; dropped = arc-stands net _ g 0 (used-number g j used) (no-names j .1) }))
+    (record { arcs = ((used-number g j used .1, refl), no-old g .1); named = λ x u. u; node = omega arith; supply = lit≤ tt; new = omega arith })
+    (closed-back j (value (t .lower))) (record { shift = _; sound = sound _ (flow-removed net g j (t .lower) used (d .r-is) (d .s-is)) })
+    (λ pair z r q. rw (restored-is q) (flow-put (itself z) j (t .lower) (used-number g j used) (proper, refl)))
 
 -- a drop shows nothing
 pub dropped-shows : {X : Type 0} (net : Net) (j : ℕ) (v : Fraction) → droppedAt net j v ≡ NoFlow → X

@@ -9,7 +9,6 @@ use native.Mathlib.Omega.{arith}
 use lib.ListN.{length}
 use borrow.Author.Tests.{eq-eqb, ne-eqb}
 use Rattle.presolve.specs.LP as LP
-use Rattle.presolve.proofs.Duality as Duality
 use Rattle.fraction.proofs.Laws.{never}
 use Rattle.network.specs.declared.Net.{Net}
 use Rattle.network.specs.declared.pair.Pair.{Pair}
@@ -33,9 +32,7 @@ use Rattle.step.proofs.Exactly.{SoundTo, sound-stay, sound-then, sound-
 use Rattle.step.proofs.Fewer.{leftOf}
 use Rattle.step.proofs.Figures.{Sized, Holds, itself}
 use Rattle.step.proofs.Each.{All}
-use Rattle.step.proofs.Small.{SmallStep}
-use Rattle.step.proofs.Laws.{old-small, Right, RuleLaws}
-use Rattle.step.proofs.PutBack.{putBackAll, put-back}
+use Rattle.step.proofs.Laws.{SmallStep, old-small, Right, RuleLaws, putBackAll, put-back}
 
 -- ---- the table
 
@@ -209,10 +206,9 @@ module _ (next : Net → Next) (back : Step → Pair → Undone) (laws : (net : 
       by (Refuted a b) q on = sym q
       by (Takes t) q on = on _
 
--- THE WAY BACK: an optimal pair of what is left, brought back, is optimal
+-- THE WAY BACK: a pair that solves what is left, brought back, is in form and solves the network given
 pub restored-solved : {net : Net} {back : Step → Pair → Undone} {run : Run} → RunLaws net back run → (pair : Pair) → Sized pair → LP.Solved (programOf (run .net)) (exactPair pair)
-    → {q : Pair} → wayBack back (run .steps) (at pair) ≡ at q → LP.Solved (programOf net) (exactPair q) × LP.Optimal (programOf net) (exactPair q .flow)
-restored-solved {net} r pair z h {q} e =
+    → {q : Pair} → wayBack back (run .steps) (at pair) ≡ at q → Sized q × LP.Solved (programOf net) (exactPair q)
+restored-solved {net} r pair z h e =
     let w = r .agrees pair z e in
-    let s = subst (LP.Solved (programOf net)) (sym (w .exact)) (sound-solved (r .sound) (exactPair pair) h) in
-    (s, Duality.weak-duality (programOf net) (exactPair q) s)
+    (w .sized, subst (LP.Solved (programOf net)) (sym (w .exact)) (sound-solved (r .sound) (exactPair pair) h))

@@ -2,7 +2,7 @@
 use mathlib.Core.Path.{_≡_, refl, sym, ap, _∙_}
 use mathlib.Core.Bool.{Bool, true, false, cond, _&&_, and-false}
 use mathlib.Core.List.{List, [], _∷_}
-use mathlib.Core.Logic.{_⊎_, inl, inr, ⊎-elim}
+use mathlib.Core.Logic.{inl, inr, ⊎-elim}
 use Prim.Native.Nat.{ℕ, zero, suc, _+_, _-_, _≤_, _<_}
 use native.Mathlib.Nat.{not-suc-le-zero, lt-irrefl, eq-or-lt-of-le, le-of-suc-le-suc}
 use native.Mathlib.Numerals.{add-one}
@@ -99,19 +99,9 @@ module _ (p : ℕ → Bool) where
   after-is : (k x : ℕ) → k < x → p x ≡ true → after k x ≡ true
   after-is k x h t = rw (lt-ltb k x h) t
 
-  -- where there is one more of them, the first is one, and the others come after it
-  record Next (k j d : ℕ) : Type 0 where
-    at : At p k j
-    rest : count (after j) 97 ≡ d
-    others : (x : ℕ) → At p k x → (x ≡ j) ⊎ (j < x)
-
-  next : (k j d : ℕ) → count (after k) 97 ≡ suc d → First p k j → Next k j d
-  next k j d e f =
-      record {
-        at = record { above = f .above one; within = f .within; passes = f .passes one };
-        rest = omega (arith, e, add-one d, count-one-less (after k) (after j) 97 j (omega (arith, f .within)) (after-is k j (f .above one) (f .passes one)) (rw (le-ltb j j (omega arith))) agree);
-        others = λ x m. ⊎-elim (λ z. inl (sym z)) inr (eq-or-lt-of-le (f .least x (m .above) (m .within) (m .passes) .1));
-      }
+  -- where there is one more of them, the first of them is one
+  next : (k j d : ℕ) → count (after k) 97 ≡ suc d → First p k j → (1 ≤ j) × (count (after j) 97 ≡ d)
+  next k j d e f = (one, omega (arith, e, add-one d, count-one-less (after k) (after j) 97 j (omega (arith, f .within)) (after-is k j (f .above one) (f .passes one)) (rw (le-ltb j j (omega arith))) agree))
     where
       one : 1 ≤ j
       one =
@@ -130,12 +120,13 @@ module _ (p : ℕ → Bool) where
   pub upward-all : (xs : List ℕ) (k : ℕ) → count (after k) 97 ≡ length xs → Upward p k xs → These p k xs
   upward-all [] k e c = record { each = tt; apart = tt; all = λ x m. absurd (count-none (after k) 97 e x (omega (arith, m .within)) (after-is k x (m .above) (m .passes))) }
   upward-all (j ∷ xs) k e c =
-      let n = next k j (length xs) e (c .0) in
-      let r = upward-all xs j (n .rest) (c .1) in
+      let f = c .0 in
+      let n = next k j (length xs) e f in
+      let r = upward-all xs j (n .1) (c .1) in
       record {
-        each = (n .at, all-map (λ y m. record { above = omega (arith, m .above, n .at .above); within = m .within; passes = m .passes }) xs (r .each));
+        each = (record { above = f .above (n .0); within = f .within; passes = f .passes (n .0) }, all-map (λ y m. record { above = omega (arith, m .above, f .above (n .0)); within = m .within; passes = m .passes }) xs (r .each));
         apart = (all-map (λ y m z. omega (arith, m .above)) xs (r .each), r .apart);
-        all = λ x m. ⊎-elim inl (λ l. inr (r .all x (record { above = l; within = m .within; passes = m .passes }))) (n .others x m);
+        all = λ x m. ⊎-elim (λ z. inl (sym z)) (λ l. inr (r .all x (record { above = l; within = m .within; passes = m .passes }))) (eq-or-lt-of-le (f .least x (m .above) (m .within) (m .passes) .1));
       }
 
 -- as many different ones as pass

@@ -1,7 +1,7 @@
 -- The rules as a table, the fixed order of search, steps until none applies, and the way back over them.
 use mathlib.Core.Bool.{cond}
 use mathlib.Core.List.{List, [], _∷_}
-use Prim.Native.Nat.{ℕ, zero, suc}
+use Prim.Native.Nat.{ℕ, zero, suc, _+_}
 use lib.Dec.{eqb}
 use Rattle.network.specs.declared.Net.{Net}
 use Rattle.network.specs.declared.pair.Pair.{Pair}
@@ -16,7 +16,7 @@ use Rattle.step.specs.declared.Next.{Next}
 use Rattle.step.specs.declared.Next.the-variants.{Stops, Refuted, Takes}
 use Rattle.step.specs.Back.{restored}
 
--- a rule: its last place (96 for arcs, 32 for nodes), what it answers at a place, and its way back
+-- a rule: its last place (`maxArcs` for arcs, `maxNodes` for nodes), what it answers at a place, and its way back
 pub record Rule : Type 0 where
   pub last : ℕ
   pub at : Net → ℕ → Outcome

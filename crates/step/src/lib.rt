@@ -11,6 +11,8 @@ use fraction::Fraction;
 use fraction::Worked;
 use network::Arc;
 use network::ArcUpdate;
+use network::MAX_ARCS;
+use network::MAX_NODES;
 use network::SupplyUpdate;
 use network::pair::Pair;
 
@@ -179,31 +181,31 @@ pub fn restore(mut pair: Pair, r: Restored) -> Pair
     let one = r.one;
     let i = one.arc;
     let x = one.flow;
-    if is_number(i, 96) {
+    if is_number(i, MAX_ARCS) {
         pair.flow[i] = x;
     }
     let two = r.two;
     let i = two.arc;
     let x = two.flow;
-    if is_number(i, 96) {
+    if is_number(i, MAX_ARCS) {
         pair.flow[i] = x;
     }
     let three = r.three;
     let i = three.arc;
     let x = three.flow;
-    if is_number(i, 96) {
+    if is_number(i, MAX_ARCS) {
         pair.flow[i] = x;
     }
     let four = r.four;
     let i = four.arc;
     let x = four.flow;
-    if is_number(i, 96) {
+    if is_number(i, MAX_ARCS) {
         pair.flow[i] = x;
     }
     let price = r.price;
     let i = price.node;
     let x = price.price;
-    if is_number(i, 32) {
+    if is_number(i, MAX_NODES) {
         pair.price[i] = x;
     }
     pair

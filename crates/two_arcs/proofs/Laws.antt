@@ -3,7 +3,7 @@ use mathlib.Core.Path.{_≡_, refl, sym, ap, ap₂, _∙_, subst}
 use mathlib.Core.Bool.{Bool, true, false, cond}
 use mathlib.Core.List.{[], _∷_}
 use mathlib.Core.Logic.{_⊎_, inl, inr, ⊎-elim}
-use Prim.Native.Nat.{ℕ, _≤_}
+use Prim.Native.Nat.{ℕ}
 use native.Mathlib.Omega.{arith}
 use lib.Dec.{T, eqb}
 use borrow.Author.Tests.{eqb-true, eqb-false, eq-eqb, ne-eqb, not-true}
@@ -14,22 +14,21 @@ use Rattle.algebra.proofs.Sum.{Absent}
 use Rattle.algebra.specs.Sum.{only}
 use Rattle.presolve.proofs.Named.{apart, further}
 use Rattle.presolve.specs.LP as LP
-use Rattle.presolve.proofs.Step.{SoundStep}
 use Rattle.presolve.proofs.Bounds.{mapO, mergeL, mergeU, fits-dec}
 use Rattle.presolve.specs.Bounds as Bounds
-use Rattle.presolve.proofs.Price.{Ends, only-zero}
+use Rattle.presolve.proofs.Price.{only-zero}
 use Rattle.presolve.proofs.Spoke.{quote}
 use Rattle.presolve.specs.Net.{column}
 use Rattle.presolve.proofs.TwoArcs.{image, two-price, two-back, two-sound}
 use Rattle.presolve.proofs.Rewire.{two-of}
 use Rattle.fraction.specs.declared.Fraction.{Fraction}
 use Rattle.fraction.specs.declared.Worked.the-variants.{Fits}
-use Rattle.fraction.specs.Exact.{Operand, Proper, zeroFraction, noFigure, noLower, noUpper, isZero}
+use Rattle.fraction.specs.Exact.{Proper, zeroFraction, noFigure, noLower, noUpper, isZero}
 use Rattle.fraction.specs.Formula.{_⊖_, _⊗_, _⊘_, ⊝_}
 use Rattle.fraction.proofs.Laws.{never}
 use Rattle.fraction.specs.Value.{value}
 use Rattle.fraction.proofs.Value.{is-same}
-use Rattle.fraction.proofs.Formulas.{given, minus-gives, times-gives, over-gives, negated-gives, minus-fits, times-fits, over-fits, zero-proper, zero-is, Nonzero, unvanishing, times-unvanishing, over-unvanishing, negated-unvanishing}
+use Rattle.fraction.proofs.Formulas.{given, minus-gives, times-gives, over-gives, negated-gives, minus-fits, zero-proper, zero-is, unvanishing, times-unvanishing, over-unvanishing, negated-unvanishing}
 use Rattle.network.specs.declared.Arc.{Arc}
 use Rattle.network.specs.declared.Net.{Net}
 use Rattle.network.specs.declared.Side.{Side}
@@ -37,7 +36,7 @@ use Rattle.network.specs.declared.Edit.{Edit}
 use Rattle.network.specs.declared.pair.Pair.{Pair}
 use Rattle.network.specs.Network.{noArc, arcAt, supplyAt, isHere, isTouching, isRoot, sideOf, withArc, withSupply, without, updatesOf, applied}
 use Rattle.network.specs.Legal.{Bound, LegalArc, Legal}
-use Rattle.network.specs.Pair.{priceAt, flowAt, exactPair}
+use Rattle.network.specs.Pair.{priceAt, flowAt, withPrice, withFlow, exactPair}
 use Rattle.network.specs.Program.{boundOf, exactArc, exactOf, programOf}
 use Rattle.network.proofs.Kept.{here-number, used-within}
 use Rattle.slackness.specs.Slackness.{keepsRule}
@@ -50,19 +49,15 @@ use Rattle.step.specs.declared.Restored.{Restored}
 use Rattle.step.specs.declared.Undone.the-variants.{Restores}
 use Rattle.step.specs.Back.{oldTwo, quoteOf, restored}
 use Rattle.step.specs.Figure.{larger, smaller}
-use Rattle.step.proofs.Small.{supply-small}
-use Rattle.step.proofs.Frame.{Puts, Unnamed, no-updates, no-names, framed-kept, arc-stands}
-use Rattle.step.proofs.Sides.{Far, End, no-far}
+use Rattle.step.proofs.Frame.{Framed, Unnamed, no-arc-puts, no-level, no-names, arc-stands}
 use Rattle.step.proofs.Each.{Any}
-use Rattle.step.proofs.Touch.{At, These, touches, touching-first}
-use Rattle.step.proofs.Fewer.{Tame, fewer}
-use Rattle.step.proofs.Exactly.{is-true, zero-figure, arc-in, arc-off, column-is, rhs-is, spokeOf, spoke-at, alone, SoundTo}
-use Rattle.step.proofs.Rewiring.{shifted, shifted-is, rewired}
-use Rattle.step.proofs.Lines.{split, Answers, only-met, fits-met, change-is, not-shown, figure-met, restored-is}
-use Rattle.step.proofs.Removing.{no-arc-puts, no-level, less-proper, level-is}
-use Rattle.step.proofs.Node.{arcs-here, among, used-at, legal-at, near-at, far-at, end-at, cost-is, quote-exactly}
-use Rattle.step.proofs.Figures.{Sized, Holds, formed-proper, itself, both-restored, over-exactly, choose-yes, choose-no}
-use Rattle.step.proofs.Laws.{no-old, Right, RuleLaws}
+use Rattle.step.proofs.Touch.{touching-first}
+use Rattle.step.proofs.Exactly.{Far, End, no-far, is-true, zero-figure, arc-in, arc-off, rhs-is, spokeOf, alone, SoundTo, shifted, sound-shifted, rewired}
+use Rattle.step.proofs.Lines.{split, Answers, only-met, fits-met, not-shown, figure-met, restored-is}
+use Rattle.step.proofs.Removing.{less-proper, level-is}
+use Rattle.step.proofs.Node.{AtNode, ArcsAt, arcs-here}
+use Rattle.step.proofs.Figures.{Sized, Holds, Figure, itself, flow-put, price-put, over-exactly, choose-yes, choose-no}
+use Rattle.step.proofs.Laws.{supply-small, no-old, Right, right-of, RuleLaws}
 use Rattle.two_arcs.specs.TwoArcs.{firstAt, secondAt, keptAt, mergedAt, sameSign, tighter, imageOf, newArc, merging, merged, kept, twoArcs, twoBack, rule}
 use Rattle.two_arcs.proofs.Figures.{lower-is, upper-is, new-bounds}
 
@@ -94,23 +89,23 @@ merged-met i j tj wj k tk wk r r′ a e =
 
 -- the two arcs at the node: j is no root arc, and their other ends differ
 record Arcs (net : Net) (i j k : ℕ) : Type 0 where
-  at-j : At (touches net i) 0 j
-  at-k : At (touches net i) 0 k
+  at-j : AtNode net i j
+  at-k : AtNode net i k
   ne : ¬ (j ≡ k)
   all : (x : ℕ) → isTouching (arcAt net x) i ≡ true → Any (λ y. x ≡ y) (j ∷ k ∷ [])
-  no-root : isRoot (arcAt net j) ≡ false
+  far-j : Far net i (sideOf (arcAt net j) i)
   differ : ¬ (sideOf (arcAt net j) i .other ≡ sideOf (arcAt net k) i .other)
 
-arcs-at : (net : Net) (g : Legal net) (i a b : ℕ) → isHere net i ≡ true → These (touches net i) 0 (a ∷ b ∷ []) → (r : Bool) → isRoot (arcAt net a) ≡ r → ¬ (sideOf (arcAt net (cond r b a)) i .other ≡ sideOf (arcAt net (cond r a b)) i .other) → Arcs net i (cond r b a) (cond r a b)
-arcs-at net g i a b here w false e d = record { at-j = w .each .0; at-k = w .each .1 .0; ne = w .apart .0 .0; all = among net g i here w; no-root = e; differ = d }
-arcs-at net g i a b here w true e d =
-    let none : (k : ℕ) → isTouching (arcAt net k) i ≡ true → isRoot (arcAt net k) ≡ true → sideOf (arcAt net k) i .other ≡ 0 = λ k t f. no-far (legal-at net g i here k t) i t f .0 in
+two-at : (net : Net) (i a b : ℕ) → ArcsAt net i (a ∷ b ∷ []) → (r : Bool) → isRoot (arcAt net a) ≡ r → ¬ (sideOf (arcAt net (cond r b a)) i .other ≡ sideOf (arcAt net (cond r a b)) i .other) → Arcs net i (cond r b a) (cond r a b)
+two-at net i a b w false e d = record { at-j = w .each .0; at-k = w .each .1 .0; ne = w .apart .0 .0; all = w .all; far-j = w .each .0 .far e; differ = d }
+two-at net i a b w true e d =
+    let none : (k : ℕ) → AtNode net i k → isRoot (arcAt net k) ≡ true → sideOf (arcAt net k) i .other ≡ 0 = λ k n f. no-far (n .legal) i (n .touches-i) f .0 in
     record {
       at-j = w .each .1 .0;
       at-k = w .each .0;
       ne = λ q. w .apart .0 .0 (sym q);
-      all = λ x t. ⊎-elim (λ e. inr (inl e)) (⊎-elim inl absurd) (among net g i here w x t);
-      no-root = split (isRoot (arcAt net b)) (λ f. absurd (d (none b (w .each .1 .0 .passes) f ∙ sym (none a (w .each .0 .passes) e)))) (λ f. f);
+      all = λ x t. ⊎-elim (λ e. inr (inl e)) (⊎-elim inl absurd) (w .all x t);
+      far-j = w .each .1 .0 .far (split (isRoot (arcAt net b)) (λ f. absurd (d (none b (w .each .1 .0) f ∙ sym (none a (w .each .0) e)))) (λ f. f));
       differ = d;
     }
 
@@ -128,7 +123,7 @@ two-met net g i a e =
     let w = arcs-here net g i (h .0) (firstAt net i ∷ secondAt net i ∷ []) (eqb-true _ _ (d .0)) (touching-first net i 0, (touching-first net i _, tt)) in
     record {
       here = h .0;
-      arcs = arcs-at net g i (firstAt net i) (secondAt net i) (h .0) w (isRoot (arcAt net (firstAt net i))) refl (eqb-false _ _ (not-true _ (n .0)));
+      arcs = two-at net i (firstAt net i) (secondAt net i) w (isRoot (arcAt net (firstAt net i))) refl (eqb-false _ _ (not-true _ (n .0)));
       made = merged-met _ _ _ _ _ _ _ _ _ a (n .1);
     }
 
@@ -150,35 +145,11 @@ module _ (net : Net) (g : Legal net) (i j k : ℕ) {c : Change} (m : Met net i j
   abbrev r : Fraction
   r = supplyAt net i
 
-  abbrev here : isHere net i ≡ true
-  here = m .here
-
-  abbrev touch-j : isTouching (arcAt net j) i ≡ true
-  touch-j = m .arcs .at-j .passes
-
-  abbrev touch-k : isTouching (arcAt net k) i ≡ true
-  touch-k = m .arcs .at-k .passes
-
   new : Arc
   new = newArc wj wk (m .made .cost) (m .made .lower) (m .made .upper) (m .made .b)
 
   edit : Edit
   edit = merging j new k (wk .other) (m .made .supply) i
-
-  far-j : Far net i wj
-  far-j = far-at net g i here j touch-j (m .arcs .no-root)
-
-  near-j : Nonzero (wj .e)
-  near-j = near-at net g i here j touch-j
-
-  near-k : Nonzero (wk .e)
-  near-k = near-at net g i here k touch-k
-
-  end : End net i wk
-  end = end-at net g i here k touch-k
-
-  end-number : {w : Side} → Far net i w → (1 ≤ w .other) × (w .other ≤ 32)
-  end-number f = here-number g _ (f .here)
 
   -- the end that j takes over, and its multiplier there: zero exactly where j becomes a root arc
   record Takes (to : ℕ) : Type 0 where
@@ -194,16 +165,16 @@ module _ (net : Net) (g : Legal net) (i j k : ℕ) {c : Change} (m : Met net i j
       let q : m .made .b ≡ zeroFraction = let f = rw (eq-eqb (wk .other) 0 z) at (m .made .b-fits) in cc in
       rw (eq-eqb (wk .other) 0 z)
       (record {
-        to-here = far-j .here;
-        apart-i = far-j .apart;
+        to-here = m .arcs .far-j .here;
+        apart-i = m .arcs .far-j .apart;
         proper = rw q zero-proper;
         zero = rw q (is-same zeroFraction) ∙ sym (eq-eqb (wj .other) (wj .other) refl);
         ends = λ s. rw (q, zero-is) (only-zero (wj .other) s) ∙ sym (ap (λ v. only (wk .other) v s) (ap (λ v. -ℚ (v *ℚ value (wj .e) *ℚ inv (value (wk .e)))) (zero-figure _ o) ∙ ring2 ℚ-ring (value (wj .e)) (inv (value (wk .e))) (λ e i. :neg (:0 :* e :* i) := :0) refl) ∙ only-zero (wk .other) s);
       })
   takes (inr f) =
-      let e : eqb (wk .other) 0 ≡ false = ne-eqb (wk .other) 0 (λ z. omega (arith, end-number f .0)) in
+      let e : eqb (wk .other) 0 ≡ false = ne-eqb (wk .other) 0 (λ z. omega (arith, here-number g _ (f .here) .0)) in
       let b = rw e at (m .made .b-fits) in
-      let n = negated-unvanishing (over-unvanishing (times-unvanishing (unvanishing (f .o-nonzero)) (unvanishing near-j)) (unvanishing near-k)) _ b in
+      let n = negated-unvanishing (over-unvanishing (times-unvanishing (unvanishing (f .o-nonzero)) (unvanishing (m .arcs .at-j .near))) (unvanishing (m .arcs .at-k .near))) _ b in
       rw e
       (record {
         to-here = f .here;
@@ -215,37 +186,36 @@ module _ (net : Net) (g : Legal net) (i j k : ℕ) {c : Change} (m : Met net i j
 
   -- j's new bounds
   lower-now : Bound noLower (m .made .lower) × (boundOf (m .made .lower) ≡ mergeL (boundOf (tj .lower)) (mapO (image (value r) (value (wj .e)) (value (wk .e))) (boundOf (cond (sameSign (wj .e) (wk .e)) (tk .upper) (tk .lower)))))
-  lower-now = lower-is r wj wk (tj .lower) _ (legal-at net g i here j touch-j .lower-bound) (m .made .lower-fits)
+  lower-now = lower-is r wj wk (tj .lower) _ (m .arcs .at-j .legal .lower-bound) (m .made .lower-fits)
 
   upper-now : Bound noUpper (m .made .upper) × (boundOf (m .made .upper) ≡ mergeU (boundOf (tj .upper)) (mapO (image (value r) (value (wj .e)) (value (wk .e))) (boundOf (cond (sameSign (wj .e) (wk .e)) (tk .lower) (tk .upper)))))
-  upper-now = upper-is r wj wk (tj .upper) _ (legal-at net g i here j touch-j .upper-bound) (m .made .upper-fits)
+  upper-now = upper-is r wj wk (tj .upper) _ (m .arcs .at-j .legal .upper-bound) (m .made .upper-fits)
 
   new-legal : LegalArc net new
   unfolding new isRoot
   new-legal =
-      let x = takes end in
+      let x = takes (m .arcs .at-k .end) in
       record {
-        from-here = far-j .here;
+        from-here = m .arcs .far-j .here;
         to-here = x .to-here;
         cost-proper = minus-fits {x = Fits (tj .cost)} {y = Fits (tk .cost) ⊗ Fits (wj .e) ⊘ Fits (wk .e)} (m .made .cost-fits) .is .proper;
         lower-bound = lower-now .0;
         upper-bound = upper-now .0;
-        a-proper = far-j .o-nonzero .proper;
+        a-proper = m .arcs .far-j .o-nonzero .proper;
         b-proper = x .proper;
-        a-nonzero = far-j .o-nonzero .nonzero;
+        a-nonzero = m .arcs .far-j .o-nonzero .nonzero;
         b-zero = x .zero;
       }
 
-  legal : Legal (applied net edit)
+  framed : Framed net edit
   unfolding edit new isTouching
-  legal =
-      framed-kept net g edit
-      (record {
-        arcs = (record { may = inr (used-within g j (used-at net g i here j touch-j) .1, new-legal); clear = λ l. rw (ne-eqb (wj .other) i (far-j .apart), ne-eqb _ i (takes end .apart-i)) }, (no-arc-puts net i k, no-updates (Puts net i) (no-arc-puts net i 0) .1 .1));
+  framed =
+      record {
+        arcs = ((record { may = inr (used-within g j (m .arcs .at-j .used) .1, new-legal); clear = λ l. rw (ne-eqb (wj .other) i (m .arcs .far-j .apart), ne-eqb _ i (takes (m .arcs .at-k .end) .apart-i)) }, inr (λ l. m .arcs .at-j .used)), (no-arc-puts net i k, (no-arc-puts net i 0, (no-arc-puts net i 0, tt))));
         left = λ l. less-proper (wk .other) (Fits (supplyAt net (wk .other))) _ (m .made .supply-fits) l;
         right = no-level;
         only = λ x l t. ⊎-elim inl (λ w. inr (⊎-elim inl absurd w)) (m .arcs .all x t);
-      })
+      }
 
   -- ---- in exact numbers
 
@@ -265,52 +235,40 @@ module _ (net : Net) (g : Legal net) (i j k : ℕ) {c : Change} (m : Met net i j
   unfolding edit taken applied withArc withSupply without
   supplies s h = level-is net (wk .other) (supplyAt net (wk .other)) (g .supply-long) (λ l. refl) (over-gives (times-gives (given (wk .o)) (given r)) (given (wk .e))) (m .made .supply-fits) s (here-number g s h)
 
-  -- j runs on to k's far end
-  new-ends : Ends (column (exactArc new)) (wj .other) (value (wj .o)) (wk .other) (-ℚ (value (wk .o) *ℚ value (wj .e) *ℚ inv (value (wk .e))))
-  unfolding new
-  new-ends s = ap (λ v. only (wj .other) (value (wj .o)) s +ℚ v) (takes end .ends s)
-
   back : LP.Pair → LP.Pair
   back = two-back (programOf net) i (spokeOf net i j) (spokeOf net i k)
 
   sound : SoundTo net (applied net edit) back
   unfolding edit new back taken gain exactOf
   sound =
-      record {
-        shift = 𝟘 +ℚ gain;
-        sound =
-            subst (λ N. SoundStep (programOf net) N back) (shifted-is (applied net edit) (𝟘 +ℚ gain))
-            (two-sound
-            (two-of (exactOf net) (shifted (applied net edit) (𝟘 +ℚ gain)) i (spokeOf net i j) (spokeOf net i k) (exactArc new)
-            (rewired net g edit here (j ∷ k ∷ []) unnamed (wk .other) taken gain (far-in end) supplies)
-            (omega (arith, here-number g i here .1))
-            (spoke-at net g i j here touch-j)
-            (spoke-at net g i k here touch-k)
-            (arc-in net j (used-at net g i here j touch-j))
-            (arc-in net k (used-at net g i here k touch-k))
-            (m .arcs .ne)
-            (λ x _. alone net g i (j ∷ k ∷ []) (m .arcs .all) x)
-            (arc-in (applied net edit) j (rw stands-j (end-number far-j .0)))
-            (arc-off (applied net edit) k stands-k)
-            (ap exactArc stands-j)
-            new-ends
-            (minus-gives (given (tj .cost)) (over-gives (times-gives (given (tk .cost)) (given (wj .e))) (given (wk .e))) _ (m .made .cost-fits))
-            (new-bounds r wj wk (column (exactArc tj)) (column (exactArc new)) tk near-j near-k (lower-now .1) (upper-now .1))));
-      }
+      sound-shifted net (applied net edit) (𝟘 +ℚ gain)
+      (two-sound
+      (two-of (exactOf net) (shifted (applied net edit) (𝟘 +ℚ gain)) i (spokeOf net i j) (spokeOf net i k) (exactArc new)
+      (rewired net g edit (m .here) (j ∷ k ∷ []) unnamed (wk .other) taken gain (far-in (m .arcs .at-k .end)) supplies)
+      (omega (arith, here-number g i (m .here) .1))
+      (m .arcs .at-j .spoke)
+      (m .arcs .at-k .spoke)
+      (m .arcs .at-j .is-in)
+      (m .arcs .at-k .is-in)
+      (m .arcs .ne)
+      (λ x _. alone net g i (j ∷ k ∷ []) (m .arcs .all) x)
+      (arc-in (applied net edit) j (rw stands-j (here-number g _ (m .arcs .far-j .here) .0)))
+      (arc-off (applied net edit) k stands-k)
+      (ap exactArc stands-j)
+      (λ s. ap (λ v. only (wj .other) (value (wj .o)) s +ℚ v) (takes (m .arcs .at-k .end) .ends s))
+      (minus-gives (given (tj .cost)) (over-gives (times-gives (given (tk .cost)) (given (wj .e))) (given (wk .e))) _ (m .made .cost-fits))
+      (new-bounds r wj wk (column (exactArc tj)) (column (exactArc new)) tk (m .arcs .at-j .near) (m .arcs .at-k .near) (lower-now .1) (upper-now .1))))
     where
       unnamed : (x : ℕ) → Absent x (j ∷ k ∷ []) → Unnamed (updatesOf edit) x
       unnamed x a = ((λ _. apart a), ((λ _. apart (further a)), no-names x .1 .1))
 
       stands-j : arcAt (applied net edit) j ≡ new
-      stands-j = arc-stands net edit g 0 (m .arcs .at-j .above, m .arcs .at-j .within) ((λ _. m .arcs .ne), no-names j .1 .1)
+      stands-j = arc-stands net edit g 0 (m .arcs .at-j .number) ((λ _. m .arcs .ne), no-names j .1 .1)
 
       stands-k : arcAt (applied net edit) k ≡ noArc
-      stands-k = arc-stands net edit g 1 (m .arcs .at-k .above, m .arcs .at-k .within) (no-names k .1 .1)
+      stands-k = arc-stands net edit g 1 (m .arcs .at-k .number) (no-names k .1 .1)
 
   -- ---- the way back
-
-  change : Change
-  change = record { edit = edit; old = oldTwo i r (record { number = j; arc = tj }) (record { number = k; arc = tk }) }
 
   module _ (pair : Pair) (z : Sized pair) where
     abbrev N : LP.LP
@@ -322,70 +280,57 @@ module _ (net : Net) (g : Legal net) (i j k : ℕ) {c : Change} (m : Met net i j
     abbrev x : Fraction
     x = flowAt pair j
 
-    -- the flow of k, which needs one of j in form
+    -- the flow of k
     flow-exactly : Exactly ((Fits r ⊖ Fits (wj .e) ⊗ Fits x) ⊘ Fits (wk .e)) ((N .rhs i +ℚ -ℚ (value (wj .e) *ℚ value x)) *ℚ inv (value (wk .e)))
     flow-exactly =
-        same (ap (λ r. (r +ℚ -ℚ (value (wj .e) *ℚ value x)) *ℚ inv (value (wk .e))) (sym (rhs-is net g i here)))
+        same (ap (λ r. (r +ℚ -ℚ (value (wj .e) *ℚ value x)) *ℚ inv (value (wk .e))) (sym (rhs-is net i (m .here))))
         (over-exactly (minus-gives (given _) (times-gives (given _) (given _))) (given _))
 
-    flow-proper : {y : Fraction} → ((Fits r ⊖ Fits (wj .e) ⊗ Fits x) ⊘ Fits (wk .e)) ≡ Fits y → Proper x
-    flow-proper e =
-        let c = times-fits (minus-fits (over-fits e .left-fits) .right-fits) in
-        let q : x ≡ c .right = let f = c .right-fits in cc in
-        formed-proper (z .flow-formed j) (subst Operand (sym q) (c .is .right-operand))
+    px : Proper x
+    px = z .flows .proper j (m .arcs .at-j .number .1)
 
     -- the reduced cost of j, where k breaks even
     abbrev cost-j : ℚ
     cost-j = N .col j .cost +ℚ -ℚ (value (wj .o) *ℚ p (wj .other)) +ℚ -ℚ (value (wj .e) *ℚ quote N (spokeOf net i k) p)
 
     module _ {first d : Fraction} (first-is : quoteOf tk i pair ≡ Fits first) (d-is : (Fits (tj .cost) ⊖ Fits (wj .o) ⊗ Fits (priceAt pair (wj .other)) ⊖ Fits (wj .e) ⊗ Fits first) ≡ Fits d) where
-      first-now : Proper first × (value first ≡ quote N (spokeOf net i k) p)
-      first-now = quote-exactly net g i here k touch-k pair first first-is
+      first-now : Figure first (quote N (spokeOf net i k) p)
+      first-now = m .arcs .at-k .quotes pair first first-is
 
-      cost-now : Proper d × (value d ≡ cost-j)
+      cost-now : Figure d cost-j
       cost-now =
-          same (ap (λ c. c +ℚ -ℚ (value (wj .o) *ℚ p (wj .other)) +ℚ -ℚ (value (wj .e) *ℚ quote N (spokeOf net i k) p)) (sym (cost-is net g i here j touch-j))
+          same (ap (λ c. c +ℚ -ℚ (value (wj .o) *ℚ p (wj .other)) +ℚ -ℚ (value (wj .e) *ℚ quote N (spokeOf net i k) p)) (sym (ap (λ c. c .cost) (m .arcs .at-j .column)))
           ) (same (ap (λ q. value (tj .cost) +ℚ -ℚ (value (wj .o) *ℚ p (wj .other)) +ℚ -ℚ (value (wj .e) *ℚ q)) (first-now .1))
           (minus-exactly (minus-gives (given _) (times-gives (given _) (given _))) (times-gives (given _) (given _)))) d d-is
 
       -- the price is k's where j keeps the rule with it, and j's where j doesn't
-      price-now : Proper x → {π : Fraction} → cond (keepsRule (tj .lower) (tj .upper) x d) (Fits first) (quoteOf tj i pair) ≡ Fits π → Proper π × (value π ≡ two-price N (spokeOf net i j) (spokeOf net i k) (exactPair pair .flow) p)
+      price-now : {π : Fraction} → cond (keepsRule (tj .lower) (tj .upper) x d) (Fits first) (quoteOf tj i pair) ≡ Fits π → Figure π (two-price N (spokeOf net i j) (spokeOf net i k) (exactPair pair .flow) p)
       unfolding two-price
-      price-now px {π} e =
-          let old = legal-at net g i here j touch-j in
+      price-now {π} e =
+          let old = m .arcs .at-j .legal in
           let decided = fits-dec (N .col j .lower) (N .col j .upper) (value x) cost-j in
           let is-kept : Bounds.Fits (boundOf (tj .lower)) (boundOf (tj .upper)) (value x) (value d) ≡ Bounds.Fits (N .col j .lower) (N .col j .upper) (value x) cost-j =
-          ap₂ (λ c v. Bounds.Fits (c .lower) (c .upper) (value x) v) (sym (column-is net g j (used-at net g i here j touch-j))) (cost-now .1) in
+          ap₂ (λ c v. Bounds.Fits (c .lower) (c .upper) (value x) v) (sym (m .arcs .at-j .column)) (cost-now .1) in
           split (keepsRule (tj .lower) (tj .upper) x d)
           (λ b. let q : π ≡ first = let f = rw b at e in cc in
           rw q (first-now .0, first-now .1 ∙ sym (choose-yes decided _ _ (subst (λ A. A) is-kept (rule-is px (old .lower-bound) (old .upper-bound) (cost-now .0) b)))))
-          (λ b. let w = quote-exactly net g i here j touch-j pair π (rw b at e) in
+          (λ b. let w = m .arcs .at-j .quotes pair π (rw b at e) in
           (w .0, w .1 ∙ sym (choose-no decided _ _ (λ h. never (let c = sym b ∙ is-rule px (old .lower-bound) (old .upper-bound) (cost-now .0) (subst (λ A. A) (sym is-kept) h) in cc)))))
 
-    agrees : {q : Restored} → twoBack (change .old) pair ≡ Restores q → Holds (restored pair q) (back (exactPair pair))
-    unfolding twoBack change edit back
-    agrees e =
+    agrees : (q : Restored) → twoBack (oldTwo i r (record { number = j; arc = tj }) (record { number = k; arc = tk })) pair ≡ Restores q → Holds (restored pair q) (back (exactPair pair))
+    unfolding twoBack back restored withFlow withPrice
+    agrees q e =
         let y = figure-met _ _ e in
         let f = figure-met _ _ (y .2) in
         let d = figure-met _ _ (f .2) in
         let π = figure-met _ _ (d .2) in
-        let px = flow-proper (y .1) in
-        let v = flow-exactly (y .0) (y .1) in
-        let w = price-now (f .1) (d .1) px (π .1) in
-        rw (restored-is (π .2)) (both-restored (itself z) k (y .0) i (π .0) (m .arcs .at-k .above, m .arcs .at-k .within) (inl (v .0)) (v .1) (here-number g i here) (inl (w .0)) (w .1))
+        rw (restored-is (π .2)) (price-put (flow-put (itself z) k (y .0) (m .arcs .at-k .number) (flow-exactly (y .0) (y .1))) i (π .0) (here-number g i (m .here)) (price-now (f .1) (d .1) (π .1)))
 
   right : Right net c (twoBack (c .old))
-  unfolding change edit new
+  unfolding edit new
   right =
-      subst (λ c. Right net c (twoBack (c .old))) (sym (change-is (m .made .is)))
-      (record {
-        legal = legal;
-        fewer = fewer g edit (inr (λ l. used-at net g i here j touch-j), (inl refl, no-updates (Tame net) (inl refl) .1 .1)) (inl here);
-        handed-on = record { arcs = ((m .arcs .at-j .within, refl), ((m .arcs .at-k .within, refl), no-old g .1 .1)); named = λ x u. u; node = here-number g i here .1; supply = supply-small g i here; first = omega arith; second = omega arith; third = omega arith; fourth = omega arith };
-        exact = back;
-        sound = sound;
-        agrees = λ pair z e. agrees pair z e;
-      })
+      right-of g twoBack (m .made .is) framed (inl (m .here))
+      (record { arcs = ((m .arcs .at-j .number .1, refl), ((m .arcs .at-k .number .1, refl), no-old g .1 .1)); named = λ x u. u; node = here-number g i (m .here) .1; supply = supply-small g i (m .here); new = omega arith }) back sound agrees
 
 -- RULE 5
 pub laws : {P : Net → Type 0} → RuleLaws P rule

@@ -14,6 +14,7 @@ use Rattle.network.specs.declared.Net.{Net}
 use Rattle.network.specs.declared.Side.{Side}
 use Rattle.network.specs.declared.Edit.{Edit}
 use Rattle.network.specs.declared.pair.Pair.{Pair}
+use Rattle.network.specs.Limits.{maxNodes}
 use Rattle.network.specs.Network.{noArc, noUpdate, noSupplyUpdate, arcAt, isHere, degreeOf, touchingAfter, isRoot, sideOf}
 use Rattle.network.specs.Pair.{priceAt, flowAt}
 use Rattle.slackness.specs.Slackness.{keepsRule}
@@ -109,4 +110,4 @@ twoBack old pair = do
   Restores (flowAndPrice (old .two .number) y i p)
 
 abbrev pub rule : Rule
-rule = record { last = 32; at = twoArcs; back = twoBack }
+rule = record { last = maxNodes; at = twoArcs; back = twoBack }

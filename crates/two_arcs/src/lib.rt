@@ -14,6 +14,7 @@ use fraction::Fraction;
 use fraction::Worked;
 use network::Arc;
 use network::ArcUpdate;
+use network::NODE_PLACES;
 use network::Side;
 use network::SupplyUpdate;
 use network::pair::Pair;
@@ -195,7 +196,7 @@ fn merge(
 }
 
 // Arc j, tj, is kept and arc k, tk, goes, where their other ends differ.
-fn keep(supply: [Fraction; 33], i: usize, j: usize, tj: Arc, k: usize, tk: Arc) -> Outcome
+fn keep(supply: [Fraction; NODE_PLACES], i: usize, j: usize, tj: Arc, k: usize, tk: Arc) -> Outcome
     ensures { λ x. ⌜ x ≡ kept supply i j tj k tk ⌝ }
 {
     let wj = network::side_at(tj, i);
@@ -209,7 +210,14 @@ fn keep(supply: [Fraction; 33], i: usize, j: usize, tj: Arc, k: usize, tk: Arc) 
 }
 
 // Rule 5 at node i that arcs j, t, and k, u, alone touch: the lower number, j, is kept unless it is a root arc.
-pub fn two_arcs(supply: [Fraction; 33], i: usize, j: usize, t: Arc, k: usize, u: Arc) -> Outcome
+pub fn two_arcs(
+    supply: [Fraction; NODE_PLACES],
+    i: usize,
+    j: usize,
+    t: Arc,
+    k: usize,
+    u: Arc,
+) -> Outcome
     ensures { λ x. ⌜ x ≡ cond (isRoot t) (kept supply i k u j t) (kept supply i j t k u) ⌝ }
 {
     if network::is_root(t) {

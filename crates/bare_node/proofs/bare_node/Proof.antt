@@ -5,13 +5,6 @@ use borrow.Author.Needs.{needs}
 use Rattle.bare_node.proofs.bare_node.Statement.{statement}
 use Rattle.bare_node.proofs.bare_node.Tie as tie
 
-returns : tie.Need-returns
-unfolding bare noFlowWhere
-returns c = rw (← c .before .is-zero .ensures, c .if1 .taken)
-
-returns-2 : tie.Need-returns-2
-unfolding bare noFlowWhere
-returns-2 c = rw (← c .before .before .before .before .before .before .before .before .is-zero .ensures, c .before .before .before .before .before .before .before .if1 .left, c .before .before .before .edit-one .ensures, c .before .before .before .before .no-supply-update2 .ensures, c .before .before .before .before .before .no-supply-update .ensures, c .before .before .before .before .before .before .no-update .ensures, c .old-one .ensures, c .before .no-update2 .ensures, c .before .before .no-figure .ensures)
-
 pub bare-node-spec : {M : Type 1} → statement M
-bare-node-spec = tie.close (search (tie.spec, returns, returns-2, needs))
+unfolding bare noFlowWhere
+bare-node-spec = tie.close (tie.spec (search needs) (λ c. rw (← c .before .is-zero .ensures, c .if1 .taken)) (search needs) (search needs) (search needs) (search needs) (search needs) (search needs) (search needs) (λ c. rw (← c .before .before .before .before .before .before .before .before .is-zero .ensures, c .before .before .before .before .before .before .before .if1 .left, c .before .before .before .edit-one .ensures, c .before .before .before .before .no-supply-update2 .ensures, c .before .before .before .before .before .no-supply-update .ensures, c .before .before .before .before .before .before .no-update .ensures, c .old-one .ensures, c .before .no-update2 .ensures, c .before .before .no-figure .ensures)))

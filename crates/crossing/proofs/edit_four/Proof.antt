@@ -3,8 +3,5 @@ use borrow.Author.Needs.{needs}
 use Rattle.crossing.proofs.edit_four.Statement.{statement}
 use Rattle.crossing.proofs.edit_four.Tie as tie
 
-returns : tie.Need-returns
-returns c = rw (c .put4 .ensures, c .before .put3 .ensures, c .before .before .put2 .ensures, c .before .before .before .put .ensures, c .before .before .before .before .no-supply-update .ensures)
-
 pub edit-four-spec : {M : Type 1} → statement M
-edit-four-spec = tie.close (search (tie.spec, returns, needs))
+edit-four-spec = tie.close (tie.spec (search needs) (search needs) (search needs) (search needs) (search needs) (λ c. rw (c .put4 .ensures, c .before .put3 .ensures, c .before .before .put2 .ensures, c .before .before .before .put .ensures, c .before .before .before .before .no-supply-update .ensures)))

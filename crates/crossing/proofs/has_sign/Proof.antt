@@ -4,17 +4,6 @@ use borrow.Author.Needs.{needs}
 use Rattle.crossing.proofs.has_sign.Statement.{statement}
 use Rattle.crossing.proofs.has_sign.Tie as tie
 
-returns : tie.Need-returns
-unfolding hasSignAt
-returns c = rw (← c .before .before .before .before .before .touches .ensures, c .before .before .before .before .if1 .taken, c .before .if2 .taken, c .less .ensures, c .before .before .before .side-at .ensures)
-
-returns-2 : tie.Need-returns-2
-unfolding hasSignAt
-returns-2 c = rw (← c .before .before .before .before .before .touches .ensures, c .before .before .before .before .if1 .taken, c .before .if2 .left, c .less2 .ensures, c .before .before .before .side-at .ensures)
-
-returns-3 : tie.Need-returns-3
-unfolding hasSignAt
-returns-3 c = rw (← c .before .touches .ensures, c .if1 .left)
-
 pub has-sign-spec : {M : Type 1} → statement M
-has-sign-spec = tie.close (search (tie.spec, returns, returns-2, returns-3, needs))
+unfolding hasSignAt
+has-sign-spec = tie.close (tie.spec (search needs) (search needs) (search needs) (λ c. rw (← c .before .before .before .before .before .touches .ensures, c .before .before .before .before .if1 .taken, c .before .if2 .taken, c .less .ensures, c .before .before .before .side-at .ensures)) (search needs) (λ c. rw (← c .before .before .before .before .before .touches .ensures, c .before .before .before .before .if1 .taken, c .before .if2 .left, c .less2 .ensures, c .before .before .before .side-at .ensures)) (λ c. rw (← c .before .touches .ensures, c .if1 .left)))

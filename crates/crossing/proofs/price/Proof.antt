@@ -4,4 +4,4 @@ use Rattle.crossing.proofs.price.Statement.{statement}
 use Rattle.crossing.proofs.price.Tie as tie
 
 pub price-spec : {M : Type 1} → statement M
-price-spec = tie.close (tie.spec (λ c κs. search needs) (λ c. cc))
+price-spec = tie.close (tie.spec (search needs) (λ c. cc))

@@ -3,8 +3,5 @@ use borrow.Author.Needs.{needs}
 use Rattle.postsolve.proofs.old_edit.Statement.{statement}
 use Rattle.postsolve.proofs.old_edit.Tie as tie
 
-returns : tie.Need-returns
-returns c = rw (c .no-supply-update .ensures)
-
 pub old-edit-spec : {M : Type 1} → statement M
-old-edit-spec = tie.close (tie.spec (λ c κs. search needs) returns)
+old-edit-spec = tie.close (tie.spec (search needs) (λ c. rw (c .no-supply-update .ensures)))

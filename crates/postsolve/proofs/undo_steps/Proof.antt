@@ -16,29 +16,11 @@ Inv-loop log steps arcs₀ b₀ k₀ arcs b k = Descended (backTurn log) steps (
 abbrev μ-loop : tie.MeasureT-loop
 μ-loop log steps arcs₀ b₀ k₀ arcs b k = k
 
-begin-requires : tie.Need-begin-requires Inv-loop μ-loop
-begin-requires c κs = search needs
-
-loop-holds : tie.Need-loop-holds Inv-loop μ-loop
-loop-holds c = (descended-none _ _ _, descended-none _ _ _, refl)
-
-sub-k : tie.Need-sub-k Inv-loop μ-loop
-sub-k c = search needs
-
-undo-turn-requires : tie.Need-undo-turn-requires Inv-loop μ-loop
-undo-turn-requires c κs = search needs
-
-loop-less : tie.Need-loop-less Inv-loop μ-loop
-loop-less c = omega arith
-
 loop-again : tie.Need-loop-again Inv-loop μ-loop
 loop-again c =
     let h = c .before .before .before .before .loop .inv in
     let u = c .before .undo-turn .ensures in
     (descended-more _ (h .0) (omega arith) (u .0), descended-more _ (h .1) (omega arith) (u .1), c .before .undo-turn .kept .1 .1 .1 .0 ∙ h .2)
-
-same-length : tie.Need-same-length Inv-loop μ-loop
-same-length c = c .before .loop .inv .2
 
 returns : tie.Need-returns Inv-loop μ-loop
 returns c =
@@ -47,16 +29,4 @@ returns c =
     (λ ss l g. way ∙ rw (← l, c .before .before .begin .ensures) (way-back _ ss _ g), descended-all _ (h .1) (omega arith))
 
 pub undo-steps-spec : {M : Type 1} → statement M
-undo-steps-spec =
-    tie.close
-    (tie.spec
-    Inv-loop
-    μ-loop
-    begin-requires
-    loop-holds
-    sub-k
-    undo-turn-requires
-    loop-less
-    loop-again
-    same-length
-    returns)
+undo-steps-spec = tie.close (tie.spec Inv-loop μ-loop (search needs) (λ c. (descended-none _ _ _, descended-none _ _ _, refl)) (λ c. search needs) (search needs) (λ c. omega arith) loop-again (λ c. c .before .loop .inv .2) returns)

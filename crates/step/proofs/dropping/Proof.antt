@@ -4,4 +4,4 @@ use Rattle.step.proofs.dropping.Statement.{statement}
 use Rattle.step.proofs.dropping.Tie as tie
 
 pub dropping-spec : {M : Type 1} → statement M
-dropping-spec = tie.close (tie.spec (λ c κs. search needs) (λ c κs. search needs) (λ c. rw (c .edit-one .ensures, c .before .no-arc .ensures)))
+dropping-spec = tie.close (tie.spec (search needs) (search needs) (λ c. rw (c .edit-one .ensures, c .before .no-arc .ensures)))

@@ -6,4 +6,4 @@ use Rattle.step.proofs.lower_back.Tie as tie
 
 pub lower-back-spec : {M : Type 1} → statement M
 unfolding lowerBack
-lower-back-spec = tie.close (tie.spec (λ c κs. search needs) (λ c pair. rw (c .flow-only .ensures)))
+lower-back-spec = tie.close (tie.spec (search needs) (λ c pair. rw (c .flow-only .ensures)))

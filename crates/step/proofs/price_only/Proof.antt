@@ -4,4 +4,4 @@ use Rattle.step.proofs.price_only.Statement.{statement}
 use Rattle.step.proofs.price_only.Tie as tie
 
 pub price-only-spec : {M : Type 1} → statement M
-price-only-spec = tie.close (tie.spec (λ c κs. search needs) (λ c. rw (c .no-flow .ensures)))
+price-only-spec = tie.close (tie.spec (search needs) (λ c. rw (c .no-flow .ensures)))

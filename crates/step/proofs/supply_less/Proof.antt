@@ -5,13 +5,6 @@ use borrow.Author.Tests.{eq-eqb, ne-eqb}
 use Rattle.step.proofs.supply_less.Statement.{statement}
 use Rattle.step.proofs.supply_less.Tie as tie
 
-returns : tie.Need-returns
-unfolding supplyLess
-returns c = rw (eq-eqb _ _ (c .before .before .if1 .taken), c .fit .ensures, c .before .no-figure .ensures)
-
-returns-2 : tie.Need-returns-2
-unfolding supplyLess
-returns-2 c = rw (ne-eqb _ _ (c .before .before .before .before .before .if1 .left), c .minus .ensures, c .before .times .ensures, c .before .before .fit4 .ensures, c .before .before .before .fit3 .ensures, c .before .before .before .before .fit2 .ensures)
-
 pub supply-less-spec : {M : Type 1} → statement M
-supply-less-spec = tie.close (search (tie.spec, returns, returns-2, needs))
+unfolding supplyLess
+supply-less-spec = tie.close (tie.spec (search needs) (search needs) (λ c. rw (eq-eqb _ _ (c .before .before .if1 .taken), c .fit .ensures, c .before .no-figure .ensures)) (search needs) (search needs) (search needs) (search needs) (search needs) (λ c. rw (ne-eqb _ _ (c .before .before .before .before .before .if1 .left), c .minus .ensures, c .before .times .ensures, c .before .before .fit4 .ensures, c .before .before .before .fit3 .ensures, c .before .before .before .before .fit2 .ensures)))
