@@ -69,21 +69,17 @@ known-sought {net} {now} {seen} k j e = record { past = λ i. set-le (seen .soug
 -- ---- arcs are put
 
 -- an arc of no number is not put
-put-out : (net : Net) (k : ℕ) (a : Arc) (j : ℕ) → 97 ≤ k → arcAt (withArc net k a) j ≡ arcAt net j
+put-out : (net : Net) (k : ℕ) (a : Arc) → 97 ≤ k → withArc net k a ≡ net
 unfolding withArc
-put-out net k a j g = rw (lt-leb k 96 (omega arith), and-false)
+put-out net k a g = rw (lt-leb k 96 (omega arith), and-false)
 
 known-put : {net : Net} {now : ℕ} {seen : Seen} → Known net now seen → (k : ℕ) (a : Arc) → Known (withArc net k a) now (marked seen k now)
 unfolding marked
 known-put {net} {now} {seen} h k a =
     split (ltb k 97)
     (λ e. rw e (record { past = λ j. set-le (seen .sought) k j _ now (h .past j) (omega arith); long = length-set (seen .put) k now ∙ h .long; vain = vain (ltb-true k 97 e) }))
-    (λ e. let same : (j : ℕ) → arcAt to j ≡ arcAt net j = λ j. put-out net k a j (ltb-false k 97 e) in
-    rw e (record { past = h .past; long = h .long; vain = λ j x y l m p q. rw (same j, same x, same y) (h .vain j x y l m p q) }))
+    (λ e. rw (e, put-out net k a (ltb-false k 97 e)) h)
   where
-    to : Net
-    to = withArc net k a
-
     after : Seen
     after = putNow seen k now
 
@@ -93,7 +89,7 @@ known-put {net} {now} {seen} h k a =
         let ne : x ≡ k → ⊥ = λ q. let s : getD (set (seen .put) k now) x 0 ≡ now = rw q (getD-set-same (seen .put) k now 0 (omega (arith, h .long))) in omega (arith, ltb-true (getD (set (seen .put) k now) x 0) w e, s) in
         (ne, rw (getD-set-other (seen .put) k x now 0 ne) at e)
 
-    vain : k < 97 → (j : ℕ) → Searched to after (getD (after .sought) j 0) (arcAt to j)
+    vain : k < 97 → (j : ℕ) → Searched (withArc net k a) after (getD (after .sought) j 0) (arcAt (withArc net k a) j)
     vain l j x y lx ly p q =
         split (eqb j k)
         (λ f. let p′ : isOld after (getD (after .sought) k 0) x ≡ true = rw (eqb-true j k f) at p in absurd (omega (arith, ltb-true (getD (after .put) x 0) (getD (after .sought) k 0) p′, set-zero (seen .sought) k)))

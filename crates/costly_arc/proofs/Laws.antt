@@ -69,24 +69,33 @@ module _ (net : Net) (g : Legal net) where
       let z : arcAt net k .from ≡ i = eqb-true _ _ (y .0) in
       record { used = rw z l; loops = eqb-true _ _ (x .0); at = z; unbounded = ap boundOf (same-is _ _ (y .1)) ∙ no-upper }
 
-  -- the pair of root arcs that the rule finds
-  record Pays (t : Arc) (k m : ℕ) : Type 0 where
-    first : isOpenRoot (arcAt net k) (t .from) ≡ true
-    second : isOpenRoot (arcAt net m) (t .to) ≡ true
-    rate₁ : isPositive (Fits (t .a) ⊘ Fits (arcAt net k .a)) ≡ true
-    rate₂ : isPositive (Fits (t .b) ⊘ Fits (arcAt net m .a)) ≡ true
-    under : isUnder (Fits (arcAt net k .cost) ⊗ Fits (t .a) ⊘ Fits (arcAt net k .a) ⊕ Fits (arcAt net m .cost) ⊗ Fits (t .b) ⊘ Fits (arcAt net m .a)) (t .cost) ≡ true
+  -- what an answer says: the arc, and the pair of root arcs that the rule finds
+  record Costly (j : ℕ) (o : Outcome) : Type 0 where
+    no-root : isRoot (arcAt net j) ≡ false
+    finite : isFinite (arcAt net j .lower) ≡ true
+    dropped : droppedAt net j (arcAt net j .lower) ≡ o
+    k : ℕ
+    m : ℕ
+    first : isOpenRoot (arcAt net k) (arcAt net j .from) ≡ true
+    second : isOpenRoot (arcAt net m) (arcAt net j .to) ≡ true
+    rate₁ : isPositive (Fits (arcAt net j .a) ⊘ Fits (arcAt net k .a)) ≡ true
+    rate₂ : isPositive (Fits (arcAt net j .b) ⊘ Fits (arcAt net m .a)) ≡ true
+    under : isUnder (Fits (arcAt net k .cost) ⊗ Fits (arcAt net j .a) ⊘ Fits (arcAt net k .a) ⊕ Fits (arcAt net m .cost) ⊗ Fits (arcAt net j .b) ⊘ Fits (arcAt net m .a)) (arcAt net j .cost) ≡ true
 
-  pays : (t : Arc) → hasPair net t ≡ true → (k : ℕ) × (m : ℕ) × Pays t k m
-  unfolding hasPair isCostlier
-  pays t e =
-      let x = any-some _ 97 e in
+  costly-met : (j : ℕ) {o : Outcome} → Answers o → costlyArc net j ≡ o → Costly j o
+  unfolding costlyArc hasPair isCostlier
+  costly-met j a e =
+      let t = arcAt net j in
+      let r = only-met a _ _ e in
+      let f = only-met a _ _ (r .1) in
+      let p = only-met a _ _ (f .1) in
+      let x = any-some _ 97 (p .0) in
       let y = and-both (isOpenRoot (arcAt net (x .0)) (t .from)) _ (x .2) in
       let z = any-some _ 97 (y .1) in
       let u = and-both (isOpenRoot (arcAt net (z .0)) (t .to)) _ (z .2) in
-      let p = and-both (isPositive (Fits (t .a) ⊘ Fits (arcAt net (x .0) .a))) _ (u .1) in
-      let q = and-both (isPositive (Fits (t .b) ⊘ Fits (arcAt net (z .0) .a))) _ (p .1) in
-      (x .0, z .0, record { first = y .0; second = u .0; rate₁ = p .0; rate₂ = q .0; under = q .1 })
+      let v = and-both (isPositive (Fits (t .a) ⊘ Fits (arcAt net (x .0) .a))) _ (u .1) in
+      let q = and-both (isPositive (Fits (t .b) ⊘ Fits (arcAt net (z .0) .a))) _ (v .1) in
+      record { no-root = not-true _ (r .0); finite = f .0; dropped = p .1; k = x .0; m = z .0; first = y .0; second = u .0; rate₁ = v .0; rate₂ = q .0; under = q .1 }
 
   -- an arc that is no root arc is in use
   rootless-used : (j : ℕ) → isRoot (arcAt net j) ≡ false → 1 ≤ arcAt net j .from
@@ -96,16 +105,16 @@ module _ (net : Net) (g : Legal net) where
       (λ q. never (let z = sym e ∙ ap (λ (t : Arc). eqb (t .from) (t .to)) (g .unused j (eqb-true _ _ q)) in cc))
       (λ q. let n = eqb-false (arcAt net j .from) 0 q in omega arith)
 
-  -- the arc and a pair of root arcs in exact numbers, where the bounds do not cross
-  module _ (j : ℕ) (root : isRoot (arcAt net j) ≡ false) (finite : isFinite (arcAt net j .lower) ≡ true) (room : isLess (arcAt net j .upper) (arcAt net j .lower) ≡ false) (k m : ℕ) (w : Pays (arcAt net j) k m) where
+  -- the arc and the root arcs in exact numbers, where the bounds do not cross
+  module _ {j : ℕ} {o : Outcome} (w : Costly j o) (room : isLess (arcAt net j .upper) (arcAt net j .lower) ≡ false) where
     abbrev t : Arc
     t = arcAt net j
 
     abbrev x : Arc
-    x = arcAt net k
+    x = arcAt net (w .k)
 
     abbrev y : Arc
-    y = arcAt net m
+    y = arcAt net (w .m)
 
     ratio : (a b : Fraction) → isPositive (Fits a ⊘ Fits b) ≡ true → 0ℚ <ℚ value a *ℚ invℚ (value b)
     ratio a b e = positive-is (Fits a ⊘ Fits b) (over-gives (given a) (given b)) (λ z q. over-fits q .is .proper) e
@@ -114,38 +123,25 @@ module _ (net : Net) (g : Legal net) where
     share c a b = over-gives (times-gives (given c) (given a)) (given b)
 
     pair-arc : (c : Edit) → Removed (programOf net) (after net g j c (value (t .lower))) j (value (t .lower))
-        → CostlyArc (programOf net) (after net g j c (value (t .lower))) j k m (t .from) (t .to) (value (t .a)) (value (t .b)) (value (x .a)) (value (y .a)) (value (t .lower))
+        → CostlyArc (programOf net) (after net g j c (value (t .lower))) j (w .k) (w .m) (t .from) (t .to) (value (t .a)) (value (t .b)) (value (x .a)) (value (y .a)) (value (t .lower))
     unfolding exactOf isRoot
     pair-arc c r =
-        let used = rootless-used j root in
+        let used = rootless-used j (w .no-root) in
         let legal = g .used j used in
-        let proper = finite-proper (legal .lower-bound) finite in
-        let first = open-root k (t .from) used (w .first) in
-        let second = open-root m (t .to) (here-number g (t .to) (legal .to-here) .0) (w .second) in
+        let proper = finite-proper (legal .lower-bound) (w .finite) in
+        let first = open-root (w .k) (t .from) used (w .first) in
+        let second = open-root (w .m) (t .to) (here-number g (t .to) (legal .to-here) .0) (w .second) in
         let C =
-        costly-arc (exactOf net) (sane g) j k m (arc-place net g j used) (arc-in net j used) (arc-place net g k (first .used)) (arc-in net k (first .used)) (arc-place net g m (second .used)) (arc-in net m (second .used)) (value (t .lower))
-        (eqb-false _ _ root) (first .loops) (second .loops) (first .at) (second .at) (first .unbounded) (second .unbounded) (ratio (t .a) (x .a) (w .rate₁)) (ratio (t .b) (y .a) (w .rate₂))
+        costly-arc (exactOf net) (sane g) j (w .k) (w .m) (arc-place net g j used) (arc-in net j used) (arc-place net g (w .k) (first .used)) (arc-in net (w .k) (first .used)) (arc-place net g (w .m) (second .used)) (arc-in net (w .m) (second .used)) (value (t .lower))
+        (eqb-false _ _ (w .no-root)) (first .loops) (second .loops) (first .at) (second .at) (first .unbounded) (second .unbounded) (ratio (t .a) (x .a) (w .rate₁)) (ratio (t .b) (y .a) (w .rate₂))
         (under-is _ (t .cost) (legal .cost-proper) (plus-gives (share (x .cost) (t .a) (x .a)) (share (y .cost) (t .b) (y .a))) (λ z q. plus-fits q .is .proper) (w .under))
         (bound-is proper) (not-over proper (legal .upper-bound) room) in
         record { ends = C .ends; root₁ = C .root₁; root₂ = C .root₂; different = C .different; rate₁ = C .rate₁; rate₂ = C .rate₂; costly = C .costly; lower-is = C .lower-is; room = C .room; removed = r }
 
-  -- what an answer says
-  record Costly (j : ℕ) (x : Outcome) : Type 0 where
-    no-root : isRoot (arcAt net j) ≡ false
-    finite : isFinite (arcAt net j .lower) ≡ true
-    pair : hasPair net (arcAt net j) ≡ true
-    dropped : droppedAt net j (arcAt net j .lower) ≡ x
-
-  costly-met : (j : ℕ) {x : Outcome} → Answers x → costlyArc net j ≡ x → Costly j x
-  unfolding costlyArc
-  costly-met j a e =
-      let r = only-met a _ _ e in
-      let f = only-met a _ _ (r .1) in
-      let p = only-met a _ _ (f .1) in
-      record { no-root = not-true _ (r .0); finite = f .0; pair = p .0; dropped = p .1 }
-
   right : (j : ℕ) {c : Change} → isLess (arcAt net j .upper) (arcAt net j .lower) ≡ false → Costly j (Changes c) → Right net c (lowerBack (c .old))
-  right j {c} room h = let w = pays (arcAt net j) (h .pair) in lower-right net g j (rootless-used j (h .no-root)) (h .dropped) (λ e r. costly-sound (pair-arc j (h .no-root) (h .finite) room (w .0) (w .1) (w .2) e r))
+  right j room h =
+      let used = rootless-used j (h .no-root) in
+      lower-right net g j used (finite-proper (g .used j used .lower-bound) (h .finite)) (h .dropped) (λ e r. costly-sound (pair-arc h room e r))
 
 -- RULE 4
 pub laws : {P : Net → Type 0} → ((net : Net) → P net → Passing Closed.rule net) → RuleLaws P rule

@@ -48,12 +48,12 @@ orRest Stops rest = rest
 orRest (Refuted k i) rest = Refuted k i
 orRest (Takes s) rest = Takes s
 
+pub else-rest : (k i : ℕ) (x : Outcome) (n rest : Next) {m : Next} → m ≡ orRest n rest → orElse k i x m ≡ orRest (orElse k i x n) rest
+else-rest k i Passes n rest e = e
+else-rest k i NoFlow n rest e = refl
+else-rest k i (Changes c) n rest e = refl
+
 pub upward-rest : (rule : ℕ → Outcome) (k : ℕ) (rest : Next) (many i : ℕ) → upward rule k many i rest ≡ orRest (upward rule k many i Stops) rest
 unfolding upward
 upward-rest rule k rest zero i = refl
-upward-rest rule k rest (suc many) i = by (rule i) (upward-rest rule k rest many (suc i))
-  where
-    by : (x : Outcome) → upward rule k many (suc i) rest ≡ orRest (upward rule k many (suc i) Stops) rest → orElse k i x (upward rule k many (suc i) rest) ≡ orRest (orElse k i x (upward rule k many (suc i) Stops)) rest
-    by Passes e = e
-    by NoFlow e = refl
-    by (Changes c) e = refl
+upward-rest rule k rest (suc many) i = else-rest k i (rule i) _ rest (upward-rest rule k rest many (suc i))

@@ -10,6 +10,7 @@ use Rattle.fraction.specs.Exact.{zeroFraction, noUpper, isFinite, isLess, isSam
 use Rattle.fraction.specs.Formula.{_⊕_, _⊗_, _⊘_}
 use Rattle.network.specs.declared.Arc.{Arc}
 use Rattle.network.specs.declared.Net.{Net}
+use Rattle.network.specs.Limits.{maxArcs, arcPlaces}
 use Rattle.network.specs.Network.{arcAt, isRoot}
 use Rattle.step.specs.declared.Outcome.{Outcome}
 use Rattle.step.specs.Outcome.{_>>=_, _>>_, onlyWhere}
@@ -38,7 +39,7 @@ isCostlier t x y =
 
 -- "one pair of root arcs whose figures all fit is enough"
 unfoldable pub hasPair : Net → Arc → Bool
-hasPair net t = any (λ x. isOpenRoot (arcAt net x) (t .from) && any (λ y. isOpenRoot (arcAt net y) (t .to) && isCostlier t (arcAt net x) (arcAt net y)) 97) 97
+hasPair net t = any (λ x. isOpenRoot (arcAt net x) (t .from) && any (λ y. isOpenRoot (arcAt net y) (t .to) && isCostlier t (arcAt net x) (arcAt net y)) arcPlaces) arcPlaces
 
 -- "Not a root arc, l finite; .. As rule 1 with flow l." A number not in use has no ends and counts as a root arc here
 unfoldable pub costlyArc : Net → ℕ → Outcome
@@ -50,4 +51,4 @@ costlyArc net j = do
   droppedAt net j (t .lower)
 
 abbrev pub rule : Rule
-rule = record { last = 96; at = costlyArc; back = lowerBack }
+rule = record { last = maxArcs; at = costlyArc; back = lowerBack }

@@ -1,29 +1,31 @@
 // What is due: the root arcs that were put since a pair was last sought, and the cost by way of each.
 ghost use mathlib.Core.Path.{_≡_};
 ghost use Prim.Native.Nat.{_+_};
-ghost use lib.Dec.{ltb};
 ghost use Rattle.loops.specs.Loops.{any};
+ghost use Rattle.network.specs.Limits.{arcPlaces};
 ghost use Rattle.costly_arc.specs.CostlyArc.{isPositive, isUnder, hasPair};
 ghost use Rattle.costly_arc.specs.Seen.{Searched};
-ghost use Rattle.costly_arc.specs.internal.Due.{wayOf, dueWay, waysOf, isDueUnder, isDueFrom, barOf, Covers, later, isFresh, isDue};
+ghost use Rattle.costly_arc.specs.internal.Due.{wayOf, waysOf, isDueUnder, isDueFrom, barOf, Covers, later, isFresh, isDue};
 use crate::Seen;
 use crate::is_candidate;
 use crate::is_open_root;
 use fraction::Fraction;
 use fraction::Worked;
+use network::ARC_PLACES;
 use network::Arc;
+use network::NODE_PLACES;
 use network::Net;
 
 // For each node, a time after those at which its root arcs without upper bound were put; 0 where it has none.
 pub struct Times {
-    pub at: [usize; 33],
+    pub at: [usize; NODE_PLACES],
 }
 
 // The time p at node i, if it is later.
-fn put_time(at: &mut [usize; 33], i: usize, p: usize)
+fn put_time(at: &mut [usize; NODE_PLACES], i: usize, p: usize)
     ensures { λ _. ⌜ now (at .exit) ≡ later (now (at .entry)) i p ⌝ }
 {
-    if i < 33 {
+    if i < NODE_PLACES {
         if at[i] < p {
             at[i] = p;
         }
@@ -40,8 +42,8 @@ fn after(p: u8) -> usize
 pub(crate) fn all_times(net: Net, seen: Seen) -> Times
     ensures { λ r. ⌜ Covers net (seen .put) (r .at) ⌝ }
 {
-    let mut at: [usize; 33] = [0; 33];
-    for k in 0..97 {
+    let mut at: [usize; NODE_PLACES] = [0; NODE_PLACES];
+    for k in 0..ARC_PLACES {
         let x = net.arcs[k];
         if is_open_root(x, x.from) {
             put_time(&mut at, x.from, after(seen.put[k]));
@@ -51,14 +53,14 @@ pub(crate) fn all_times(net: Net, seen: Seen) -> Times
 }
 
 // Whether a root arc without upper bound may have been put at node i at the time w or later.
-fn is_fresh(at: &[usize; 33], w: u8, i: usize) -> bool
+fn is_fresh(at: &[usize; NODE_PLACES], w: u8, i: usize) -> bool
     ensures { λ r. ⌜ r ≡ isFresh (now (at .entry)) w i ⌝ }
 {
-    33 <= i || (w as usize) < at[i]
+    NODE_PLACES <= i || (w as usize) < at[i]
 }
 
 // Whether t is a candidate with root arcs at both ends, some of them put at the time w or later.
-pub(crate) fn is_due(at: &[usize; 33], w: u8, t: Arc) -> bool
+pub(crate) fn is_due(at: &[usize; NODE_PLACES], w: u8, t: Arc) -> bool
     ensures { λ r. ⌜ r ≡ isDue (now (at .entry)) w t ⌝ }
 {
     if !is_candidate(t) || !is_fresh(at, 0, t.from) || !is_fresh(at, 0, t.to) {
@@ -85,10 +87,13 @@ fn is_under(w: Worked, c: Fraction) -> bool
     }
 }
 
-// The cost by way of the root arc x at node i, where the multiplier is e; none where x doesn't serve.
-fn way(x: Arc, i: usize, e: Fraction) -> Fraction
-    ensures { λ r. ⌜ r ≡ wayOf x i e ⌝ }
+// The cost by way of the root arc x at node i, where the multiplier is e; none where x is old, or doesn't serve.
+fn way(old: bool, x: Arc, i: usize, e: Fraction) -> Fraction
+    ensures { λ r. ⌜ r ≡ wayOf old x i e ⌝ }
 {
+    if old {
+        return network::no_figure();
+    }
     let a = e.fit();
     let a1 = x.a.fit();
     if is_open_root(x, i) && is_positive(a.over(a1)) {
@@ -97,20 +102,9 @@ fn way(x: Arc, i: usize, e: Fraction) -> Fraction
     network::no_figure()
 }
 
-// The way of the root arc x, put at p; none where that is before the time w.
-fn due_way(p: u8, w: u8, x: Arc, i: usize, e: Fraction) -> Fraction
-    ensures { λ r. ⌜ r ≡ dueWay (ltb p w) x i e ⌝ }
-{
-    if p < w {
-        network::no_figure()
-    } else {
-        way(x, i, e)
-    }
-}
-
 // The cost by way of each root arc at a node.
 struct Ways {
-    at: [Fraction; 97],
+    at: [Fraction; ARC_PLACES],
 }
 
 // The ways at node i that were put at the time w or later.
@@ -118,19 +112,19 @@ fn all_ways(net: Net, seen: Seen, w: u8, i: usize, e: Fraction) -> Ways
     ensures { λ r. ⌜ r .at ≡ waysOf net seen w i e ⌝ }
 {
     let z = network::no_figure();
-    let mut at = [z; 97];
-    for k in 0..97 {
+    let mut at = [z; ARC_PLACES];
+    for k in 0..ARC_PLACES {
         let x = net.arcs[k];
-        at[k] = due_way(seen.put[k], w, x, i, e);
+        at[k] = way(seen.put[k] < w, x, i, e);
     }
     Ways { at }
 }
 
 // Whether a way put at the time w or later makes with q a sum below c.
 fn any_due_under(seen: Seen, w: u8, q: Fraction, to: Ways, c: Fraction) -> bool
-    ensures { λ r. ⌜ r ≡ any (isDueUnder seen w q (to .at) c) 97 ⌝ }
+    ensures { λ r. ⌜ r ≡ any (isDueUnder seen w q (to .at) c) arcPlaces ⌝ }
 {
-    for k in 0..97 {
+    for k in 0..ARC_PLACES {
         if seen.put[k] >= w {
             let y = to.at[k];
             if is_under(q.sum(y), c) {
@@ -150,9 +144,9 @@ fn bar(old: bool, w: u8) -> u8
 
 // Whether two ways, one of them put at the time w or later, make a sum below c.
 fn any_due_pair(seen: Seen, w: u8, from: Ways, to: Ways, c: Fraction) -> bool
-    ensures { λ r. ⌜ r ≡ any (isDueFrom seen w (from .at) (to .at) c) 97 ⌝ }
+    ensures { λ r. ⌜ r ≡ any (isDueFrom seen w (from .at) (to .at) c) arcPlaces ⌝ }
 {
-    for k in 0..97 {
+    for k in 0..ARC_PLACES {
         let q = from.at[k];
         if q.den != 0 {
             if any_due_under(seen, bar(seen.put[k] < w, w), q, to, c) {
@@ -164,7 +158,7 @@ fn any_due_pair(seen: Seen, w: u8, from: Ways, to: Ways, c: Fraction) -> bool
 }
 
 // Whether some pair of root arcs, at the from node and at the to node, makes t costly, where none is known from before the time w.
-pub(crate) fn has_pair(net: Net, seen: Seen, at: &[usize; 33], w: u8, t: Arc) -> bool
+pub(crate) fn has_pair(net: Net, seen: Seen, at: &[usize; NODE_PLACES], w: u8, t: Arc) -> bool
     ensures { λ r. ⌜ (Searched net seen w t → Covers net (seen .put) (now (at .entry)) → r ≡ hasPair net t) ⌝ }
 {
     let p = bar(!is_fresh(at, w, t.to), w);

@@ -2,14 +2,18 @@
 ghost use mathlib.Core.Path.{_≡_};
 ghost use Rattle.fraction.specs.Exact.{noFigure};
 ghost use lib.ListN.{getD};
+ghost use Rattle.network.specs.Limits.{maxArcs};
 ghost use Rattle.step.specs.declared.Next.the-variants.{Stops};
 ghost use Rattle.step.specs.Dropped.{dropped};
 ghost use Rattle.step.specs.Run.{upward};
 ghost use Rattle.costly_arc.specs.CostlyArc.{isOpenRoot, costlyArc};
 ghost use Rattle.costly_arc.specs.Seen.{isCandidate, nothingSeen, marked, markedAll, Known};
 use fraction::Fraction;
+use network::ARC_PLACES;
 use network::Arc;
 use network::Edit;
+use network::MAX_ARCS;
+use network::NODE_PLACES;
 use network::Net;
 use step::Next;
 use step::Outcome;
@@ -19,8 +23,8 @@ mod due;
 
 // When each arc was put, and when a pair was last sought for it, in vain; 0 is before every search.
 pub struct Seen {
-    pub put: [u8; 97],
-    pub sought: [u8; 97],
+    pub put: [u8; ARC_PLACES],
+    pub sought: [u8; ARC_PLACES],
 }
 
 // What the search finds, and what is known then.
@@ -34,8 +38,8 @@ pub fn unseen() -> Seen
     ensures { λ r. ⌜ r ≡ nothingSeen ⌝ }
 {
     Seen {
-        put: [0; 97],
-        sought: [0; 97],
+        put: [0; ARC_PLACES],
+        sought: [0; ARC_PLACES],
     }
 }
 
@@ -43,7 +47,7 @@ pub fn unseen() -> Seen
 fn mark(mut seen: Seen, k: usize, now: u8) -> Seen
     ensures { λ r. ⌜ r ≡ marked seen k now ⌝ }
 {
-    if k < 97 {
+    if k < ARC_PLACES {
         seen.put[k] = now;
         seen.sought[k] = 0;
     }
@@ -78,7 +82,7 @@ pub fn is_candidate(t: Arc) -> bool
 }
 
 // Arc j, t, dropped at its lower bound.
-fn at_lower(supply: [Fraction; 33], j: usize, t: Arc) -> Outcome
+fn at_lower(supply: [Fraction; NODE_PLACES], j: usize, t: Arc) -> Outcome
     ensures { λ r. ⌜ r ≡ dropped j t (t .lower) (getD supply (t .from) noFigure) (getD supply (t .to) noFigure) ⌝ }
 {
     let left = network::supply_of(supply, t.from);
@@ -106,14 +110,14 @@ pub fn costly_arc(net: Net, j: usize) -> Outcome
 
 // The rule at its places upward, by what is known.
 pub fn scan(net: Net, seen: Seen, now: u8) -> Found
-    ensures { λ r. ⌜ (Known net now seen → (r .next ≡ upward (costlyArc net) 4 96 1 Stops) × Known net now (r .seen)) ⌝ }
+    ensures { λ r. ⌜ (Known net now seen → (r .next ≡ upward (costlyArc net) 4 maxArcs 1 Stops) × Known net now (r .seen)) ⌝ }
 {
     let times = due::all_times(net, seen);
     let at = times.at;
     let supply = net.supply;
     let mut known = seen;
     let mut j = 1;
-    while j <= 96 {
+    while j <= MAX_ARCS {
         let t = net.arcs[j];
         let w = known.sought[j];
         if due::is_due(&at, w, t) {

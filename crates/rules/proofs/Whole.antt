@@ -53,6 +53,6 @@ module _ (net : Net) (g : Legal net) where
   pub flowless : (k i : ℕ) → reduced net .ends ≡ Refuted k i → LP.NoFlow (programOf net)
   flowless = whole .flowless
 
-  -- an optimal pair of what is left, brought back, is optimal, of least value
-  pub optimal : (pair : Pair) → Sized pair → LP.Solved (programOf (reduced net .net)) (exactPair pair) → {q : Pair} → wayBack (backOf rules) (reduced net .steps) (at pair) ≡ at q → LP.Solved (programOf net) (exactPair q) × LP.Optimal (programOf net) (exactPair q .flow)
-  optimal = restored-solved whole
+  -- a pair that solves what is left, brought back, is in form and solves the network given
+  pub restored : (pair : Pair) → Sized pair → LP.Solved (programOf (reduced net .net)) (exactPair pair) → {q : Pair} → wayBack (backOf rules) (reduced net .steps) (at pair) ≡ at q → Sized q × LP.Solved (programOf net) (exactPair q)
+  restored = restored-solved whole

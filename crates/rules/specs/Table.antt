@@ -1,6 +1,7 @@
 -- The rules in the order in which they are tried (01, "The six reductions").
 use mathlib.Core.List.{List, [], _∷_}
 use Rattle.network.specs.declared.Net.{Net}
+use Rattle.network.specs.Limits.{maxSteps}
 use Rattle.step.specs.declared.Next.{Next}
 use Rattle.step.specs.Run.{Rule, nextBy, Run, runOf}
 use Rattle.closed_arc.specs.ClosedArc as ClosedArc
@@ -19,4 +20,4 @@ abbrev pub nextOf : Net → Next
 nextOf net = nextBy 6 rules net
 
 abbrev pub reduced : Net → Run
-reduced net = runOf nextOf 128 net
+reduced net = runOf nextOf maxSteps net

@@ -2,7 +2,7 @@
 ghost use mathlib.Core.Path.{_≡_};
 ghost use Rattle.step.specs.declared.Next.the-variants.{Stops, Takes};
 ghost use Rattle.step.specs.Run.{orElse};
-ghost use Rattle.rules.specs.Found.{noChange, noStep, foundOf};
+ghost use Rattle.rules.specs.Found.{noStep, foundOf};
 use step::Change;
 use step::Next;
 use step::Outcome;
@@ -15,22 +15,16 @@ pub struct Found {
     pub step: Step,
 }
 
-fn no_change() -> Change
-    ensures { λ r. ⌜ r ≡ noChange ⌝ }
-{
-    let edit = network::no_edit();
-    let old = step::old_one(0, network::no_figure(), network::no_update());
-    Change { edit, old }
-}
-
 // No step: nothing is found, or no flow by rule k at place i.
 fn no_step(refuted: bool, k: usize, i: usize) -> Found
     ensures { λ r. ⌜ r ≡ noStep refuted k i ⌝ }
 {
+    let edit = network::no_edit();
+    let old = step::old_one(0, network::no_figure(), network::no_update());
     let step = Step {
         rule: k,
         place: i,
-        change: no_change(),
+        change: Change { edit, old },
     };
     Found {
         found: refuted,

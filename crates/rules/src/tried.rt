@@ -3,6 +3,7 @@
 ghost use mathlib.Core.Path.{_≡_};
 ghost use lib.ListN.{getD};
 ghost use Rattle.fraction.specs.Exact.{noFigure};
+ghost use Rattle.network.specs.Limits.{maxArcs};
 ghost use Rattle.network.specs.ArcList.{joined};
 ghost use Rattle.step.specs.declared.Next.the-variants.{Stops};
 ghost use Rattle.step.specs.Run.{orElse, upward};
@@ -10,12 +11,14 @@ ghost use Rattle.closed_arc.specs.ClosedArc.{closed};
 ghost use Rattle.costly_arc.specs.CostlyArc.{isOpenRoot, costlyArc};
 ghost use Rattle.costly_arc.specs.Seen.{Known};
 ghost use Rattle.rules.specs.Found.{foundOf};
-ghost use Rattle.rules.specs.Tried.{isClosed, wantedOf, isWanted, signedIn, signedOf, singleAt, crossingAt, triedAt};
+ghost use Rattle.rules.specs.Tried.{isClosed, wantedOf, isWanted, signedIn, signedOf, crossingAt, triedAt};
 use crate::found::Found;
 use costly_arc::Seen;
 use fraction::Fraction;
+use network::ARC_PLACES;
 use network::Arc;
 use network::ArcUpdate;
+use network::NODE_PLACES;
 use network::Nodes;
 use step::Numbers;
 use step::Outcome;
@@ -36,7 +39,7 @@ pub fn is_closed(t: Arc) -> bool
 }
 
 // Rule 1 at arc j, t.
-pub fn at_arc(supply: [Fraction; 33], j: usize, t: Arc) -> Found
+pub fn at_arc(supply: [Fraction; NODE_PLACES], j: usize, t: Arc) -> Found
     ensures { λ r. ⌜ r ≡ foundOf (orElse 1 j (closed j t (getD supply (t .from) noFigure) (getD supply (t .to) noFigure)) Stops) ⌝ }
 {
     let left = network::supply_of(supply, t.from);
@@ -86,15 +89,6 @@ pub fn numbered(number: usize, arc: Arc) -> ArcUpdate
     ensures { λ r. ⌜ r ≡ record { number = number; arc = arc } ⌝ }
 {
     ArcUpdate { number, arc }
-}
-
-// Rule 3 at node i of supply r that the arc u alone touches.
-fn at_single(supply: [Fraction; 33], i: usize, r: Fraction, u: ArcUpdate) -> Outcome
-    ensures { λ x. ⌜ x ≡ singleAt supply i r u ⌝ }
-{
-    let w = network::side_at(u.arc, i);
-    let s = network::supply_of(supply, w.other);
-    single_arc::single_arc(i, u.number, u.arc, w, r, s)
 }
 
 // Of the arcs at a node, the first two of a sign; number 0 where there is none.
@@ -156,13 +150,17 @@ fn at_crossing(i: usize, r: Fraction, near: Around) -> Outcome
 }
 
 // Rule k at node i, where it is tried, by the arcs there: the one place that chooses a step by the rule's number.
-pub fn try_node(supply: [Fraction; 33], k: usize, i: usize, near: Around) -> Outcome
+pub fn try_node(supply: [Fraction; NODE_PLACES], k: usize, i: usize, near: Around) -> Outcome
     ensures { λ x. ⌜ x ≡ triedAt supply k i near ⌝ }
 {
     let r = network::supply_of(supply, i);
     match k {
         2 => bare_node::bare_node(i, r),
-        3 => at_single(supply, i, r, near.one),
+        3 => {
+            let w = network::side_at(near.one.arc, i);
+            let s = network::supply_of(supply, w.other);
+            single_arc::single_arc(i, near.one.number, near.one.arc, w, r, s)
+        }
         5 => two_arcs::two_arcs(
             supply,
             i,
@@ -176,7 +174,7 @@ pub fn try_node(supply: [Fraction; 33], k: usize, i: usize, near: Around) -> Out
     }
 }
 
-pub fn at_node(supply: [Fraction; 33], k: usize, i: usize, near: Around) -> Found
+pub fn at_node(supply: [Fraction; NODE_PLACES], k: usize, i: usize, near: Around) -> Found
     ensures { λ x. ⌜ x ≡ foundOf (orElse k i (triedAt supply k i near) Stops) ⌝ }
 {
     crate::found::answer(k, i, try_node(supply, k, i, near))
@@ -197,8 +195,8 @@ pub fn is_root(t: Arc) -> bool
 }
 
 // Rule 4 at the arcs upward, by what is known.
-pub fn at_costly(nodes: Nodes, view: [Arc; 97], seen: Seen, time: u8) -> Looked
-    ensures { λ r. ⌜ (Known (joined nodes view) time seen → (r .found ≡ foundOf (upward (costlyArc (joined nodes view)) 4 96 1 Stops)) × Known (joined nodes view) time (r .seen)) ⌝ }
+pub fn at_costly(nodes: Nodes, view: [Arc; ARC_PLACES], seen: Seen, time: u8) -> Looked
+    ensures { λ r. ⌜ (Known (joined nodes view) time seen → (r .found ≡ foundOf (upward (costlyArc (joined nodes view)) 4 maxArcs 1 Stops)) × Known (joined nodes view) time (r .seen)) ⌝ }
 {
     let x = costly_arc::scan(network::join(nodes, view), seen, time);
     let next = x.next;

@@ -1,6 +1,6 @@
 -- What the list tells of a node: its degree, and the arcs there.
-use mathlib.Core.Path.{_≡_, refl, sym, ap, _∙_}
-use mathlib.Core.Bool.{Bool, true, false, cond}
+use mathlib.Core.Path.{_≡_, sym, ap, _∙_}
+use mathlib.Core.Bool.{Bool, false}
 use mathlib.Core.List.{List}
 use Prim.Native.Nat.{ℕ, zero, suc, _+_, _-_, _≤_, _<_}
 use native.Mathlib.Numerals.{add-one}
@@ -18,6 +18,7 @@ use Rattle.network.proofs.Lists.{arc-is}
 use Rattle.network.specs.Network.{arcAt, isTouching, degreeOf, AreDegreesTo, touchingAfter}
 use Rattle.network.specs.Legal.{Legal}
 use Rattle.step.specs.Back.{oldArc}
+use Rattle.step.proofs.Lines.{split}
 use Rattle.step.proofs.Touch.{touching-first}
 
 -- ---- the degrees by the numbers up to m
@@ -34,13 +35,11 @@ module _ {net : Net} (g : Legal net) where
 
   pub degrees-are : (ds : List ℕ) → AreDegreesTo net (net .m) ds → (i : ℕ) → 1 ≤ i → i < 33 → getD ds i 0 ≡ degreeOf net i
   unfolding degreeOf
-  degrees-are ds h i l m = h i m ∙ by (ltb (net .m) 96) refl
-    where
-      by : (b : Bool) → ltb (net .m) 96 ≡ b → count (λ j. isTouching (arcAt net j) i) (cond b (net .m + 1) 97) ≡ count (λ j. isTouching (arcAt net j) i) 97
-      by true e =
-          let n : 96 - net .m + (net .m + 1) ≡ 97 = omega (arith, ltb-true (net .m) 96 e) in
-          sym (count-stop (λ j. isTouching (arcAt net j) i) (net .m + 1) (96 - net .m) (λ j k. untouched i j l (omega arith))) ∙ ap (count (λ j. isTouching (arcAt net j) i)) n
-      by false e = refl
+  degrees-are ds h i l m =
+      h i m ∙ split (ltb (net .m) 96)
+      (λ e. let n : 96 - net .m + (net .m + 1) ≡ 97 = omega (arith, ltb-true (net .m) 96 e) in
+      rw e (sym (count-stop (λ j. isTouching (arcAt net j) i) (net .m + 1) (96 - net .m) (λ j k. untouched i j l (omega arith))) ∙ ap (count (λ j. isTouching (arcAt net j) i)) n))
+      (λ e. rw e)
 
 -- the arcs at a node, as the list has them
 pub old-is : (nodes : Nodes) (xs : List Arc) (i k : ℕ) {a : ℕ} {t : Arc} {u : ArcUpdate} → u ≡ record { number = a; arc = t } → t ≡ recordAt xs a → a ≡ touchingAfter (netIn nodes xs) i k → u ≡ oldArc (netIn nodes xs) (touchingAfter (netIn nodes xs) i k)

@@ -1,14 +1,14 @@
 -- What lies behind the arcs' numbers in the lent list: the edits of steps leave it as it is, so that it is zero.
 use mathlib.Core.Path.{_≡_, refl, sym, ap, _∙_}
-use mathlib.Core.Bool.{Bool, true, false}
+use mathlib.Core.Bool.{true}
 use mathlib.Core.List.{List, [], _∷_, _++_}
-use Prim.Native.Nat.{ℕ, zero, suc, _+_, _-_, _≤_, _<_}
-use native.Mathlib.Nat.{not-suc-le-zero, le-of-suc-le-suc}
+use Prim.Native.Nat.{ℕ, zero, suc, _+_, _-_, _≤_}
 use native.Mathlib.Numerals.{add-one}
 use native.Mathlib.Omega.{arith}
 use lib.Dec.{ltb}
 use lib.IntN.{ℤ}
-use lib.ListN.{length, set, take, drop}
+use lib.ListN.{length, take, drop, take-append-drop}
+use lib.Seq.{drop-set-lt}
 use borrow.Author.Tests.{ltb-true, ltb-false}
 use Rattle.loops.specs.Loops.{upto}
 use Rattle.network.specs.declared.Arc.{Arc}
@@ -23,6 +23,7 @@ use Rattle.network.specs.ArcList.{netIn, noArcs, replaced, replacedBy, replaced
 use Rattle.network.proofs.Lists.{arcs-are}
 use Rattle.step.specs.declared.Change.{Change}
 use Rattle.step.specs.Back.{oldArcsOf}
+use Rattle.step.proofs.Lines.{split}
 use Rattle.step.proofs.Each.{All, all-map}
 use Rattle.step.proofs.Frame.{Unnamed}
 use Rattle.step.proofs.Laws.{OldAt, HandedOn}
@@ -35,33 +36,19 @@ within {net} {c} h =
     (each (c .edit .one .number) (λ n l. n .0 l refl), (each (c .edit .two .number) (λ n l. n .1 .0 l refl), (each (c .edit .three .number) (λ n l. n .1 .1 .0 l refl), (each (c .edit .four .number) (λ n l. n .1 .1 .1 .0 l refl), tt))))
   where
     each : (j : ℕ) → (Unnamed (updatesOf (c .edit)) j → 1 ≤ j → ⊥) → j ≤ 96
-    each j f = by (ltb 96 j) refl
-      where
-        by : (b : Bool) → ltb 96 j ≡ b → j ≤ 96
-        by true e =
-            let m = ltb-true 96 j e in
-            let old : (u : ArcUpdate) → OldAt net u → 1 ≤ u .number → j ≡ u .number → ⊥ = λ u o l z. omega (arith, o .0, z, m) in
-            absurd (f (h .named j (all-map old (oldArcsOf (c .old)) (h .arcs))) (omega (arith, m)))
-        by false e = ltb-false 96 j e
+    each j f =
+        split (ltb 96 j)
+        (λ e. let m = ltb-true 96 j e in
+        let old : (u : ArcUpdate) → OldAt net u → 1 ≤ u .number → j ≡ u .number → ⊥ = λ u o l z. omega (arith, o .0, z, m) in
+        absurd (f (h .named j (all-map old (oldArcsOf (c .old)) (h .arcs))) (omega (arith, m))))
+        (ltb-false 96 j)
 
 -- ---- records replaced and loaded
-
-module _ {A : Type 0} where
-  drop-set : (n : ℕ) (xs : List A) (j : ℕ) (t : A) → j < n → drop n (set xs j t) ≡ drop n xs
-  drop-set zero xs j t l = absurd (not-suc-le-zero l)
-  drop-set (suc n) [] j t l = refl
-  drop-set (suc n) (x ∷ xs) zero t l = refl
-  drop-set (suc n) (x ∷ xs) (suc j) t l = drop-set n xs j t (le-of-suc-le-suc l)
-
-  taken-dropped : (n : ℕ) (xs : List A) → take n xs ++ drop n xs ≡ xs
-  taken-dropped zero xs = refl
-  taken-dropped (suc n) [] = refl
-  taken-dropped (suc n) (x ∷ xs) = ap (λ (ys : List A). x ∷ ys) (taken-dropped n xs)
 
 one-behind : (xs : List Arc) (j : ℕ) (t : Arc) → j ≤ 96 → drop 96 (replaced xs j t) ≡ drop 96 xs
 unfolding replaced
 one-behind xs zero t l = refl
-one-behind xs (suc j) t l = drop-set 96 xs j t l
+one-behind xs (suc j) t l = drop-set-lt 96 xs j t l
 
 pub replaced-behind : (xs : List Arc) (edit : Edit) → All (λ (u : ArcUpdate). u .number ≤ 96) (updatesOf edit) → drop 96 (replacedAll xs edit) ≡ drop 96 xs
 unfolding replacedAll
@@ -89,4 +76,4 @@ drop-none (suc n) (suc k) = let e : suc k - suc n ≡ k - n = omega (arith, add-
 pub list-of : {nodes : Nodes} {xs : List Arc} {net : Net} {k : ℕ} → length xs ≡ k → 96 ≤ k → netIn nodes xs ≡ net → drop 96 xs ≡ noArcs (k - 96) → xs ≡ listOf net k
 unfolding listOf
 list-of {nodes} {xs} {net} {k} e l q b =
-    sym (taken-dropped 96 xs) ∙ ap (λ (ys : List Arc). take 96 xs ++ ys) b ∙ ap (λ (ys : List Arc). drop 1 ys ++ noArcs (k - 96)) (sym (arcs-are xs (rw e l)) ∙ ap (λ (x : Net). x .arcs) q)
+    sym (take-append-drop 96 xs) ∙ ap (λ (ys : List Arc). take 96 xs ++ ys) b ∙ ap (λ (ys : List Arc). drop 1 ys ++ noArcs (k - 96)) (sym (arcs-are xs (rw e l)) ∙ ap (λ (x : Net). x .arcs) q)

@@ -1,11 +1,12 @@
 -- For those who call the search: after a run, the nodes and the list are the network that is left.
-use mathlib.Core.Path.{_≡_, refl, sym, ap, _∙_}
+use mathlib.Core.Path.{_≡_, sym, ap, _∙_}
 use mathlib.Core.List.{List, [], _∷_, _++_}
 use Prim.Native.Nat.{ℕ, _-_, _≤_}
 use native.Mathlib.Numerals.{add-one}
 use native.Mathlib.Omega.{arith}
 use lib.IntN.{ℤ}
-use lib.ListN.{length, getD, take, drop, length-append}
+use lib.ListN.{length, getD, drop, length-append}
+use lib.Seq.{take-at}
 use Rattle.network.specs.declared.Arc.{Arc}
 use Rattle.network.specs.declared.Nodes.{Nodes}
 use Rattle.network.specs.Network.{noArc}
@@ -20,17 +21,11 @@ use Rattle.search.specs.Search.{listOf, Searched}
 use Rattle.search.proofs.Questions.{AllYes, all-yes, legal-read}
 
 -- the arcs in the list of a network
-takes : {A : Type 0} (xs ys : List A) → take (length xs) (xs ++ ys) ≡ xs
-takes [] ys = refl
-takes {A} (x ∷ xs) ys = ap (λ (zs : List A). x ∷ zs) (takes xs ys)
-
 list-arcs : (ts : List Arc) (k : ℕ) → length ts ≡ 97 → getD ts 0 noArc ≡ noArc → 96 ≤ k → arcsIn (drop 1 ts ++ noArcs (k - 96)) ≡ ts
 list-arcs [] k l e w = absurd (omega (arith, l))
 list-arcs (a ∷ ts) k l e w =
     let n : length ts ≡ 96 = omega (arith, l, add-one (length ts)) in
-    arcs-are (ts ++ noArcs (k - 96)) (omega (arith, length-append ts (noArcs (k - 96)), n))
-    ∙ ap (λ (t : Arc). t ∷ take 96 (ts ++ noArcs (k - 96))) (sym e)
-    ∙ ap (λ (xs : List Arc). a ∷ xs) (ap (λ (m : ℕ). take m (ts ++ noArcs (k - 96))) (sym n) ∙ takes ts (noArcs (k - 96)))
+    arcs-are (ts ++ noArcs (k - 96)) (omega (arith, length-append ts (noArcs (k - 96)), n)) ∙ rw (take-at ts (noArcs (k - 96)) 96 n, e)
 
 module _ {xs zs : List ℤ} {ks : List Arc} {r : Ran} {log : List ℤ} {arcs : List Arc} (s : Searched xs zs ks r log arcs) (none : r .refused ≡ 0) where
   pub yes : AllYes xs (length zs) (length ks)

@@ -1,170 +1,78 @@
 -- A rule at its places upward, as far as there are places in use; and the rules one after the other.
 use mathlib.Core.Path.{_≡_, refl, sym, ap, _∙_}
 use mathlib.Core.Bool.{Bool, true, false}
-use mathlib.Core.Logic.{⊎-elim}
-use Prim.Native.Nat.{ℕ, zero, suc, _+_, _-_, _≤_, _<_}
-use native.Mathlib.Nat.{eq-or-lt-of-le}
+use Prim.Native.Nat.{ℕ, _+_, _-_, _≤_}
 use native.Mathlib.Omega.{arith}
-use lib.Dec.{eqb, ltb}
-use borrow.Author.Tests.{eqb-true, eqb-false, ltb-true, ltb-false}
-use Rattle.fraction.proofs.Laws.{never}
-use Rattle.network.specs.declared.Arc.{Arc}
+use lib.Dec.{ltb}
+use borrow.Author.Tests.{ltb-true, ltb-false}
+use Rattle.loops.specs.Loops.{any}
+use Rattle.step.proofs.Lines.{split}
+use Rattle.step.proofs.Touch.{unlike}
 use Rattle.network.specs.declared.Net.{Net}
-use Rattle.network.specs.Network.{arcAt}
+use Rattle.fraction.specs.Exact.{isSame}
+use Rattle.network.specs.Network.{arcAt, isRoot}
 use Rattle.network.specs.Legal.{Legal}
 use Rattle.step.specs.declared.Outcome.{Outcome}
-use Rattle.step.specs.declared.Outcome.the-variants.{Passes, NoFlow, Changes}
+use Rattle.step.specs.declared.Outcome.the-variants.{Passes}
 use Rattle.step.specs.declared.Next.{Next}
 use Rattle.step.specs.declared.Next.the-variants.{Stops, Refuted, Takes}
-use Rattle.step.specs.Run.{orElse, upward, nextFrom}
-use Rattle.closed_arc.specs.ClosedArc.{closedArc}
-use Rattle.bare_node.specs.BareNode.{bareNode}
-use Rattle.single_arc.specs.SingleArc.{singleArc}
+use Rattle.step.specs.Run.{orElse, upward}
 use Rattle.costly_arc.specs.CostlyArc.{isOpenRoot, costlyArc}
-use Rattle.costly_arc.proofs.Upward.{Reached, reached-more, upward-at, upward-none}
-use Rattle.costly_arc.proofs.Passing.{no-open-root, unused-root}
-use Rattle.two_arcs.specs.TwoArcs.{twoArcs}
-use Rattle.crossing.specs.Crossing.{crossing}
-use Rattle.rules.specs.Table.{nextOf}
+use Rattle.costly_arc.proofs.Upward.{Reached, upward-at, upward-none, orRest, else-rest, upward-rest}
+use Rattle.costly_arc.proofs.Pairs.{none-any}
+use Rattle.costly_arc.proofs.Passing.{no-open-root}
 use Rattle.rules.specs.declared.found.Found.{Found}
 use Rattle.rules.specs.Found.{foundOf}
 
--- ---- one rule; x is the answer at place i, as the code has it
-
-module _ {rule : ℕ → Outcome} {k last : ℕ} {i : ℕ} (h : Reached rule k last Stops i) where
-  pub reached-on : {x : Found} → i ≤ last → x ≡ foundOf (orElse k i (rule i) Stops) → x .found ≡ false → Reached rule k last Stops (i + 1)
-  reached-on {x} l e f = reached-more rule k last Stops h l (by (rule i) refl (rw e at f))
-    where
-      by : (o : Outcome) → rule i ≡ o → foundOf (orElse k i o Stops) .found ≡ false → rule i ≡ Passes
-      by Passes q f = q
-      by NoFlow q f = never (let g = sym f in cc)
-      by (Changes c) q f = never (let g = sym f in cc)
-
-  pub reached-answer : {x : Found} → i ≤ last → x ≡ foundOf (orElse k i (rule i) Stops) → x .found ≡ true → x ≡ foundOf (upward rule k last 1 Stops)
-  reached-answer {x} l e f = e ∙ ap foundOf (by (rule i) refl (rw e at f) ∙ sym (h .is ∙ upward-at rule k last Stops i l))
-    where
-      by : (o : Outcome) → rule i ≡ o → foundOf (orElse k i o Stops) .found ≡ true → orElse k i (rule i) Stops ≡ orElse k i (rule i) (upward rule k (last + 1 - (i + 1)) (i + 1) Stops)
-      by Passes q f = never (let g = f in cc)
-      by NoFlow q f = rw q
-      by (Changes c) q f = rw q
-
-  -- the rule passes at all places from i on
-  pub reached-end : {x : Found} → x ≡ foundOf Stops → ((j : ℕ) → i ≤ j → rule j ≡ Passes) → x ≡ foundOf (upward rule k last 1 Stops)
-  reached-end e f = e ∙ ap foundOf (sym (h .is ∙ upward-none rule k Stops (last + 1 - i) i (λ j l m. f j l)))
-
--- ---- rule 4: no arc of a number below j is a root arc without upper bound
-
-pub record NoRoot (net : Net) (j : ℕ) : Type 0 where
-  pub upto : j ≤ net .m + 1
-  pub none : (k : ℕ) → k < j → isOpenRoot (arcAt net k) (arcAt net k .from) ≡ false
-
-unused-none : {net : Net} → Legal net → (k : ℕ) → arcAt net k .from ≡ 0 → isOpenRoot (arcAt net k) (arcAt net k .from) ≡ false
-unused-none g k e = rw (g .unused k e) (unused-root 0)
-
-pub no-root-none : {net : Net} → Legal net → NoRoot net 1
-no-root-none {net} g = record { upto = omega arith; none = λ k l. let e : k ≡ 0 = omega arith in unused-none g k (rw e (g .no-arc)) }
-
-pub no-root-more : {net : Net} {j : ℕ} → NoRoot net j → j ≤ net .m → {t : Arc} → t ≡ arcAt net j → isOpenRoot t (t .from) ≡ false → NoRoot net (j + 1)
-no-root-more {net} {j} h l {t} q e = record { upto = omega arith; none = λ k m. by k m (eqb k j) refl }
-  where
-    by : (k : ℕ) → k < j + 1 → (b : Bool) → eqb k j ≡ b → isOpenRoot (arcAt net k) (arcAt net k .from) ≡ false
-    by k m true f = rw (eqb-true k j f) (rw q at e)
-    by k m false f = h .none k (⊎-elim (λ (z : k ≡ j). absurd (eqb-false k j f z)) (λ (z : k < j). z) (eq-or-lt-of-le (omega arith)))
-
-pub no-root-all : {net : Net} {j : ℕ} {x : Found} → Legal net → NoRoot net j → net .m < j → x ≡ foundOf Stops → x ≡ foundOf (upward (costlyArc net) 4 96 1 Stops)
-no-root-all {net} {j} g h l e = e ∙ ap foundOf (sym (no-open-root net Stops (λ k m. by k (ltb k j) refl)))
-  where
-    by : (k : ℕ) (b : Bool) → ltb k j ≡ b → isOpenRoot (arcAt net k) (arcAt net k .from) ≡ false
-    by k true f = h .none k (ltb-true k j f)
-    by k false f = unused-none g k (g .arcs-beyond k (omega (arith, ltb-false k j f)))
-
--- ---- the rules one after the other
-
-abbrev orRest : Next → Next → Next
-orRest Stops rest = rest
-orRest (Refuted k i) rest = Refuted k i
-orRest (Takes s) rest = Takes s
-
-upward-split : (rule : ℕ → Outcome) (k many i : ℕ) (rest : Next) → upward rule k many i rest ≡ orRest (upward rule k many i Stops) rest
-unfolding upward
-upward-split rule k zero i rest = refl
-upward-split rule k (suc many) i rest = by (rule i) (upward-split rule k many (suc i) rest)
-  where
-    by : (o : Outcome) → upward rule k many (suc i) rest ≡ orRest (upward rule k many (suc i) Stops) rest → orElse k i o (upward rule k many (suc i) rest) ≡ orRest (orElse k i o (upward rule k many (suc i) Stops)) rest
-    by Passes e = e
-    by NoFlow e = refl
-    by (Changes c) e = refl
-
--- one scan found it, or it did not
+-- the step that was found stays, whatever comes after; where none was, what comes after counts
 stays : (n rest : Next) → foundOf n .found ≡ true → n ≡ orRest n rest
-stays Stops rest f = never (let g = f in cc)
+stays Stops rest f = unlike f
 stays (Refuted k i) rest f = refl
 stays (Takes s) rest f = refl
 
 past : (n rest : Next) → foundOf n .found ≡ false → rest ≡ orRest n rest
 past Stops rest f = refl
-past (Refuted k i) rest f = never (let g = sym f in cc)
-past (Takes s) rest f = never (let g = sym f in cc)
+past (Refuted k i) rest f = unlike (sym f)
+past (Takes s) rest f = unlike (sym f)
 
-module _ {net : Net} (g : Legal net) where
-  abbrev n1 : Next
-  n1 = upward (closedArc net) 1 96 1 Stops
+-- ---- one rule; x is the answer at place i, as the code has it
 
-  abbrev n2 : Next
-  n2 = upward (bareNode net) 2 32 1 Stops
+module _ {rule : ℕ → Outcome} {k last i : ℕ} (h : Reached rule k last Stops i) where
+  module _ (l : i ≤ last) {x : Found} (e : x ≡ foundOf (orElse k i (rule i) Stops)) where
+    abbrev here : Next
+    here = orElse k i (rule i) Stops
 
-  abbrev n3 : Next
-  n3 = upward (singleArc net) 3 32 1 Stops
+    step-is : upward rule k last 1 Stops ≡ orRest here (upward rule k (last + 1 - (i + 1)) (i + 1) Stops)
+    step-is = h .is ∙ upward-at rule k last Stops i l ∙ else-rest k i (rule i) Stops _ refl
 
-  abbrev n4 : Next
-  n4 = upward (costlyArc net) 4 96 1 Stops
+    pub reached-on : x .found ≡ false → Reached rule k last Stops (i + 1)
+    reached-on f = record { upto = omega arith; is = step-is ∙ sym (past here _ (rw e at f)) }
 
-  abbrev n5 : Next
-  n5 = upward (twoArcs net) 5 32 1 Stops
+    pub reached-answer : x .found ≡ true → x ≡ foundOf (upward rule k last 1 Stops)
+    reached-answer f = e ∙ ap foundOf (stays here _ (rw e at f) ∙ sym step-is)
 
-  abbrev n6 : Next
-  n6 = upward (crossing net) 6 32 1 Stops
+  -- the rule passes at all places from i on
+  pub reached-end : {x : Found} → x ≡ foundOf Stops → ((j : ℕ) → i ≤ j → rule j ≡ Passes) → x ≡ foundOf (upward rule k last 1 Stops)
+  reached-end e f = e ∙ ap foundOf (sym (h .is ∙ upward-none rule k Stops (last + 1 - i) i (λ j l m. f j l)))
 
-  next-is : nextOf net ≡ orRest n1 (orRest n2 (orRest n3 (orRest n4 (orRest n5 n6))))
-  unfolding nextFrom
-  next-is =
-      upward-split (closedArc net) 1 96 1 _
-      ∙ ap (orRest n1) (upward-split (bareNode net) 2 32 1 _
-      ∙ ap (orRest n2) (upward-split (singleArc net) 3 32 1 _
-      ∙ ap (orRest n3) (upward-split (costlyArc net) 4 96 1 _
-      ∙ ap (orRest n4) (upward-split (twoArcs net) 5 32 1 _))))
+-- ---- rule 4: no arc up to number m is a root arc without upper bound
 
-  module _ {a : Found} (e : a ≡ foundOf n1) where
-    pub found-one : a .found ≡ true → a ≡ foundOf (nextOf net)
-    found-one f = e ∙ ap foundOf (stays n1 _ (rw e at f) ∙ sym next-is)
+abbrev pub rootAt : Net → ℕ → Bool
+rootAt net k = isOpenRoot (arcAt net k) (arcAt net k .from)
 
-    past-one : a .found ≡ false → orRest n2 (orRest n3 (orRest n4 (orRest n5 n6))) ≡ nextOf net
-    past-one f = past n1 _ (rw e at f) ∙ sym next-is
+pub unused-none : {net : Net} → Legal net → (k : ℕ) → arcAt net k .from ≡ 0 → rootAt net k ≡ false
+unfolding isOpenRoot isRoot isSame
+unused-none g k e = rw (g .unused k e)
 
-    module _ (f : a .found ≡ false) {b : Found} (e₂ : b ≡ foundOf n2) where
-      pub found-two : b .found ≡ true → b ≡ foundOf (nextOf net)
-      found-two h = e₂ ∙ ap foundOf (stays n2 _ (rw e₂ at h) ∙ past-one f)
+pub no-root : {net : Net} {x : Found} → Legal net → false ≡ any (rootAt net) (net .m + 1) → x ≡ foundOf Stops → x ≡ foundOf (upward (costlyArc net) 4 96 1 Stops)
+no-root {net} g h e =
+    e ∙ ap foundOf (sym (no-open-root net Stops (λ k m. split (ltb k (net .m + 1)) (λ f. none-any _ _ (sym h) k (ltb-true _ _ f)) (λ f. unused-none g k (g .arcs-beyond k (omega (arith, ltb-false k (net .m + 1) f)))))))
 
-      past-two : b .found ≡ false → orRest n3 (orRest n4 (orRest n5 n6)) ≡ nextOf net
-      past-two h = past n2 _ (rw e₂ at h) ∙ past-one f
+-- ---- the rules one after the other: a is what this one finds
 
-      module _ (f₂ : b .found ≡ false) {c : Found} (e₃ : c ≡ foundOf n3) where
-        pub found-three : c .found ≡ true → c ≡ foundOf (nextOf net)
-        found-three h = e₃ ∙ ap foundOf (stays n3 _ (rw e₃ at h) ∙ past-two f₂)
+module _ (rule : ℕ → Outcome) (k last : ℕ) (rest : Next) {a : Found} (e : a ≡ foundOf (upward rule k last 1 Stops)) where
+  pub found-here : a .found ≡ true → a ≡ foundOf (upward rule k last 1 rest)
+  found-here f = e ∙ ap foundOf (stays (upward rule k last 1 Stops) rest (rw e at f) ∙ sym (upward-rest rule k rest last 1))
 
-        past-three : c .found ≡ false → orRest n4 (orRest n5 n6) ≡ nextOf net
-        past-three h = past n3 _ (rw e₃ at h) ∙ past-two f₂
-
-        module _ (f₃ : c .found ≡ false) {d : Found} (e₄ : d ≡ foundOf n4) where
-          pub found-four : d .found ≡ true → d ≡ foundOf (nextOf net)
-          found-four h = e₄ ∙ ap foundOf (stays n4 _ (rw e₄ at h) ∙ past-three f₃)
-
-          past-four : d .found ≡ false → orRest n5 n6 ≡ nextOf net
-          past-four h = past n4 _ (rw e₄ at h) ∙ past-three f₃
-
-          module _ (f₄ : d .found ≡ false) {x : Found} (e₅ : x ≡ foundOf n5) where
-            pub found-five : x .found ≡ true → x ≡ foundOf (nextOf net)
-            found-five h = e₅ ∙ ap foundOf (stays n5 _ (rw e₅ at h) ∙ past-four f₄)
-
-            pub found-six : x .found ≡ false → {y : Found} → y ≡ foundOf n6 → y ≡ foundOf (nextOf net)
-            found-six h e₆ = e₆ ∙ ap foundOf (past n5 _ (rw e₅ at h) ∙ past-four f₄)
+  pub found-later : a .found ≡ false → rest ≡ upward rule k last 1 rest
+  found-later f = past (upward rule k last 1 Stops) rest (rw e at f) ∙ sym (upward-rest rule k rest last 1)

@@ -8,8 +8,10 @@ use lib.IntN.{ℤ}
 use lib.ListN.{length, drop}
 use Rattle.network.specs.declared.Arc.{Arc}
 use Rattle.network.specs.declared.Net.{Net}
+use Rattle.network.specs.Limits.{maxArcs}
 use Rattle.network.specs.Network.{emptyNet}
 use Rattle.network.specs.ArcList.{noArcs, nodesOf}
+use Rattle.records.specs.Limits.{scratchRoom}
 use Rattle.records.specs.Questions.{_asks_, firstNo}
 use Rattle.records.specs.Network.{questions, readOf}
 use Rattle.step.specs.declared.Next.{Next}
@@ -22,7 +24,7 @@ use Rattle.search.specs.declared.Ran.{Ran}
 
 -- room for the log's words and for the arcs, and the questions of the record
 unfoldable pub refusalOf : List ℤ → ℕ → ℕ → ℕ
-refusalOf xs log arcs = firstNo (1 asks (leb 10240 log && leb 96 arcs) ∷ questions xs)
+refusalOf xs log arcs = firstNo (1 asks (leb scratchRoom log && leb maxArcs arcs) ∷ questions xs)
 
 abbrev pub refusedBy : ℕ → Ran
 refusedBy q = record { refused = q; nodes = nodesOf (emptyNet 0 0); steps = 0; ends = Stops }
@@ -34,7 +36,7 @@ endsOf (NoFlow k i) = Next.Refuted k i
 
 -- a list of k records: the arcs of a network at their numbers, and zeros behind them
 unfoldable pub listOf : Net → ℕ → List Arc
-listOf net k = drop 1 (net .arcs) ++ noArcs (k - 96)
+listOf net k = drop 1 (net .arcs) ++ noArcs (k - maxArcs)
 
 -- the record xs, with the log zs and the list ks before, log and arcs after
 pub record Searched (xs zs : List ℤ) (ks : List Arc) (r : Ran) (log : List ℤ) (arcs : List Arc) : Type 0 where

@@ -6,12 +6,10 @@ ghost use mathlib.Core.List.{List};
 ghost use Prim.Native.Nat.{_+_, _≤_};
 ghost use lib.ListN.{length};
 ghost use Rattle.network.specs.declared.Arc.{Arc};
+ghost use Rattle.network.specs.Limits.{maxArcs, maxSteps};
 ghost use Rattle.network.specs.ArcList.{joined, netIn};
-ghost use Rattle.step.specs.declared.Next.{Next};
-ghost use Rattle.step.specs.declared.Next.the-variants.{Takes};
 ghost use Rattle.search.specs.Search.{refusalOf, refusedBy, Searched};
-ghost use Rattle.search.specs.internal.Progress.{begun, noted, moved, endedBy, endOf, ranOf, Ready, Turned, Finished};
-ghost use Rattle.rules.specs.Found.{foundOf};
+ghost use Rattle.search.specs.internal.Progress.{begun, noted, moved, endedBy, advanced, endOf, ranOf, Ready, Turned, Finished};
 ghost use Rattle.rules.specs.Table.{reduced};
 ghost use Rattle.costly_arc.specs.Seen.{nothingSeen};
 use costly_arc::Seen;
@@ -65,7 +63,7 @@ fn start(nodes: Nodes) -> Progress
 
 // The time of the next step.
 fn time(at: Progress) -> u8
-    requires { ⌜ at .steps ≤ 128 ⌝ }
+    requires { ⌜ at .steps ≤ maxSteps ⌝ }
     ensures { λ r. ⌜ r ≡ at .steps + 1 ⌝ }
 {
     (at.steps + 1) as u8
@@ -80,7 +78,7 @@ fn edit_of(x: Looked) -> Edit
 
 // A step taken is written into the log.
 fn note(log: &mut [i32], k: usize, x: Looked)
-    ensures { λ _. ⌜ ((n : Next) → x .found ≡ foundOf n → now (log .exit) ≡ noted (now (log .entry)) k n) ⌝ }
+    ensures { λ _. ⌜ now (log .exit) ≡ noted (now (log .entry)) k (x .found) ⌝ }
 {
     if !x.found.found {
         return;
@@ -93,7 +91,7 @@ fn note(log: &mut [i32], k: usize, x: Looked)
 
 // The run after no step.
 fn ended(at: Progress, x: Looked) -> Progress
-    ensures { λ r. ⌜ r ≡ endedBy at x ⌝ }
+    ensures { λ r. ⌜ r ≡ endedBy at (x .seen) (x .found .refuted) (x .found .step .rule) (x .found .step .place) ⌝ }
 {
     let nodes = at.nodes;
     let seen = x.seen;
@@ -110,8 +108,8 @@ fn ended(at: Progress, x: Looked) -> Progress
 
 // The run after a step.
 fn onward(at: Progress, x: Looked) -> Progress
-    requires { ⌜ at .steps ≤ 128 ⌝ }
-    ensures { λ r. ⌜ ((xs : List Arc) → r ≡ moved at (joined (at .nodes) xs) (x .seen) (Takes (x .found .step))) ⌝ }
+    requires { ⌜ at .steps ≤ maxSteps ⌝ }
+    ensures { λ r. ⌜ ((xs : List Arc) → r ≡ moved at (joined (at .nodes) xs) (x .seen) (x .found .step)) ⌝ }
 {
     let edit = edit_of(x);
     Progress {
@@ -127,8 +125,8 @@ fn onward(at: Progress, x: Looked) -> Progress
 
 // The run after what was found.
 fn advance(at: Progress, x: Looked) -> Progress
-    requires { ⌜ at .steps ≤ 128 ⌝ }
-    ensures { λ r. ⌜ ((xs : List Arc) (n : Next) → x .found ≡ foundOf n → r ≡ moved at (joined (at .nodes) xs) (x .seen) n) ⌝ }
+    requires { ⌜ at .steps ≤ maxSteps ⌝ }
+    ensures { λ r. ⌜ ((xs : List Arc) → r ≡ advanced at (joined (at .nodes) xs) x) ⌝ }
 {
     if !x.found.found {
         return ended(at, x);
@@ -141,7 +139,7 @@ fn advance(at: Progress, x: Looked) -> Progress
 
 // One turn of a run: the next step taken in the list and written into the log, or the end.
 fn turn(at: Progress, log: &mut [i32], arcs: &mut [Arc]) -> Progress
-    requires { ⌜ Ready (netIn (at .nodes) (now arcs)) (at .seen) (at .steps) × (96 ≤ length (now arcs)) ⌝ }
+    requires { ⌜ Ready (netIn (at .nodes) (now arcs)) (at .seen) (at .steps) × (maxArcs ≤ length (now arcs)) ⌝ }
     ensures { λ r. ⌜ Turned at (now (log .entry)) (now (arcs .entry)) r (now (log .exit)) (now (arcs .exit)) ⌝ }
 {
     let x = crate::scan::next(at.nodes, arcs, at.seen, time(at));
@@ -152,7 +150,7 @@ fn turn(at: Progress, log: &mut [i32], arcs: &mut [Arc]) -> Progress
 
 // Steps until none applies.
 fn run_on(nodes: Nodes, log: &mut [i32], arcs: &mut [Arc]) -> Progress
-    requires { ⌜ Ready (netIn nodes (now arcs)) nothingSeen 0 × (96 ≤ length (now arcs)) ⌝ }
+    requires { ⌜ Ready (netIn nodes (now arcs)) nothingSeen 0 × (maxArcs ≤ length (now arcs)) ⌝ }
     ensures { λ r. ⌜ Finished (reduced (netIn nodes (now (arcs .entry)))) (now (log .entry)) (now (arcs .entry)) r (now (log .exit)) (now (arcs .exit)) ⌝ }
 {
     let mut at = start(nodes);
@@ -166,10 +164,10 @@ fn run_on(nodes: Nodes, log: &mut [i32], arcs: &mut [Arc]) -> Progress
 fn question(network: &[i32], log: usize, arcs: usize) -> usize
     ensures { λ r. ⌜ r ≡ refusalOf (now (network .entry)) log arcs ⌝ }
 {
-    if log < 10240 {
+    if log < records::SCRATCH_WORDS {
         return 1;
     }
-    if arcs < 96 {
+    if arcs < network::MAX_ARCS {
         return 1;
     }
     records::net::ask(network)

@@ -1,6 +1,7 @@
 // The search for the next step: the rules in order, each at its places upward.
 ghost use mathlib.Core.Path.{_≡_};
 ghost use Rattle.network.specs.declared.Nodes.{Nodes};
+ghost use Rattle.network.specs.Limits.{maxNodes, maxArcs};
 ghost use Rattle.network.specs.ArcList.{netIn};
 ghost use Rattle.network.specs.Network.{AreDegreesTo, touchingAfter};
 ghost use Rattle.network.specs.Legal.{Legal};
@@ -27,7 +28,7 @@ use rules::tried::Looked;
 // Rule 1 at the arcs upward.
 pub(crate) fn scan_closed(nodes: Nodes, arcs: &[Arc]) -> Found
     requires { ⌜ Legal (netIn nodes (now arcs)) ⌝ }
-    ensures { λ r. ⌜ r ≡ foundOf (upward (closedArc (netIn nodes (now (arcs .entry)))) 1 96 1 Stops) ⌝ }
+    ensures { λ r. ⌜ r ≡ foundOf (upward (closedArc (netIn nodes (now (arcs .entry)))) 1 maxArcs 1 Stops) ⌝ }
 {
     let supply = nodes.supply;
     let mut j = 1;
@@ -98,7 +99,7 @@ pub(crate) fn gather(arcs: &[Arc], i: usize, d: usize) -> Around
 // Rule k at the nodes upward.
 pub(crate) fn scan_nodes(nodes: Nodes, arcs: &[Arc], degrees: Degrees, k: usize) -> Found
     requires { ⌜ Legal (netIn nodes (now arcs)) × AreDegreesTo (netIn nodes (now arcs)) (nodes .m) (degrees .at) ⌝ }
-    ensures { λ r. ⌜ r ≡ foundOf (upward (nodeRule k (netIn nodes (now (arcs .entry)))) k 32 1 Stops) ⌝ }
+    ensures { λ r. ⌜ r ≡ foundOf (upward (nodeRule k (netIn nodes (now (arcs .entry)))) k maxNodes 1 Stops) ⌝ }
 {
     let mut i = 1;
     while i <= nodes.n {
@@ -120,7 +121,7 @@ pub(crate) fn scan_nodes(nodes: Nodes, arcs: &[Arc], degrees: Degrees, k: usize)
 // Rule 4 at the arcs upward; where no arc is a root arc without upper bound, it applies nowhere.
 pub(crate) fn scan_costly(nodes: Nodes, arcs: &[Arc], seen: Seen, time: u8) -> Looked
     requires { ⌜ Legal (netIn nodes (now arcs)) × Known (netIn nodes (now arcs)) time seen ⌝ }
-    ensures { λ r. ⌜ (r .found ≡ foundOf (upward (costlyArc (netIn nodes (now (arcs .entry)))) 4 96 1 Stops)) × Known (netIn nodes (now (arcs .entry))) time (r .seen) ⌝ }
+    ensures { λ r. ⌜ (r .found ≡ foundOf (upward (costlyArc (netIn nodes (now (arcs .entry)))) 4 maxArcs 1 Stops)) × Known (netIn nodes (now (arcs .entry))) time (r .seen) ⌝ }
 {
     let mut j = 1;
     while j <= nodes.m {

@@ -3,8 +3,5 @@ use borrow.Author.Needs.{needs}
 use Rattle.search.proofs.refuse.Statement.{statement}
 use Rattle.search.proofs.refuse.Tie as tie
 
-returns : tie.Need-returns
-returns c = rw (c .nodes-of .ensures, c .before .empty-net .ensures)
-
 pub refuse-spec : {M : Type 1} → statement M
-refuse-spec = tie.close (tie.spec (λ c κs. search needs) (λ c κs. search needs) returns)
+refuse-spec = tie.close (tie.spec (λ c κs. search needs) (λ c κs. search needs) (λ c. rw (c .nodes-of .ensures, c .before .empty-net .ensures)))

@@ -6,13 +6,6 @@ use mathlib.Core.Path.{refl}
 use Rattle.costly_arc.proofs.due.is_fresh.Statement.{statement}
 use Rattle.costly_arc.proofs.due.is_fresh.Tie as tie
 
-returns : tie.Need-returns
-unfolding isFresh
-returns c = rw (le-leb _ _ (c .if1 .taken))
-
-returns-2 : tie.Need-returns-2
-unfolding isFresh
-returns-2 c = rw (lt-leb _ _ (c .before .if1 .left)) refl
-
 pub is-fresh-spec : {M : Type 1} → statement M
-is-fresh-spec = tie.close (tie.spec (λ c. search needs) (λ c. search needs) returns returns-2)
+unfolding isFresh
+is-fresh-spec = tie.close (tie.spec (λ c. search needs) (λ c. search needs) (λ c. rw (le-leb _ _ (c .if1 .taken))) (λ c. rw (lt-leb _ _ (c .before .if1 .left)) refl))

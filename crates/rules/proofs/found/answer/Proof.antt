@@ -3,25 +3,5 @@ use borrow.Author.Needs.{needs}
 use Rattle.rules.proofs.found.answer.Statement.{statement}
 use Rattle.rules.proofs.found.answer.Tie as tie
 
-returns : tie.Need-returns
-returns c = rw (c .before .enum-told .given .1) (c .nothing .ensures)
-
-returns-2 : tie.Need-returns-2
-returns-2 c = rw (c .before .enum-told2 .given .1) (c .no-step .ensures)
-
-returns-3 : tie.Need-returns-3
-returns-3 c = rw (c .before .before .x .given .1) (c .taken .ensures)
-
 pub answer-spec : {M : Type 1} → statement M
-answer-spec =
-    tie.close
-    (tie.spec
-    (λ c. search needs)
-    (λ c κs. search needs)
-    (λ c. search needs)
-    (λ c κs. search needs)
-    (λ c. search needs)
-    (λ c κs. search needs)
-    returns
-    returns-2
-    returns-3)
+answer-spec = tie.close (tie.spec (λ c. search needs) (λ c κs. search needs) (λ c. search needs) (λ c κs. search needs) (λ c. search needs) (λ c κs. search needs) (λ c. rw (c .before .enum-told .given .1) (c .nothing .ensures)) (λ c. rw (c .before .enum-told2 .given .1) (c .no-step .ensures)) (λ c. rw (c .before .before .x .given .1) (c .taken .ensures)))

@@ -3,25 +3,5 @@ use borrow.Author.Needs.{needs}
 use Rattle.rules.proofs.found.flat.Statement.{statement}
 use Rattle.rules.proofs.found.flat.Tie as tie
 
-returns : tie.Need-returns
-returns c = rw (c .before .enum-told .given .1) (c .nothing .ensures)
-
-returns-2 : tie.Need-returns-2
-returns-2 c = rw (c .before .before .next .given .1) (c .no-step .ensures)
-
-returns-3 : tie.Need-returns-3
-returns-3 c = rw (c .before .before .next2 .given .1) (c .taken .ensures)
-
 pub flat-spec : {M : Type 1} → statement M
-flat-spec =
-    tie.close
-    (tie.spec
-    (λ c. search needs)
-    (λ c κs. search needs)
-    (λ c. search needs)
-    (λ c κs. search needs)
-    (λ c. search needs)
-    (λ c κs. search needs)
-    returns
-    returns-2
-    returns-3)
+flat-spec = tie.close (tie.spec (λ c. search needs) (λ c κs. search needs) (λ c. search needs) (λ c κs. search needs) (λ c. search needs) (λ c κs. search needs) (λ c. rw (c .before .enum-told .given .1) (c .nothing .ensures)) (λ c. rw (c .before .before .next .given .1) (c .no-step .ensures)) (λ c. rw (c .before .before .next2 .given .1) (c .taken .ensures)))

@@ -3,8 +3,5 @@ use borrow.Author.Needs.{needs}
 use Rattle.rules.proofs.tried.at_node.Statement.{statement}
 use Rattle.rules.proofs.tried.at_node.Tie as tie
 
-returns : tie.Need-returns
-returns c = rw (c .answer .ensures, c .before .try-node .ensures)
-
 pub at-node-spec : {M : Type 1} → statement M
-at-node-spec = tie.close (tie.spec (λ c κs. search needs) (λ c κs. search needs) returns)
+at-node-spec = tie.close (tie.spec (λ c κs. search needs) (λ c κs. search needs) (λ c. cc))
