@@ -6,6 +6,8 @@ use Prim.Native.Nat.{ℕ, _+_, _*_, _≤_}
 use lib.IntN.{ℤ}
 use lib.ListN.{length, take, drop, replicate}
 use Rattle.fraction.specs.Words.{word, naturalOf}
+use Rattle.network.specs.Limits.{maxArcs}
+use Rattle.records.specs.Limits.{networkRoom, stackRoom, scratchRoom}
 use Rattle.records.specs.Network.{figures, readOf}
 use Rattle.fraction.specs.Words.{wordOf}
 use Rattle.reduction.specs.declared.Answer.{Answer}
@@ -59,8 +61,8 @@ reducedLines (Refused q) net stack = refusedBytes ++ lineOf (wordOf (numberOf (R
 -- a network's words, reduced into slices of the lengths that question 1 asks for
 abbrev pub reducedText : List ℤ → List ℕ
 reducedText xs =
-    reducedLines (answerOf (refusalOf xs 1410 257 10240 96) (reduced (readOf xs))) (outputOf (refusalOf xs 1410 257 10240 96) (reduced (readOf xs)) 1410)
-    (stackOf (refusalOf xs 1410 257 10240 96) (reduced (readOf xs)) 257)
+    reducedLines (answerOf (refusalOf xs networkRoom stackRoom scratchRoom maxArcs) (reduced (readOf xs))) (outputOf (refusalOf xs networkRoom stackRoom scratchRoom maxArcs) (reduced (readOf xs)) networkRoom)
+    (stackOf (refusalOf xs networkRoom stackRoom scratchRoom maxArcs) (reduced (readOf xs)) stackRoom)
 
 -- question 14 first
 abbrev pub onWords : Option (List ℤ) → List ℕ
@@ -72,7 +74,7 @@ reduceText text = onWords (wordsOf text)
 
 -- what is printed says this: no flow only where the network given has no feasible flow, in fractions of any width
 abbrev pub NoFlowRight : List ℕ → Type 0
-NoFlowRight text = (xs : List ℤ) (rule place : ℕ) → wordsOf text ≡ some xs → answerOf (refusalOf xs 1410 257 10240 96) (reduced (readOf xs)) ≡ NoFlow rule place → LP.NoFlow (programOf (readOf xs))
+NoFlowRight text = (xs : List ℤ) (rule place : ℕ) → wordsOf text ≡ some xs → answerOf (refusalOf xs networkRoom stackRoom scratchRoom maxArcs) (reduced (readOf xs)) ≡ NoFlow rule place → LP.NoFlow (programOf (readOf xs))
 
 abbrev pub noBytes : ℕ → List ℕ
 noBytes n = replicate n 0

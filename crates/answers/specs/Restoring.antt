@@ -10,8 +10,11 @@ use lib.ListN.{length, take, drop}
 use Rattle.records.specs.declared.Size.{Size}
 use Rattle.records.specs.declared.Size.the-variants.{Is, Off}
 use Rattle.fraction.specs.Words.{word}
+use Rattle.network.specs.Limits.{maxNodes, maxArcs}
+use Rattle.records.specs.Limits.{pairRoom, valueRoom, scratchRoom}
 use Rattle.records.specs.Network.{sizeOf, figures, readOf}
 use Rattle.fraction.specs.Words.{wordOf}
+use Rattle.network.specs.Limits.{maxSteps}
 use Rattle.rules.specs.Table.{reduced}
 use Rattle.restoration.specs.declared.Answer.{Answer}
 use Rattle.restoration.specs.declared.Answer.the-variants.{Restored, Refused}
@@ -30,7 +33,7 @@ splitStack xs e Off = No 7
 splitStack xs e (Is s) = cond (leb (e + 1 + 2 * s) (length xs)) (Parts e (e + 1 + 2 * s)) (No 7)
 
 unfoldable pub stackSplit : List ℤ → ℕ → Split
-stackSplit xs e = splitStack xs e (sizeOf (word xs e) 128)
+stackSplit xs e = splitStack xs e (sizeOf (word xs e) maxSteps)
 
 -- "a network cut short (fewer than two words included) or with sizes outside the limits is 2"
 unfoldable pub splitSized : List ℤ → ℕ → ℕ → Split
@@ -42,7 +45,7 @@ splitBy xs (Is n) Off = No 2
 splitBy xs Off s = No 2
 
 unfoldable pub splitOf : List ℤ → Split
-splitOf xs = splitBy xs (sizeOf (word xs 0) 32) (sizeOf (word xs 1) 96)
+splitOf xs = splitBy xs (sizeOf (word xs 0) maxNodes) (sizeOf (word xs 1) maxArcs)
 
 -- ---- the lines: kind, sizes, numerators, denominators, reduced value, value
 
@@ -65,8 +68,8 @@ restoredLines (Refused q) pair values = refusedBytes ++ lineOf (wordOf (numberOf
 -- restored into slices of the lengths that question 1 asks for
 abbrev pub restoredText : List ℤ → List ℤ → List ℤ → List ℕ
 restoredText xs zs ys =
-    restoredLines (answerOf (refusalOf xs zs ys 258 4 10240 96)) (outOf (refusalOf xs zs ys 258 4 10240 96) (readOf xs) (broughtBack (reduced (readOf xs)) ys) 258)
-    (valuesOf (refusalOf xs zs ys 258 4 10240 96) (readOf xs) (reduced (readOf xs)) ys (broughtBack (reduced (readOf xs)) ys) 4)
+    restoredLines (answerOf (refusalOf xs zs ys pairRoom valueRoom scratchRoom maxArcs)) (outOf (refusalOf xs zs ys pairRoom valueRoom scratchRoom maxArcs) (readOf xs) (broughtBack (reduced (readOf xs)) ys) pairRoom)
+    (valuesOf (refusalOf xs zs ys pairRoom valueRoom scratchRoom maxArcs) (readOf xs) (reduced (readOf xs)) ys (broughtBack (reduced (readOf xs)) ys) valueRoom)
 
 -- "the rest is the pair"
 abbrev pub onSplit : List ℤ → Split → List ℕ
@@ -84,8 +87,8 @@ restoreText text = onWords (wordsOf text)
 -- what is printed says this: restored only with an optimum of the network given, of the cost printed
 abbrev pub OptimumRight : List ℤ → List ℤ → List ℤ → Type 0
 OptimumRight xs zs ys =
-    refusalOf xs zs ys 258 4 10240 96 ≡ 0 → Optimum (readOf xs) (reduced (readOf xs)) ys (outOf (refusalOf xs zs ys 258 4 10240 96) (readOf xs) (broughtBack (reduced (readOf xs)) ys) 258)
-    (valuesOf (refusalOf xs zs ys 258 4 10240 96) (readOf xs) (reduced (readOf xs)) ys (broughtBack (reduced (readOf xs)) ys) 4)
+    refusalOf xs zs ys pairRoom valueRoom scratchRoom maxArcs ≡ 0 → Optimum (readOf xs) (reduced (readOf xs)) ys (outOf (refusalOf xs zs ys pairRoom valueRoom scratchRoom maxArcs) (readOf xs) (broughtBack (reduced (readOf xs)) ys) pairRoom)
+    (valuesOf (refusalOf xs zs ys pairRoom valueRoom scratchRoom maxArcs) (readOf xs) (reduced (readOf xs)) ys (broughtBack (reduced (readOf xs)) ys) valueRoom)
 
 abbrev pub RestoredRight : List ℕ → Type 0
 RestoredRight text = (ws : List ℤ) (e f : ℕ) → wordsOf text ≡ some ws → splitOf ws ≡ Parts e f → OptimumRight (take e ws) (take (f - e) (drop e ws)) (drop f ws)

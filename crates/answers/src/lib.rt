@@ -4,6 +4,7 @@ ghost use mathlib.Core.List.{[], _∷_, _++_};
 ghost use Prim.Native.Nat.{_+_, _*_, _≤_};
 ghost use lib.ListN.{length};
 ghost use Rattle.fraction.specs.Words.{wordOf};
+ghost use Rattle.records.specs.Limits.{networkRoom, stackRoom};
 ghost use Rattle.text.specs.Line.{lineOf};
 ghost use Rattle.answers.specs.Answers.{noFlowBytes, refusedBytes, sizeAt, partLine, recordLines, networkLines, stackLines, reducedLines, reducedText, reduceText, noBytes, Printed, mostOf, mostReduced, NoFlowRight};
 use reduction::Answer;
@@ -107,22 +108,22 @@ fn put_answer(out: &mut [u8], at: usize, answer: Answer, net: &[i32], stack: &[i
 
 // The words of a text, reduced; the answer's bytes.
 fn reduce_words(words: &[i32], out: &mut [u8]) -> usize
-    ensures { λ r. ⌜ Printed (now (out .entry)) 0 (reducedText (now (words .entry))) (mostReduced 1410 257) r (now (out .exit)) ⌝ }
+    ensures { λ r. ⌜ Printed (now (out .entry)) 0 (reducedText (now (words .entry))) (mostReduced networkRoom stackRoom) r (now (out .exit)) ⌝ }
 {
-    let mut net = [0i32; 1410];
-    let mut stack = [0i32; 257];
-    let mut scratch = [0i32; 10240];
+    let mut net = [0i32; records::NETWORK_WORDS];
+    let mut stack = [0i32; records::STACK_WORDS];
+    let mut scratch = [0i32; records::SCRATCH_WORDS];
     let answer = reduction::plain::reduce(words, &mut net, &mut stack, &mut scratch);
     put_answer(out, 0, answer, &net, &stack)
 }
 
 // From the bytes of a text to the bytes of the reducing program's answer, and how many they are; what stands behind them is zero.
-// They are never more than `mostReduced 1410 257`, which is below 65536.
+// They are never more than `mostReduced networkRoom stackRoom`, which is below 65536.
 pub fn reduce_text(text: &[u8], out: &mut [u8]) -> usize
-    ensures { λ r. ⌜ Printed (noBytes (length (now (out .entry)))) 0 (reduceText (now (text .entry))) (mostReduced 1410 257) r (now (out .exit)) × NoFlowRight (now (text .entry)) ⌝ }
+    ensures { λ r. ⌜ Printed (noBytes (length (now (out .entry)))) 0 (reduceText (now (text .entry))) (mostReduced networkRoom stackRoom) r (now (out .exit)) × NoFlowRight (now (text .entry)) ⌝ }
 {
     text::clear(out);
-    let mut words = [0i32; 12288];
+    let mut words = [0i32; text::MAX_WORDS];
     match text::read_words(text, &mut words) {
         Reading::Words(n) => reduce_words(&words[..n], out),
         Reading::Refused => put_refusal(out, 0, 14),

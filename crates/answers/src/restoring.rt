@@ -2,6 +2,8 @@
 ghost use mathlib.Core.Path.{_≡_};
 ghost use Prim.Native.Nat.{_+_, _*_, _≤_};
 ghost use lib.ListN.{length};
+ghost use Rattle.network.specs.Limits.{maxNodes, maxArcs};
+ghost use Rattle.records.specs.Limits.{pairRoom, valueRoom};
 ghost use Rattle.answers.specs.Answers.{noBytes, Printed, mostOf};
 ghost use Rattle.answers.specs.Restoring.{stackSplit, splitSized, splitOf, pairLines, valueLines, restoredLines, restoredText, onSplit, restoreText, mostRestored, RestoredRight};
 use records::Size;
@@ -19,7 +21,7 @@ fn split_stack(words: &[i32], end: usize) -> Split
     requires { ⌜ end ≤ 100000 ⌝ }
     ensures { λ r. ⌜ r ≡ stackSplit (now (words .entry)) end ⌝ }
 {
-    match records::size_at(words, end, 128) {
+    match records::size_at(words, end, network::MAX_STEPS) {
         Size::Off => Split::No(7),
         Size::Is(s) => if end + 1 + 2 * s <= words.len() {
             Split::Parts(end, end + 1 + 2 * s)
@@ -30,7 +32,7 @@ fn split_stack(words: &[i32], end: usize) -> Split
 }
 
 fn split_sized(words: &[i32], n: usize, m: usize) -> Split
-    requires { ⌜ (n ≤ 32) × (m ≤ 96) ⌝ }
+    requires { ⌜ (n ≤ maxNodes) × (m ≤ maxArcs) ⌝ }
     ensures { λ r. ⌜ r ≡ splitSized (now (words .entry)) n m ⌝ }
 {
     let end = 2 + 2 * (n + 7 * m);
@@ -44,9 +46,9 @@ fn split_sized(words: &[i32], n: usize, m: usize) -> Split
 fn split_words(words: &[i32]) -> Split
     ensures { λ r. ⌜ r ≡ splitOf (now (words .entry)) ⌝ }
 {
-    match records::size_at(words, 0, 32) {
+    match records::size_at(words, 0, network::MAX_NODES) {
         Size::Off => Split::No(2),
-        Size::Is(n) => match records::size_at(words, 1, 96) {
+        Size::Is(n) => match records::size_at(words, 1, network::MAX_ARCS) {
             Size::Off => Split::No(2),
             Size::Is(m) => split_sized(words, n, m),
         },
@@ -88,11 +90,11 @@ fn put_answer(out: &mut [u8], at: usize, answer: Answer, pair: &[i32], values: &
 
 // The parts of a text, restored; the answer's bytes.
 fn restore_parts(network: &[i32], stack: &[i32], pair: &[i32], out: &mut [u8]) -> usize
-    ensures { λ r. ⌜ Printed (now (out .entry)) 0 (restoredText (now (network .entry)) (now (stack .entry)) (now (pair .entry))) (mostRestored 258 4) r (now (out .exit)) ⌝ }
+    ensures { λ r. ⌜ Printed (now (out .entry)) 0 (restoredText (now (network .entry)) (now (stack .entry)) (now (pair .entry))) (mostRestored pairRoom valueRoom) r (now (out .exit)) ⌝ }
 {
-    let mut back = [0i32; 258];
-    let mut values = [0i32; 4];
-    let mut scratch = [0i32; 10240];
+    let mut back = [0i32; records::PAIR_WORDS];
+    let mut values = [0i32; records::VALUE_WORDS];
+    let mut scratch = [0i32; records::SCRATCH_WORDS];
     let answer = restoration::plain::restore(
         network,
         stack,
@@ -107,7 +109,7 @@ fn restore_parts(network: &[i32], stack: &[i32], pair: &[i32], out: &mut [u8]) -
 // The words of a text whose network ends at e and whose stack ends at f.
 fn restore_split(words: &[i32], e: usize, f: usize, out: &mut [u8]) -> usize
     requires { ⌜ (e ≤ f) × (f ≤ length (now words)) ⌝ }
-    ensures { λ r. ⌜ Printed (now (out .entry)) 0 (onSplit (now (words .entry)) (Split.Parts e f)) (mostRestored 258 4) r (now (out .exit)) ⌝ }
+    ensures { λ r. ⌜ Printed (now (out .entry)) 0 (onSplit (now (words .entry)) (Split.Parts e f)) (mostRestored pairRoom valueRoom) r (now (out .exit)) ⌝ }
 {
     let network = &words[..e];
     let behind = &words[e..];
@@ -118,7 +120,7 @@ fn restore_split(words: &[i32], e: usize, f: usize, out: &mut [u8]) -> usize
 
 // The words of a text, split and restored.
 fn restore_words(words: &[i32], out: &mut [u8]) -> usize
-    ensures { λ r. ⌜ Printed (now (out .entry)) 0 (onSplit (now (words .entry)) (splitOf (now (words .entry)))) (mostRestored 258 4) r (now (out .exit)) ⌝ }
+    ensures { λ r. ⌜ Printed (now (out .entry)) 0 (onSplit (now (words .entry)) (splitOf (now (words .entry)))) (mostRestored pairRoom valueRoom) r (now (out .exit)) ⌝ }
 {
     match split_words(words) {
         Split::No(q) => crate::put_refusal(out, 0, q),
@@ -127,12 +129,12 @@ fn restore_words(words: &[i32], out: &mut [u8]) -> usize
 }
 
 // From the bytes of a text to the bytes of the restoring program's answer, and how many they are; what stands behind them is zero.
-// They are never more than `mostRestored 258 4`, which is below 65536.
+// They are never more than `mostRestored pairRoom valueRoom`, which is below 65536.
 pub fn restore_text(text: &[u8], out: &mut [u8]) -> usize
-    ensures { λ r. ⌜ Printed (noBytes (length (now (out .entry)))) 0 (restoreText (now (text .entry))) (mostRestored 258 4) r (now (out .exit)) × RestoredRight (now (text .entry)) ⌝ }
+    ensures { λ r. ⌜ Printed (noBytes (length (now (out .entry)))) 0 (restoreText (now (text .entry))) (mostRestored pairRoom valueRoom) r (now (out .exit)) × RestoredRight (now (text .entry)) ⌝ }
 {
     text::clear(out);
-    let mut words = [0i32; 12288];
+    let mut words = [0i32; text::MAX_WORDS];
     match text::read_words(text, &mut words) {
         Reading::Words(n) => restore_words(&words[..n], out),
         Reading::Refused => crate::put_refusal(out, 0, 14),

@@ -3,12 +3,13 @@
 ghost use mathlib.Core.Path.{_≡_};
 ghost use mathlib.Core.Bool.{_&&_, not};
 ghost use mathlib.Core.List.{[], _∷_};
-ghost use Prim.Native.Nat.{ℕ, _<_};
+ghost use Prim.Native.Nat.{ℕ, _+_, _<_};
 ghost use lib.Dec.{eqb};
 ghost use lib.ListN.{getD};
 ghost use Rattle.loops.specs.Loops.{all};
 ghost use Rattle.fraction.specs.Exact.{noFigure, isSame};
 ghost use Rattle.fraction.specs.Formula.{isFit, figureOf, _⊕_, _⊖_, _⊗_};
+ghost use Rattle.network.specs.Limits.{nodePlaces};
 ghost use Rattle.network.specs.Network.{isTouching, isRoot, sideOf};
 ghost use Rattle.records.specs.Questions.{_asks_, firstNo};
 ghost use Rattle.figures.specs.Figures.{balanceBy, balanceOf, reducedBy, valueOf, balanceFits, costFits, isBalanced, isWithin, isWithinAt, keepsRuleAt, testQuestions};
@@ -17,6 +18,9 @@ ghost use Rattle.slackness.specs.Slackness.{keepsRule};
 use fraction::Fraction;
 use fraction::Worked;
 use network::Arc;
+use network::MAX_ARCS;
+use network::MAX_NODES;
+use network::NODE_PLACES;
 use network::Net;
 use network::pair::Pair;
 
@@ -31,9 +35,11 @@ struct Sum {
     w: Worked,
 }
 
-// The balances of the nodes 0 to 32; the last is no node's.
+// The places of balances: those of nodes, and one that is no node's.
+const SUM_PLACES: usize = NODE_PLACES + 1;
+
 struct Sums {
-    at: [Sum; 34],
+    at: [Sum; SUM_PLACES],
 }
 
 // Whether all balances fit, and whether every node is balanced.
@@ -76,7 +82,7 @@ pub fn balance(net: Net, pair: Pair, i: usize) -> Worked
     for j in 0..net.m {
         let mut t = network::no_arc();
         let mut x = network::no_figure();
-        if j < 96 {
+        if j < MAX_ARCS {
             t = net.arcs[j + 1];
             x = pair.flow[j + 1];
         }
@@ -108,17 +114,17 @@ fn reduced(t: Arc, p: Fraction, q: Fraction) -> Worked
 }
 
 // The price of node i.
-fn price_in(price: [Fraction; 33], i: usize) -> Fraction
+fn price_in(price: [Fraction; NODE_PLACES], i: usize) -> Fraction
     ensures { λ r. ⌜ r ≡ getD price i noFigure ⌝ }
 {
-    if i < 33 {
+    if i < NODE_PLACES {
         return price[i];
     }
     network::no_figure()
 }
 
 // An arc's reduced cost.
-fn reduced_cost(t: Arc, price: [Fraction; 33]) -> Worked
+fn reduced_cost(t: Arc, price: [Fraction; NODE_PLACES]) -> Worked
     ensures { λ r. ⌜ r ≡ costIn price t ⌝ }
 {
     let p = price_in(price, t.from);
@@ -134,7 +140,7 @@ pub fn value(net: Net, pair: Pair) -> Worked
     for j in 0..net.m {
         let mut t = network::no_arc();
         let mut x = network::no_figure();
-        if j < 96 {
+        if j < MAX_ARCS {
             t = net.arcs[j + 1];
             x = pair.flow[j + 1];
         }
@@ -146,35 +152,37 @@ pub fn value(net: Net, pair: Pair) -> Worked
 
 // The place of node k among the balances; the last where it has none.
 fn place_of(k: usize) -> usize
-    ensures { λ r. ⌜ (r < 34) × ((i : ℕ) → i < 33 → eqb r i ≡ eqb k i) ⌝ }
+    ensures { λ r. ⌜ (r < nodePlaces + 1) × ((i : ℕ) → i < nodePlaces → eqb r i ≡ eqb k i) ⌝ }
 {
-    if k < 33 {
+    if k < NODE_PLACES {
         return k;
     }
-    33
+    NODE_PLACES
 }
 
 // The place of an arc's to node; the last for a root arc.
 fn to_place(t: Arc) -> usize
-    ensures { λ r. ⌜ (r < 34) × ((i : ℕ) → i < 33 → eqb r i ≡ (not (isRoot t) && eqb (t .to) i)) ⌝ }
+    ensures { λ r. ⌜ (r < nodePlaces + 1) × ((i : ℕ) → i < nodePlaces → eqb r i ≡ (not (isRoot t) && eqb (t .to) i)) ⌝ }
 {
     if network::is_root(t) {
-        return 33;
+        return NODE_PLACES;
     }
     place_of(t.to)
 }
 
-// The balances of the nodes 0 to 32, arcs upward.
+// The balances of the nodes, arcs upward.
 fn balances(net: Net, pair: Pair) -> Sums
-    ensures { λ r. ⌜ ((i : ℕ) → i < 33 → sumAt r i ≡ balanceOf net pair i) ⌝ }
+    ensures { λ r. ⌜ ((i : ℕ) → i < nodePlaces → sumAt r i ≡ balanceOf net pair i) ⌝ }
 {
     let zero = Fraction::ZERO.fit();
     let none = Sum { w: zero };
-    let mut s = Sums { at: [none; 34] };
+    let mut s = Sums {
+        at: [none; SUM_PLACES],
+    };
     for j in 0..net.m {
         let mut t = network::no_arc();
         let mut x = network::no_figure();
-        if j < 96 {
+        if j < MAX_ARCS {
             t = net.arcs[j + 1];
             x = pair.flow[j + 1];
         }
@@ -215,7 +223,7 @@ fn ask_nodes(net: Net, pair: Pair) -> Nodes
     for i in 0..net.n {
         let mut w = Fraction::ZERO.fit();
         let mut r = network::no_figure();
-        if i < 32 {
+        if i < MAX_NODES {
             let z = s.at[i + 1];
             w = z.w;
             r = net.supply[i + 1];
@@ -240,7 +248,7 @@ fn is_within(t: Arc, x: Fraction) -> bool
 }
 
 // One arc more, with its flow and all prices.
-fn ask_arc(a: Arcs, t: Arc, x: Fraction, price: [Fraction; 33]) -> Arcs
+fn ask_arc(a: Arcs, t: Arc, x: Fraction, price: [Fraction; NODE_PLACES]) -> Arcs
     ensures { λ r. ⌜ (r .fit ≡ (a .fit && isFit (costIn price t))) × (r .within ≡ (a .within && isWithin t x)) × (r .kept ≡ (a .kept && keepsRule (t .lower) (t .upper) x (figureOf (costIn price t)))) ⌝ }
 {
     let l = t.lower;
@@ -265,7 +273,7 @@ fn ask_arcs(net: Net, pair: Pair) -> Arcs
     for j in 0..net.m {
         let mut t = network::no_arc();
         let mut x = network::no_figure();
-        if j < 96 {
+        if j < MAX_ARCS {
             t = net.arcs[j + 1];
             x = pair.flow[j + 1];
         }

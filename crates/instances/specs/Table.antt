@@ -14,8 +14,10 @@ use Rattle.fraction.specs.Exact.{over, noUpper, isOperand, isProper, fitted, re
 use Rattle.fraction.specs.Formula.{pairOf, _⊕_, _⊖_, _⊗_, _⊘_, ⊝_}
 use Rattle.network.specs.declared.Arc.{Arc}
 use Rattle.network.specs.declared.Net.{Net}
+use Rattle.network.specs.Limits.{maxArcs}
 use Rattle.network.specs.Network.{noArc, emptyNet, updatesOf, withArc, withSupply, withNode, without, applied, isTouching, degreeOf, touchingAfter, isRoot, farEnd, sideOf}
 use Rattle.network.specs.declared.ArcUpdate.{ArcUpdate}
+use Rattle.records.specs.Limits.{networkRoom, stackRoom, pairRoom, valueRoom, scratchRoom}
 use Rattle.records.specs.Arrays.{figureAt}
 use Rattle.records.specs.Network.{sizesRight, figuresRight, endsRight, multipliersRight, questions, roleOf, isPermitted, isEnd, hasEnds, arcIn, isWeighted, netOf, readOf}
 use Rattle.network.specs.Pair.{withPrice, withFlow}
@@ -68,24 +70,24 @@ abbrev pub All : List Row → Type 0
 All [] = Unit
 All (r ∷ rs) = (r .computed ≡ r .documented) × All rs
 
--- ---- A, E and F: reducing, with the least that may be lent: 1410 words for the network, 257 for the stack, 10240 of scratch, 96 records
+-- ---- A, E and F: reducing, with the least that may be lent
 
 -- the answer, all words of the network output and all words of the stack
 abbrev Reducing : Type 0
 Reducing = Answer × (List ℤ × List ℤ)
 
 abbrev reducingBy : ℕ → List ℤ → Reducing
-reducingBy q xs = (answerOf q (reduced (readOf xs)), (outputOf q (reduced (readOf xs)) 1410, stackOf q (reduced (readOf xs)) 257))
+reducingBy q xs = (answerOf q (reduced (readOf xs)), (outputOf q (reduced (readOf xs)) networkRoom, stackOf q (reduced (readOf xs)) stackRoom))
 
 abbrev reducing : List ℤ → Reducing
-reducing xs = reducingBy (refusalOf xs 1410 257 10240 96) xs
+reducing xs = reducingBy (refusalOf xs networkRoom stackRoom scratchRoom maxArcs) xs
 
 -- "words behind a record are zero"
 abbrev filled : ℕ → List ℤ → List ℤ
 filled k xs = xs ++ zeros (k - length xs)
 
 abbrev outcome : Answer → List ℤ → List ℤ → Reducing
-outcome r net stack = (r, (filled 1410 net, filled 257 stack))
+outcome r net stack = (r, (filled networkRoom net, filled stackRoom stack))
 
 abbrev neg : ℕ → ℤ
 neg k = negℤ (pos k)
@@ -110,7 +112,7 @@ stack = pos 1 ∷ pos 3 ∷ pos 3 ∷ []
 abbrev A : Row
 A = row Reducing (reducing given) (outcome Reduced left stack)
 
--- A and B: restoring, with the least that may be lent: 258 words for the pair, 4 for the values, 10240 of scratch, 96 records
+-- A and B: restoring, with the least that may be lent
 
 -- the answer, all words of the pair and all words of the values
 abbrev Return : Type 0
@@ -118,10 +120,10 @@ Return = AnswerBack × (List ℤ × List ℤ)
 
 abbrev returnBy : ℕ → List ℤ → List ℤ → Return
 returnBy q xs ys =
-    (answerBack q, (outOf q (readOf xs) (broughtBack (reduced (readOf xs)) ys) 258, valuesOf q (readOf xs) (reduced (readOf xs)) ys (broughtBack (reduced (readOf xs)) ys) 4))
+    (answerBack q, (outOf q (readOf xs) (broughtBack (reduced (readOf xs)) ys) pairRoom, valuesOf q (readOf xs) (reduced (readOf xs)) ys (broughtBack (reduced (readOf xs)) ys) valueRoom))
 
 abbrev restoring : List ℤ → List ℤ → List ℤ → Return
-restoring xs zs ys = returnBy (refusalBack xs zs ys 258 4 10240 96) xs ys
+restoring xs zs ys = returnBy (refusalBack xs zs ys pairRoom valueRoom scratchRoom maxArcs) xs ys
 
 -- A, its restoring half: prices 2 and 0, flows 3 and 1
 abbrev offered : ℕ → ℕ → List ℤ
@@ -132,11 +134,11 @@ back = (pos 3 ∷ pos 3 ∷ []) ++ (pos 2 ∷ pos 0 ∷ pos 7 ∷ pos 3 ∷ pos 
 
 -- reduced value 5, value 19
 abbrev A-back : Row
-A-back = row Return (restoring given stack (offered 3 1)) (Restored, (filled 258 back, pos 5 ∷ pos 1 ∷ pos 19 ∷ pos 1 ∷ []))
+A-back = row Return (restoring given stack (offered 3 1)) (Restored, (filled pairRoom back, pos 5 ∷ pos 1 ∷ pos 19 ∷ pos 1 ∷ []))
 
 -- B. A's pair with flows 2 and 2, prices unchanged: refusal 12
 abbrev B : Row
-B = row Return (restoring given stack (offered 2 2)) (RefusedBack 12, (zeros 258, zeros 4))
+B = row Return (restoring given stack (offered 2 2)) (RefusedBack 12, (zeros pairRoom, zeros valueRoom))
 
 -- E. n = 0, m = 0: reduced, no steps
 abbrev nothing : List ℤ

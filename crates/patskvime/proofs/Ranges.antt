@@ -1,5 +1,5 @@
 -- The numbers that an answer can have.
-use mathlib.Core.Path.{_≡_, refl, sym}
+use mathlib.Core.Path.{_≡_, refl}
 use mathlib.Core.List.{List}
 use mathlib.Core.Logic.{inl, inr}
 use Prim.Native.Nat.{ℕ, zero, suc, _≤_}
@@ -20,7 +20,7 @@ use Rattle.optimality.specs.Test.{pairQuestions, testTable}
 use Rattle.reduction.specs.declared.Answer.{Answer}
 use Rattle.reduction.specs.declared.Answer.the-variants.{Reduced, NoFlow, Refused}
 use Rattle.reduction.specs.Reduce.{reduceTable, refusalOf, endAnswer, answerOf, Reduction}
-use Rattle.reduction.proofs.Entry.{no-flow-named}
+use Rattle.reduction.proofs.Entry.{shown}
 use Rattle.restoration.specs.Restore.{offerTable, runTable, restoreTable}
 use Rattle.optimality.specs.declared.Answer as Testing
 use Rattle.optimality.specs.Test as Test
@@ -45,7 +45,7 @@ module _ (xs : List ℤ) (o s w k : ℕ) where
 
   answer-ranged : (r : Answer) → r ≡ answerOf (refusalOf xs o s w k) (reduced (readOf xs)) → Ranged r
   answer-ranged Reduced e = tt
-  answer-ranged (NoFlow rule place) e = shown-within _ (no-flow-named xs o s w k rule place (sym e))
+  answer-ranged (NoFlow rule place) e = shown-within _ (shown xs o s w k e rule place refl)
   answer-ranged (Refused q) e = by (refusalOf xs o s w k) few e
     where
       on : (n : Next) → Refused q ≡ endAnswer n → Within 1 5 q

@@ -3,6 +3,7 @@ use mathlib.Core.Path.{_≡_}
 use mathlib.Core.List.{List}
 use Prim.Native.Nat.{ℕ, _+_, _*_, _≤_}
 use lib.IntN.{ℤ}
+use Rattle.network.specs.Limits.{maxArcs}
 use Rattle.network.specs.ArcList.{noArcs}
 use Rattle.reduction.specs.declared.Answer.{Answer}
 use Rattle.reduction.specs.declared.Answer.the-variants.{Reduced, NoFlow, Refused}
@@ -24,14 +25,14 @@ Within low high x = (low ≤ x) × (x ≤ high)
 
 abbrev pub Ranged : Answer → Type 0
 Ranged Reduced = Unit {0}
-Ranged (NoFlow rule place) = Within 1 6 rule × Within 1 96 place
+Ranged (NoFlow rule place) = Within 1 6 rule × Within 1 maxArcs place
 Ranged (Refused q) = Within 1 5 q
 
--- ---- a call, with an arc list of 96 records of its own: all that it says of an answer, and the result, which is the answer's code
+-- ---- a call, with an arc list of its own: all that it says of an answer, and the result, which is the answer's code
 
 pub record ReductionCode (xs : List ℤ) (o s w r : ℕ) (out stack scratch : List ℤ) : Type 0 where
   pub answer : Answer
-  pub says : Reduction xs o s w 96 answer out stack scratch (noArcs 96)
+  pub says : Reduction xs o s w maxArcs answer out stack scratch (noArcs maxArcs)
   pub code : r ≡ codeOf answer
   pub ranged : Ranged answer
 
@@ -43,6 +44,6 @@ pub record TestCode (xs ys : List ℤ) (room r : ℕ) (values : List ℤ) : Type
 
 pub record RestorationCode (xs zs ys : List ℤ) (o v w r : ℕ) (out values scratch : List ℤ) : Type 0 where
   pub answer : Restoring.Answer
-  pub says : Restore.Restoration xs zs ys o v w 96 answer out values scratch (noArcs 96)
+  pub says : Restore.Restoration xs zs ys o v w maxArcs answer out values scratch (noArcs maxArcs)
   pub code : r ≡ Restore.numberOf answer
   pub ranged : r ≤ 13

@@ -1,6 +1,7 @@
 // One rule at one place of a network. Behind the first word come the rule, the place, the length of a network's record,
 // and 160 words that begin with that record.
 use fraction::Fraction;
+use network::ARC_PLACES;
 use network::Arc;
 use network::ArcUpdate;
 use network::Net;
@@ -16,7 +17,7 @@ pub(crate) enum Tried {
 // The arcs at a node: how many, and their numbers, upward.
 struct Near {
     count: usize,
-    numbers: [usize; 97],
+    numbers: [usize; ARC_PLACES],
 }
 
 // Whether an arc is looked for at node i: if it touches the node (0), or its multiplier there is below zero (1) or
@@ -32,8 +33,8 @@ fn suits(t: Arc, i: usize, which: usize) -> bool {
 // All arcs that are looked for at node i.
 fn gather(net: Net, i: usize, which: usize) -> Near {
     let mut count: usize = 0;
-    let mut numbers = [0usize; 97];
-    for j in 1..97 {
+    let mut numbers = [0usize; ARC_PLACES];
+    for j in 1..ARC_PLACES {
         let t = net.arcs[j];
         if suits(t, i, which) {
             numbers[count] = j;
@@ -128,7 +129,7 @@ fn at_place(net: Net, k: usize, i: usize) -> Outcome {
     if k == 4 {
         return costly_arc::costly_arc(net, i);
     }
-    if i < 33 {
+    if i < network::NODE_PLACES {
         if net.here[i] {
             return at_node(net, k, i);
         }

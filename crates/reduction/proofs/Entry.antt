@@ -19,7 +19,7 @@ use Rattle.network.specs.Legal.{Legal}
 use Rattle.network.specs.Program.{programOf}
 use Rattle.step.specs.declared.Next.{Next}
 use Rattle.step.specs.declared.Next.the-variants.{Stops, Refuted, Takes}
-use Rattle.step.specs.Run.{backOf}
+use Rattle.step.specs.Run.{Run, backOf}
 use Rattle.step.specs.Applies.{NoneApplies, Shown}
 use Rattle.step.proofs.RunLaws.{run-ends}
 use Rattle.rules.specs.Table.{rules, nextOf, reduced}
@@ -45,97 +45,77 @@ searched-room true true false q = refl
 searched-room true false c q = refl
 searched-room false b c q = refl
 
+-- an answer by how the run ended
+ended-number : (t : Next) → numberOf (endAnswer t) ≡ 0
+ended-number Stops = refl
+ended-number (Takes s) = refl
+ended-number (Refuted a b) = refl
+
+ended-no-flow : (t : Next) (rule i : ℕ) → NoFlow rule i ≡ endAnswer t → t ≡ Refuted rule i
+ended-no-flow Stops rule i e = never cc
+ended-no-flow (Takes s) rule i e = never cc
+ended-no-flow (Refuted a b) rule i e = cc
+
+ended-output : (t : Next) (net : Net) (o : ℕ) → Reduced ≡ endAnswer t → endOutput t net o ≡ networkOf (packedOf net) o
+ended-output Stops net o e = refl
+ended-output (Takes s) net o e = refl
+ended-output (Refuted a b) net o e = never cc
+
 module _ (xs : List ℤ) (o s w k : ℕ) where
+  abbrev run : Run
+  run = reduced (readOf xs)
+
   -- room for the outputs, then the questions of the search
   pub room-is : refusalOf xs o s w k ≡ cond (leb 1410 o && leb 257 s) (Search.refusalOf xs w k) 1
   unfolding reduceTable isRoomy Search.refusalOf
   room-is = searched-room (leb 1410 o) (leb 257 s) (leb 10240 w && leb 96 k) (firstNo (questions xs))
 
-  pub allowed : refusalOf xs o s w k ≡ 0 → AllYes xs w k
-  allowed e = all-yes xs w k (none-no 0 (leb 1410 o && leb 257 s) (sym room-is ∙ e) .1)
+  number-of : (q : ℕ) → numberOf (answerOf q run) ≡ q
+  number-of zero = ended-number (run .ends)
+  number-of (suc q) = refl
 
-  -- reduced: no rule applies to what is left, at any place
-  pub reduced-none : answerOf (refusalOf xs o s w k) (reduced (readOf xs)) ≡ Reduced → NoneApplies 6 rules (reduced (readOf xs) .net)
-  reduced-none e = by (refusalOf xs o s w k) refl e
-    where
-      by : (q : ℕ) → refusalOf xs o s w k ≡ q → answerOf q (reduced (readOf xs)) ≡ Reduced → NoneApplies 6 rules (reduced (readOf xs) .net)
-      by (suc q) f e = never cc
-      by zero f e =
-          Whole.none-applies (readOf xs) (legal-read (allowed f)) (λ k i z. never (let c : NoFlow k i ≡ Reduced = rw z at e in cc))
+  module _ {r : Answer} (is : r ≡ answerOf (refusalOf xs o s w k) run) where
+    number : numberOf r ≡ refusalOf xs o s w k
+    number = ap numberOf is ∙ number-of (refusalOf xs o s w k)
 
-  -- no flow: the run ends in it, at that rule and place
-  ends : (rule i : ℕ) → answerOf (refusalOf xs o s w k) (reduced (readOf xs)) ≡ NoFlow rule i → Legal (readOf xs) × (reduced (readOf xs) .ends ≡ Refuted rule i)
-  ends rule i e = by (refusalOf xs o s w k) refl e
-    where
-      on : (t : Next) → endAnswer t ≡ NoFlow rule i → t ≡ Refuted rule i
-      on Stops e = never cc
-      on (Takes s) e = never cc
-      on (Refuted a b) e = cc
+    -- where nothing is refused, there is room, the record holds a legal network, and the answer is by how its run ended
+    yes : numberOf r ≡ 0 → (1410 ≤ o) × AllYes xs w k
+    yes z =
+        let a = none-no 0 (leb 1410 o && leb 257 s) (sym room-is ∙ sym number ∙ z) in
+        (leb-true _ _ (and-both (leb 1410 o) _ (a .0) .0), all-yes xs w k (a .1))
 
-      by : (q : ℕ) → refusalOf xs o s w k ≡ q → answerOf q (reduced (readOf xs)) ≡ NoFlow rule i → Legal (readOf xs) × (reduced (readOf xs) .ends ≡ Refuted rule i)
-      by (suc q) f e = never cc
-      by zero f e = (legal-read (allowed f), on _ e)
+    legal : numberOf r ≡ 0 → Legal (readOf xs)
+    legal z = legal-read (yes z .1)
 
-  -- that rule answers no flow at that place, and the network given has no feasible flow
-  pub no-flow-named : (rule i : ℕ) → answerOf (refusalOf xs o s w k) (reduced (readOf xs)) ≡ NoFlow rule i → Shown 1 rules (reduced (readOf xs) .net) rule i
-  no-flow-named rule i e = next-shown 6 rules _ rule i (sym (run-ends nextOf (backOf rules) Whole.next-right 128 (readOf xs)) ∙ ends rule i e .1)
+    ended : numberOf r ≡ 0 → r ≡ endAnswer (run .ends)
+    ended z = is ∙ ap (λ q. answerOf q run) (sym number ∙ z)
 
-  pub no-flow-given : (rule i : ℕ) → answerOf (refusalOf xs o s w k) (reduced (readOf xs)) ≡ NoFlow rule i → LP.NoFlow (programOf (readOf xs))
-  no-flow-given rule i e = let h = ends rule i e in Whole.flowless (readOf xs) (h .0) rule i (h .1)
+    -- no rule applies to what is left, at any place; "there are at most n + m steps"
+    until-none : r ≡ Reduced → NoneApplies 6 rules (run .net)
+    until-none e = let z = ap numberOf e in Whole.none-applies (readOf xs) (legal z) (λ k i q. never (let c = sym e ∙ ended z ∙ ap endAnswer q in cc))
 
-  -- "there are at most n + m steps"
-  pub steps-few : refusalOf xs o s w k ≡ 0 → length (reduced (readOf xs) .steps) ≤ nOf xs + mOf xs
-  steps-few e =
-      let a = allowed e in
-      let s = read-sizes xs (answered xs (a .asked) .0) in
-      omega (arith, Whole.few-steps (readOf xs) (legal-read a), s .0, s .1)
+    few-steps : numberOf r ≡ 0 → length (run .steps) ≤ nOf xs + mOf xs
+    few-steps z = let a = read-sizes xs (answered xs (yes z .1 .asked) .0) in omega (arith, Whole.few-steps (readOf xs) (legal z), a .0, a .1)
 
-  -- the record written is read as the network that it is of
-  written-back : (out : List ℤ) → answerOf (refusalOf xs o s w k) (reduced (readOf xs)) ≡ Reduced → out ≡ outputOf (refusalOf xs o s w k) (reduced (readOf xs)) o → (firstNo (questions (cutNetwork (packedOf (reduced (readOf xs) .net)) out)) ≡ 0) × (readOf (cutNetwork (packedOf (reduced (readOf xs) .net)) out) ≡ packedOf (reduced (readOf xs) .net))
-  written-back out e f = by (refusalOf xs o s w k) refl e f
-    where
-      left : Net
-      left = packedOf (reduced (readOf xs) .net)
+    -- the record written is read as the network that it is of
+    reads-back : {out : List ℤ} → out ≡ outputOf (refusalOf xs o s w k) run o → r ≡ Reduced → (firstNo (questions (cutNetwork (packedOf (run .net)) out)) ≡ 0) × (readOf (cutNetwork (packedOf (run .net)) out) ≡ packedOf (run .net))
+    reads-back f e =
+        let z = ap numberOf e in
+        let t = packed-tidy (Whole.whole (readOf xs) (legal z) .legal) in
+        rw (f ∙ ap (λ q. outputOf q run o) (sym number ∙ z) ∙ ended-output (run .ends) (run .net) o (sym e ∙ ended z)) (network-back (packedOf (run .net)) o (t .0) (t .1) (t .2) (yes z .0))
 
-      back : refusalOf xs o s w k ≡ 0 → (firstNo (questions (cutNetwork left (networkOf left o))) ≡ 0) × (readOf (cutNetwork left (networkOf left o)) ≡ left)
-      back z =
-          let t = packed-tidy (Whole.whole (readOf xs) (legal-read (allowed z)) .legal) in
-          network-back left o (t .0) (t .1) (t .2) (leb-true _ _ (and-both (leb 1410 o) _ (none-no 0 (leb 1410 o && leb 257 s) (sym room-is ∙ z) .0) .0))
+    -- no flow: the rule named shows it at the place named, and the network given has no feasible flow
+    refuted : (rule i : ℕ) → r ≡ NoFlow rule i → run .ends ≡ Refuted rule i
+    refuted rule i e = ended-no-flow (run .ends) rule i (sym e ∙ ended (ap numberOf e))
 
-      at : (n : Next) → endAnswer n ≡ Reduced → out ≡ endOutput n (reduced (readOf xs) .net) o → out ≡ networkOf left o
-      at Stops e f = f
-      at (Takes s) e f = f
-      at (Refuted a b) e f = never cc
+    pub shown : (rule i : ℕ) → r ≡ NoFlow rule i → Shown 1 rules (run .net) rule i
+    shown rule i e = next-shown 6 rules _ rule i (sym (run-ends nextOf (backOf rules) Whole.next-right 128 (readOf xs)) ∙ refuted rule i e)
 
-      by : (q : ℕ) → refusalOf xs o s w k ≡ q → answerOf q (reduced (readOf xs)) ≡ Reduced → out ≡ outputOf q (reduced (readOf xs)) o → (firstNo (questions (cutNetwork left out)) ≡ 0) × (readOf (cutNetwork left out) ≡ left)
-      by (suc q) z e f = never cc
-      by zero z e f = rw (at (reduced (readOf xs) .ends) e f) (back z)
+    pub flowless : (rule i : ℕ) → r ≡ NoFlow rule i → LP.NoFlow (programOf (readOf xs))
+    flowless rule i e = Whole.flowless (readOf xs) (legal (ap numberOf e)) rule i (refuted rule i e)
 
   -- ALL THAT A CALL SAYS, from the result and the words
-  pub says : {r : Answer} {out stack scratch : List ℤ} {arcs : List Arc} → Written (refusalOf xs o s w k) (reduced (readOf xs)) r out stack o s → scratch ≡ zeros w → arcs ≡ noArcs k → Reduction xs o s w k r out stack scratch arcs
-  says {r} h z a =
-      record {
-        number = n;
-        result = h .result;
-        out-is = h .out-is;
-        stack-is = h .stack-is;
-        scratch-is = z;
-        arcs-is = a;
-        until-none = λ e. reduced-none (sym (h .result) ∙ e);
-        few-steps = λ e. steps-few (sym n ∙ e);
-        reads-back = λ e. written-back _ (sym (h .result) ∙ e) (h .out-is);
-        shown = λ rule i e. no-flow-named rule i (sym (h .result) ∙ e);
-        flowless = λ rule i e. no-flow-given rule i (sym (h .result) ∙ e);
-      }
-    where
-      ended : (t : Next) → numberOf (endAnswer t) ≡ 0
-      ended Stops = refl
-      ended (Takes s) = refl
-      ended (Refuted a b) = refl
-
-      number-of : (q : ℕ) → numberOf (answerOf q (reduced (readOf xs))) ≡ q
-      number-of zero = ended (reduced (readOf xs) .ends)
-      number-of (suc q) = refl
-
-      n : numberOf r ≡ refusalOf xs o s w k
-      n = ap numberOf (h .result) ∙ number-of (refusalOf xs o s w k)
+  pub says : {r : Answer} {out stack scratch : List ℤ} {arcs : List Arc} → Written (refusalOf xs o s w k) run r out stack o s → scratch ≡ zeros w → arcs ≡ noArcs k → Reduction xs o s w k r out stack scratch arcs
+  says h z a =
+      let is = h .result in
+      record { number = number is; result = is; out-is = h .out-is; stack-is = h .stack-is; scratch-is = z; arcs-is = a; until-none = until-none is; few-steps = few-steps is; reads-back = reads-back is (h .out-is); shown = shown is; flowless = flowless is }

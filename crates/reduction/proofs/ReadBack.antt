@@ -1,15 +1,15 @@
--- A network's record, cut to its length, passes the questions 2 to 5 and is read as that network; a pair's passes question 8 and is read as the whole.
-use mathlib.Core.Path.{_≡_, refl, sym, ap, ap₂, _∙_}
+-- A network's record, cut to its length, passes the questions 2 to 5 and is read as that network.
+use mathlib.Core.Path.{_≡_, refl, sym, ap₂, _∙_}
 use mathlib.Core.Bool.{Bool, true, false, cond, not}
-use mathlib.Core.List.{List, [], _∷_}
+use mathlib.Core.List.{List, _∷_}
 use mathlib.Core.Logic.{_⊎_, inl, inr, ⊎-elim}
 use Prim.Native.Nat.{ℕ, zero, suc, _+_, _-_, _*_, _/_, _%_, _≤_, _<_}
 use native.Mathlib.Omega.{arith}
 use lib.Dec.{ltb}
 use lib.IntN.{ℤ, pos}
 use lib.ListN.{length, getD, take, replicate, length-append, length-replicate}
-use lib.Seq.{length-take-le, getD-take, getD-append-add, ext-getD}
-use borrow.Author.Tests.{le-leb, le-ltb, lt-ltb, ltb-true, ltb-false, eq-eqb}
+use lib.Seq.{length-take-le, getD-take, ext-getD}
+use borrow.Author.Tests.{le-leb, ltb-true, ltb-false, eq-eqb}
 use Rattle.integer.specs.Gcd.{gcd-pos, gcd-le}
 use Rattle.loops.proofs.Laws.{length-build, each-all}
 use Rattle.fraction.specs.declared.Fraction.{Fraction}
@@ -27,18 +27,19 @@ use Rattle.records.specs.Arrays.{figureAt, arraysOf}
 use Rattle.records.specs.Network.{figures, sizesRight, roleOf, isPermitted, isInForm, isEnd, hasEnds, arcIn, isWeighted, isWeightedAt, questions, readOf, roleFigure, figureBy, figureOf, networkOf}
 use Rattle.records.specs.Cut.{cutNetwork}
 use Rattle.records.proofs.Questions.{asked}
-use Rattle.records.proofs.Arrays.{first-at, second-at, with-room}
+use Rattle.records.proofs.Arrays.{with-room}
+use Rattle.records.proofs.Put.{supply-figure, role-figure}
 use Rattle.records.proofs.Legal.{Permitted, permitted-is, net-is, read-is}
-use Rattle.records.proofs.Written.{words-read}
+use Rattle.records.proofs.Written.{figure-written}
 
 -- ---- a record of t figures, cut to its length
 
 -- these words are the sizes n and m and the figures f 0 to f (t - 1), and no more
-record Holds (xs : List ℤ) (n m t : ℕ) (f : ℕ → Fraction) : Type 0 where
-  long : length xs ≡ 2 + 2 * t
-  first : word xs 0 ≡ pos n
-  second : word xs 1 ≡ pos m
-  figure : (k : ℕ) → k < t → f k .den ≤ most → figureAt xs t k ≡ f k
+pub record Holds (xs : List ℤ) (n m t : ℕ) (f : ℕ → Fraction) : Type 0 where
+  pub long : length xs ≡ 2 + 2 * t
+  pub first : word xs 0 ≡ pos n
+  pub second : word xs 1 ≡ pos m
+  pub figure : (k : ℕ) → k < t → f k .den ≤ most → figureAt xs t k ≡ f k
 
 number-word : (k : ℕ) → k ≤ most → wordOf k ≡ pos k
 unfolding wordOf
@@ -48,19 +49,11 @@ cut-figure : (xs : List ℤ) (t k : ℕ) → k < t → figureAt (take (2 + 2 * t
 unfolding figureAt
 cut-figure xs t k l = ap₂ fromWords (getD-take (2 + 2 * t) xs (2 + k) (pos 0) (omega arith)) (getD-take (2 + 2 * t) xs (2 + t + k) (pos 0) (omega arith))
 
-figure-written : (v w : ℤ) (f : ℕ → Fraction) (t room k : ℕ) → k < t → f k .den ≤ most → figureAt (v ∷ w ∷ arraysOf f t room) t k ≡ f k
-unfolding figureAt
-figure-written v w f t room k l d =
-    let e : 2 + t + k ≡ 2 + (t + k) = omega arith in
-    ap₂ fromWords (getD-append-add (v ∷ w ∷ []) (arraysOf f t room) k (pos 0) ∙ first-at f t room k l)
-    (ap (word (v ∷ w ∷ arraysOf f t room)) e ∙ getD-append-add (v ∷ w ∷ []) (arraysOf f t room) (t + k) (pos 0) ∙ second-at f t room k l)
-    ∙ words-read (f k) d
-
 arrays-long : (f : ℕ → Fraction) (t room : ℕ) → t + t ≤ room → length (arraysOf f t room) ≡ room
 unfolding arraysOf
 arrays-long f t room h = rw (length-append, length-append, length-build, length-build, length-replicate) (omega arith)
 
-cut-holds : (n m t room : ℕ) (f : ℕ → Fraction) → n ≤ 32 → m ≤ 96 → 2 + 2 * t ≤ room → Holds (take (2 + 2 * t) (wordOf n ∷ wordOf m ∷ arraysOf f t (room - 2))) n m t f
+pub cut-holds : (n m t room : ℕ) (f : ℕ → Fraction) → n ≤ 32 → m ≤ 96 → 2 + 2 * t ≤ room → Holds (take (2 + 2 * t) (wordOf n ∷ wordOf m ∷ arraysOf f t (room - 2))) n m t f
 cut-holds n m t room f h k l =
     record {
       long = length-take-le (2 + 2 * t) words (omega (arith, arrays-long f t (room - 2) (omega arith)));
@@ -153,18 +146,6 @@ module _ {net : Net} (g : Legal net) (u : Gapless net) where
       by true e = proper-permitted 0 _ (g .supply-proper (k + 1) (u .node-in (k + 1) (omega arith) (omega (arith, ltb-true k (net .n) e))))
       by false e = role-permitted (arc-legal ((k - net .n) / 7) (let b = ltb-false k (net .n) e in omega arith)) ((k - net .n) % 7) (omega arith)
 
-  supply-figure : (i : ℕ) → i < net .n → figureOf net i ≡ supplyAt net (i + 1)
-  unfolding figureOf
-  supply-figure i l = rw (lt-ltb i (net .n) l)
-
-  role-figure : (j r : ℕ) → r < 7 → figureOf net (net .n + 7 * j + r) ≡ roleFigure (arcAt net (j + 1)) r
-  unfolding figureOf
-  role-figure j r h =
-      let e : net .n + 7 * j + r - net .n ≡ 7 * j + r = omega arith in
-      let d : (7 * j + r) / 7 ≡ j = omega arith in
-      let q : (7 * j + r) % 7 ≡ r = omega arith in
-      rw (le-ltb (net .n + 7 * j + r) (net .n) (omega arith), e, d, q)
-
   -- ---- words that hold the figures of such a network
 
   module _ (xs : List ℤ) (w : Holds xs (net .n) (net .m) many (figureOf net)) where
@@ -176,7 +157,7 @@ module _ {net : Net} (g : Legal net) (u : Gapless net) where
     figure-held k l = w .figure k l (permitted-den (permitted-is (roleOf (net .n) k) _ (figure-permitted k l)))
 
     role-held : (j r : ℕ) → j < net .m → r < 7 → figureAt xs many (net .n + 7 * j + r) ≡ roleFigure (arcAt net (j + 1)) r
-    role-held j r l h = figure-held (net .n + 7 * j + r) (omega arith) ∙ role-figure j r h
+    role-held j r l h = figure-held (net .n + 7 * j + r) (omega arith) ∙ role-figure net j r h
 
     from-held : (j : ℕ) → j < net .m → figureAt xs many (net .n + 7 * j) ≡ wholeOf (arcAt net (j + 1) .from)
     unfolding roleFigure
@@ -225,7 +206,7 @@ module _ {net : Net} (g : Legal net) (u : Gapless net) where
         )
       where
         supply-held : (i : ℕ) → i < net .n → supplyAt net (i + 1) ≡ figureAt xs many i
-        supply-held i l = sym (figure-held i (omega arith) ∙ supply-figure i l)
+        supply-held i l = sym (figure-held i (omega arith) ∙ supply-figure net i l)
 
         no-node : (i : ℕ) → (i ≡ 0) ⊎ (net .n < i) → isHere net i ≡ false
         no-node i (inl e) = rw e (g .no-node)

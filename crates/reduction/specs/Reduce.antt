@@ -10,6 +10,8 @@ use Rattle.loops.specs.Loops.{zeros}
 use Rattle.presolve.specs.LP as LP
 use Rattle.network.specs.declared.Arc.{Arc}
 use Rattle.network.specs.declared.Net.{Net}
+use Rattle.network.specs.Limits.{maxArcs}
+use Rattle.records.specs.Limits.{networkRoom, stackRoom, scratchRoom}
 use Rattle.records.specs.Questions.{Question, _asks_, firstNo}
 use Rattle.records.specs.Network.{nOf, mOf, questions, readOf, networkOf}
 use Rattle.records.specs.Cut.{cutNetwork}
@@ -27,9 +29,9 @@ use Rattle.reduction.specs.declared.Answer.the-variants.{Reduced, NoFlow
 
 -- ---- the questions, in order, of the network's words and of the lengths of the lent output, stack, scratch and arc list
 
--- "network 1410 words, stack 257, .. scratch 10240", and an arc list of "at least 96 records"
+-- words for the network, the stack and scratch, and an arc list of at least `maxArcs` records
 unfoldable pub isRoomy : ℕ → ℕ → ℕ → ℕ → Bool
-isRoomy out stack scratch arcs = leb 1410 out && (leb 257 stack && (leb 10240 scratch && leb 96 arcs))
+isRoomy out stack scratch arcs = leb networkRoom out && (leb stackRoom stack && (leb scratchRoom scratch && leb maxArcs arcs))
 
 -- "Are the lent outputs and scratch long enough? 1"; then 2 to 5
 unfoldable pub reduceTable : List ℤ → ℕ → ℕ → ℕ → ℕ → List Question

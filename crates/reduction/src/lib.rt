@@ -24,7 +24,13 @@ pub enum Answer {
 }
 
 // The end of a run whose steps stand in the log and whose arcs are `view`, into slices of zeros.
-fn finish(ran: Ran, view: [Arc; 97], log: &[i32], out: &mut [i32], stack: &mut [i32]) -> Answer
+fn finish(
+    ran: Ran,
+    view: [Arc; network::ARC_PLACES],
+    log: &[i32],
+    out: &mut [i32],
+    stack: &mut [i32],
+) -> Answer
     requires { ⌜ now out ≡ zeros (length (now out)) ⌝ }
     ensures { λ r. ⌜ (r ≡ endAnswer (endsOf (ran .ends))) × (now (out .exit) ≡ endOutput (endsOf (ran .ends)) (joined (ran .nodes) view) (length (now (out .entry)))) × (now (stack .exit) ≡ withStack (now (log .entry)) (ran .steps) (now (stack .entry))) ⌝ }
 {
@@ -51,10 +57,10 @@ fn reduce_in(
     requires { ⌜ (now out ≡ zeros (length (now out))) × (now stack ≡ zeros (length (now stack))) ⌝ }
     ensures { λ r. ⌜ Written (refusalOf (now (network .entry)) (length (now (out .entry))) (length (now (stack .entry))) (length (now (scratch .entry))) (length (now (arcs .entry)))) (reduced (readOf (now (network .entry)))) r (now (out .exit)) (now (stack .exit)) (length (now (out .entry))) (length (now (stack .entry))) ⌝ }
 {
-    if out.len() < 1410 {
+    if out.len() < records::NETWORK_WORDS {
         return Answer::Refused(1);
     }
-    if stack.len() < 257 {
+    if stack.len() < records::STACK_WORDS {
         return Answer::Refused(1);
     }
     let ran = search::run(network, scratch, arcs);

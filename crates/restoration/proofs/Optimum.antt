@@ -1,37 +1,43 @@
--- Demand 3: a pair that is restored is optimal on the network given, and the value written is its cost.
+-- Demand 3: a pair that is restored is written in form and solves the network given, its flow is optimal there, and the value written is its cost.
 use mathlib.Core.Path.{_≡_, refl, sym, ap, _∙_, subst}
-use mathlib.Core.Bool.{true}
+use mathlib.Core.Bool.{true, false}
 use mathlib.Core.List.{List, List·Memᴰ}
-use mathlib.Core.Logic.{_⊎_, inl, inr, ⊎-elim}
+use mathlib.Core.Logic.{_⊎_, inl, inr}
 use Prim.Native.Nat.{ℕ, zero, suc, _+_, _-_, _≤_, _<_}
-use native.Mathlib.Nat.{not-suc-le-zero, eq-or-lt-of-le, le-of-suc-le-suc}
 use native.Mathlib.Numerals.{add-one}
 use native.Mathlib.Omega.{arith}
 use lib.Dec.{leb}
 use lib.IntN.{ℤ}
-use borrow.Author.Tests.{leb-true}
+use borrow.Author.Tests.{leb-true, leb-false, eq-eqb}
 use Rattle.loops.specs.Loops.{upto}
-use Rattle.algebra.specs.Rat.{ℚ, _+ℚ_, _*ℚ_, _≤ℚ_, 0ℚ}
-use Rattle.algebra.proofs.Rat.{≤ℚ-antisym}
+use Rattle.loops.proofs.Laws.{each-all}
+use Rattle.algebra.specs.Rat.{_+ℚ_, _*ℚ_, -ℚ_, 0ℚ}
+use Rattle.algebra.proofs.Rat.{ℚ-ring, ≤ℚ-antisym}
+use Rattle.algebra.proofs.Solver.{_:*_, :0, _:=_, ring2}
 use Rattle.algebra.proofs.Sum.{sum-congr}
-use Rattle.presolve.specs.LP.{Column, LP, Optimal, InBounds, brings, total}
+use Rattle.presolve.specs.Bounds as Bounds
+use Rattle.presolve.specs.LP.{Column, LP, Solved, InBounds, PriceRule, worth, brings, total}
+use Rattle.presolve.proofs.Duality.{weak-duality}
+use Rattle.presolve.proofs.Net.{row-out}
 use Rattle.presolve.specs.LP as LP
 use Rattle.fraction.specs.declared.Fraction.{Fraction}
 use Rattle.fraction.specs.declared.Worked.{Worked}
 use Rattle.fraction.specs.declared.Worked.the-variants.{Fits, Misfit}
-use Rattle.fraction.specs.Exact.{Operand, zeroFraction, fromWords}
+use Rattle.fraction.specs.Exact.{Proper, zeroFraction, fromWords}
 use Rattle.fraction.specs.Formula.{isFit, figureOf}
-use Rattle.fraction.proofs.Laws.{never, and-both}
+use Rattle.fraction.proofs.Laws.{never, and-both, is-proper}
 use Rattle.fraction.specs.Value.{value}
-use Rattle.fraction.proofs.Formulas.{plus-fits, times-fits}
 use Rattle.network.specs.declared.Net.{Net}
 use Rattle.network.specs.declared.pair.Pair.{Pair}
 use Rattle.fraction.specs.Words.{word}
 use Rattle.records.specs.Network.{questions, readOf}
-use Rattle.network.specs.Pair.{flowAt, exactPair}
+use Rattle.network.specs.Network.{isHere}
+use Rattle.network.specs.Pair.{priceAt, flowAt, exactPair}
 use Rattle.network.specs.Legal.{Legal, Gapless}
 use Rattle.network.specs.Program.{exactOf, programOf}
 use Rattle.network.proofs.Numbers.{by-number}
+use Rattle.network.proofs.Kept.{here-within}
+use Rattle.network.proofs.Sane.{sane}
 use Rattle.records.proofs.Legal.{read-gapless}
 use Rattle.survivors.proofs.Survivors.{packed-gapless}
 use Rattle.survivors.proofs.Packed.{packed-legal}
@@ -51,28 +57,32 @@ use Rattle.restoration.specs.declared.Answer.{Answer}
 use Rattle.restoration.specs.declared.Answer.the-variants.{Restored}
 use Rattle.survivors.specs.Survivors.{spreadOf}
 use Rattle.restoration.specs.Restore.{isReduced, isStack, reducedNet, broughtBack, pairBack, originalValue, reducedValue, isRoomy, isBack, offerTable, backTable, runTable, restoreTable, refusalOf, answerOf, writtenPair, Written, Optimum}
-use Rattle.records.specs.Pair.{pairWords}
+use Rattle.records.specs.Cut.{cutPair}
+use Rattle.records.specs.Pair.{hasSizes, isPair, pairFigure, pairWords}
 use Rattle.records.specs.Values.{fourWords}
 use Rattle.restoration.proofs.Parts.{numbered-pair}
 use Rattle.restoration.proofs.Spread.{no-value, read-sized, read-solved}
-use Rattle.records.proofs.Written.{flow-written, value-written}
+use Rattle.records.proofs.Arrays.{with-room}
+use Rattle.records.proofs.Written.{price-written, flow-written, value-written}
+use Rattle.reduction.proofs.ReadBack.{cut-holds}
+use Rattle.step.proofs.Exactly.{false-not}
+use Rattle.step.proofs.Figures.{Sized}
+use Rattle.step.proofs.Lines.{split}
 
--- ---- an optimal flow is known by its figures at the columns
+-- ---- a pair that solves a program is known by its flows at the columns, and by what its prices are worth there
 
-optimal-same : (N : LP) (x y : ℕ → ℚ) → ((c : ℕ) → List·Memᴰ c (N .cols) → x c ≡ y c) → Optimal N x → Optimal N y
-unfolding brings total
-optimal-same N x y h o =
+solved-same : (N : LP) (s t : LP.Pair) → ((c : ℕ) → List·Memᴰ c (N .cols) → s .flow c ≡ t .flow c) → ((c i : ℕ) → List·Memᴰ c (N .cols) → N .col c .coef i *ℚ s .price i ≡ N .col c .coef i *ℚ t .price i) → Solved N s → Solved N t
+unfolding brings worth
+solved-same N s t x p h =
     record {
       feasible = record {
-        balance = λ s m.
-            sum-congr (N .cols) (λ c. N .col c .coef s *ℚ y c) (λ c. N .col c .coef s *ℚ x c) (λ c k. ap (λ (t : ℚ). N .col c .coef s *ℚ t) (sym (h c k)))
-            ∙ o .feasible .balance s m;
-        within = λ c k. subst (InBounds (N .col c)) (h c k) (o .feasible .within c k);
+        balance = λ i m. sum-congr (N .cols) (λ c. N .col c .coef i *ℚ t .flow c) (λ c. N .col c .coef i *ℚ s .flow c) (λ c k. ap (λ v. N .col c .coef i *ℚ v) (sym (x c k))) ∙ h .feasible .balance i m;
+        within = λ c k. subst (InBounds (N .col c)) (x c k) (h .feasible .within c k);
       };
-      least = λ z f.
-          subst (λ (t : ℚ). N .constant +ℚ t ≤ℚ LP.value N z)
-          (sum-congr (N .cols) (λ c. N .col c .cost *ℚ x c) (λ c. N .col c .cost *ℚ y c) (λ c k. ap (λ (t : ℚ). N .col c .cost *ℚ t) (h c k)))
-          (o .least z f);
+      priced = λ c k.
+          subst (λ v. PriceRule (N .rows) (N .col c) v (t .price)) (x c k)
+          (subst (λ w. Bounds.Fits (N .col c .lower) (N .col c .upper) (s .flow c) (N .col c .cost +ℚ -ℚ w))
+          (sum-congr (N .rows) (λ i. N .col c .coef i *ℚ s .price i) (λ i. N .col c .coef i *ℚ t .price i) (λ i m. p c i k)) (h .priced c k));
     }
 
 -- ---- a value that fits
@@ -81,60 +91,76 @@ fit-some : (w : Worked) → isFit w ≡ true → w ≡ Fits (figureOf w)
 fit-some (Fits z) e = refl
 fit-some Misfit e = never cc
 
-module _ (net : Net) (pair : Pair) where
-  -- each flow in it is an operand
-  flows-operands : (k : ℕ) (z : Fraction) → upto (valueTurn net pair) k (Fits zeroFraction) ≡ Fits z → (j : ℕ) → j < k → Operand (flowAt pair (j + 1))
-  unfolding upto
-  flows-operands zero z e j l = absurd (not-suc-le-zero l)
-  flows-operands (suc k) z e j l =
-      let p = plus-fits e in
-      ⊎-elim
-      (λ (q : j ≡ k). let t = times-fits (p .right-fits) in let r : flowAt pair (k + 1) ≡ t .right = cc in rw (q, r) (t .is .right-operand))
-      (λ (b : j < k). flows-operands k (p .left) (p .left-fits) j b)
-      (eq-or-lt-of-le (le-of-suc-le-suc l))
-
 -- it is known by the flows of the arcs
 values-same : (net : Net) (p q : Pair) (k : ℕ) → ((j : ℕ) → j < k → flowAt p (j + 1) ≡ flowAt q (j + 1)) → upto (valueTurn net p) k (Fits zeroFraction) ≡ upto (valueTurn net q) k (Fits zeroFraction)
 unfolding upto
 values-same net p q zero h = refl
 values-same net p q (suc k) h = rw (values-same net p q k (λ j l. h j (omega (arith, add-one k))), h k (omega (arith, add-one k)))
 
--- ---- a pair with an optimal flow, whose value fits: so is the pair that its record holds
+-- ---- the record of a pair whose figures are in form
 
-module _ {net : Net} (g : Legal net) (gap : Gapless net) (pair : Pair) (o : ℕ) (room : 258 ≤ o) (fits : isFit (valueOf net pair) ≡ true) where
+module _ {net : Net} (g : Legal net) (pair : Pair) (z : Sized pair) (o : ℕ) (room : 258 ≤ o) where
+  abbrev words : List ℤ
+  words = pairWords (net .n) (net .m) pair o
+
   abbrev back : Pair
-  back = writtenPair net (pairWords (net .n) (net .m) pair o)
+  back = writtenPair net words
 
-  flow-operand : (j : ℕ) → j < net .m → Operand (flowAt pair (j + 1))
-  unfolding valueOf
-  flow-operand j l = flows-operands net pair (net .m) _ (fit-some (valueOf net pair) fits) j l
+  figure-proper : (k : ℕ) → k < net .n + net .m → Proper (pairFigure (net .n) pair k)
+  unfolding pairFigure
+  figure-proper k l =
+      split (leb (k + 1) (net .n))
+      (λ e. rw e (z .prices .proper (k + 1) (omega (arith, leb-true (k + 1) (net .n) e, g .few-nodes))))
+      (λ e. rw e (z .flows .proper (k - net .n + 1) (omega (arith, leb-false (k + 1) (net .n) e, g .few-arcs))))
+
+  -- question 8
+  in-form : isPair (cutPair net words) (net .n) (net .m) ≡ true
+  unfolding isPair hasSizes pairWords
+  in-form =
+      let w = cut-holds (net .n) (net .m) (net .n + net .m) o (pairFigure (net .n) pair) (g .few-nodes) (g .few-arcs) (omega (arith, g .few-nodes, g .few-arcs)) in
+      rw (with-room 258 (net .n) (net .m) (pairFigure (net .n) pair) (net .n + net .m) o (g .few-nodes) (g .few-arcs) room)
+      (rw (w .first, w .second, eq-eqb _ _ (w .long), eq-eqb (net .n) (net .n) refl, eq-eqb (net .m) (net .m) refl)
+      (each-all _ (net .n + net .m) (λ k l. let p = figure-proper k l in rw (w .figure k l (p .operand .den-in)) (is-proper _ p))))
+
+  -- the pair that it holds
+  price-same : (i : ℕ) → i < net .n → priceAt back (i + 1) ≡ priceAt pair (i + 1)
+  price-same i l = price-written (net .n) (net .m) pair o (g .few-nodes) (g .few-arcs) room i l (z .prices .proper (i + 1) (omega (arith, g .few-nodes)) .operand .den-in)
 
   flow-same : (j : ℕ) → j < net .m → flowAt back (j + 1) ≡ flowAt pair (j + 1)
-  flow-same j l = flow-written (net .n) (net .m) pair o (g .few-nodes) (g .few-arcs) room j l (flow-operand j l .den-in)
+  flow-same j l = flow-written (net .n) (net .m) pair o (g .few-nodes) (g .few-arcs) room j l (z .flows .proper (j + 1) (omega (arith, g .few-arcs)) .operand .den-in)
 
-  value-same : valueOf net back ≡ valueOf net pair
-  unfolding valueOf
-  value-same = values-same net back pair (net .m) flow-same
+  module _ (gap : Gapless net) where
+    -- solves the network where the pair written does
+    solved-written : Solved (programOf net) (exactPair pair) → Solved (programOf net) (exactPair back)
+    unfolding exactOf
+    solved-written h = solved-same (programOf net) (exactPair pair) (exactPair back) (λ c k. at-column c k (by-number (net .m) c)) (λ c i k. split (isHere net i) (at-node c i) (out-of-use c i k)) h
+      where
+        -- a column that is out has flow 0
+        none : (c : ℕ) → List·Memᴰ c (programOf net .cols) → (c ≡ 0) ⊎ (net .m < c) → exactPair pair .flow c ≡ 0ℚ
+        none c k l =
+            let w = subst (λ (t : Column). InBounds t (exactPair pair .flow c)) (column-unused g gap pair c l) (h .feasible .within c k) in
+            ≤ℚ-antisym (exactPair pair .flow c) 0ℚ (w .below 0ℚ refl) (w .above 0ℚ refl)
 
-  -- the value read back is the cost of the flow read back
-  pub cost-written : (x : Fraction) (v : ℕ) → value (fromWords (word (fourWords x (figureOf (valueOf net pair)) v) 2) (word (fourWords x (figureOf (valueOf net pair)) v) 3)) ≡ total (programOf net) (exactPair back .flow)
-  cost-written x v =
-      let e = value-exactly g gap back _ (value-same ∙ fit-some (valueOf net pair) fits) in
-      ap value (value-written x (figureOf (valueOf net pair)) v (e .0 .operand .den-in)) ∙ e .1
+        at-column : (c : ℕ) → List·Memᴰ c (programOf net .cols) → ((c ≡ 0) ⊎ (net .m < c)) ⊎ ((c - 1 + 1 ≡ c) × (c - 1 < net .m)) → exactPair pair .flow c ≡ exactPair back .flow c
+        at-column c k (inl l) = none c k l ∙ sym (ap value (no-flow-read words (net .n) (net .m) (g .few-nodes) (g .few-arcs) c l) ∙ no-value)
+        at-column c k (inr l) = sym (ap value (rw (l .0) at (flow-same (c - 1) (l .1))))
 
-  pub optimal-written : Optimal (programOf net) (exactPair pair .flow) → Optimal (programOf net) (exactPair back .flow)
-  unfolding exactOf
-  optimal-written h = optimal-same (programOf net) (exactPair pair .flow) (exactPair back .flow) (λ c k. at-column c k (by-number (net .m) c)) h
-    where
-      -- a column that is out has flow 0
-      none : (c : ℕ) → List·Memᴰ c (programOf net .cols) → (c ≡ 0) ⊎ (net .m < c) → exactPair pair .flow c ≡ 0ℚ
-      none c k l =
-          let w = subst (λ (t : Column). InBounds t (exactPair pair .flow c)) (column-unused g gap pair c l) (h .feasible .within c k) in
-          ≤ℚ-antisym (exactPair pair .flow c) 0ℚ (w .below 0ℚ refl) (w .above 0ℚ refl)
+        at-node : (c i : ℕ) → isHere net i ≡ true → programOf net .col c .coef i *ℚ exactPair pair .price i ≡ programOf net .col c .coef i *ℚ exactPair back .price i
+        at-node c i e =
+            let b = here-within g i e in
+            let q : i - 1 + 1 ≡ i = omega (arith, b .0) in
+            ap (λ f. programOf net .col c .coef i *ℚ value f) (sym (rw q at (price-same (i - 1) (omega (arith, b .0, b .1)))))
 
-      at-column : (c : ℕ) → List·Memᴰ c (programOf net .cols) → ((c ≡ 0) ⊎ (net .m < c)) ⊎ ((c - 1 + 1 ≡ c) × (c - 1 < net .m)) → exactPair pair .flow c ≡ exactPair back .flow c
-      at-column c k (inl l) = none c k l ∙ sym (ap value (no-flow-read (pairWords (net .n) (net .m) pair o) (net .n) (net .m) (g .few-nodes) (g .few-arcs) c l) ∙ no-value)
-      at-column c k (inr l) = sym (ap value (rw (l .0) at (flow-same (c - 1) (l .1))))
+        -- no column sees a row that is out
+        out-of-use : (c i : ℕ) → List·Memᴰ c (programOf net .cols) → isHere net i ≡ false → programOf net .col c .coef i *ℚ exactPair pair .price i ≡ programOf net .col c .coef i *ℚ exactPair back .price i
+        out-of-use c i k e = rw (row-out (exactOf net) (sane g) c i k (false-not e)) (ring2 ℚ-ring (exactPair pair .price i) (exactPair back .price i) (λ p q. :0 :* p := :0 :* q) refl)
+
+    -- and the value read back is the cost of the flow read back
+    cost-written : isFit (valueOf net pair) ≡ true → (x : Fraction) (v : ℕ) → value (fromWords (word (fourWords x (figureOf (valueOf net pair)) v) 2) (word (fourWords x (figureOf (valueOf net pair)) v) 3)) ≡ total (programOf net) (exactPair back .flow)
+    unfolding valueOf
+    cost-written fits x v =
+        let e = value-exactly g gap back _ (values-same net back pair (net .m) flow-same ∙ fit-some (valueOf net pair) fits) in
+        ap value (value-written x (figureOf (valueOf net pair)) v (e .0 .operand .den-in)) ∙ e .1
 
 -- ---- where none of 1 to 13 is answered by no
 
@@ -185,21 +211,24 @@ module _ (xs zs ys : List ℤ) (o v w k : ℕ) where
     proven : Proven (reducedNet run) ys
     proven = exactly-proven (packed-legal left-legal) (packed-gapless left-legal) ys .0 (y .tested)
 
-    optimal : Optimal (programOf net) (exactPair (pairBack way) .flow)
+    -- the pair at the end of the way is in form and solves the network given
+    brought : Sized (pairBack way) × Solved (programOf net) (exactPair (pairBack way))
     unfolding broughtBack
-    optimal =
-        let h = packed-legal left-legal in
-        Whole.optimal net (legal-read (y .asked)) (spreadOf (run .net) (pairIn (reducedNet run) ys)) (read-sized (run .net) left-legal ys _ _ (h .few-nodes) (h .few-arcs) (proven .in-form)) (read-solved (run .net) left-legal ys _ _ (h .few-nodes) (h .few-arcs) (proven .in-form) (proven .solved)) (arrived net way (y .fits) .0) .1
+    brought =
+        Whole.restored net (legal-read (y .asked)) (spreadOf (run .net) (pairIn (reducedNet run) ys)) (read-sized (run .net) left-legal ys (proven .in-form)) (read-solved (run .net) left-legal ys (proven .in-form) (proven .solved)) (arrived net way (y .fits) .0)
 
     optimum : Optimum net run ys (pairWords (net .n) (net .m) (pairBack way) o) (fourWords (reducedValue run ys) (originalValue net way) v)
     optimum =
+        let g = legal-read (y .asked) in
         let gap = read-gapless xs (y .asked .asked) in
-        let fits = arrived net way (y .fits) .1 in
+        let solved = solved-written g (pairBack way) (brought .0) o (y .room) gap (brought .1) in
         record {
           tested = y .tested;
           proven = proven;
-          optimal = optimal-written (legal-read (y .asked)) gap (pairBack way) o (y .room) fits optimal;
-          cost = cost-written (legal-read (y .asked)) gap (pairBack way) o (y .room) fits (reducedValue run ys) v;
+          in-form = in-form g (pairBack way) (brought .0) o (y .room);
+          solved = solved;
+          optimal = weak-duality (programOf net) _ solved;
+          cost = cost-written g (pairBack way) (brought .0) o (y .room) gap (arrived net way (y .fits) .1) (reducedValue run ys) v;
         }
 
   restored-is : (q : ℕ) → answerOf q ≡ Restored → q ≡ 0

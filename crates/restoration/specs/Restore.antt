@@ -7,7 +7,7 @@ use Prim.Native.Nat.{ℕ, zero, suc}
 use lib.Dec.{leb}
 use lib.IntN.{ℤ}
 use Rattle.loops.specs.Loops.{zeros}
-use Rattle.presolve.specs.LP.{Optimal, total}
+use Rattle.presolve.specs.LP.{Solved, Optimal, total}
 use Rattle.presolve.specs.LP as LP
 use Rattle.fraction.specs.declared.Fraction.{Fraction}
 use Rattle.fraction.specs.Exact.{fromWords}
@@ -17,10 +17,13 @@ use Rattle.network.specs.declared.Arc.{Arc}
 use Rattle.network.specs.declared.Net.{Net}
 use Rattle.network.specs.declared.pair.Pair.{Pair}
 use Rattle.fraction.specs.Words.{word}
+use Rattle.network.specs.Limits.{maxArcs}
+use Rattle.records.specs.Limits.{pairRoom, valueRoom, scratchRoom}
 use Rattle.records.specs.Network.{questions, readOf}
 use Rattle.survivors.specs.Survivors.{packedOf}
 use Rattle.network.specs.Pair.{noPair, exactPair}
-use Rattle.records.specs.Pair.{pairOf, pairWords}
+use Rattle.records.specs.Cut.{cutPair}
+use Rattle.records.specs.Pair.{isPair, pairOf, pairWords}
 use Rattle.records.specs.Values.{fourWords}
 use Rattle.network.specs.ArcList.{noArcs}
 use Rattle.network.specs.Program.{programOf}
@@ -58,9 +61,9 @@ originalValue net way = figureOf (valueOf net (pairBack way))
 
 -- ---- the questions, in order, of the words of the network, the stack and the pair, and of the lengths of the lent pair, values, scratch and arc list
 
--- "pair 258, values 4 .., scratch 10240", and an arc list of "at least 96 records"
+-- words for the pair, the values and scratch, and an arc list of at least `maxArcs` records
 unfoldable pub isRoomy : ℕ → ℕ → ℕ → ℕ → Bool
-isRoomy out values scratch arcs = leb 258 out && (leb 4 values && (leb 10240 scratch && leb 96 arcs))
+isRoomy out values scratch arcs = leb pairRoom out && (leb valueRoom values && (leb scratchRoom scratch && leb maxArcs arcs))
 
 abbrev pub isReduced : Next → Bool
 isReduced Stops = true
@@ -132,7 +135,10 @@ pub record Optimum (net : Net) (run : Run) (ys out values : List ℤ) : Type 0 w
   -- the pair passed the test on the reduced network
   pub tested : firstNo (pairQuestions (reducedNet run) ys) ≡ 0
   pub proven : Proven (reducedNet run) ys
-  -- the flow written is feasible, every feasible flow costs at least as much, and the cost written is its cost
+  -- the words written are a pair in form of the network's sizes, and the pair solves it: balanced, within bounds, keeping the price rule
+  pub in-form : isPair (cutPair net out) (net .n) (net .m) ≡ true
+  pub solved : Solved (programOf net) (exactPair (writtenPair net out))
+  -- its flow is feasible, every feasible flow costs at least as much, and the cost written is its cost
   pub optimal : Optimal (programOf net) (exactPair (writtenPair net out) .flow)
   pub cost : value (fromWords (word values 2) (word values 3)) ≡ total (programOf net) (exactPair (writtenPair net out) .flow)
 

@@ -72,7 +72,13 @@ fn test_pair(net: Net, pair: &[i32]) -> Offer
 }
 
 // Questions 6 to 12 of a run whose steps stand in the log and whose arcs are `view`.
-fn ask_run(ran: Ran, view: [Arc; 97], log: &[i32], stack: &[i32], pair: &[i32]) -> Offer
+fn ask_run(
+    ran: Ran,
+    view: [Arc; network::ARC_PLACES],
+    log: &[i32],
+    stack: &[i32],
+    pair: &[i32],
+) -> Offer
     ensures { λ r. ⌜ Offers (joined (ran .nodes) view) (now (pair .entry)) (firstNo (offerTable (isReduced (endsOf (ran .ends))) (isStackOf (now (log .entry)) (ran .steps) (now (stack .entry))) (packedOf (joined (ran .nodes) view)) (now (pair .entry)))) r ⌝ }
 {
     let ends = ran.ends;
@@ -121,7 +127,7 @@ fn finish(net: Net, reduced: Fraction, b: Back, out: &mut [i32], values: &mut [i
 // It, where the arcs of the network given are `view`.
 fn finish_at(
     nodes: Nodes,
-    view: [Arc; 97],
+    view: [Arc; network::ARC_PLACES],
     reduced: Fraction,
     b: Back,
     out: &mut [i32],
@@ -146,10 +152,10 @@ fn restore_in(
     requires { ⌜ (now out ≡ zeros (length (now out))) × (now values ≡ zeros (length (now values))) ⌝ }
     ensures { λ r. ⌜ Written (refusalOf (now (network .entry)) (now (stack .entry)) (now (pair .entry)) (length (now (out .entry))) (length (now (values .entry))) (length (now (scratch .entry))) (length (now (arcs .entry)))) (readOf (now (network .entry))) (reduced (readOf (now (network .entry)))) (now (pair .entry)) r (now (out .exit)) (now (values .exit)) (length (now (out .entry))) (length (now (values .entry))) ⌝ }
 {
-    if out.len() < 258 {
+    if out.len() < records::PAIR_WORDS {
         return Answer::Refused(1);
     }
-    if values.len() < 4 {
+    if values.len() < records::VALUE_WORDS {
         return Answer::Refused(1);
     }
     let ran = search::run(network, scratch, arcs);

@@ -17,19 +17,4 @@ returns-3 : tie.Need-returns-3
 returns-3 c = rw (c .before .before .before .before .before .answer2 .given .1) (printed-most (c .before .before .put-refusal .ensures) (omega arith))
 
 pub put-answer-spec : {M : Type 1} → statement M
-put-answer-spec =
-    tie.close
-    (tie.spec
-    (λ c. search needs)
-    (λ c κs. search needs)
-    (λ c. search needs)
-    (λ c κs. search needs)
-    (λ c κs. search needs)
-    (λ c. search needs)
-    (λ c κs. search needs)
-    (λ c. search needs)
-    returns
-    (λ c. search needs)
-    returns-2
-    (λ c. search needs)
-    returns-3)
+put-answer-spec = tie.close (tie.spec (λ c. search needs) (λ c κs. search needs) (λ c. search needs) (λ c κs. search needs) (λ c κs. search needs) (λ c. search needs) (λ c κs. search needs) (λ c. search needs) returns (λ c. search needs) returns-2 (λ c. search needs) returns-3)

@@ -11,14 +11,4 @@ returns : tie.Need-returns
 returns c = printed-line {k = 8} (c .before .before .before .before .before .before .before .before .before .put-bytes .ensures) (lit≤ tt) (rw (back32 (c .before .before .before .before .before .before .word-of .result) (c .before .before .before .before .before .before .word-of .ok), back32 (c .before .before .before .before .before .word-of2 .result) (c .before .before .before .before .before .word-of2 .ok), c .before .before .before .before .before .before .word-of .ensures, c .before .before .before .before .before .word-of2 .ensures) at (c .before .before .put-line .ensures)) (lit≤ tt)
 
 pub put-no-flow-spec : {M : Type 1} → statement M
-put-no-flow-spec =
-    tie.close
-    (tie.spec
-    (λ c. search needs)
-    (λ c κs. search needs)
-    (λ c κs. search needs)
-    (λ c κs. search needs)
-    (λ c. search needs)
-    (λ c κs. search needs)
-    (λ c. search needs)
-    returns)
+put-no-flow-spec = tie.close (tie.spec (λ c. search needs) (λ c κs. search needs) (λ c κs. search needs) (λ c κs. search needs) (λ c. search needs) (λ c κs. search needs) (λ c. search needs) returns)

@@ -35,21 +35,4 @@ returns-3 c = let a = c .before .before .before .before .before .before .before 
     (rw (drop-of-length-le (a .words .now) (le-of-lt (c .before .before .before .before .before .if1 .left)), take-none (a .count)) (c .before .before .put-line3 .ensures))
 
 pub put-part-spec : {M : Type 1} → statement M
-put-part-spec =
-    tie.close
-    (tie.spec
-    (λ c. search needs)
-    (λ c. search needs)
-    (λ c. search needs)
-    (λ c. search needs)
-    slice-aggregate-put-line
-    (λ c κs. search needs)
-    (λ c. search needs)
-    returns
-    (λ c κs. search needs)
-    (λ c. search needs)
-    returns-2
-    (λ c. search needs)
-    (λ c κs. search needs)
-    (λ c. search needs)
-    returns-3)
+put-part-spec = tie.close (tie.spec (λ c. search needs) (λ c. search needs) (λ c. search needs) (λ c. search needs) slice-aggregate-put-line (λ c κs. search needs) (λ c. search needs) returns (λ c κs. search needs) (λ c. search needs) returns-2 (λ c. search needs) (λ c κs. search needs) (λ c. search needs) returns-3)

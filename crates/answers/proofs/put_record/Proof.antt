@@ -11,12 +11,4 @@ unfolding recordLines
 returns c = printed-most (printed-append (c .before .before .before .before .before .before .before .before .before .before .put-part .ensures) (printed-append (c .before .before .before .before .before .before .put-part2 .ensures) (c .before .before .put-part3 .ensures))) (omega arith)
 
 pub put-record-spec : {M : Type 1} → statement M
-put-record-spec =
-    tie.close
-    (tie.spec
-    (λ c κs. search needs)
-    (λ c κs. search needs)
-    (λ c. search needs)
-    (λ c κs. search needs)
-    (λ c. search needs)
-    returns)
+put-record-spec = tie.close (tie.spec (λ c κs. search needs) (λ c κs. search needs) (λ c. search needs) (λ c κs. search needs) (λ c. search needs) returns)

@@ -11,12 +11,4 @@ returns : tie.Need-returns
 returns c = printed-most (printed-append (printed {most = 8} (c .before .before .before .before .before .before .before .before .before .before .put-bytes .ensures) (lit≤ tt)) (printed-append (c .before .before .before .before .before .before .put-network .ensures) (c .before .before .put-stack .ensures))) (omega arith)
 
 pub put-reduced-spec : {M : Type 1} → statement M
-put-reduced-spec =
-    tie.close
-    (tie.spec
-    (λ c. search needs)
-    (λ c κs. search needs)
-    (λ c κs. search needs)
-    (λ c κs. search needs)
-    (λ c. search needs)
-    returns)
+put-reduced-spec = tie.close (tie.spec (λ c. search needs) (λ c κs. search needs) (λ c κs. search needs) (λ c κs. search needs) (λ c. search needs) returns)

@@ -28,19 +28,4 @@ unfolding reduceText
 returns-2 c = (rw (read-none (c .before .before .before .before .before .before .before .before .before .before .before .before .before .before .before .args .text .now) 12288 (c .before .before .before .before .before .before .before .read-words .last .1 .0) (lit≤ tt) (rw (c .before .before .before .before .enum-told .given .1) at (c .before .before .before .before .before .before .before .read-words .ensures))) (printed-most (rw (c .before .before .before .before .before .before .before .before .before .before .before .clear .ensures) at (c .before .before .put-refusal .ensures)) (lit≤ tt)), no-flow-right _)
 
 pub reduce-text-spec : {M : Type 1} → statement M
-reduce-text-spec =
-    tie.close
-    (tie.spec
-    (λ c κs. search needs)
-    (λ c. search needs)
-    (λ c κs. search needs)
-    (λ c. search needs)
-    array-share-prefix-words
-    slice-aggregate-reduce-words
-    (λ c κs. search needs)
-    (λ c. search needs)
-    (λ c κs. search needs)
-    (λ c. search needs)
-    returns
-    (λ c. search needs)
-    returns-2)
+reduce-text-spec = tie.close (tie.spec (λ c κs. search needs) (λ c. search needs) (λ c κs. search needs) (λ c. search needs) array-share-prefix-words slice-aggregate-reduce-words (λ c κs. search needs) (λ c. search needs) (λ c κs. search needs) (λ c. search needs) returns (λ c. search needs) returns-2)

@@ -23,5 +23,4 @@ returns-3 : tie.Need-returns-3
 returns-3 c = (outside (c .before .args .words .now) (c .before .args .k) (c .if1 .left), omega arith)
 
 pub size-at-spec : {M : Type 1} → statement M
-size-at-spec =
-    tie.close (tie.spec (λ c. search needs) (λ c. search needs) returns cast-result returns-2 returns-3)
+size-at-spec = tie.close (tie.spec (λ c. search needs) (λ c. search needs) returns cast-result returns-2 returns-3)

@@ -21,13 +21,4 @@ returns-2 : tie.Need-returns-2
 returns-2 c = (rw (c .before .before .before .reduced-cost .ensures) at (fits-so (c .before .before)), is-so (c .before), rw (c .if3 .left))
 
 pub ask-arc-spec : {M : Type 1} → statement M
-ask-arc-spec =
-    tie.close
-    (tie.spec
-    (λ c κs. search needs)
-    (λ c κs. search needs)
-    (λ c κs. search needs)
-    (λ c κs. search needs)
-    (λ c κs. search needs)
-    returns
-    returns-2)
+ask-arc-spec = tie.close (tie.spec (λ c κs. search needs) (λ c κs. search needs) (λ c κs. search needs) (λ c κs. search needs) (λ c κs. search needs) returns returns-2)

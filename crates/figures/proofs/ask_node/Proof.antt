@@ -17,5 +17,4 @@ returns-2 : tie.Need-returns-2
 returns-2 c = (fits-so (c .before), rw (c .if2 .left))
 
 pub ask-node-spec : {M : Type 1} → statement M
-ask-node-spec =
-    tie.close (tie.spec (λ c κs. search needs) (λ c κs. search needs) (λ c κs. search needs) returns returns-2)
+ask-node-spec = tie.close (tie.spec (λ c κs. search needs) (λ c κs. search needs) (λ c κs. search needs) returns returns-2)

@@ -11,5 +11,4 @@ returns-2 : tie.Need-returns-2
 returns-2 c = rw (← c .before .touches .ensures, c .if1 .left) refl
 
 pub balance-turn-spec : {M : Type 1} → statement M
-balance-turn-spec =
-    tie.close (tie.spec (λ c κs. search needs) (λ c κs. search needs) (λ c κs. search needs) returns returns-2)
+balance-turn-spec = tie.close (tie.spec (λ c κs. search needs) (λ c κs. search needs) (λ c κs. search needs) returns returns-2)

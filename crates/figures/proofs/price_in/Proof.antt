@@ -14,5 +14,4 @@ returns-2 c =
     c .no-figure .ensures ∙ sym (List·getD-eq-default (c .before .before .args .t1) noFigure {n = c .before .before .args .i} (omega arith))
 
 pub price-in-spec : {M : Type 1} → statement M
-price-in-spec =
-    tie.close (tie.spec (λ c. search needs) (λ c. search needs) (λ c. search needs) (λ c κs. search needs) returns-2)
+price-in-spec = tie.close (tie.spec (λ c. search needs) (λ c. search needs) (λ c. search needs) (λ c κs. search needs) returns-2)

@@ -7,5 +7,4 @@ returns : tie.Need-returns
 returns c = rw (c .before .before .price-in .ensures, c .before .price-in2 .ensures) at (c .reduced .ensures)
 
 pub reduced-cost-spec : {M : Type 1} → statement M
-reduced-cost-spec =
-    tie.close (tie.spec (λ c κs. search needs) (λ c κs. search needs) (λ c κs. search needs) returns)
+reduced-cost-spec = tie.close (tie.spec (λ c κs. search needs) (λ c κs. search needs) (λ c κs. search needs) returns)

@@ -14,13 +14,4 @@ returns c =
     (c .before .first-no .ensures ∙ rw (nodes .0, nodes .1, arcs .0, arcs .1, arcs .2, c .before .before .is-fit .ensures, v) refl, rw v at (c .figure .ensures))
 
 pub verdict-spec : {M : Type 1} → statement M
-verdict-spec =
-    tie.close
-    (tie.spec
-    (λ c κs. search needs)
-    (λ c κs. search needs)
-    (λ c κs. search needs)
-    (λ c κs. search needs)
-    (λ c κs. search needs)
-    (λ c κs. search needs)
-    returns)
+verdict-spec = tie.close (tie.spec (λ c κs. search needs) (λ c κs. search needs) (λ c κs. search needs) (λ c κs. search needs) (λ c κs. search needs) (λ c κs. search needs) returns)

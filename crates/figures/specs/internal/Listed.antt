@@ -11,7 +11,7 @@ use Rattle.network.specs.Network.{isRoot}
 use Rattle.figures.specs.declared.Sums.{Sums}
 use Rattle.figures.specs.Figures.{reducedBy}
 
--- a node's balance, where those of the nodes 0 to 32 are listed
+-- a node's balance, where those of all nodes are listed
 abbrev pub sumAt : Sums → ℕ → Worked
 sumAt s i = getD (s .at) i (record { w = Fits noFigure }) .w
 

@@ -45,19 +45,4 @@ returns-4 : tie.Need-returns-4
 returns-4 c = refused-before _ _ _ _ _ (sym (asked (c .before))) (c .if2 .left) (c .before .before .before .before .clear .ensures)
 
 pub test-spec : {M : Type 1} → statement M
-test-spec =
-    tie.close
-    (tie.spec
-    (λ c κs. search needs)
-    (λ c. search needs)
-    returns
-    (λ c κs. search needs)
-    (λ c κs. search needs)
-    (λ c κs. search needs)
-    (λ c κs. search needs)
-    (λ c. search needs)
-    returns-2
-    (λ c. search needs)
-    returns-3
-    (λ c. search needs)
-    returns-4)
+test-spec = tie.close (tie.spec (λ c κs. search needs) (λ c. search needs) returns (λ c κs. search needs) (λ c κs. search needs) (λ c κs. search needs) (λ c κs. search needs) (λ c. search needs) returns-2 (λ c. search needs) returns-3 (λ c. search needs) returns-4)

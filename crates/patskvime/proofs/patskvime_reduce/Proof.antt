@@ -27,24 +27,4 @@ returns-3 : tie.Need-returns-3
 returns-3 c = let R = c .before .before .before .before .before .before .reduce .ensures in record { answer = _; says = R; code = rw (c .before .q .given .1); ranged = ranged _ _ _ _ _ R }
 
 pub patskvime-reduce-spec : {M : Type 1} → statement M
-patskvime-reduce-spec =
-    tie.close
-    (tie.spec
-    (λ c κs. search needs)
-    (λ c. search needs)
-    (λ c. search needs)
-    mul-result
-    add-result
-    (λ c. search needs)
-    (λ c. search needs)
-    (λ c. search needs)
-    (λ c. search needs)
-    returns
-    (λ c. search needs)
-    (λ c. search needs)
-    (λ c. search needs)
-    returns-2
-    (λ c. search needs)
-    (λ c. search needs)
-    (λ c. search needs)
-    returns-3)
+patskvime-reduce-spec = tie.close (tie.spec (λ c κs. search needs) (λ c. search needs) (λ c. search needs) mul-result add-result (λ c. search needs) (λ c. search needs) (λ c. search needs) (λ c. search needs) returns (λ c. search needs) (λ c. search needs) (λ c. search needs) returns-2 (λ c. search needs) (λ c. search needs) (λ c. search needs) returns-3)

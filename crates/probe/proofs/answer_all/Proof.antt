@@ -11,14 +11,4 @@ abbrev μ-loop : tie.MeasureT-loop
 μ-loop input out₀ count n₀ out n = count - n
 
 pub answer-all-spec : {M : Type 1} → statement M
-answer-all-spec =
-    tie.close
-    (tie.spec
-    Inv-loop
-    μ-loop
-    (λ c. search needs)
-    (λ c κs. search needs)
-    (λ c. search needs)
-    (λ c. search needs)
-    (λ c. search needs)
-    (λ c. search needs))
+answer-all-spec = tie.close (tie.spec Inv-loop μ-loop (λ c. search needs) (λ c κs. search needs) (λ c. search needs) (λ c. search needs) (λ c. search needs) (λ c. search needs))

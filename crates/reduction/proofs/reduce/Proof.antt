@@ -7,50 +7,12 @@ use Rattle.reduction.proofs.Entry.{says}
 use borrow.Author.Needs.{needs}
 use Rattle.reduction.proofs.reduce.Statement.{statement}
 use Rattle.reduction.proofs.reduce.Proof.Tie as tie
-use Rattle.reduction.proofs.Lent.reduce.Reads as reads
-use Rattle.reduction.proofs.Lent.reduce.Lts as lts
-
-clear-requires : tie.Need-clear-requires
-clear-requires c κs = search needs
-
-clear-requires-2 : tie.Need-clear-requires-2
-clear-requires-2 c κs = search needs
 
 reduce-in-requires : tie.Need-reduce-in-requires
 reduce-in-requires c κs = (c .before .before .before .before .before .before .before .before .clear .ensures ∙ ap zeros (sym (c .before .before .before .before .before .before .before .before .clear .kept .0)), c .before .before .before .before .before .clear2 .ensures ∙ ap zeros (sym (c .before .before .before .before .before .clear2 .kept .0)))
-
-clear-requires-3 : tie.Need-clear-requires-3
-clear-requires-3 c κs = search needs
-
-clear-requires-4 : tie.Need-clear-requires-4
-clear-requires-4 c κs = search needs
-
-same-length : tie.Need-same-length
-same-length c = search needs
-
-same-length-2 : tie.Need-same-length-2
-same-length-2 c = search needs
-
-same-length-3 : tie.Need-same-length-3
-same-length-3 c = search needs
-
-same-length-4 : tie.Need-same-length-4
-same-length-4 c = search needs
 
 returns : tie.Need-returns
 returns c = let f = rw (c .before .before .before .before .before .before .before .before .before .before .before .before .before .before .before .before .before .before .before .clear .kept .0, c .before .before .before .before .before .before .before .before .before .before .before .before .before .before .before .before .clear2 .kept .0) at (c .before .before .before .before .before .before .before .before .before .before .reduce-in .ensures) in says _ _ _ _ _ f (c .before .before .before .before .clear3 .ensures ∙ ap zeros (c .before .before .before .before .before .before .before .before .before .before .reduce-in .kept .1 .1 .1 .0)) (c .before .clear4 .ensures ∙ ap noArcs (c .before .before .before .before .before .before .before .before .before .before .reduce-in .kept .1 .1 .1 .1 .0))
 
 pub reduce-spec : {M : Type 1} → statement M
-reduce-spec =
-    tie.close
-    (tie.spec
-    clear-requires
-    clear-requires-2
-    reduce-in-requires
-    clear-requires-3
-    clear-requires-4
-    same-length
-    same-length-2
-    same-length-3
-    same-length-4
-    returns)
+reduce-spec = tie.close (tie.spec (λ c κs. search needs) (λ c κs. search needs) reduce-in-requires (λ c κs. search needs) (λ c κs. search needs) (λ c. search needs) (λ c. search needs) (λ c. search needs) (λ c. search needs) returns)

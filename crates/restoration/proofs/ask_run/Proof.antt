@@ -18,16 +18,4 @@ unfolding offerTable
 returns-3 c = rw (c .before .enum-told2 .given .1) (record { refused-is = c .refuse2 .ensures; pair-is = λ z. absurd (omega arith); value-is = λ z. absurd (omega arith) })
 
 pub ask-run-spec : {M : Type 1} → statement M
-ask-run-spec =
-    tie.close
-    (tie.spec
-    (λ c. search needs)
-    (λ c κs. search needs)
-    (λ c κs. search needs)
-    (λ c κs. search needs)
-    returns
-    (λ c κs. search needs)
-    returns-2
-    (λ c. search needs)
-    (λ c κs. search needs)
-    returns-3)
+ask-run-spec = tie.close (tie.spec (λ c. search needs) (λ c κs. search needs) (λ c κs. search needs) (λ c κs. search needs) returns (λ c κs. search needs) returns-2 (λ c. search needs) (λ c κs. search needs) returns-3)

@@ -8,13 +8,6 @@ use Rattle.restoration.proofs.Parts.{no-out, no-values, search-no, sear
 use borrow.Author.Needs.{needs}
 use Rattle.restoration.proofs.restore_in.Statement.{statement}
 use Rattle.restoration.proofs.restore_in.Proof.Tie as tie
-use Rattle.restoration.proofs.Lent.restore_in.Reads as reads
-use Rattle.restoration.proofs.Lent.restore_in.Lts as lts
-use Rattle.restoration.proofs.Lent.network_list_view.Reads as view-reads
-use Rattle.restoration.proofs.Lent.postsolve_undo_steps.Reads as undo-steps-reads
-use Rattle.restoration.proofs.ask_run.Reads as ask-run-reads
-use Rattle.restoration.proofs.finish_at.Reads as finish-at-reads
-use Rattle.restoration.proofs.Lent.search_run.Reads as run-reads
 
 returns : tie.Need-returns
 returns c = refused _ 1 (no-out _ _ _ _ _ _ _ (c .if1 .taken)) (λ z. omega arith) (c .before .pre .0) (c .before .pre .1)
@@ -22,29 +15,8 @@ returns c = refused _ 1 (no-out _ _ _ _ _ _ _ (c .if1 .taken)) (λ z. omega arit
 returns-2 : tie.Need-returns-2
 returns-2 c = refused _ 1 (no-values _ _ _ _ _ _ _ (omega (arith, c .before .if1 .left)) (c .if2 .taken)) (λ z. omega arith) (c .before .before .pre .0) (c .before .before .pre .1)
 
-run-requires : tie.Need-run-requires
-run-requires c κs = search needs
-
-view-requires : tie.Need-view-requires
-view-requires c κs = search needs
-
-ask-run-requires : tie.Need-ask-run-requires
-ask-run-requires c κs = search needs
-
-undo-steps-requires : tie.Need-undo-steps-requires
-undo-steps-requires c κs = search needs
-
-view-requires-2 : tie.Need-view-requires-2
-view-requires-2 c κs = search needs
-
 finish-at-requires : tie.Need-finish-at-requires
 finish-at-requires c κs = record { no-pair = c .before .before .before .before .before .before .before .before .before .before .before .before .before .before .before .before .before .before .before .before .before .before .before .pre .0; no-values = c .before .before .before .before .before .before .before .before .before .before .before .before .before .before .before .before .before .before .before .before .before .before .before .pre .1; out-room = omega (arith, c .before .before .before .before .before .before .before .before .before .before .before .before .before .before .before .before .before .before .before .before .before .before .if1 .left); values-room = omega (arith, c .before .before .before .before .before .before .before .before .before .before .before .before .before .before .before .before .before .before .before .before .before .if2 .left) }
-
-same-length : tie.Need-same-length
-same-length c = search needs
-
-same-length-2 : tie.Need-same-length-2
-same-length-2 c = search needs
 
 same-length-3 : tie.Need-same-length-3
 same-length-3 c = c .before .before .before .before .before .before .before .before .before .before .before .before .before .before .before .before .before .before .before .before .before .run .kept .1 .0
@@ -60,12 +32,6 @@ returns-3 c =
     (c .before .before .before .before .before .view2 .ensures ∙ ap arcsIn (u .1) ∙ arcs-first f (sym (c .before .before .before .before .before .before .before .before .before .before .before .before .before .before .before .before .before .before .before .before .before .run .kept .1 .1 .0))) (c .before .before .finish-at .ensures) _
     (search-yes _ _ _ _ _ _ _ (omega (arith, c .before .before .before .before .before .before .before .before .before .before .before .before .before .before .before .before .before .before .before .before .before .before .before .before .before .if1 .left)) (omega (arith, c .before .before .before .before .before .before .before .before .before .before .before .before .before .before .before .before .before .before .before .before .before .before .before .before .if2 .left)) (sym (c .before .before .before .before .before .before .before .before .before .before .before .before .before .before .before .before .before .before .before .before .before .run .ensures .refused-is) ∙ c .before .before .before .before .before .before .before .before .before .before .before .before .before .before .before .before .before .if3 .taken))
 
-same-length-5 : tie.Need-same-length-5
-same-length-5 c = search needs
-
-same-length-6 : tie.Need-same-length-6
-same-length-6 c = search needs
-
 returns-4 : tie.Need-returns-4
 returns-4 c =
     let f = found (c .before .before .before .before .before .before .before .before .before .before .run .ensures) (c .before .before .before .before .before .before .if3 .taken) in
@@ -73,35 +39,8 @@ returns-4 c =
     refused _ _
     (search-yes _ _ _ _ _ _ _ (omega (arith, c .before .before .before .before .before .before .before .before .before .before .before .before .before .before .if1 .left)) (omega (arith, c .before .before .before .before .before .before .before .before .before .before .before .before .before .if2 .left)) (sym (c .before .before .before .before .before .before .before .before .before .before .run .ensures .refused-is) ∙ c .before .before .before .before .before .before .if3 .taken) ∙ offer-no _ _ _ _ _ (h .refused-is) (c .if4 .left)) (c .if4 .left) (c .before .before .before .before .before .before .before .before .before .before .before .before .before .before .before .pre .0) (c .before .before .before .before .before .before .before .before .before .before .before .before .before .before .before .pre .1)
 
-same-length-7 : tie.Need-same-length-7
-same-length-7 c = search needs
-
-same-length-8 : tie.Need-same-length-8
-same-length-8 c = search needs
-
 returns-5 : tie.Need-returns-5
 returns-5 c = refused _ _ (search-no _ _ _ _ _ _ _ (omega (arith, c .before .before .before .before .before .before .before .before .if1 .left)) (omega (arith, c .before .before .before .before .before .before .before .if2 .left)) _ (c .before .before .before .before .run .ensures .refused-is) (c .if3 .left)) (c .if3 .left) (c .before .before .before .before .before .before .before .before .before .pre .0) (c .before .before .before .before .before .before .before .before .before .pre .1)
 
 pub restore-in-spec : {M : Type 1} → statement M
-restore-in-spec =
-    tie.close
-    (tie.spec
-    returns
-    returns-2
-    run-requires
-    view-requires
-    ask-run-requires
-    undo-steps-requires
-    view-requires-2
-    finish-at-requires
-    same-length
-    same-length-2
-    same-length-3
-    same-length-4
-    returns-3
-    same-length-5
-    same-length-6
-    returns-4
-    same-length-7
-    same-length-8
-    returns-5)
+restore-in-spec = tie.close (tie.spec returns returns-2 (λ c κs. search needs) (λ c κs. search needs) (λ c κs. search needs) (λ c κs. search needs) (λ c κs. search needs) finish-at-requires (λ c. search needs) (λ c. search needs) same-length-3 same-length-4 returns-3 (λ c. search needs) (λ c. search needs) returns-4 (λ c. search needs) (λ c. search needs) returns-5)

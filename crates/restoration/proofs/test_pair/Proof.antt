@@ -23,6 +23,4 @@ returns-2 c =
     record { refused-is = c .refuse .ensures ∙ h .refused-is; pair-is = λ z. absurd (n (h .refused-is ∙ z)); value-is = λ z. absurd (n (h .refused-is ∙ z)) }
 
 pub test-pair-spec : {M : Type 1} → statement M
-test-pair-spec =
-    tie.close
-    (tie.spec (λ c κs. search needs) (λ c κs. search needs) (λ c κs. search needs) returns (λ c κs. search needs) returns-2)
+test-pair-spec = tie.close (tie.spec (λ c κs. search needs) (λ c κs. search needs) (λ c κs. search needs) returns (λ c κs. search needs) returns-2)

@@ -11,6 +11,4 @@ returns c =
     (c .before .before .before .before .before .before .before .write-pair .ensures, rw (c .before .before .before .before .write .ensures) at (c .before .write2 .ensures) ∙ both-values _ _ (a .args .values .now) (a .pre .no-values) (a .pre .values-room))
 
 pub write-spec : {M : Type 1} → statement M
-write-spec =
-    tie.close
-    (tie.spec (λ c κs. search needs) (λ c κs. search needs) (λ c κs. search needs) (λ c. search needs) (λ c. search needs) returns)
+write-spec = tie.close (tie.spec (λ c κs. search needs) (λ c κs. search needs) (λ c κs. search needs) (λ c. search needs) (λ c. search needs) returns)

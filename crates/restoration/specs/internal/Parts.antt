@@ -13,6 +13,7 @@ use Rattle.step.specs.Run.{Way}
 use Rattle.figures.specs.Figures.{valueOf}
 use Rattle.optimality.specs.Test.{pairIn}
 use Rattle.survivors.specs.Survivors.{spreadOf}
+use Rattle.records.specs.Limits.{pairRoom, valueRoom}
 use Rattle.records.specs.Questions.{firstNo}
 use Rattle.restoration.specs.declared.Answer.{Answer}
 use Rattle.restoration.specs.declared.Offer.{Offer}
@@ -23,8 +24,8 @@ use Rattle.records.specs.Values.{fourWords}
 pub record Empty (out values : List ℤ) : Type 0 where
   pub no-pair : out ≡ zeros (length out)
   pub no-values : values ≡ zeros (length values)
-  pub out-room : 258 ≤ length out
-  pub values-room : 4 ≤ length values
+  pub out-room : pairRoom ≤ length out
+  pub values-room : valueRoom ≤ length values
 
 -- the number of a question, and where it is 0 the pair at the original numbers and its value on the reduced network
 pub record Offers (net : Net) (ys : List ℤ) (q : ℕ) (r : Offer) : Type 0 where

@@ -12,14 +12,4 @@ returns-2 : tie.Need-returns-2
 returns-2 c = rw (c .before .before .before .before .before .answer .given .1) (printed-most (c .before .before .put-refusal .ensures) (omega arith))
 
 pub put-answer-spec : {M : Type 1} → statement M
-put-answer-spec =
-    tie.close
-    (tie.spec
-    (λ c. search needs)
-    (λ c κs. search needs)
-    (λ c. search needs)
-    (λ c κs. search needs)
-    (λ c. search needs)
-    returns
-    (λ c. search needs)
-    returns-2)
+put-answer-spec = tie.close (tie.spec (λ c. search needs) (λ c κs. search needs) (λ c. search needs) (λ c κs. search needs) (λ c. search needs) returns (λ c. search needs) returns-2)

@@ -11,12 +11,4 @@ returns : tie.Need-returns
 returns c = printed-most (printed-append (printed {most = 9} (c .before .before .before .before .before .before .before .before .before .before .put-bytes .ensures) (lit≤ tt)) (printed-append (c .before .before .before .before .before .before .put-pair .ensures) (c .before .before .put-values .ensures))) (omega arith)
 
 pub put-restored-spec : {M : Type 1} → statement M
-put-restored-spec =
-    tie.close
-    (tie.spec
-    (λ c. search needs)
-    (λ c κs. search needs)
-    (λ c κs. search needs)
-    (λ c κs. search needs)
-    (λ c. search needs)
-    returns)
+put-restored-spec = tie.close (tie.spec (λ c. search needs) (λ c κs. search needs) (λ c κs. search needs) (λ c κs. search needs) (λ c. search needs) returns)

@@ -17,20 +17,4 @@ returns : tie.Need-returns
 returns c = rw (part-in (c .before .before .before .before .before .before .before .before .before .args .e) (c .before .before .before .before .before .before .before .before .before .args .words .now), part-in (c .before .before .before .before .before .before .before .before .before .args .f) (c .before .before .before .before .before .before .before .before .before .args .words .now)) at (c .before .before .restore-parts .ensures)
 
 pub restore-split-spec : {M : Type 1} → statement M
-restore-split-spec =
-    tie.close
-    (tie.spec
-    slice-aggregate-network
-    (λ c. search needs)
-    (λ c. search needs)
-    (λ c. search needs)
-    (λ c. search needs)
-    (λ c. search needs)
-    slice-aggregate-stack
-    (λ c. search needs)
-    (λ c. search needs)
-    (λ c. search needs)
-    (λ c. search needs)
-    (λ c κs. search needs)
-    (λ c. search needs)
-    returns)
+restore-split-spec = tie.close (tie.spec slice-aggregate-network (λ c. search needs) (λ c. search needs) (λ c. search needs) (λ c. search needs) (λ c. search needs) slice-aggregate-stack (λ c. search needs) (λ c. search needs) (λ c. search needs) (λ c. search needs) (λ c κs. search needs) (λ c. search needs) returns)

@@ -17,15 +17,4 @@ returns-2 : tie.Need-returns-2
 returns-2 c = rw (← c .before .before .before .before .before .before .before .split-words .ensures, c .before .before .before .before .before .e .given .1) (c .before .before .restore-split .ensures)
 
 pub restore-words-spec : {M : Type 1} → statement M
-restore-words-spec =
-    tie.close
-    (tie.spec
-    (λ c κs. search needs)
-    (λ c. search needs)
-    (λ c κs. search needs)
-    (λ c. search needs)
-    restore-split-requires
-    (λ c. search needs)
-    returns
-    (λ c. search needs)
-    returns-2)
+restore-words-spec = tie.close (tie.spec (λ c κs. search needs) (λ c. search needs) (λ c κs. search needs) (λ c. search needs) restore-split-requires (λ c. search needs) returns (λ c. search needs) returns-2)

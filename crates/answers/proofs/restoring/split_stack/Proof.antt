@@ -28,18 +28,4 @@ unfolding stackSplit
 returns-3 c = rw (← c .before .before .before .before .size-at .ensures, c .before .before .s .given .1, lt-leb _ _ (c .if1 .left))
 
 pub split-stack-spec : {M : Type 1} → statement M
-split-stack-spec =
-    tie.close
-    (tie.spec
-    (λ c κs. search needs)
-    (λ c. search needs)
-    (λ c. search needs)
-    (λ c. search needs)
-    mul-if1
-    add-if1-2
-    (λ c. search needs)
-    (λ c. search needs)
-    (λ c. search needs)
-    returns
-    returns-2
-    returns-3)
+split-stack-spec = tie.close (tie.spec (λ c κs. search needs) (λ c. search needs) (λ c. search needs) (λ c. search needs) mul-if1 add-if1-2 (λ c. search needs) (λ c. search needs) (λ c. search needs) returns returns-2 returns-3)

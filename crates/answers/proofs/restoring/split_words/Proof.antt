@@ -23,16 +23,4 @@ unfolding splitOf
 returns-3 c = rw (← c .before .before .before .before .before .before .before .before .size-at .ensures, c .before .before .before .before .before .before .n .given .1, ← c .before .before .before .before .size-at2 .ensures, c .before .before .m .given .1) (c .split-sized .ensures)
 
 pub split-words-spec : {M : Type 1} → statement M
-split-words-spec =
-    tie.close
-    (tie.spec
-    (λ c κs. search needs)
-    (λ c. search needs)
-    (λ c. search needs)
-    (λ c κs. search needs)
-    (λ c. search needs)
-    (λ c. search needs)
-    split-sized-requires
-    returns
-    returns-2
-    returns-3)
+split-words-spec = tie.close (tie.spec (λ c κs. search needs) (λ c. search needs) (λ c. search needs) (λ c κs. search needs) (λ c. search needs) (λ c. search needs) split-sized-requires returns returns-2 returns-3)

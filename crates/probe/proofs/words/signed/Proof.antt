@@ -17,5 +17,4 @@ sub-result-2 : tie.Need-sub-result-2
 sub-result-2 c = let h : 4294967295 - c .before .args .u ≤ 2147483647 = omega arith in rw (toZ-pos w32 {n = 4294967295 - c .before .args .u} (omega (arith, h))) (below (4294967295 - c .before .args .u) h)
 
 pub signed-spec : {M : Type 1} → statement M
-signed-spec =
-    tie.close (tie.spec (λ c. search needs) (λ c. search needs) (λ c. search needs) (λ c. search needs) sub-result-2 (λ c. search needs))
+signed-spec = tie.close (tie.spec (λ c. search needs) (λ c. search needs) (λ c. search needs) (λ c. search needs) sub-result-2 (λ c. search needs))
