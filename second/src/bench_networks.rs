@@ -19,8 +19,11 @@ pub enum Kind {
     Stuck,
     /// Every rule applies somewhere.
     Mixed,
+    /// Rule 4 tries very many pairs of root arcs in vain.
+    Pairs,
 }
 
+/// Every kind that has networks of all sizes.
 pub const KINDS: [Kind; 3] = [Kind::Long, Kind::Stuck, Kind::Mixed];
 
 impl Kind {
@@ -29,6 +32,7 @@ impl Kind {
             Kind::Long => "long",
             Kind::Stuck => "stuck",
             Kind::Mixed => "mixed",
+            Kind::Pairs => "pairs",
         }
     }
 
@@ -37,6 +41,7 @@ impl Kind {
             Kind::Long => long(draw, n, m),
             Kind::Stuck => stuck(draw, n, m),
             Kind::Mixed => mixed(draw, n, m),
+            Kind::Pairs => pairs(draw, n, m),
         };
         stir(draw, &mut network);
         network
@@ -49,7 +54,10 @@ impl Kind {
             if !self.suits(&network) {
                 continue;
             }
-            let trip = Trip::of(draw, network);
+            let trip = match self {
+                Kind::Pairs => Trip::at_rest(network),
+                _ => Trip::of(draw, network),
+            };
             let words = trip.words();
             if trip.pair.is_some() && restore(&words.network, &words.stack, &words.pair).is_ok() {
                 return (words, trip.reduction.steps.len());
@@ -64,7 +72,7 @@ impl Kind {
         reduced
             && match self {
                 Kind::Long => reduction.steps.len() + 2 >= network.arcs.len(),
-                Kind::Stuck => reduction.steps.is_empty(),
+                Kind::Stuck | Kind::Pairs => reduction.steps.is_empty(),
                 Kind::Mixed => (1..=6).all(|rule| reduction.rules().contains(&rule)),
             }
     }
@@ -130,6 +138,19 @@ fn stuck(draw: &mut Draw, n: usize, m: usize) -> Network {
         }
     }
     network_of(n, arcs)
+}
+
+/// A third of the arcs from node 1 to node 2, and a third root arcs at either, all of wide figures and too dear for rule 4.
+fn pairs(draw: &mut Draw, n: usize, m: usize) -> Network {
+    let mut wide = |low, high| Fraction::fitted(draw.within(low, high) as i128, draw.within(1, 99) as i128).expect("fits");
+    let ends = [(1, 2), (1, 1), (2, 2)];
+    let arcs = (0..m).map(|number| {
+        let (from, to) = ends[number % 3];
+        let at_to = if from == to { Fraction::ZERO } else { wide(1_000, 9_999) };
+        let cost = if from == to { wide(1_000, 9_999) } else { Fraction::ONE };
+        Arc { from, to, cost, lower: Bound::Finite(Fraction::ZERO), upper: Bound::AbsentUpper, at_from: wide(1_000, 9_999), at_to }
+    });
+    network_of(n, arcs.collect())
 }
 
 /// Small sample networks side by side, then further arcs at the nodes that have the most.

@@ -67,6 +67,17 @@ impl Trip {
         trip
     }
 
+    /// A trip with a pair of zeros.
+    pub fn at_rest(original: Network) -> Trip {
+        let reduction = reduce(&original);
+        let mut trip = Trip { original, reduction, pair: None };
+        trip.pair = trip.reduced().map(|reduced| Pair {
+            prices: reduced.supplies.keys().map(|node| (*node, Fraction::ZERO)).collect(),
+            flows: reduced.arcs.keys().map(|arc| (*arc, Fraction::ZERO)).collect(),
+        });
+        trip
+    }
+
     /// A trip with a pair, mostly with arcs left, if one comes soon.
     fn with_pair(draw: &mut Draw, shape: Shape) -> Trip {
         let mut trip = Trip::new(draw, shape);
