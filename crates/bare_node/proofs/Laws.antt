@@ -24,7 +24,8 @@ use Rattle.network.specs.Program.{exactOf, programOf}
 use Rattle.network.proofs.Kept.{here-number}
 use Rattle.step.specs.declared.Change.{Change}
 use Rattle.step.specs.declared.Outcome.{Outcome}
-use Rattle.step.specs.declared.Outcome.the-variants.{NoFlow, Changes}
+use Rattle.step.specs.declared.Outcome.the-variants.{Passes, NoFlow, Changes}
+use Rattle.step.specs.Outcome.{onlyWhere}
 use Rattle.step.specs.Back.{oldOne, restored}
 use Rattle.step.proofs.Frame.{no-level, no-names, supply-same}
 use Rattle.step.proofs.Exactly.{zero-figure, listed-node, rhs-is, alone, column-kept, rhs-off}
@@ -69,10 +70,15 @@ module _ (net : Net) (g : Legal net) (i : ℕ) {x : Outcome} (m : Bare net i x) 
   no-flow : isZero (supplyAt net i) ≡ false → LP.NoFlow (programOf net)
   no-flow nonzero = bare-no-flow i untouched (once-mem (listed-node net g i (m .here))) (λ z. nonzero-value (g .supply-proper i (m .here)) nonzero (sym (rhs-is net i (m .here)) ∙ z))
 
+unused : (net : Net) (i : ℕ) → isHere net i ≡ false → bareNode net i ≡ Passes
+unfolding bareNode onlyWhere
+unused net i e = rw e
+
 -- RULE 2
 pub laws : {P : Net → Type 0} → RuleLaws P rule
 laws = record {
   few-places = omega arith;
+  unused = λ net g. unused net;
   no-flow = λ net g p i e. let m = bare-met net i tt e in ⊎-elim (λ z. no-flow net g i m (z .0)) (λ z. not-shown (z .1)) (m .shows);
   right = λ net g p i e. let m = bare-met net i tt e in ⊎-elim (λ z. not-changed (z .1)) (λ z. right net g i m (z .0) (z .1)) (m .shows);
 }

@@ -18,16 +18,17 @@ use Rattle.step.specs.Back.{oldOne, priceOnly}
 use Rattle.step.specs.Run.{Rule}
 
 -- "degree 0. r not 0: no flow. Otherwise dropped."
-unfoldable pub bare : ℕ → Fraction → Outcome
-bare i r = do
+-- node i has degree d and supply r
+unfoldable pub bare : ℕ → ℕ → Fraction → Outcome
+bare i d r = do
+  onlyWhere (eqb d 0)
   noFlowWhere (not (isZero r))
   Changes (record { edit = editOne noUpdate noSupplyUpdate noSupplyUpdate i; old = oldOne i noFigure noUpdate })
 
 unfoldable pub bareNode : Net → ℕ → Outcome
 bareNode net i = do
   onlyWhere (isHere net i)
-  onlyWhere (eqb (degreeOf net i) 0)
-  bare i (supplyAt net i)
+  bare i (degreeOf net i) (supplyAt net i)
 
 -- "Back: price 0."
 unfoldable pub bareBack : Old → Pair → Undone

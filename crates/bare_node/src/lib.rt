@@ -8,10 +8,13 @@ use step::Old;
 use step::Outcome;
 use step::Undone;
 
-// Rule 2 at node i of supply r, which no arc touches.
-pub fn bare_node(i: usize, r: Fraction) -> Outcome
-    ensures { λ x. ⌜ x ≡ bare i r ⌝ }
+// Rule 2 at node i of this degree and supply r.
+pub fn bare_node(i: usize, degree: usize, r: Fraction) -> Outcome
+    ensures { λ x. ⌜ x ≡ bare i degree r ⌝ }
 {
+    if degree != 0 {
+        return Outcome::Passes;
+    }
     if !r.is_zero() {
         return Outcome::NoFlow;
     }

@@ -11,7 +11,7 @@ use Rattle.presolve.proofs.Closed.{closed-sound, closed-no-flow}
 use Rattle.fraction.specs.Exact.{isLess}
 use Rattle.fraction.proofs.Value.{same-is}
 use Rattle.network.specs.declared.Net.{Net}
-use Rattle.network.specs.Network.{arcAt}
+use Rattle.network.specs.Network.{arcAt, isUsed}
 use Rattle.network.specs.Legal.{Legal}
 use Rattle.network.specs.Program.{boundOf, programOf}
 use Rattle.network.proofs.Bounds.{bound-is, both-proper, crossing}
@@ -56,10 +56,15 @@ module _ (net : Net) (g : Legal net) (j : ℕ) (used : 1 ≤ arcAt net j .from) 
       let c = crossing (g .used j used .lower-bound) (g .used j used .upper-bound) crossed in
       closed-no-flow _ _ (once-mem (listed-arc net g j used)) (ap (λ k. k .lower) (column-is net j used) ∙ c .0) (ap (λ k. k .upper) (column-is net j used) ∙ c .1) (c .2)
 
+unused : (net : Net) (j : ℕ) → isUsed net j ≡ false → closedArc net j ≡ Passes
+unfolding closed onlyWhere
+unused net j e = rw e
+
 -- RULE 1
 pub laws : {P : Net → Type 0} → RuleLaws P rule
 laws = record {
   few-places = omega arith;
+  unused = λ net g. unused net;
   no-flow = λ net g p j e. let m = closed-met net j tt e in ⊎-elim (λ c. no-flow net g j (m .used) (c .0)) (λ c. dropped-shows net j _ (c .1)) (m .shows);
   right = λ net g p j e. let m = closed-met net j tt e in ⊎-elim (λ c. not-changed (c .1)) (λ c. right net g j (m .used) (c .0) (c .1)) (m .shows);
 }

@@ -5,7 +5,7 @@ use mathlib.Core.Option.{none}
 use Prim.Native.Nat.{ℕ, _≤_}
 use native.Mathlib.Omega.{arith}
 use lib.Dec.{eqb}
-use borrow.Author.Tests.{eqb-true, eqb-false, not-true}
+use borrow.Author.Tests.{eqb-true, eqb-false, not-true, not-false}
 use Rattle.algebra.specs.Rat.{ℚ, _*ℚ_, 0ℚ, invℚ, _<ℚ_}
 use Rattle.presolve.proofs.Removed.{Removed}
 use Rattle.presolve.proofs.Costly.{CostlyArc, costly-sound}
@@ -24,7 +24,7 @@ use Rattle.loops.proofs.Laws.{any-some}
 use Rattle.network.specs.declared.Arc.{Arc}
 use Rattle.network.specs.declared.Net.{Net}
 use Rattle.network.specs.declared.Edit.{Edit}
-use Rattle.network.specs.Network.{arcAt, isRoot}
+use Rattle.network.specs.Network.{arcAt, isUsed, isRoot}
 use Rattle.network.specs.Legal.{Legal}
 use Rattle.network.specs.Program.{boundOf, exactOf, programOf}
 use Rattle.network.proofs.Sane.{sane}
@@ -32,7 +32,8 @@ use Rattle.network.proofs.Kept.{here-number, used-number}
 use Rattle.network.proofs.Bounds.{bound-is, no-upper, finite-proper, not-over}
 use Rattle.step.specs.declared.Change.{Change}
 use Rattle.step.specs.declared.Outcome.{Outcome}
-use Rattle.step.specs.declared.Outcome.the-variants.{Changes}
+use Rattle.step.specs.declared.Outcome.the-variants.{Passes, Changes}
+use Rattle.step.specs.Outcome.{onlyWhere}
 use Rattle.step.specs.Dropped.{droppedAt, lowerBack}
 use Rattle.step.proofs.Exactly.{arc-in, arc-place}
 use Rattle.step.proofs.Lines.{Answers, only-met, split}
@@ -143,10 +144,15 @@ module _ (net : Net) (g : Legal net) where
       let used = rootless-used j (h .no-root) in
       lower-right net g j used (finite-proper (g .used j used .lower-bound) (h .finite)) (h .dropped) (λ e r. costly-sound (pair-arc h room e r))
 
+unused : (net : Net) → Legal net → (j : ℕ) → isUsed net j ≡ false → costlyArc net j ≡ Passes
+unfolding costlyArc isRoot onlyWhere
+unused net g j e = rw (g .unused j (eqb-true _ _ (not-false _ e)))
+
 -- RULE 4
 pub laws : {P : Net → Type 0} → ((net : Net) → P net → Passing Closed.rule net) → RuleLaws P rule
 laws first = record {
   few-places = omega arith;
+  unused = unused;
   no-flow = λ net g p j e. dropped-shows net j _ (costly-met net g j tt e .dropped);
   right = λ net g p j e. let h = costly-met net g j tt e in let u = rootless-used net g j (h .no-root) in let n = used-number g j u in right net g j (uncrossed net j u (first net p j (n .0) (n .1))) h;
 }

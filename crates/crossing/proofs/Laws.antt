@@ -6,7 +6,7 @@ use mathlib.Core.Option.{none, some}
 use Prim.Native.Nat.{ℕ, _≤_}
 use native.Mathlib.Omega.{arith}
 use lib.Dec.{eqb}
-use borrow.Author.Tests.{eqb-true, eqb-false, ne-eqb, not-true}
+use borrow.Author.Tests.{eqb-true, ne-eqb, not-true}
 use Rattle.algebra.proofs.Solver.{_:-_, :0, _:=_, ring1}
 use Rattle.algebra.proofs.Rat.{ℚ-ring}
 use Rattle.algebra.specs.Rat.{_+ℚ_, _*ℚ_, -ℚ_, 0ℚ as 𝟘, invℚ as inv}
@@ -40,10 +40,12 @@ use Rattle.step.specs.declared.Change.{Change}
 use Rattle.step.specs.declared.Numbers.{Numbers}
 use Rattle.step.specs.declared.Old.{Old}
 use Rattle.step.specs.declared.Outcome.{Outcome}
-use Rattle.step.specs.declared.Outcome.the-variants.{Changes}
+use Rattle.step.specs.declared.Outcome.the-variants.{Passes, Changes}
 use Rattle.step.specs.declared.Restored.{Restored}
 use Rattle.step.specs.declared.Undone.the-variants.{Restores}
+use Rattle.step.specs.Outcome.{onlyWhere}
 use Rattle.step.specs.Back.{oldArcsOf, oldArc, restored}
+use Rattle.step.specs.Around.{firstAt, secondAt, thirdAt, fourthAt}
 use Rattle.step.proofs.Frame.{Puts, Tame, Framed, Unnamed, no-level, arc-stands, supply-same}
 use Rattle.step.proofs.Each.{All, any-mem, apart-distinct}
 use Rattle.step.proofs.Touch.{touching-first}
@@ -52,8 +54,8 @@ use Rattle.step.proofs.Lines.{Answers, only-met, fits-met, not-shown, figure-me
 use Rattle.step.proofs.Node.{AtNode, ArcsAt, arcs-here}
 use Rattle.step.proofs.Figures.{Sized, Holds, itself, flow-put, price-put, larger-is, over-exactly, negated-exactly}
 use Rattle.step.proofs.Laws.{supply-small, Right, right-of, RuleLaws}
-use Rattle.crossing.specs.Crossing.{firstN, secondN, firstP, secondP, firstAt, secondAt, thirdAt, fourthAt, isFree, isApart, newArc, crossed, editFour, shareOf, crossedAt, crossing, crossingBack, rule}
-use Rattle.crossing.proofs.Signs.{Signed, signed-first, two-signs}
+use Rattle.crossing.specs.Crossing.{firstN, secondN, firstP, secondP, isFree, isApart, newArc, crossed, editFour, shareOf, crossedAt, crossing, crossingBack, rule}
+use Rattle.crossing.proofs.Signs.{positive, Signed, signed-first, two-signs}
 
 -- ---- what an answer says
 
@@ -120,9 +122,6 @@ record Met (net : Net) (i n1 n2 p1 p2 k1 k2 k3 k4 : ℕ) (x : Outcome) : Type 0 
   c : New net i n2 p1
   d : New net i n2 p2
   is : Changes (record { edit = editFour (numbers k1 k2 k3 k4) (arcOf a) (arcOf b) (arcOf c) (arcOf d) i; old = record { node = i; supply = supplyAt net i; one = oldArc net n1; two = oldArc net n2; three = oldArc net p1; four = oldArc net p2; new = numbers k1 k2 k3 k4 } }) ≡ x
-
-positive : (n : ℕ) → eqb n 0 ≡ false → 1 ≤ n
-positive n e = let ne = eqb-false n 0 e in omega arith
 
 crossing-met : (net : Net) → Legal net → (i : ℕ) {x : Outcome} → Answers x → crossing net i ≡ x → Met net i (firstN net i) (secondN net i) (firstP net i) (secondP net i) (firstAt net i) (secondAt net i) (thirdAt net i) (fourthAt net i) x
 unfolding crossing crossedAt
@@ -327,6 +326,10 @@ module _ (net : Net) (g : Legal net) (i n1 n2 p1 p2 k1 k2 k3 k4 : ℕ) {chg : Ch
         new = (up .0 .number .1, (up .1 .0 .number .1, (up .1 .1 .0 .number .1, (up .1 .1 .1 .0 .number .1, tt))));
       }) back sound agrees
 
+unused : (net : Net) (i : ℕ) → isHere net i ≡ false → crossing net i ≡ Passes
+unfolding crossing onlyWhere
+unused net i e = rw e
+
 -- RULE 6
 pub laws : {P : Net → Type 0} → RuleLaws P rule
-laws = record { few-places = omega arith; no-flow = λ net g p i e. not-shown (crossing-met net g i tt e .is); right = λ net g p i e. right net g i _ _ _ _ _ _ _ _ (crossing-met net g i tt e) }
+laws = record { few-places = omega arith; unused = λ net g. unused net; no-flow = λ net g p i e. not-shown (crossing-met net g i tt e .is); right = λ net g p i e. right net g i _ _ _ _ _ _ _ _ (crossing-met net g i tt e) }

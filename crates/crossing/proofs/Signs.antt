@@ -4,6 +4,8 @@ use mathlib.Core.Bool.{Bool, true, false, cond}
 use mathlib.Core.List.{[], _∷_}
 use Prim.Native.Nat.{ℕ, _≤_}
 use native.Mathlib.Omega.{arith}
+use lib.Dec.{eqb}
+use borrow.Author.Tests.{eqb-false}
 use Rattle.algebra.specs.Rat.{0ℚ as 𝟘, _<ℚ_}
 use Rattle.algebra.proofs.Order.{lt→le}
 use Rattle.fraction.specs.Value.{value}
@@ -15,6 +17,9 @@ use Rattle.step.proofs.Touch.{unlike, First, At, touches, scan-first, different
 use Rattle.step.proofs.Figures.{above-zero, below-zero}
 use Rattle.step.proofs.Node.{ArcsAt, at-node, arcs-at}
 use Rattle.crossing.specs.Crossing.{signBy, hasSignAt, signedAfter}
+
+pub positive : (n : ℕ) → eqb n 0 ≡ false → 1 ≤ n
+positive n e = let ne = eqb-false n 0 e in omega arith
 
 abbrev pub signs : Net → ℕ → Bool → ℕ → Bool
 signs net i below j = hasSignAt (arcAt net j) i below

@@ -15,7 +15,7 @@ use Rattle.network.specs.declared.ArcUpdate.{ArcUpdate}
 use Rattle.network.specs.declared.Edit.{Edit}
 use Rattle.network.specs.declared.pair.Pair.{Pair}
 use Rattle.network.specs.Limits.{maxNodes, maxArcs}
-use Rattle.network.specs.Network.{noSupplyUpdate, arcAt, supplyAt, isHere, degreeOf, isTouching, touchingAfter, orNext, isRoot, sideOf}
+use Rattle.network.specs.Network.{noSupplyUpdate, arcAt, supplyAt, isHere, degreeOf, isTouching, orNext, isRoot, sideOf}
 use Rattle.network.specs.Pair.{flowAt}
 use Rattle.step.specs.declared.FlowUpdate.{FlowUpdate}
 use Rattle.step.specs.declared.Numbers.{Numbers}
@@ -28,6 +28,7 @@ use Rattle.step.specs.declared.Undone.the-variants.{Restores}
 use Rattle.step.specs.Figure.{larger}
 use Rattle.step.specs.Outcome.{_>>=_, _>>_, onlyWhere, fits}
 use Rattle.step.specs.Back.{figure, oldArc, quoteOf}
+use Rattle.step.specs.Around.{firstAt, secondAt, thirdAt, fourthAt}
 use Rattle.step.specs.Run.{Rule}
 
 -- ---- "two arcs N with e < 0, two arcs P with e > 0"
@@ -56,18 +57,6 @@ abbrev pub secondP : Net → ℕ → ℕ
 secondP net i = signedAfter net i false (firstP net i)
 
 -- "the four old numbers in upward order"
-abbrev pub firstAt : Net → ℕ → ℕ
-firstAt net i = touchingAfter net i 0
-
-abbrev pub secondAt : Net → ℕ → ℕ
-secondAt net i = touchingAfter net i (firstAt net i)
-
-abbrev pub thirdAt : Net → ℕ → ℕ
-thirdAt net i = touchingAfter net i (secondAt net i)
-
-abbrev pub fourthAt : Net → ℕ → ℕ
-fourthAt net i = touchingAfter net i (thirdAt net i)
-
 abbrev pub upwardAt : Net → ℕ → Numbers
 upwardAt net i = record { first = firstAt net i; second = secondAt net i; third = thirdAt net i; fourth = fourthAt net i }
 

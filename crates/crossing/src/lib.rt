@@ -5,12 +5,14 @@ ghost use Rattle.fraction.specs.declared.Worked.the-variants.{Fits};
 ghost use Rattle.fraction.specs.Formula.{_⊘_};
 ghost use Rattle.step.specs.Back.{quoteOf};
 ghost use Rattle.crossing.specs.Crossing.{hasSignAt, isFree, isApart, crossed as crossedOf, putOf, editFour, crossedAt, shareOf, flowOf, priceOf, crossingBack};
+ghost use Rattle.crossing.specs.Tried.{signedIn, signedOf, crossingBy};
 ghost use Rattle.crossing.specs.internal.Made.{goesOn};
 use fraction::Fraction;
 use fraction::Worked;
 use network::Arc;
 use network::ArcUpdate;
 use network::pair::Pair;
+use step::Around;
 use step::Change;
 use step::FlowUpdate;
 use step::Numbers;
@@ -26,8 +28,14 @@ enum Made {
     Puts(Arc),
 }
 
+// Of the arcs at a node, the first two of a sign; number 0 where there is none.
+struct Signed {
+    first: ArcUpdate,
+    second: ArcUpdate,
+}
+
 // Whether an arc touches node i with a multiplier below 0, or above 0.
-pub fn has_sign(t: Arc, i: usize, below: bool) -> bool
+fn has_sign(t: Arc, i: usize, below: bool) -> bool
     ensures { λ r. ⌜ r ≡ hasSignAt t i below ⌝ }
 {
     if network::touches(t, i) {
@@ -136,8 +144,8 @@ fn edit_four(k: Numbers, a: Arc, b: Arc, c: Arc, d: Arc, gone: usize) -> network
     }
 }
 
-// Rule 6 at node i of degree 4 and supply r = 0, which the caller asks: n1, n2 are the N, p1, p2 the P, and new the four numbers upward.
-pub fn crossing(
+// n1, n2 are the N and p1, p2 the P at node i of supply r, and new the four numbers upward.
+fn cross(
     i: usize,
     r: Fraction,
     n1: ArcUpdate,
@@ -177,6 +185,64 @@ pub fn crossing(
         new,
     };
     Outcome::Changes(Change { edit, old })
+}
+
+// One arc more.
+fn sign_in(s: Signed, u: ArcUpdate, i: usize, below: bool) -> Signed
+    ensures { λ r. ⌜ r ≡ signedIn s u i below ⌝ }
+{
+    let first = s.first;
+    let second = s.second;
+    if has_sign(u.arc, i, below) {
+        if first.number == 0 {
+            return Signed { first: u, second };
+        }
+        if second.number == 0 {
+            return Signed { first, second: u };
+        }
+    }
+    s
+}
+
+fn by_sign(near: Around, i: usize, below: bool) -> Signed
+    ensures { λ r. ⌜ r ≡ signedOf near i below ⌝ }
+{
+    let none = network::no_update();
+    let z = Signed {
+        first: none,
+        second: none,
+    };
+    let a = sign_in(z, near.one, i, below);
+    let b = sign_in(a, near.two, i, below);
+    let c = sign_in(b, near.three, i, below);
+    sign_in(c, near.four, i, below)
+}
+
+// Rule 6 at node i of this degree and supply r, by the arcs there.
+pub fn crossing(i: usize, degree: usize, r: Fraction, near: Around) -> Outcome
+    ensures { λ x. ⌜ x ≡ crossingBy i degree r near ⌝ }
+{
+    if degree != 4 {
+        return Outcome::Passes;
+    }
+    if !r.is_zero() {
+        return Outcome::Passes;
+    }
+    let n = by_sign(near, i, true);
+    if n.second.number == 0 {
+        return Outcome::Passes;
+    }
+    let p = by_sign(near, i, false);
+    if p.second.number == 0 {
+        return Outcome::Passes;
+    }
+    let new = Numbers {
+        first: near.one.number,
+        second: near.two.number,
+        third: near.three.number,
+        fourth: near.four.number,
+    };
+    cross(i, r, n.first, n.second, p.first, p.second, new)
 }
 
 // ---- the way back

@@ -22,7 +22,7 @@ use Rattle.single_arc.proofs.Laws as SingleArc
 use Rattle.costly_arc.proofs.Laws as CostlyArc
 use Rattle.two_arcs.proofs.Laws as TwoArcs
 use Rattle.crossing.proofs.Laws as Crossing
-use Rattle.rules.specs.Table.{rules, nextOf, reduced}
+use Rattle.rules.specs.Table.{rules, lastRule, nextOf, reduced}
 
 -- THE TABLE IS LAWFUL: a row for each rule; rule 4 comes where rule 1 has passed
 pub lawful : Lawful (λ net. Unit {0}) rules
@@ -30,7 +30,7 @@ lawful = (ClosedArc.laws, (BareNode.laws, (SingleArc.laws, (CostlyArc.laws (λ n
 
 -- what the search finds
 pub next-right : (net : Net) → Legal net → NextLaws net (backOf rules) (nextOf net)
-next-right = next-laws rules lawful (omega arith) 6
+next-right = next-laws rules lawful (omega arith) lastRule
 
 module _ (net : Net) (g : Legal net) where
   pub whole : RunLaws net (backOf rules) (reduced net)
@@ -41,11 +41,11 @@ module _ (net : Net) (g : Legal net) where
   few-steps = omega (arith, whole .few, left-within g)
 
   -- "until none applies": unless it is no flow, no rule applies to what is left at any place
-  pub none-applies : ((k i : ℕ) → reduced net .ends ≡ Refuted k i → ⊥) → NoneApplies 6 rules (reduced net .net)
+  pub none-applies : ((k i : ℕ) → reduced net .ends ≡ Refuted k i → ⊥) → NoneApplies lastRule rules (reduced net .net)
   none-applies n = by (reduced net .ends) (run-ends nextOf (backOf rules) next-right 128 net) n (run-done nextOf (backOf rules) next-right 128 net g (legal-left g))
     where
-      by : (e : Next) → e ≡ nextOf (reduced net .net) → ((k i : ℕ) → e ≡ Refuted k i → ⊥) → ((s : _) → e ≡ Takes s → ⊥) → NoneApplies 6 rules (reduced net .net)
-      by Stops q a b = stops-none 6 1 rules (reduced net .net) (sym q)
+      by : (e : Next) → e ≡ nextOf (reduced net .net) → ((k i : ℕ) → e ≡ Refuted k i → ⊥) → ((s : _) → e ≡ Takes s → ⊥) → NoneApplies lastRule rules (reduced net .net)
+      by Stops q a b = stops-none lastRule 1 rules (reduced net .net) (sym q)
       by (Refuted k i) q a b = absurd (a k i refl)
       by (Takes s) q a b = absurd (b s refl)
 

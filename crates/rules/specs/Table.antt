@@ -1,5 +1,6 @@
 -- The rules in the order in which they are tried (01, "The six reductions").
 use mathlib.Core.List.{List, [], _∷_}
+use Prim.Native.Nat.{ℕ}
 use Rattle.network.specs.declared.Net.{Net}
 use Rattle.network.specs.Limits.{maxSteps}
 use Rattle.step.specs.declared.Next.{Next}
@@ -15,9 +16,13 @@ use Rattle.crossing.specs.Crossing as Crossing
 abbrev pub rules : List Rule
 rules = ClosedArc.rule ∷ BareNode.rule ∷ SingleArc.rule ∷ CostlyArc.rule ∷ TwoArcs.rule ∷ Crossing.rule ∷ []
 
+-- the highest rule that is tried
+abbrev pub lastRule : ℕ
+lastRule = 6
+
 -- "After each step the search starts again: rule 1 at the arcs upward, rule 2 at the nodes upward, then 3 (nodes), 4 (arcs), 5 (nodes), 6 (nodes)."
 abbrev pub nextOf : Net → Next
-nextOf net = nextBy 6 rules net
+nextOf net = nextBy lastRule rules net
 
 abbrev pub reduced : Net → Run
 reduced net = runOf nextOf maxSteps net

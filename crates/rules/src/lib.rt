@@ -1,6 +1,6 @@
 // The table of the rules, in code: the step and the way back of each, by its number.
 ghost use mathlib.Core.Path.{_≡_};
-ghost use Rattle.step.specs.Run.{backFrom};
+ghost use Rattle.step.specs.Run.{ruleOf};
 ghost use Rattle.rules.specs.Table.{rules};
 use network::pair::Pair;
 use step::Old;
@@ -9,9 +9,12 @@ use step::Undone;
 pub mod found;
 pub mod tried;
 
+// The highest rule that is tried.
+pub const LAST_RULE: usize = 6;
+
 // What the way back over a step of a rule restores.
 pub fn undo(rule: usize, old: Old, pair: Pair) -> Undone
-    ensures { λ r. ⌜ r ≡ backFrom 1 rules rule old pair ⌝ }
+    ensures { λ r. ⌜ r ≡ ruleOf rules rule .back old pair ⌝ }
 {
     match rule {
         1 => step::lower_back(old),

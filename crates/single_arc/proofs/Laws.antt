@@ -36,10 +36,11 @@ use Rattle.network.proofs.Bounds.{not-under, not-over, under, over}
 use Rattle.fraction.proofs.Exactly.{same}
 use Rattle.step.specs.declared.Change.{Change}
 use Rattle.step.specs.declared.Outcome.{Outcome}
-use Rattle.step.specs.declared.Outcome.the-variants.{NoFlow, Changes}
+use Rattle.step.specs.declared.Outcome.the-variants.{Passes, NoFlow, Changes}
 use Rattle.step.specs.declared.Restored.{Restored}
 use Rattle.step.specs.declared.Undone.the-variants.{Restores}
 use Rattle.step.specs.Dropped.{supplyLess, dropping}
+use Rattle.step.specs.Outcome.{onlyWhere}
 use Rattle.step.specs.Back.{oldOne, restored}
 use Rattle.step.proofs.Frame.{no-level}
 use Rattle.step.proofs.Touch.{touching-first}
@@ -49,7 +50,7 @@ use Rattle.step.proofs.Removing.{supply-less, dropped-framed, level-less, one-r
 use Rattle.step.proofs.Node.{AtNode, ArcsAt, arcs-here}
 use Rattle.step.proofs.Figures.{Sized, Holds, itself, flow-put, price-put, over-exactly}
 use Rattle.step.proofs.Laws.{supply-small, no-old, Right, right-of, RuleLaws}
-use Rattle.single_arc.specs.SingleArc.{forcedOut, singleArc, singleBack, rule}
+use Rattle.single_arc.specs.SingleArc.{forcedOut, single, singleArc, singleBack, rule}
 
 -- ---- what an answer says
 
@@ -79,7 +80,7 @@ record Forced (i j : ℕ) (t : Arc) (w : Side) (r r′ v : Fraction) (x : Outcom
   is : Changes (record { edit = dropping j (w .other) s 0 noFigure i; old = oldOne i r (record { number = j; arc = t }) }) ≡ x
 
 single-met : (net : Net) (i : ℕ) {x : Outcome} → Answers x → singleArc net i ≡ x → (m : Single net i x) × ((Outside (arcAt net (arc net i)) (m .v) × (NoFlow ≡ x)) ⊎ Forced i (arc net i) (arcAt net (arc net i)) (side net i) (supplyAt net i) (supplyAt net (side net i .other)) (m .v) x)
-unfolding singleArc forcedOut
+unfolding singleArc single forcedOut
 single-met net i a e =
     let h = only-met a _ _ e in
     let d = only-met a _ _ (h .1) in
@@ -168,10 +169,15 @@ module _ (net : Net) (g : Legal net) (i : ℕ) {x : Outcome} (m : Single net i x
       (record { shift = _; sound = single-sound (record { place = single-at; within = within (f .not-below) (f .not-above); removed = subst (λ ξ. Removed N (after net g j (dropping j (w .other) (f .s) 0 noFigure i) ξ) j ξ) flow-is (removed (f .supply)) }) })
       undone
 
+unused : (net : Net) (i : ℕ) → isHere net i ≡ false → singleArc net i ≡ Passes
+unfolding singleArc onlyWhere
+unused net i e = rw e
+
 -- RULE 3
 pub laws : {P : Net → Type 0} → RuleLaws P rule
 laws = record {
   few-places = omega arith;
+  unused = λ net g. unused net;
   no-flow = λ net g p i e. let m = single-met net i tt e in ⊎-elim (λ o. single-no-flow (single-at net g i (m .0)) (outside net g i (m .0) (o .0))) (λ f. not-shown (f .is)) (m .1);
   right = λ net g p i e. let m = single-met net i tt e in ⊎-elim (λ o. not-changed (o .1)) (right net g i (m .0)) (m .1);
 }

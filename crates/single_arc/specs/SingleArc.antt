@@ -1,6 +1,8 @@
 -- Rule 3, single arc (01, "The six reductions"): a singleton row.
+use mathlib.Core.List.{List}
 use Prim.Native.Nat.{ℕ}
 use lib.Dec.{eqb}
+use lib.ListN.{getD}
 use Rattle.fraction.specs.declared.Fraction.{Fraction}
 use Rattle.fraction.specs.declared.Worked.the-variants.{Fits}
 use Rattle.fraction.specs.Exact.{noFigure, isLess}
@@ -8,9 +10,10 @@ use Rattle.fraction.specs.Formula.{_⊘_}
 use Rattle.network.specs.declared.Arc.{Arc}
 use Rattle.network.specs.declared.Net.{Net}
 use Rattle.network.specs.declared.Side.{Side}
+use Rattle.network.specs.declared.ArcUpdate.{ArcUpdate}
 use Rattle.network.specs.declared.pair.Pair.{Pair}
 use Rattle.network.specs.Limits.{maxNodes}
-use Rattle.network.specs.Network.{arcAt, supplyAt, isHere, degreeOf, touchingAfter, sideOf}
+use Rattle.network.specs.Network.{isHere, degreeOf, sideOf}
 use Rattle.step.specs.declared.Old.{Old}
 use Rattle.step.specs.declared.Outcome.{Outcome}
 use Rattle.step.specs.declared.Outcome.the-variants.{Changes}
@@ -18,7 +21,8 @@ use Rattle.step.specs.declared.Undone.{Undone}
 use Rattle.step.specs.declared.Undone.the-variants.{Restores}
 use Rattle.step.specs.Outcome.{_>>=_, _>>_, onlyWhere, noFlowWhere, fits}
 use Rattle.step.specs.Dropped.{supplyLess, dropping}
-use Rattle.step.specs.Back.{figure, oldOne, flowAndPrice, quoteOf}
+use Rattle.step.specs.Back.{figure, oldArc, oldOne, flowAndPrice, quoteOf}
+use Rattle.step.specs.Around.{firstAt}
 use Rattle.step.specs.Run.{Rule}
 
 -- "Flow v = r ÷ e; outside the bounds: no flow. Otherwise the other end's supply becomes r' - o × v; arc and node dropped."
@@ -32,13 +36,17 @@ forcedOut i j t w r r′ = do
   Changes (record { edit = dropping j (w .other) s 0 noFigure i; old = oldOne i r (record { number = j; arc = t }) })
 
 -- "degree 1"
+-- node i has degree d, and u is the first arc there
+unfoldable pub single : List Fraction → ℕ → ℕ → ArcUpdate → Outcome
+single supply i d u = do
+  onlyWhere (eqb d 1)
+  let w = sideOf (u .arc) i
+  forcedOut i (u .number) (u .arc) w (getD supply i noFigure) (getD supply (w .other) noFigure)
+
 unfoldable pub singleArc : Net → ℕ → Outcome
 singleArc net i = do
   onlyWhere (isHere net i)
-  onlyWhere (eqb (degreeOf net i) 1)
-  let j = touchingAfter net i 0
-  let w = sideOf (arcAt net j) i
-  forcedOut i j (arcAt net j) w (supplyAt net i) (supplyAt net (w .other))
+  single (net .supply) i (degreeOf net i) (oldArc net (firstAt net i))
 
 -- "Back: flow v, price (c - o × other price) ÷ e."
 unfoldable pub singleBack : Old → Pair → Undone

@@ -2,11 +2,12 @@
 ghost use mathlib.Core.Path.{_≡_};
 ghost use Rattle.fraction.specs.declared.Worked.the-variants.{Fits};
 ghost use Rattle.fraction.specs.Formula.{_⊘_};
-ghost use Rattle.single_arc.specs.SingleArc.{forcedOut, singleBack};
+ghost use Rattle.single_arc.specs.SingleArc.{forcedOut, single, singleBack};
 use fraction::Fraction;
 use fraction::Worked;
 use network::Arc;
 use network::ArcUpdate;
+use network::NODE_PLACES;
 use network::Side;
 use network::pair::Pair;
 use step::Change;
@@ -21,8 +22,8 @@ fn forced(r: Fraction, w: Side) -> Worked
     r.fit().over(w.e.fit())
 }
 
-// Rule 3 at node i of supply r that arc j, t, alone touches, with w its side there; s is the supply at its other end.
-pub fn single_arc(i: usize, j: usize, t: Arc, w: Side, r: Fraction, s: Fraction) -> Outcome
+// Arc j, t, alone touches node i of supply r, with w its side there; s is the supply at its other end.
+fn force(i: usize, j: usize, t: Arc, w: Side, r: Fraction, s: Fraction) -> Outcome
     ensures { λ x. ⌜ x ≡ forcedOut i j t w r s ⌝ }
 {
     let Worked::Fits(v) = forced(r, w) else {
@@ -40,6 +41,24 @@ pub fn single_arc(i: usize, j: usize, t: Arc, w: Side, r: Fraction, s: Fraction)
     let edit = step::dropping(j, w.other, x, 0, network::no_figure(), i);
     let old = step::old_one(i, r, ArcUpdate { number: j, arc: t });
     Outcome::Changes(Change { edit, old })
+}
+
+// Rule 3 at node i of this degree, where u is the first arc.
+pub fn single_arc(
+    supply: [Fraction; NODE_PLACES],
+    i: usize,
+    degree: usize,
+    u: ArcUpdate,
+) -> Outcome
+    ensures { λ x. ⌜ x ≡ single supply i degree u ⌝ }
+{
+    if degree != 1 {
+        return Outcome::Passes;
+    }
+    let w = network::side_at(u.arc, i);
+    let r = network::supply_of(supply, i);
+    let s = network::supply_of(supply, w.other);
+    force(i, u.number, u.arc, w, r, s)
 }
 
 // Its way back.

@@ -1,6 +1,6 @@
 -- What a run and the way back ask of one rule: numbers that fit words, a change that is right, and old arcs that are put back.
 use mathlib.Core.Path.{_≡_, sym, ap, _∙_, subst}
-use mathlib.Core.Bool.{true}
+use mathlib.Core.Bool.{Bool, true, false, cond}
 use mathlib.Core.Logic.{⊎-elim, _⊎_, inl, inr}
 use mathlib.Core.List.{List, [], _∷_}
 use Prim.Native.Nat.{ℕ, _≤_}
@@ -15,7 +15,8 @@ use Rattle.fraction.specs.Exact.{Proper, most}
 use Rattle.network.specs.declared.Arc.{Arc}
 use Rattle.network.specs.declared.Net.{Net}
 use Rattle.network.specs.declared.ArcUpdate.{ArcUpdate}
-use Rattle.network.specs.Network.{arcAt, supplyAt, isHere, noEdit, updatesOf, applied, noArc, withUpdate, withUpdates}
+use Rattle.network.specs.Limits.{maxNodes}
+use Rattle.network.specs.Network.{arcAt, supplyAt, isHere, isUsed, noEdit, updatesOf, applied, noArc, withUpdate, withUpdates}
 use Rattle.network.specs.Legal.{Bound, Legal}
 use Rattle.network.specs.declared.pair.Pair.{Pair}
 use Rattle.network.specs.Pair.{exactPair}
@@ -24,7 +25,7 @@ use Rattle.network.proofs.Kept.{here-number}
 use Rattle.step.specs.declared.Old.{Old}
 use Rattle.step.specs.declared.Step.{Step}
 use Rattle.step.specs.declared.Change.{Change}
-use Rattle.step.specs.declared.Outcome.the-variants.{NoFlow, Changes}
+use Rattle.step.specs.declared.Outcome.the-variants.{Passes, NoFlow, Changes}
 use Rattle.step.specs.declared.Restored.{Restored}
 use Rattle.step.specs.declared.Undone.{Undone}
 use Rattle.step.specs.declared.Undone.the-variants.{Restores}
@@ -119,9 +120,15 @@ pub record Right (net : Net) (c : Change) (back : Pair → Undone) : Type 0 wher
   -- the way back in fractions is that one, where its figures fit
   pub agrees : (pair : Pair) → Sized pair → {r : Restored} → back pair ≡ Restores r → Holds (restored pair r) (exact (exactPair pair))
 
+-- whether number i is in use, of a node or of an arc
+abbrev pub inUse : Rule → Net → ℕ → Bool
+inUse R net i = cond (eqb (R .last) maxNodes) (isHere net i) (isUsed net i)
+
 -- a rule that is tried on legal networks of which P is known
 pub record RuleLaws (P : Net → Type 0) (R : Rule) : Type 0 where
   pub few-places : R .last ≤ 96
+  -- it passes at a number not in use
+  pub unused : (net : Net) → Legal net → (i : ℕ) → inUse R net i ≡ false → R .at net i ≡ Passes
   pub no-flow : (net : Net) → Legal net → P net → (i : ℕ) → R .at net i ≡ NoFlow → LP.NoFlow (programOf net)
   pub right : (net : Net) → Legal net → P net → (i : ℕ) {c : Change} → R .at net i ≡ Changes c → Right net c (R .back (c .old))
 

@@ -1,11 +1,12 @@
 -- THE COMMON ARGUMENT: what holds of each rule of a table holds of the search, of a whole run, and of the way back over it.
 use mathlib.Core.Path.{_≡_, refl, sym, ap, _∙_, subst}
-use mathlib.Core.Bool.{cond}
+use mathlib.Core.Bool.{false, cond}
 use mathlib.Core.List.{List, [], _∷_}
 use Prim.Native.Nat.{ℕ, zero, suc, _+_, _≤_, _<_}
 use native.Mathlib.Decide.{ℕ-discrete}
 use native.Mathlib.Numerals.{add-one}
 use native.Mathlib.Omega.{arith}
+use lib.Dec.{eqb}
 use lib.ListN.{length}
 use borrow.Author.Tests.{eq-eqb, ne-eqb}
 use Rattle.presolve.specs.LP as LP
@@ -27,12 +28,13 @@ use Rattle.step.specs.declared.Next.{Next}
 use Rattle.step.specs.declared.Next.the-variants.{Stops, Refuted, Takes}
 use Rattle.step.specs.Back.{restored}
 use Rattle.step.specs.Applies.{Passing, NoneApplies}
-use Rattle.step.specs.Run.{Rule, orElse, upward, nextFrom, nextBy, Run, runBy, runOf, backFrom, backOf, Way, wide, at, arrived, undo, wayBack}
+use Rattle.step.specs.Run.{Rule, orElse, upward, nextFrom, nextBy, Run, runBy, runOf, ruleFrom, backOf, Way, wide, at, arrived, undo, wayBack}
 use Rattle.step.proofs.Exactly.{SoundTo, sound-stay, sound-then, sound-solved, sound-no-flow}
 use Rattle.step.proofs.Fewer.{leftOf}
 use Rattle.step.proofs.Figures.{Sized, Holds, itself}
 use Rattle.step.proofs.Each.{All}
-use Rattle.step.proofs.Laws.{SmallStep, old-small, Right, RuleLaws, putBackAll, put-back}
+use Rattle.step.proofs.Lines.{split}
+use Rattle.step.proofs.Laws.{SmallStep, old-small, Right, inUse, RuleLaws, putBackAll, put-back}
 
 -- ---- the table
 
@@ -40,6 +42,12 @@ use Rattle.step.proofs.Laws.{SmallStep, old-small, Right, RuleLaws, put
 abbrev pub Lawful : (Net → Type 0) → List Rule → Type 0
 Lawful P [] = Unit {0}
 Lawful P (R ∷ rules) = RuleLaws P R × Lawful (λ net. P net × Passing R net) rules
+
+-- a rule of the table, by its number, passes at a number not in use
+pub rule-unused : (P : Net → Type 0) (k : ℕ) (rules : List Rule) → Lawful P rules → (net : Net) → Legal net → (r i : ℕ) → inUse (ruleFrom k rules r) net i ≡ false → ruleFrom k rules r .at net i ≡ Passes
+unfolding ruleFrom
+rule-unused P k [] laws net g r i = λ h. refl
+rule-unused P k (R ∷ rules) laws net g r i = split (eqb r k) (λ e. rw e (laws .0 .unused net g i)) (λ e. rw e (rule-unused _ (suc k) rules (laws .1) net g r i))
 
 -- ---- one rule at its places
 
@@ -69,7 +77,7 @@ pub record NextLaws (net : Net) (back : Step → Pair → Undone) (n : Next) : T
 
 -- a step by one of the rules, of numbers k upward
 record From (net : Net) (k : ℕ) (rules : List Rule) (s : Step) : Type 0 where
-  right : Right net (s .change) (backFrom k rules (s .rule) (s .change .old))
+  right : Right net (s .change) (ruleFrom k rules (s .rule) .back (s .change .old))
   low : k ≤ s .rule
   high : s .rule < k + length rules
   place : s .place ≤ 96
@@ -80,13 +88,13 @@ FromNext net k rules (Refuted a i) = LP.NoFlow (programOf net)
 FromNext net k rules (Takes s) = From net k rules s
 
 from-laws : (P : Net → Type 0) (h k : ℕ) (rules : List Rule) → Lawful P rules → (net : Net) → Legal net → P net → FromNext net k rules (nextFrom h k rules net)
-unfolding nextFrom backFrom
+unfolding nextFrom ruleFrom
 from-laws P zero k rules laws net g p = tt
 from-laws P (suc h) k [] laws net g p = tt
 from-laws P (suc h) k (R ∷ rules) laws net g p =
     upward-each (FromNext net k (R ∷ rules)) (R .at net) k (R .last) 1 (nextFrom h (suc k) rules net) (laws .0 .no-flow net g p)
     (λ j c l e. record {
-      right = subst (λ b. Right net c (λ pair. cond b (R .back (c .old) pair) (backFrom (suc k) rules k (c .old) pair))) (sym (eq-eqb k k refl)) (laws .0 .right net g p j e);
+      right = subst (λ b. Right net c (cond b R (ruleFrom (suc k) rules k) .back (c .old))) (sym (eq-eqb k k refl)) (laws .0 .right net g p j e);
       low = omega arith;
       high = omega (arith, add-one (length rules));
       place = omega (arith, l, laws .0 .few-places);
@@ -99,7 +107,7 @@ from-laws P (suc h) k (R ∷ rules) laws net g p =
     later (Takes s) r =
         record {
           right =
-              subst (λ b. Right net (s .change) (λ pair. cond b (R .back (s .change .old) pair) (backFrom (suc k) rules (s .rule) (s .change .old) pair)))
+              subst (λ b. Right net (s .change) (cond b R (ruleFrom (suc k) rules (s .rule)) .back (s .change .old)))
               (sym (ne-eqb (s .rule) k (λ z. omega (arith, r .low, add-one k)))) (r .right);
           low = omega (arith, r .low, add-one k);
           high = omega (arith, r .high, add-one k, add-one (length rules));

@@ -22,6 +22,14 @@ pub record Rule : Type 0 where
   pub at : Net → ℕ → Outcome
   pub back : Old → Pair → Undone
 
+-- rule r of a table whose first is number k; where there is none, one that passes everywhere
+unfoldable pub ruleFrom : ℕ → List Rule → ℕ → Rule
+ruleFrom k [] r = record { last = 0; at = λ net i. Passes; back = λ old pair. Wide }
+ruleFrom k (R ∷ rules) r = cond (eqb r k) R (ruleFrom (suc k) rules r)
+
+abbrev pub ruleOf : List Rule → ℕ → Rule
+ruleOf rules r = ruleFrom 1 rules r
+
 -- ---- the next step
 
 -- the answer of rule k at place i, or, where it passes, what comes after it
@@ -68,13 +76,9 @@ runOf next (suc many) net = runBy (next net) (runOf next many) net
 
 -- ---- the way back
 
--- the way back of rule r, where the table's first rule is number k
-unfoldable pub backFrom : ℕ → List Rule → ℕ → Old → Pair → Undone
-backFrom k [] r old pair = Wide
-backFrom k (R ∷ rules) r old pair = cond (eqb r k) (R .back old pair) (backFrom (suc k) rules r old pair)
-
+-- of the rule that took the step
 abbrev pub backOf : List Rule → Step → Pair → Undone
-backOf rules s pair = backFrom 1 rules (s .rule) (s .change .old) pair
+backOf rules s pair = ruleOf rules (s .rule) .back (s .change .old) pair
 
 -- a pair on its way back, or too wide a figure
 pub data Way : Type 0 where

@@ -42,6 +42,14 @@ pub struct Change {
     pub old: Old,
 }
 
+// The arcs that touch a node, upward, as many as its degree, up to four.
+pub struct Around {
+    pub one: ArcUpdate,
+    pub two: ArcUpdate,
+    pub three: ArcUpdate,
+    pub four: ArcUpdate,
+}
+
 // A rule doesn't apply, shows no flow, or is the next step.
 pub enum Outcome {
     Passes,

@@ -34,7 +34,7 @@ use Rattle.network.specs.declared.Net.{Net}
 use Rattle.network.specs.declared.Side.{Side}
 use Rattle.network.specs.declared.Edit.{Edit}
 use Rattle.network.specs.declared.pair.Pair.{Pair}
-use Rattle.network.specs.Network.{noArc, arcAt, supplyAt, isHere, isTouching, isRoot, sideOf, withArc, withSupply, without, updatesOf, applied}
+use Rattle.network.specs.Network.{noArc, arcAt, supplyAt, isHere, isTouching, isRoot, degreeOf, sideOf, withArc, withSupply, without, updatesOf, applied}
 use Rattle.network.specs.Legal.{Bound, LegalArc, Legal}
 use Rattle.network.specs.Pair.{priceAt, flowAt, withPrice, withFlow, exactPair}
 use Rattle.network.specs.Program.{boundOf, exactArc, exactOf, programOf}
@@ -44,10 +44,12 @@ use Rattle.fraction.proofs.Exactly.{Exactly, same, minus-exactly}
 use Rattle.slackness.proofs.Laws.{rule-is, is-rule}
 use Rattle.step.specs.declared.Change.{Change}
 use Rattle.step.specs.declared.Outcome.{Outcome}
-use Rattle.step.specs.declared.Outcome.the-variants.{Changes}
+use Rattle.step.specs.declared.Outcome.the-variants.{Passes, Changes}
 use Rattle.step.specs.declared.Restored.{Restored}
 use Rattle.step.specs.declared.Undone.the-variants.{Restores}
-use Rattle.step.specs.Back.{oldTwo, quoteOf, restored}
+use Rattle.step.specs.Outcome.{onlyWhere}
+use Rattle.step.specs.Back.{oldArc, oldTwo, quoteOf, restored}
+use Rattle.step.specs.Around.{firstAt, secondAt}
 use Rattle.step.specs.Figure.{larger, smaller}
 use Rattle.step.proofs.Frame.{Framed, Unnamed, no-arc-puts, no-level, no-names, arc-stands}
 use Rattle.step.proofs.Each.{Any}
@@ -58,7 +60,7 @@ use Rattle.step.proofs.Removing.{less-proper, level-is}
 use Rattle.step.proofs.Node.{AtNode, ArcsAt, arcs-here}
 use Rattle.step.proofs.Figures.{Sized, Holds, Figure, itself, flow-put, price-put, over-exactly, choose-yes, choose-no}
 use Rattle.step.proofs.Laws.{supply-small, no-old, Right, right-of, RuleLaws}
-use Rattle.two_arcs.specs.TwoArcs.{firstAt, secondAt, keptAt, mergedAt, sameSign, tighter, imageOf, newArc, merging, merged, kept, twoArcs, twoBack, rule}
+use Rattle.two_arcs.specs.TwoArcs.{sameSign, tighter, imageOf, newArc, merging, merged, kept, two, twoArcs, twoBack, rule}
 use Rattle.two_arcs.proofs.Figures.{lower-is, upper-is, new-bounds}
 
 -- ---- what an answer says
@@ -114,18 +116,31 @@ record Met (net : Net) (i j k : ℕ) (x : Outcome) : Type 0 where
   arcs : Arcs net i j k
   made : Merged i j (arcAt net j) (sideOf (arcAt net j) i) k (arcAt net k) (sideOf (arcAt net k) i) (supplyAt net i) (supplyAt net (sideOf (arcAt net k) i .other)) x
 
-two-met : (net : Net) → Legal net → (i : ℕ) {x : Outcome} → Answers x → twoArcs net i ≡ x → Met net i (keptAt net i) (mergedAt net i) x
-unfolding twoArcs kept
-two-met net g i a e =
-    let h = only-met a _ _ e in
-    let d = only-met a _ _ (h .1) in
-    let n = only-met a _ _ (d .1) in
-    let w = arcs-here net g i (h .0) (firstAt net i ∷ secondAt net i ∷ []) (eqb-true _ _ (d .0)) (touching-first net i 0, (touching-first net i _, tt)) in
-    record {
-      here = h .0;
-      arcs = two-at net i (firstAt net i) (secondAt net i) w (isRoot (arcAt net (firstAt net i))) refl (eqb-false _ _ (not-true _ (n .0)));
-      made = merged-met _ _ _ _ _ _ _ _ _ a (n .1);
-    }
+two-met : (net : Net) → Legal net → (i : ℕ) {x : Outcome} → Answers x → twoArcs net i ≡ x → (j k : ℕ) × Met net i j k x
+unfolding twoArcs two kept
+two-met net g i {x} a e = (cond root u t, cond root t u, by root refl (d .1))
+  where
+    t : ℕ
+    t = firstAt net i
+
+    u : ℕ
+    u = secondAt net i
+
+    root : Bool
+    root = isRoot (arcAt net t)
+
+    h : (isHere net i ≡ true) × (two (net .supply) i (degreeOf net i) (oldArc net t) (oldArc net u) ≡ x)
+    h = only-met a _ _ e
+
+    d : (eqb (degreeOf net i) 2 ≡ true) × (cond root (kept (net .supply) i (oldArc net u) (oldArc net t)) (kept (net .supply) i (oldArc net t) (oldArc net u)) ≡ x)
+    d = only-met a _ _ (h .1)
+
+    both : ArcsAt net i (t ∷ u ∷ [])
+    both = arcs-here net g i (h .0) (t ∷ u ∷ []) (eqb-true _ _ (d .0)) (touching-first net i 0, (touching-first net i t, tt))
+
+    by : (r : Bool) → isRoot (arcAt net t) ≡ r → cond r (kept (net .supply) i (oldArc net u) (oldArc net t)) (kept (net .supply) i (oldArc net t) (oldArc net u)) ≡ x → Met net i (cond r u t) (cond r t u) x
+    by true q f = let n = only-met a _ _ f in record { here = h .0; arcs = two-at net i t u both true q (eqb-false _ _ (not-true _ (n .0))); made = merged-met _ _ _ _ _ _ _ _ _ a (n .1) }
+    by false q f = let n = only-met a _ _ f in record { here = h .0; arcs = two-at net i t u both false q (eqb-false _ _ (not-true _ (n .0))); made = merged-met _ _ _ _ _ _ _ _ _ a (n .1) }
 
 -- ---- the change
 
@@ -332,6 +347,10 @@ module _ (net : Net) (g : Legal net) (i j k : ℕ) {c : Change} (m : Met net i j
       right-of g twoBack (m .made .is) framed (inl (m .here))
       (record { arcs = ((m .arcs .at-j .number .1, refl), ((m .arcs .at-k .number .1, refl), no-old g .1 .1)); named = λ x u. u; node = here-number g i (m .here) .1; supply = supply-small g i (m .here); new = omega arith }) back sound agrees
 
+unused : (net : Net) (i : ℕ) → isHere net i ≡ false → twoArcs net i ≡ Passes
+unfolding twoArcs onlyWhere
+unused net i e = rw e
+
 -- RULE 5
 pub laws : {P : Net → Type 0} → RuleLaws P rule
-laws = record { few-places = omega arith; no-flow = λ net g p i e. not-shown (two-met net g i tt e .made .is); right = λ net g p i e. right net g i _ _ (two-met net g i tt e) }
+laws = record { few-places = omega arith; unused = λ net g. unused net; no-flow = λ net g p i e. not-shown (two-met net g i tt e .2 .made .is); right = λ net g p i e. right net g i _ _ (two-met net g i tt e .2) }

@@ -12,10 +12,11 @@ use Rattle.fraction.specs.Formula.{_⊖_, _⊗_, _⊘_, ⊝_}
 use Rattle.network.specs.declared.Arc.{Arc}
 use Rattle.network.specs.declared.Net.{Net}
 use Rattle.network.specs.declared.Side.{Side}
+use Rattle.network.specs.declared.ArcUpdate.{ArcUpdate}
 use Rattle.network.specs.declared.Edit.{Edit}
 use Rattle.network.specs.declared.pair.Pair.{Pair}
 use Rattle.network.specs.Limits.{maxNodes}
-use Rattle.network.specs.Network.{noArc, noUpdate, noSupplyUpdate, arcAt, isHere, degreeOf, touchingAfter, isRoot, sideOf}
+use Rattle.network.specs.Network.{noArc, noUpdate, noSupplyUpdate, isHere, degreeOf, isRoot, sideOf}
 use Rattle.network.specs.Pair.{priceAt, flowAt}
 use Rattle.slackness.specs.Slackness.{keepsRule}
 use Rattle.step.specs.declared.Old.{Old}
@@ -25,21 +26,9 @@ use Rattle.step.specs.declared.Undone.{Undone}
 use Rattle.step.specs.declared.Undone.the-variants.{Restores}
 use Rattle.step.specs.Figure.{larger, smaller, _<$>_}
 use Rattle.step.specs.Outcome.{_>>=_, _>>_, onlyWhere, fits}
-use Rattle.step.specs.Back.{figure, oldTwo, flowAndPrice, quoteOf}
+use Rattle.step.specs.Back.{figure, oldArc, oldTwo, flowAndPrice, quoteOf}
+use Rattle.step.specs.Around.{firstAt, secondAt}
 use Rattle.step.specs.Run.{Rule}
-
--- "kept arc j: the lower number unless it is a root arc; k the other"
-abbrev pub firstAt : Net → ℕ → ℕ
-firstAt net i = touchingAfter net i 0
-
-abbrev pub secondAt : Net → ℕ → ℕ
-secondAt net i = touchingAfter net i (firstAt net i)
-
-abbrev pub keptAt : Net → ℕ → ℕ
-keptAt net i = cond (isRoot (arcAt net (firstAt net i))) (secondAt net i) (firstAt net i)
-
-abbrev pub mergedAt : Net → ℕ → ℕ
-mergedAt net i = cond (isRoot (arcAt net (firstAt net i))) (firstAt net i) (secondAt net i)
 
 -- "ej and ek have the same sign"
 abbrev pub sameBool : Bool → Bool → Bool
@@ -78,19 +67,24 @@ merged i j tj wj k tk wk r r′ = do
   Changes (record { edit = merging j (newArc wj wk c l u b) k (wk .other) s i; old = oldTwo i r (record { number = j; arc = tj }) (record { number = k; arc = tk }) })
 
 -- "not both root arcs, other ends different (a root arc has none and so differs)": no other end is 0, so that two root arcs' are equal
-unfoldable pub kept : List Fraction → ℕ → ℕ → Arc → ℕ → Arc → Outcome
-kept supply i j tj k tk = do
-  let wj = sideOf tj i
-  let wk = sideOf tk i
+unfoldable pub kept : List Fraction → ℕ → ArcUpdate → ArcUpdate → Outcome
+kept supply i j k = do
+  let wj = sideOf (j .arc) i
+  let wk = sideOf (k .arc) i
   onlyWhere (not (eqb (wj .other) (wk .other)))
-  merged i j tj wj k tk wk (getD supply i noFigure) (getD supply (wk .other) noFigure)
+  merged i (j .number) (j .arc) wj (k .number) (k .arc) wk (getD supply i noFigure) (getD supply (wk .other) noFigure)
 
--- "degree 2": the kept arc j, and k
+-- "degree 2"; "kept arc j: the lower number unless it is a root arc; k the other"
+-- node i has degree d, and t and u are the first two arcs there
+unfoldable pub two : List Fraction → ℕ → ℕ → ArcUpdate → ArcUpdate → Outcome
+two supply i d t u = do
+  onlyWhere (eqb d 2)
+  cond (isRoot (t .arc)) (kept supply i u t) (kept supply i t u)
+
 unfoldable pub twoArcs : Net → ℕ → Outcome
 twoArcs net i = do
   onlyWhere (isHere net i)
-  onlyWhere (eqb (degreeOf net i) 2)
-  kept (net .supply) i (keptAt net i) (arcAt net (keptAt net i)) (mergedAt net i) (arcAt net (mergedAt net i))
+  two (net .supply) i (degreeOf net i) (oldArc net (firstAt net i)) (oldArc net (secondAt net i))
 
 -- "Back: flow of k is (r - ej × flow j) ÷ ek; first price (ck - ok × other price) ÷ ek; if cj - oj × other price - ej × price breaks the price rule
 -- on j's old bounds, the price is (cj - oj × other price) ÷ ej instead."

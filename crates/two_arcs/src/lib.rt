@@ -7,9 +7,8 @@ ghost use Rattle.fraction.specs.Exact.{zeroFraction, noFigure};
 ghost use Rattle.fraction.specs.Formula.{_⊖_, _⊗_, _⊘_, ⊝_};
 ghost use Rattle.slackness.specs.Slackness.{keepsRule};
 ghost use Rattle.step.specs.Back.{quoteAt};
-ghost use Rattle.network.specs.Network.{isRoot};
 ghost use Rattle.step.specs.Figure.{larger, smaller};
-ghost use Rattle.two_arcs.specs.TwoArcs.{sameSign, tighter, imageOf, newArc, merging as mergingOf, merged, kept, twoBack};
+ghost use Rattle.two_arcs.specs.TwoArcs.{sameSign, tighter, imageOf, newArc, merging as mergingOf, merged, kept, two, twoBack};
 use fraction::Fraction;
 use fraction::Worked;
 use network::Arc;
@@ -195,35 +194,37 @@ fn merge(
     Outcome::Changes(Change { edit, old })
 }
 
-// Arc j, tj, is kept and arc k, tk, goes, where their other ends differ.
-fn keep(supply: [Fraction; NODE_PLACES], i: usize, j: usize, tj: Arc, k: usize, tk: Arc) -> Outcome
-    ensures { λ x. ⌜ x ≡ kept supply i j tj k tk ⌝ }
+// Arc j is kept and arc k goes, where their other ends differ.
+fn keep(supply: [Fraction; NODE_PLACES], i: usize, j: ArcUpdate, k: ArcUpdate) -> Outcome
+    ensures { λ x. ⌜ x ≡ kept supply i j k ⌝ }
 {
-    let wj = network::side_at(tj, i);
-    let wk = network::side_at(tk, i);
+    let wj = network::side_at(j.arc, i);
+    let wk = network::side_at(k.arc, i);
     if wj.other == wk.other {
         return Outcome::Passes;
     }
     let r = network::supply_of(supply, i);
     let s = network::supply_of(supply, wk.other);
-    merge(i, j, tj, wj, k, tk, wk, r, s)
+    merge(i, j.number, j.arc, wj, k.number, k.arc, wk, r, s)
 }
 
-// Rule 5 at node i that arcs j, t, and k, u, alone touch: the lower number, j, is kept unless it is a root arc.
+// Rule 5 at node i of this degree, where t and u are the first two arcs: the lower number is kept unless it is a root arc.
 pub fn two_arcs(
     supply: [Fraction; NODE_PLACES],
     i: usize,
-    j: usize,
-    t: Arc,
-    k: usize,
-    u: Arc,
+    degree: usize,
+    t: ArcUpdate,
+    u: ArcUpdate,
 ) -> Outcome
-    ensures { λ x. ⌜ x ≡ cond (isRoot t) (kept supply i k u j t) (kept supply i j t k u) ⌝ }
+    ensures { λ x. ⌜ x ≡ two supply i degree t u ⌝ }
 {
-    if network::is_root(t) {
-        return keep(supply, i, k, u, j, t);
+    if degree != 2 {
+        return Outcome::Passes;
     }
-    keep(supply, i, j, t, k, u)
+    if network::is_root(t.arc) {
+        return keep(supply, i, u, t);
+    }
+    keep(supply, i, t, u)
 }
 
 // Its way back.

@@ -1,10 +1,11 @@
 -- `single_arc::single_arc` meets its contract.
-use Rattle.single_arc.specs.SingleArc.{forcedOut}
-use Rattle.step.specs.Outcome.{fits, noFlowWhere}
+use Rattle.single_arc.specs.SingleArc.{single}
+use Rattle.step.specs.Outcome.{onlyWhere}
 use borrow.Author.Needs.{needs}
+use borrow.Author.Tests.{eq-eqb, ne-eqb}
 use Rattle.single_arc.proofs.single_arc.Statement.{statement}
 use Rattle.single_arc.proofs.single_arc.Tie as tie
 
 pub single-arc-spec : {M : Type 1} → statement M
-unfolding fits forcedOut noFlowWhere
-single-arc-spec = tie.close (tie.spec (search needs) (λ c. search needs) (λ c. search needs) (λ c. rw (← c .before .before .forced .ensures, c .enum-told .given .1)) (search needs) (λ c. rw (← c .before .before .before .before .before .forced .ensures, c .before .before .before .v .given .1, ← c .before .less .ensures, c .if1 .taken)) (search needs) (λ c. rw (← c .before .before .before .before .before .before .before .forced .ensures, c .before .before .before .before .before .v .given .1, ← c .before .before .before .less .ensures, c .before .before .if1 .left, ← c .before .less2 .ensures, c .if2 .taken)) (search needs) (λ c. search needs) (λ c. search needs) (λ c. rw (← c .before .before .before .before .before .before .before .before .before .before .forced .ensures, c .before .before .before .before .before .before .before .before .v .given .1, ← c .before .before .before .before .before .before .less .ensures, c .before .before .before .before .before .if1 .left, ← c .before .before .before .before .less2 .ensures, c .before .before .before .if2 .left, ← c .before .before .supply-less .ensures, c .enum-told2 .given .1)) (search needs) (search needs) (search needs) (λ c. rw (← c .before .before .before .before .before .before .before .before .before .before .before .before .before .before .forced .ensures, c .before .before .before .before .before .before .before .before .before .before .before .before .v .given .1, ← c .before .before .before .before .before .before .before .before .before .before .less .ensures, c .before .before .before .before .before .before .before .before .before .if1 .left, ← c .before .before .before .before .before .before .before .before .less2 .ensures, c .before .before .before .before .before .before .before .if2 .left, ← c .before .before .before .before .before .before .supply-less .ensures, c .before .before .before .before .x .given .1, c .before .dropping .ensures, c .before .before .no-figure .ensures, c .old-one .ensures)))
+unfolding single onlyWhere
+single-arc-spec = tie.close (tie.spec (λ c. rw (ne-eqb _ _ (c .if1 .taken))) (search needs) (search needs) (search needs) (search needs) (λ c. rw (eq-eqb _ _ (c .before .before .before .before .if1 .left), ← c .before .before .before .side-at .ensures, ← c .before .before .supply-of .ensures, ← c .before .supply-of2 .ensures) (c .force .ensures)))

@@ -1,9 +1,16 @@
 -- `rules::tried::try_node` meets its contract.
+use mathlib.Core.Path.{sym, _∙_}
+use Rattle.step.specs.Run.{ruleFrom}
+use Rattle.bare_node.proofs.Tried as BareNode
+use Rattle.single_arc.proofs.Tried as SingleArc
+use Rattle.two_arcs.proofs.Tried as TwoArcs
+use Rattle.crossing.proofs.Tried as Crossing
+use Rattle.rules.proofs.Tests.{no-node}
 use borrow.Author.Needs.{needs}
 use borrow.Author.Tests.{ne-eqb}
-use mathlib.Core.Path.{_∙_}
 use Rattle.rules.proofs.tried.try_node.Statement.{statement}
 use Rattle.rules.proofs.tried.try_node.Tie as tie
 
 pub try-node-spec : {M : Type 1} → statement M
-try-node-spec = tie.close (tie.spec (λ c κs. search needs) (λ c κs. search needs) (λ c κs. search needs) (λ c κs. search needs) (λ c κs. search needs) (λ c κs. search needs) (λ c κs. search needs) (λ c. rw (c .before .match .keys1, ← c .before .before .supply-of .ensures) (c .bare-node .ensures)) (λ c. rw (c .before .before .before .match .keys2, ← c .before .before .before .before .supply-of .ensures) (c .single-arc .ensures ∙ rw (c .before .supply-of2 .ensures, c .before .before .side-at .ensures))) (λ c. rw (c .before .match .keys3) (c .two-arcs .ensures)) (λ c. rw (c .before .match .keys4, ← c .before .before .supply-of .ensures) (c .at-crossing .ensures)) (λ c. rw (ne-eqb _ _ (c .match .rest .0 .0 .0 .1), ne-eqb _ _ (c .match .rest .0 .0 .1), ne-eqb _ _ (c .match .rest .0 .1), ne-eqb _ _ (c .match .rest .1))))
+unfolding ruleFrom
+try-node-spec = tie.close (tie.spec (λ c κs. search needs) (λ c κs. search needs) (λ c κs. search needs) (λ c κs. search needs) (λ c κs. search needs) (λ c net g n. rw (c .before .match .keys1) ((rw (c .before .before .supply-of .ensures) at (c .bare-node .ensures)) ∙ BareNode.tried g)) (λ c net g n. rw (c .before .match .keys2) (c .single-arc .ensures ∙ SingleArc.tried g)) (λ c net g n. rw (c .before .match .keys3) (c .two-arcs .ensures ∙ TwoArcs.tried g)) (λ c net g n. rw (c .before .match .keys4) ((rw (c .before .before .supply-of .ensures) at (c .crossing .ensures)) ∙ Crossing.tried g)) (λ c net g n. let t = c .match .rest in sym (no-node net (c .before .before .args .i) (c .before .before .args .k) (ne-eqb _ _ (t .0 .0 .0 .1)) (ne-eqb _ _ (t .0 .0 .1)) (ne-eqb _ _ (t .0 .1)) (ne-eqb _ _ (t .1)) n)))

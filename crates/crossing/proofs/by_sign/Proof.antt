@@ -1,8 +1,8 @@
--- `rules::tried::by_sign` meets its contract.
-use Rattle.rules.specs.Tried.{signedOf}
+-- `crossing::by_sign` meets its contract.
+use Rattle.crossing.specs.Tried.{signedOf}
 use borrow.Author.Needs.{needs}
-use Rattle.rules.proofs.tried.by_sign.Statement.{statement}
-use Rattle.rules.proofs.tried.by_sign.Tie as tie
+use Rattle.crossing.proofs.by_sign.Statement.{statement}
+use Rattle.crossing.proofs.by_sign.Tie as tie
 
 pub by-sign-spec : {M : Type 1} → statement M
 unfolding signedOf

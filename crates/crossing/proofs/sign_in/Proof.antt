@@ -1,9 +1,9 @@
--- `rules::tried::sign_in` meets its contract.
-use Rattle.rules.specs.Tried.{signedIn}
+-- `crossing::sign_in` meets its contract.
+use Rattle.crossing.specs.Tried.{signedIn}
 use borrow.Author.Needs.{needs}
 use borrow.Author.Tests.{eq-eqb, ne-eqb}
-use Rattle.rules.proofs.tried.sign_in.Statement.{statement}
-use Rattle.rules.proofs.tried.sign_in.Tie as tie
+use Rattle.crossing.proofs.sign_in.Statement.{statement}
+use Rattle.crossing.proofs.sign_in.Tie as tie
 
 pub sign-in-spec : {M : Type 1} → statement M
 unfolding signedIn
