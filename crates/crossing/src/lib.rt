@@ -4,7 +4,7 @@ ghost use mathlib.Core.Bool.{_&&_};
 ghost use Rattle.fraction.specs.declared.Worked.the-variants.{Fits};
 ghost use Rattle.fraction.specs.Formula.{_⊘_};
 ghost use Rattle.step.specs.Back.{quoteOf};
-ghost use Rattle.crossing.specs.Crossing.{hasSignAt, isFree, isApart, crossed as crossedOf, putOf, editFour, crossedAt, shareOf, flowOf, priceOf, crossingBack};
+ghost use Rattle.crossing.specs.Crossing.{hasSignAt, isFree, isApart, crossed as crossedOf, editFour, crossedAt, shareOf, flowOf, priceOf, crossingBack};
 ghost use Rattle.crossing.specs.Tried.{signedIn, signedOf, crossingBy};
 ghost use Rattle.crossing.specs.internal.Made.{goesOn};
 use fraction::Fraction;
@@ -122,22 +122,16 @@ fn crossed(i: usize, n: Arc, p: Arc) -> Made
     })
 }
 
-fn put(number: usize, arc: Arc) -> ArcUpdate
-    ensures { λ r. ⌜ r ≡ putOf number arc ⌝ }
-{
-    ArcUpdate { number, arc }
-}
-
 // Four arcs take the numbers k, and a node is dropped.
 fn edit_four(k: Numbers, a: Arc, b: Arc, c: Arc, d: Arc, gone: usize) -> network::Edit
     ensures { λ r. ⌜ r ≡ editFour k a b c d gone ⌝ }
 {
     let none = network::no_supply_update();
     network::Edit {
-        one: put(k.first, a),
-        two: put(k.second, b),
-        three: put(k.third, c),
-        four: put(k.fourth, d),
+        one: step::numbered(k.first, a),
+        two: step::numbered(k.second, b),
+        three: step::numbered(k.third, c),
+        four: step::numbered(k.fourth, d),
         left: none,
         right: none,
         gone,

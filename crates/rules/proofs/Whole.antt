@@ -1,32 +1,45 @@
 -- The six rules keep the laws, and so does every reduction by them.
 use mathlib.Core.Path.{_≡_, refl, sym}
-use Prim.Native.Nat.{ℕ, _+_, _≤_}
+use mathlib.Core.Bool.{true, false}
+use Prim.Native.Nat.{ℕ, _+_, _≤_, _<_}
 use native.Mathlib.Omega.{arith}
 use lib.ListN.{length}
+use borrow.Author.Tests.{eq-eqb}
 use Rattle.presolve.specs.LP as LP
 use Rattle.network.specs.declared.Net.{Net}
 use Rattle.network.specs.declared.pair.Pair.{Pair}
+use Rattle.network.specs.Network.{isHere}
 use Rattle.network.specs.Legal.{Legal}
 use Rattle.network.specs.Pair.{exactPair}
 use Rattle.network.specs.Program.{programOf}
 use Rattle.step.specs.declared.Next.{Next}
 use Rattle.step.specs.declared.Next.the-variants.{Stops, Refuted, Takes}
-use Rattle.step.specs.Run.{backOf, at, wayBack}
+use Rattle.step.specs.declared.Outcome.the-variants.{Passes}
+use Rattle.step.specs.Run.{ruleOf, backOf, at, wayBack}
 use Rattle.step.proofs.Fewer.{left-within, legal-left}
 use Rattle.step.proofs.Figures.{Sized}
 use Rattle.step.specs.Applies.{NoneApplies}
-use Rattle.step.proofs.RunLaws.{Lawful, NextLaws, RunLaws, next-laws, stops-none, run-laws, run-done, run-ends, restored-solved}
+use Rattle.step.proofs.RunLaws.{Lawful, rule-unused, NextLaws, RunLaws, next-laws, stops-none, run-laws, run-done, run-ends, restored-solved}
+use Rattle.closed_arc.specs.ClosedArc.{closedArc}
 use Rattle.closed_arc.proofs.Laws as ClosedArc
 use Rattle.bare_node.proofs.Laws as BareNode
 use Rattle.single_arc.proofs.Laws as SingleArc
 use Rattle.costly_arc.proofs.Laws as CostlyArc
 use Rattle.two_arcs.proofs.Laws as TwoArcs
 use Rattle.crossing.proofs.Laws as Crossing
+use Rattle.rules.specs.Tried.{isOfNodes}
 use Rattle.rules.specs.Table.{rules, lastRule, nextOf, reduced}
 
 -- THE TABLE IS LAWFUL: a row for each rule; rule 4 comes where rule 1 has passed
 pub lawful : Lawful (λ net. Unit {0}) rules
 lawful = (ClosedArc.laws, (BareNode.laws, (SingleArc.laws, (CostlyArc.laws (λ net p. p .0 .0 .1), (TwoArcs.laws, (Crossing.laws, tt))))))
+
+-- a rule passes at a number not in use: rules of nodes, and rule 1
+pub node-unused : {net : Net} → Legal net → (k i : ℕ) → isOfNodes k ≡ true → isHere net i ≡ false → ruleOf rules k .at net i ≡ Passes
+node-unused {net} g k i n h = rule-unused (λ net. Unit {0}) 1 rules lawful net g k i (rw (n, h))
+
+pub closed-beyond : {net : Net} → Legal net → (j : ℕ) → net .m < j → closedArc net j ≡ Passes
+closed-beyond {net} g j l = lawful .0 .unused net g j (rw (eq-eqb _ _ (g .arcs-beyond j l)))
 
 -- what the search finds
 pub next-right : (net : Net) → Legal net → NextLaws net (backOf rules) (nextOf net)

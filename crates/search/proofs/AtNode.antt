@@ -1,6 +1,6 @@
 -- What the list tells of a node: its degree, and the arcs there.
-use mathlib.Core.Path.{_≡_, sym, ap, _∙_}
-use mathlib.Core.Bool.{Bool, false}
+use mathlib.Core.Path.{_≡_, refl, sym, ap, _∙_}
+use mathlib.Core.Bool.{Bool, true, false}
 use mathlib.Core.List.{List}
 use Prim.Native.Nat.{ℕ, zero, suc, _+_, _-_, _≤_, _<_}
 use native.Mathlib.Numerals.{add-one}
@@ -15,8 +15,11 @@ use Rattle.network.specs.declared.Net.{Net}
 use Rattle.network.specs.declared.Nodes.{Nodes}
 use Rattle.network.specs.ArcList.{netIn, recordAt}
 use Rattle.network.proofs.Lists.{arc-is}
-use Rattle.network.specs.Network.{arcAt, isTouching, degreeOf, AreDegreesTo, touchingAfter}
+use Rattle.network.specs.Network.{arcAt, isHere, isTouching, degreeOf, AreDegreesTo, touchingAfter}
 use Rattle.network.specs.Legal.{Legal}
+use Rattle.network.proofs.Kept.{here-number}
+use Rattle.step.specs.declared.Around.{Around}
+use Rattle.step.specs.Around.{Near, Given}
 use Rattle.step.specs.Back.{oldArc}
 use Rattle.step.proofs.Lines.{split}
 use Rattle.step.proofs.Touch.{touching-first}
@@ -40,6 +43,10 @@ module _ {net : Net} (g : Legal net) where
       (λ e. let n : 96 - net .m + (net .m + 1) ≡ 97 = omega (arith, ltb-true (net .m) 96 e) in
       rw e (sym (count-stop (λ j. isTouching (arcAt net j) i) (net .m + 1) (96 - net .m) (λ j k. untouched i j l (omega arith))) ∙ ap (count (λ j. isTouching (arcAt net j) i)) n))
       (λ e. rw e)
+
+  -- a node in use, as it is handed to a rule
+  pub given : (ds : List ℕ) → AreDegreesTo net (net .m) ds → (i : ℕ) → i < 33 → isHere net i ≡ true → {near : Around} → Near net i (getD ds i 0) near → Given net (net .supply) i (getD ds i 0) near
+  given ds a i m h n = record { legal = g; here = h; supplies = refl; degree = sym (degrees-are ds a i (here-number g i h .0) m); arcs = n }
 
 -- the arcs at a node, as the list has them
 pub old-is : (nodes : Nodes) (xs : List Arc) (i k : ℕ) {a : ℕ} {t : Arc} {u : ArcUpdate} → u ≡ record { number = a; arc = t } → t ≡ recordAt xs a → a ≡ touchingAfter (netIn nodes xs) i k → u ≡ oldArc (netIn nodes xs) (touchingAfter (netIn nodes xs) i k)

@@ -1,11 +1,15 @@
 -- A rule at its places upward, as far as there are places in use; and the rules one after the other.
-use mathlib.Core.Path.{_≡_, refl, sym, ap, _∙_}
-use mathlib.Core.Bool.{Bool, true, false}
-use Prim.Native.Nat.{ℕ, _+_, _-_, _≤_}
+use mathlib.Core.Path.{_≡_, refl, sym, ap, _∙_, subst}
+use mathlib.Core.Bool.{Bool, true, false, _||_}
+use mathlib.Core.List.{List, [], _∷_}
+use Prim.Native.Nat.{ℕ, suc, _+_, _-_, _≤_, _<_}
+use native.Mathlib.Numerals.{add-one}
 use native.Mathlib.Omega.{arith}
-use lib.Dec.{ltb}
-use borrow.Author.Tests.{ltb-true, ltb-false}
-use Rattle.loops.specs.Loops.{any}
+use lib.Dec.{eqb, ltb}
+use lib.ListN.{length}
+use borrow.Author.Tests.{ltb-true, ltb-false, eq-eqb, ne-eqb}
+use Rattle.loops.specs.Loops.{all, any}
+use Rattle.loops.proofs.Laws.{all-each}
 use Rattle.step.proofs.Lines.{split}
 use Rattle.step.proofs.Touch.{unlike}
 use Rattle.network.specs.declared.Net.{Net}
@@ -16,13 +20,17 @@ use Rattle.step.specs.declared.Outcome.{Outcome}
 use Rattle.step.specs.declared.Outcome.the-variants.{Passes}
 use Rattle.step.specs.declared.Next.{Next}
 use Rattle.step.specs.declared.Next.the-variants.{Stops, Refuted, Takes}
-use Rattle.step.specs.Run.{orElse, upward}
+use Rattle.step.specs.Run.{Rule, ruleFrom, ruleOf, orElse, upward, nextFrom}
+use Rattle.closed_arc.specs.ClosedArc.{closedArc}
 use Rattle.costly_arc.specs.CostlyArc.{isOpenRoot, costlyArc}
+use Rattle.costly_arc.specs.CostlyArc as Costly
 use Rattle.costly_arc.proofs.Upward.{Reached, upward-at, upward-none, orRest, else-rest, upward-rest}
 use Rattle.costly_arc.proofs.Pairs.{none-any}
 use Rattle.costly_arc.proofs.Passing.{no-open-root}
 use Rattle.rules.specs.declared.found.Found.{Found}
 use Rattle.rules.specs.Found.{foundOf}
+use Rattle.rules.specs.Tried.{isOfNodes}
+use Rattle.rules.specs.Table.{rules, lastRule, nextOf}
 
 -- the step that was found stays, whatever comes after; where none was, what comes after counts
 stays : (n rest : Next) → foundOf n .found ≡ true → n ≡ orRest n rest
@@ -68,11 +76,85 @@ pub no-root : {net : Net} {x : Found} → Legal net → false ≡ any (rootAt ne
 no-root {net} g h e =
     e ∙ ap foundOf (sym (no-open-root net Stops (λ k m. split (ltb k (net .m + 1)) (λ f. none-any _ _ (sym h) k (ltb-true _ _ f)) (λ f. unused-none g k (g .arcs-beyond k (omega (arith, ltb-false k (net .m + 1) f)))))))
 
--- ---- the rules one after the other: a is what this one finds
+-- ---- what this rule finds, and what comes after it: a is what this one finds
 
 module _ (rule : ℕ → Outcome) (k last : ℕ) (rest : Next) {a : Found} (e : a ≡ foundOf (upward rule k last 1 Stops)) where
-  pub found-here : a .found ≡ true → a ≡ foundOf (upward rule k last 1 rest)
+  found-here : a .found ≡ true → a ≡ foundOf (upward rule k last 1 rest)
   found-here f = e ∙ ap foundOf (stays (upward rule k last 1 Stops) rest (rw e at f) ∙ sym (upward-rest rule k rest last 1))
 
-  pub found-later : a .found ≡ false → rest ≡ upward rule k last 1 rest
+  found-later : a .found ≡ false → rest ≡ upward rule k last 1 rest
   found-later f = past (upward rule k last 1 Stops) rest (rw e at f) ∙ sym (upward-rest rule k rest last 1)
+
+-- ---- but for 1 and 4 the rules go over the nodes
+
+past-false : (a d : Bool) → a ≡ false → (a || d) ≡ true → d ≡ true
+past-false true d q e = unlike (sym q)
+past-false false d q e = e
+
+pub of-nodes : (k : ℕ) → 2 ≤ k → k ≤ lastRule → (k ≡ 4 → ⊥) → isOfNodes k ≡ true
+unfolding all ruleFrom
+of-nodes k l m n =
+    past-false (eqb k 4) _ (ne-eqb k 4 n)
+    (past-false (eqb k 1) _ (ne-eqb k 1 (λ z. omega arith))
+    (past-false (eqb k 0) _ (ne-eqb k 0 (λ z. omega arith)) (all-each (λ k. eqb k 0 || (eqb k 1 || (eqb k 4 || isOfNodes k))) (lastRule + 1) refl k (omega arith))))
+
+pub costly-is : ruleOf rules 4 ≡ Costly.rule
+unfolding ruleFrom
+costly-is = refl
+
+-- ---- the rules one after the other: at the head of the loop, those before number k find nothing
+
+pub record From (net : Net) (k : ℕ) : Type 0 where
+  pub later : List Rule
+  pub many : length later + k ≡ lastRule + 1
+  pub is : nextOf net ≡ nextFrom (length later) k later net
+  pub rule : (r : ℕ) → k ≤ r → ruleFrom k later r ≡ ruleOf rules r
+
+pub from-first : (net : Net) → From net 1
+from-first net = record { later = rules; many = refl; is = refl; rule = λ r l. refl }
+
+-- a is what rule k finds: rule k is the first of those that are left
+module _ {net : Net} {k : ℕ} (h : From net k) (l : k ≤ lastRule) {a : Found} (e : a ≡ foundOf (upward (ruleOf rules k .at net) k (ruleOf rules k .last) 1 Stops)) where
+  found-by : (R : Rule) (rs : List Rule) → ruleFrom k (R ∷ rs) k ≡ ruleOf rules k → a ≡ foundOf (upward (R .at net) k (R .last) 1 Stops)
+  unfolding ruleFrom
+  found-by R rs q = subst (λ (R : Rule). a ≡ foundOf (upward (R .at net) k (R .last) 1 Stops)) (sym (rw (eq-eqb k k refl) at q)) e
+
+  pub from-here : a .found ≡ true → a ≡ foundOf (nextOf net)
+  unfolding nextFrom
+  from-here f = by (h .later) (h .many) (h .is) (h .rule k (omega arith))
+    where
+      by : (rs : List Rule) → length rs + k ≡ lastRule + 1 → nextOf net ≡ nextFrom (length rs) k rs net → ruleFrom k rs k ≡ ruleOf rules k → a ≡ foundOf (nextOf net)
+      by [] m i q = absurd (omega (arith, m))
+      by (R ∷ rs) m i q = found-here (R .at net) k (R .last) (nextFrom (length rs) (suc k) rs net) (found-by R rs q) f ∙ ap foundOf (sym i)
+
+  pub from-more : a .found ≡ false → From net (k + 1)
+  unfolding nextFrom ruleFrom
+  from-more f = rw (add-one k) (by (h .later) (h .many) (h .is) (h .rule))
+    where
+      by : (rs : List Rule) → length rs + k ≡ lastRule + 1 → nextOf net ≡ nextFrom (length rs) k rs net → ((r : ℕ) → k ≤ r → ruleFrom k rs r ≡ ruleOf rules r) → From net (suc k)
+      by [] m i q = absurd (omega (arith, m))
+      by (R ∷ rs) m i q =
+          record {
+            later = rs;
+            many = omega (arith, m, add-one k, add-one (length rs));
+            is = i ∙ sym (found-later (R .at net) k (R .last) (nextFrom (length rs) (suc k) rs net) (found-by R rs (q k (omega arith))) f);
+            rule = λ r o. rw (ne-eqb r k (λ z. omega (arith, add-one k))) at (q r (omega (arith, add-one k)));
+          }
+
+-- rule 1 is the first
+module _ (net : Net) {a : Found} (e : a ≡ foundOf (upward (closedArc net) 1 96 1 Stops)) where
+  pub closed-here : a .found ≡ true → a ≡ foundOf (nextOf net)
+  unfolding ruleFrom
+  closed-here = from-here (from-first net) (omega arith) e
+
+  pub closed-later : a .found ≡ false → From net 2
+  unfolding ruleFrom
+  closed-later = from-more (from-first net) (omega arith) e
+
+pub from-done : {net : Net} {k : ℕ} → From net k → lastRule < k → {a : Found} → a ≡ foundOf Stops → a ≡ foundOf (nextOf net)
+unfolding nextFrom
+from-done {net} {k} h l {a} e = e ∙ by (h .later) (h .many) (h .is)
+  where
+    by : (rs : List Rule) → length rs + k ≡ lastRule + 1 → nextOf net ≡ nextFrom (length rs) k rs net → foundOf Stops ≡ foundOf (nextOf net)
+    by [] m i = ap foundOf (sym i)
+    by (R ∷ rs) m i = absurd (omega (arith, m, add-one (length rs)))

@@ -1,5 +1,7 @@
 // The search for the next step: the rules in order, each at its places upward.
 ghost use mathlib.Core.Path.{_≡_};
+ghost use mathlib.Core.Bool.{true};
+ghost use Prim.Native.Nat.{_≤_};
 ghost use Rattle.network.specs.declared.Nodes.{Nodes};
 ghost use Rattle.network.specs.Limits.{maxNodes, maxArcs};
 ghost use Rattle.network.specs.ArcList.{netIn};
@@ -7,21 +9,23 @@ ghost use Rattle.network.specs.Network.{AreDegreesTo, touchingAfter};
 ghost use Rattle.network.specs.Legal.{Legal};
 ghost use Rattle.step.specs.declared.Next.the-variants.{Stops};
 ghost use Rattle.step.specs.Back.{oldArc};
-ghost use Rattle.step.specs.Run.{upward};
+ghost use Rattle.step.specs.Around.{Near};
+ghost use Rattle.step.specs.Run.{upward, ruleOf};
 ghost use Rattle.closed_arc.specs.ClosedArc.{closedArc};
 ghost use Rattle.costly_arc.specs.CostlyArc.{costlyArc};
 ghost use Rattle.costly_arc.specs.Seen.{Known};
-ghost use Rattle.rules.specs.Table.{nextOf};
+ghost use Rattle.rules.specs.Table.{rules, lastRule, nextOf};
 ghost use Rattle.rules.specs.Found.{foundOf};
-ghost use Rattle.rules.specs.Tried.{nodeRule, Near};
+ghost use Rattle.rules.specs.Tried.{isOfNodes};
 use costly_arc::Seen;
 use network::Arc;
 use network::ArcUpdate;
 use network::Degrees;
 use network::Nodes;
+use rules::LAST_RULE;
 use rules::found::Found;
-use rules::tried::Around;
 use rules::tried::Looked;
+use step::Around;
 
 // ---- rule 1
 
@@ -45,14 +49,14 @@ pub(crate) fn scan_closed(nodes: Nodes, arcs: &[Arc]) -> Found
     rules::found::nothing()
 }
 
-// ---- rules 2, 3, 5 and 6
+// ---- the rules of nodes
 
 // The next arc after number k that touches node i.
 pub(crate) fn arc_after(arcs: &[Arc], i: usize, k: usize) -> ArcUpdate
     ensures { λ r. ⌜ ((nodes : Nodes) → r ≡ oldArc (netIn nodes (now (arcs .entry))) (touchingAfter (netIn nodes (now (arcs .entry))) i k)) ⌝ }
 {
     let j = network::list::touching(arcs, i, k);
-    rules::tried::numbered(j, network::list::read(arcs, j))
+    step::numbered(j, network::list::read(arcs, j))
 }
 
 // The arcs that touch node i of degree d.
@@ -78,7 +82,7 @@ pub(crate) fn gather(arcs: &[Arc], i: usize, d: usize) -> Around
         };
     }
     let two = arc_after(arcs, i, one.number);
-    if d < 4 {
+    if d < 3 {
         return Around {
             one,
             two,
@@ -87,6 +91,14 @@ pub(crate) fn gather(arcs: &[Arc], i: usize, d: usize) -> Around
         };
     }
     let three = arc_after(arcs, i, two.number);
+    if d < 4 {
+        return Around {
+            one,
+            two,
+            three,
+            four: none,
+        };
+    }
     let four = arc_after(arcs, i, three.number);
     Around {
         one,
@@ -98,17 +110,19 @@ pub(crate) fn gather(arcs: &[Arc], i: usize, d: usize) -> Around
 
 // Rule k at the nodes upward.
 pub(crate) fn scan_nodes(nodes: Nodes, arcs: &[Arc], degrees: Degrees, k: usize) -> Found
-    requires { ⌜ Legal (netIn nodes (now arcs)) × AreDegreesTo (netIn nodes (now arcs)) (nodes .m) (degrees .at) ⌝ }
-    ensures { λ r. ⌜ r ≡ foundOf (upward (nodeRule k (netIn nodes (now (arcs .entry)))) k maxNodes 1 Stops) ⌝ }
+    requires { ⌜ Legal (netIn nodes (now arcs)) × AreDegreesTo (netIn nodes (now arcs)) (nodes .m) (degrees .at) × (isOfNodes k ≡ true) ⌝ }
+    ensures { λ r. ⌜ r ≡ foundOf (upward (ruleOf rules k .at (netIn nodes (now (arcs .entry)))) k maxNodes 1 Stops) ⌝ }
 {
     let mut i = 1;
     while i <= nodes.n {
-        let d = degrees.at[i];
-        if rules::tried::is_wanted(k, nodes.here[i], d, nodes.supply[i]) {
-            let near = gather(arcs, i, d);
-            let x = rules::tried::at_node(nodes.supply, k, i, near);
-            if x.found {
-                return x;
+        if nodes.here[i] {
+            let d = degrees.at[i];
+            if rules::tried::is_wanted(k, d, nodes.supply[i]) {
+                let near = gather(arcs, i, d);
+                let x = rules::tried::at_node(nodes.supply, k, i, d, near);
+                if x.found {
+                    return x;
+                }
             }
         }
         i += 1;
@@ -138,6 +152,25 @@ pub(crate) fn scan_costly(nodes: Nodes, arcs: &[Arc], seen: Seen, time: u8) -> L
 
 // ---- all rules
 
+// Rule k, behind rule 1, at its places upward.
+pub(crate) fn scan_rule(
+    nodes: Nodes,
+    arcs: &[Arc],
+    degrees: Degrees,
+    seen: Seen,
+    time: u8,
+    k: usize,
+) -> Looked
+    requires { ⌜ Legal (netIn nodes (now arcs)) × AreDegreesTo (netIn nodes (now arcs)) (nodes .m) (degrees .at) × Known (netIn nodes (now arcs)) time seen × (2 ≤ k) × (k ≤ lastRule) ⌝ }
+    ensures { λ r. ⌜ (r .found ≡ foundOf (upward (ruleOf rules k .at (netIn nodes (now (arcs .entry)))) k (ruleOf rules k .last) 1 Stops)) × Known (netIn nodes (now (arcs .entry))) time (r .seen) ⌝ }
+{
+    if k == 4 {
+        return scan_costly(nodes, arcs, seen, time);
+    }
+    let found = scan_nodes(nodes, arcs, degrees, k);
+    Looked { found, seen }
+}
+
 // The next step: the first that applies.
 pub(crate) fn next(nodes: Nodes, arcs: &[Arc], seen: Seen, time: u8) -> Looked
     requires { ⌜ Legal (netIn nodes (now arcs)) × Known (netIn nodes (now arcs)) time seen ⌝ }
@@ -148,29 +181,16 @@ pub(crate) fn next(nodes: Nodes, arcs: &[Arc], seen: Seen, time: u8) -> Looked
         return Looked { found: one, seen };
     }
     let degrees = network::list::degrees(arcs, nodes.m);
-    let two = scan_nodes(nodes, arcs, degrees, 2);
-    if two.found {
-        return Looked { found: two, seen };
+    let mut known = seen;
+    let mut k = 2;
+    while k <= LAST_RULE {
+        let x = scan_rule(nodes, arcs, degrees, known, time, k);
+        if x.found.found {
+            return x;
+        }
+        known = x.seen;
+        k += 1;
     }
-    let three = scan_nodes(nodes, arcs, degrees, 3);
-    if three.found {
-        return Looked { found: three, seen };
-    }
-    let four = scan_costly(nodes, arcs, seen, time);
-    if four.found.found {
-        return four;
-    }
-    let known = four.seen;
-    let five = scan_nodes(nodes, arcs, degrees, 5);
-    if five.found {
-        return Looked {
-            found: five,
-            seen: known,
-        };
-    }
-    let six = scan_nodes(nodes, arcs, degrees, 6);
-    Looked {
-        found: six,
-        seen: known,
-    }
+    let found = rules::found::nothing();
+    Looked { found, seen: known }
 }

@@ -98,6 +98,13 @@ pub enum Next {
     Takes(Step),
 }
 
+// An arc at its number.
+pub fn numbered(number: usize, arc: Arc) -> ArcUpdate
+    ensures { λ r. ⌜ r ≡ record { number = number; arc = arc } ⌝ }
+{
+    ArcUpdate { number, arc }
+}
+
 // ---- an arc at a known flow is dropped: what rules 1, 3 and 4 share
 
 // The supply s at an end less its multiplier times the flow; none where there is no end.

@@ -4,4 +4,4 @@ use Rattle.crossing.proofs.edit_four.Statement.{statement}
 use Rattle.crossing.proofs.edit_four.Tie as tie
 
 pub edit-four-spec : {M : Type 1} → statement M
-edit-four-spec = tie.close (tie.spec (search needs) (search needs) (search needs) (search needs) (search needs) (λ c. rw (c .put4 .ensures, c .before .put3 .ensures, c .before .before .put2 .ensures, c .before .before .before .put .ensures, c .before .before .before .before .no-supply-update .ensures)))
+edit-four-spec = tie.close (tie.spec (search needs) (search needs) (search needs) (search needs) (search needs) (λ c. rw (c .numbered4 .ensures, c .before .numbered3 .ensures, c .before .before .numbered2 .ensures, c .before .before .before .numbered .ensures, c .before .before .before .before .no-supply-update .ensures)))

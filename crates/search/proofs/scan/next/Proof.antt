@@ -1,13 +1,14 @@
 -- `search::scan::next` meets its contract. The part that follows the code is `Proof/Tie.antt`, made by tools/lift.py.
 mod Tie
-use Rattle.search.proofs.Scans.{found-here, found-later}
-use Rattle.rules.specs.Found.{foundOf}
-use Rattle.step.specs.Run.{nextFrom}
-use mathlib.Core.Path.{_∙_, ap}
+use Prim.Native.Nat.{_+_, _-_, _≤_}
+use Rattle.costly_arc.specs.Seen.{Known}
+use Rattle.network.specs.ArcList.{netIn}
+use Rattle.rules.specs.Table.{lastRule}
+use Rattle.search.proofs.Scans.{From, closed-here, closed-later, from-here, from-more, from-done}
 use borrow.Author.Needs.{needs}
+use native.Mathlib.Omega.{arith}
 use Rattle.search.proofs.scan.next.Statement.{statement}
 use Rattle.search.proofs.scan.next.Proof.Tie as tie
 
 pub next-spec : {M : Type 1} → statement M
-unfolding nextFrom
-next-spec = tie.close (tie.spec (λ c κs. c .pre .0) (λ c. (found-here _ _ _ _ (c .before .scan-closed .ensures) (c .if1 .taken), c .before .before .pre .1)) (λ c κs. search needs) (λ c κs. (c .before .before .before .pre .0, c .degrees .ensures (c .before .before .before .args .nodes))) (λ c. (found-here _ _ _ _ (c .before .scan-nodes .ensures) (c .if2 .taken) ∙ ap foundOf (found-later _ _ _ _ (c .before .before .before .before .scan-closed .ensures) (c .before .before .before .if1 .left)), c .before .before .before .before .before .pre .1)) (λ c κs. (c .before .before .before .before .before .pre .0, c .before .before .degrees .ensures (c .before .before .before .before .before .args .nodes))) (λ c. (found-here _ _ _ _ (c .before .scan-nodes2 .ensures) (c .if3 .taken) ∙ ap foundOf (found-later _ _ _ _ (c .before .before .before .scan-nodes .ensures) (c .before .before .if2 .left) ∙ found-later _ _ _ _ (c .before .before .before .before .before .before .scan-closed .ensures) (c .before .before .before .before .before .if1 .left)), c .before .before .before .before .before .before .before .pre .1)) (λ c κs. c .before .before .before .before .before .before .before .pre) (λ c. (found-here _ _ _ _ (c .before .scan-costly .ensures .0) (c .if4 .taken) ∙ ap foundOf (found-later _ _ _ _ (c .before .before .before .scan-nodes2 .ensures) (c .before .before .if3 .left) ∙ found-later _ _ _ _ (c .before .before .before .before .before .scan-nodes .ensures) (c .before .before .before .before .if2 .left) ∙ found-later _ _ _ _ (c .before .before .before .before .before .before .before .before .scan-closed .ensures) (c .before .before .before .before .before .before .before .if1 .left)), c .before .scan-costly .ensures .1)) (λ c κs. (c .before .before .before .before .before .before .before .before .before .before .pre .0, c .before .before .before .before .before .before .before .degrees .ensures (c .before .before .before .before .before .before .before .before .before .before .args .nodes))) (λ c. (found-here _ _ _ _ (c .before .scan-nodes3 .ensures) (c .if5 .taken) ∙ ap foundOf (found-later _ _ _ _ (c .before .before .before .before .scan-costly .ensures .0) (c .before .before .before .if4 .left) ∙ found-later _ _ _ _ (c .before .before .before .before .before .before .scan-nodes2 .ensures) (c .before .before .before .before .before .if3 .left) ∙ found-later _ _ _ _ (c .before .before .before .before .before .before .before .before .scan-nodes .ensures) (c .before .before .before .before .before .before .before .if2 .left) ∙ found-later _ _ _ _ (c .before .before .before .before .before .before .before .before .before .before .before .scan-closed .ensures) (c .before .before .before .before .before .before .before .before .before .before .if1 .left)), c .before .before .before .before .scan-costly .ensures .1)) (λ c κs. (c .before .before .before .before .before .before .before .before .before .before .before .before .pre .0, c .before .before .before .before .before .before .before .before .before .degrees .ensures (c .before .before .before .before .before .before .before .before .before .before .before .before .args .nodes))) (λ c. (c .scan-nodes4 .ensures ∙ ap foundOf (found-later _ _ _ _ (c .before .before .scan-nodes3 .ensures) (c .before .if5 .left) ∙ found-later _ _ _ _ (c .before .before .before .before .before .scan-costly .ensures .0) (c .before .before .before .before .if4 .left) ∙ found-later _ _ _ _ (c .before .before .before .before .before .before .before .scan-nodes2 .ensures) (c .before .before .before .before .before .before .if3 .left) ∙ found-later _ _ _ _ (c .before .before .before .before .before .before .before .before .before .scan-nodes .ensures) (c .before .before .before .before .before .before .before .before .if2 .left) ∙ found-later _ _ _ _ (c .before .before .before .before .before .before .before .before .before .before .before .before .scan-closed .ensures) (c .before .before .before .before .before .before .before .before .before .before .before .if1 .left)), c .before .before .before .before .before .scan-costly .ensures .1)))
+next-spec = tie.close (tie.spec (λ nodes arcs time degrees known₀ k₀ known k. (2 ≤ k) × From (netIn nodes arcs) k × Known (netIn nodes arcs) time known) (λ nodes arcs time degrees known₀ k₀ known k. lastRule + 1 - k) (λ c κs. c .pre .0) (λ c. (closed-here _ (c .before .scan-closed .ensures) (c .if1 .taken), c .before .before .pre .1)) (λ c κs. search needs) (λ c. (omega arith, closed-later _ (c .before .before .scan-closed .ensures) (c .before .if1 .left), c .before .before .before .pre .1)) (λ c κs. (c .before .before .before .before .before .pre .0, c .before .before .degrees .ensures (c .before .before .before .before .before .args .nodes), c .before .loop .inv .2, c .before .loop .inv .0, c .loop-test .taken)) (λ c. (from-here (c .before .before .before .loop .inv .1) (c .before .before .loop-test .taken) (c .before .scan-rule .ensures .0) (c .if2 .taken), c .before .scan-rule .ensures .1)) (λ c. search needs) (λ c. search needs) (λ c. (omega (arith, c .before .before .before .before .loop .inv .0), from-more (c .before .before .before .before .loop .inv .1) (c .before .before .before .loop-test .taken) (c .before .before .scan-rule .ensures .0) (c .before .if2 .left), c .before .before .scan-rule .ensures .1)) (λ c κs. search needs) (λ c. (from-done (c .before .before .loop .inv .1) (c .before .loop-test .left) (c .nothing .ensures), c .before .before .loop .inv .2)))

@@ -6,7 +6,8 @@ use Rattle.costly_arc.proofs.Upward.{Reached, reached-more, reached-none}
 use Rattle.network.proofs.Lists.{arc-is}
 use Rattle.network.specs.ArcList.{netIn}
 use Rattle.search.proofs.Scans.{reached-answer, reached-end, reached-on}
-use Rattle.rules.proofs.Tests.{closed-beyond, closed-open}
+use Rattle.rules.proofs.Tests.{closed-open}
+use Rattle.rules.proofs.Whole.{closed-beyond}
 use Rattle.step.specs.declared.Next.the-variants.{Stops}
 use borrow.Author.Needs.{needs}
 use mathlib.Core.Logic.{⊎-elim}

@@ -48,6 +48,12 @@ Else3 = scan-gather-Lts·.Else3 (network-proofs-no-update-Reads·.Asked, network
 abbrev pub After-arc-after3 : Type 0
 After-arc-after3 = scan-gather-Lts·.After-arc-after3 (network-proofs-no-update-Reads·.Asked, network-proofs-no-update-Reads·.Learnt, scan-arc-after-Reads·.Asked, scan-arc-after-Reads·.Learnt) scan-gather-Reads·.Pre scan-gather-Reads·.Post
 
+abbrev pub Then4 : Type 0
+Then4 = scan-gather-Lts·.Then4 (network-proofs-no-update-Reads·.Asked, network-proofs-no-update-Reads·.Learnt, scan-arc-after-Reads·.Asked, scan-arc-after-Reads·.Learnt) scan-gather-Reads·.Pre scan-gather-Reads·.Post
+
+abbrev pub Else4 : Type 0
+Else4 = scan-gather-Lts·.Else4 (network-proofs-no-update-Reads·.Asked, network-proofs-no-update-Reads·.Learnt, scan-arc-after-Reads·.Asked, scan-arc-after-Reads·.Learnt) scan-gather-Reads·.Pre scan-gather-Reads·.Post
+
 abbrev pub After-arc-after4 : Type 0
 After-arc-after4 = scan-gather-Lts·.After-arc-after4 (network-proofs-no-update-Reads·.Asked, network-proofs-no-update-Reads·.Learnt, scan-arc-after-Reads·.Asked, scan-arc-after-Reads·.Learnt) scan-gather-Reads·.Pre scan-gather-Reads·.Post
 
@@ -72,15 +78,18 @@ Need-returns-3 = scan-gather-Lts·.Need-returns-3 (network-proofs-no-update-Read
 abbrev pub Need-arc-after-requires-3 : Type 0
 Need-arc-after-requires-3 = scan-gather-Lts·.Need-arc-after-requires-3 (network-proofs-no-update-Reads·.Asked, network-proofs-no-update-Reads·.Learnt, scan-arc-after-Reads·.Asked, scan-arc-after-Reads·.Learnt) scan-gather-Reads·.Pre scan-gather-Reads·.Post
 
-abbrev pub Need-arc-after-requires-4 : Type 0
-Need-arc-after-requires-4 = scan-gather-Lts·.Need-arc-after-requires-4 (network-proofs-no-update-Reads·.Asked, network-proofs-no-update-Reads·.Learnt, scan-arc-after-Reads·.Asked, scan-arc-after-Reads·.Learnt) scan-gather-Reads·.Pre scan-gather-Reads·.Post
-
 abbrev pub Need-returns-4 : Type 0
 Need-returns-4 = scan-gather-Lts·.Need-returns-4 (network-proofs-no-update-Reads·.Asked, network-proofs-no-update-Reads·.Learnt, scan-arc-after-Reads·.Asked, scan-arc-after-Reads·.Learnt) scan-gather-Reads·.Pre scan-gather-Reads·.Post
 
+abbrev pub Need-arc-after-requires-4 : Type 0
+Need-arc-after-requires-4 = scan-gather-Lts·.Need-arc-after-requires-4 (network-proofs-no-update-Reads·.Asked, network-proofs-no-update-Reads·.Learnt, scan-arc-after-Reads·.Asked, scan-arc-after-Reads·.Learnt) scan-gather-Reads·.Pre scan-gather-Reads·.Post
+
+abbrev pub Need-returns-5 : Type 0
+Need-returns-5 = scan-gather-Lts·.Need-returns-5 (network-proofs-no-update-Reads·.Asked, network-proofs-no-update-Reads·.Learnt, scan-arc-after-Reads·.Asked, scan-arc-after-Reads·.Learnt) scan-gather-Reads·.Pre scan-gather-Reads·.Post
+
 module _ {M : Type 1} where
-  pub spec : (answer : Need-no-update-requires) → (answer : Need-returns) → (answer : Need-arc-after-requires) → (answer : Need-returns-2) → (answer : Need-arc-after-requires-2) → (answer : Need-returns-3) → (answer : Need-arc-after-requires-3) → (answer : Need-arc-after-requires-4) → (answer : Need-returns-4) → scan-gather-Lts·.Closed (network-proofs-no-update-Reads·.Asked, network-proofs-no-update-Reads·.Learnt, scan-arc-after-Reads·.Asked, scan-arc-after-Reads·.Learnt) scan-gather-Reads·.Pre scan-gather-Reads·.Post M
-  spec = λ answer answer' answer'' answer'3 answer'4 answer'5 answer'6 answer'7 answer'8. scan-gather-Lts·.spec (network-proofs-no-update-Reads·.Asked, network-proofs-no-update-Reads·.Learnt, scan-arc-after-Reads·.Asked, scan-arc-after-Reads·.Learnt) scan-gather-Reads·.Pre scan-gather-Reads·.Post answer answer' answer'' answer'3 answer'4 answer'5 answer'6 answer'7 answer'8
+  pub spec : (answer : Need-no-update-requires) → (answer : Need-returns) → (answer : Need-arc-after-requires) → (answer : Need-returns-2) → (answer : Need-arc-after-requires-2) → (answer : Need-returns-3) → (answer : Need-arc-after-requires-3) → (answer : Need-returns-4) → (answer : Need-arc-after-requires-4) → (answer : Need-returns-5) → scan-gather-Lts·.Closed (network-proofs-no-update-Reads·.Asked, network-proofs-no-update-Reads·.Learnt, scan-arc-after-Reads·.Asked, scan-arc-after-Reads·.Learnt) scan-gather-Reads·.Pre scan-gather-Reads·.Post M
+  spec = λ answer answer' answer'' answer'3 answer'4 answer'5 answer'6 answer'7 answer'8 answer'9. scan-gather-Lts·.spec (network-proofs-no-update-Reads·.Asked, network-proofs-no-update-Reads·.Learnt, scan-arc-after-Reads·.Asked, scan-arc-after-Reads·.Learnt) scan-gather-Reads·.Pre scan-gather-Reads·.Post answer answer' answer'' answer'3 answer'4 answer'5 answer'6 answer'7 answer'8 answer'9
 
   pub close : scan-gather-Lts·.Closed (network-proofs-no-update-Reads·.Asked, network-proofs-no-update-Reads·.Learnt, scan-arc-after-Reads·.Asked, scan-arc-after-Reads·.Learnt) scan-gather-Reads·.Pre scan-gather-Reads·.Post M → scan-gather-Statement·.statement M
   unfolding scan-gather-Code·.routine Running.tablesOf

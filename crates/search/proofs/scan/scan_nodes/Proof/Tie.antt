@@ -39,20 +39,23 @@ In-loop = λ Inv μ. scan-scan-nodes-Lts·.In-loop (rules-proofs-tried-is-wanted
 abbrev pub After-loop : (Inv : InvT-loop) → (μ : MeasureT-loop) → Type 0
 After-loop = λ Inv μ. scan-scan-nodes-Lts·.After-loop (rules-proofs-tried-is-wanted-Reads·.Asked, rules-proofs-tried-is-wanted-Reads·.Learnt, scan-gather-Reads·.Asked, scan-gather-Reads·.Learnt, rules-proofs-tried-at-node-Reads·.Asked, rules-proofs-tried-at-node-Reads·.Learnt, rules-proofs-found-nothing-Reads·.Asked, rules-proofs-found-nothing-Reads·.Learnt) scan-scan-nodes-Reads·.Pre scan-scan-nodes-Reads·.Post Inv μ
 
+abbrev pub After-if12 : (Inv : InvT-loop) → (μ : MeasureT-loop) → Type 0
+After-if12 = λ Inv μ. scan-scan-nodes-Lts·.After-if12 (rules-proofs-tried-is-wanted-Reads·.Asked, rules-proofs-tried-is-wanted-Reads·.Learnt, scan-gather-Reads·.Asked, scan-gather-Reads·.Learnt, rules-proofs-tried-at-node-Reads·.Asked, rules-proofs-tried-at-node-Reads·.Learnt, rules-proofs-found-nothing-Reads·.Asked, rules-proofs-found-nothing-Reads·.Learnt) scan-scan-nodes-Reads·.Pre scan-scan-nodes-Reads·.Post Inv μ
+
+abbrev pub Then1 : (Inv : InvT-loop) → (μ : MeasureT-loop) → Type 0
+Then1 = λ Inv μ. scan-scan-nodes-Lts·.Then1 (rules-proofs-tried-is-wanted-Reads·.Asked, rules-proofs-tried-is-wanted-Reads·.Learnt, scan-gather-Reads·.Asked, scan-gather-Reads·.Learnt, rules-proofs-tried-at-node-Reads·.Asked, rules-proofs-tried-at-node-Reads·.Learnt, rules-proofs-found-nothing-Reads·.Asked, rules-proofs-found-nothing-Reads·.Learnt) scan-scan-nodes-Reads·.Pre scan-scan-nodes-Reads·.Post Inv μ
+
 abbrev pub After-d : (Inv : InvT-loop) → (μ : MeasureT-loop) → Type 0
 After-d = λ Inv μ. scan-scan-nodes-Lts·.After-d (rules-proofs-tried-is-wanted-Reads·.Asked, rules-proofs-tried-is-wanted-Reads·.Learnt, scan-gather-Reads·.Asked, scan-gather-Reads·.Learnt, rules-proofs-tried-at-node-Reads·.Asked, rules-proofs-tried-at-node-Reads·.Learnt, rules-proofs-found-nothing-Reads·.Asked, rules-proofs-found-nothing-Reads·.Learnt) scan-scan-nodes-Reads·.Pre scan-scan-nodes-Reads·.Post Inv μ
 
 abbrev pub After-is-wanted-arg : (Inv : InvT-loop) → (μ : MeasureT-loop) → Type 0
 After-is-wanted-arg = λ Inv μ. scan-scan-nodes-Lts·.After-is-wanted-arg (rules-proofs-tried-is-wanted-Reads·.Asked, rules-proofs-tried-is-wanted-Reads·.Learnt, scan-gather-Reads·.Asked, scan-gather-Reads·.Learnt, rules-proofs-tried-at-node-Reads·.Asked, rules-proofs-tried-at-node-Reads·.Learnt, rules-proofs-found-nothing-Reads·.Asked, rules-proofs-found-nothing-Reads·.Learnt) scan-scan-nodes-Reads·.Pre scan-scan-nodes-Reads·.Post Inv μ
 
-abbrev pub After-is-wanted-arg2 : (Inv : InvT-loop) → (μ : MeasureT-loop) → Type 0
-After-is-wanted-arg2 = λ Inv μ. scan-scan-nodes-Lts·.After-is-wanted-arg2 (rules-proofs-tried-is-wanted-Reads·.Asked, rules-proofs-tried-is-wanted-Reads·.Learnt, scan-gather-Reads·.Asked, scan-gather-Reads·.Learnt, rules-proofs-tried-at-node-Reads·.Asked, rules-proofs-tried-at-node-Reads·.Learnt, rules-proofs-found-nothing-Reads·.Asked, rules-proofs-found-nothing-Reads·.Learnt) scan-scan-nodes-Reads·.Pre scan-scan-nodes-Reads·.Post Inv μ
-
 abbrev pub After-is-wanted : (Inv : InvT-loop) → (μ : MeasureT-loop) → Type 0
 After-is-wanted = λ Inv μ. scan-scan-nodes-Lts·.After-is-wanted (rules-proofs-tried-is-wanted-Reads·.Asked, rules-proofs-tried-is-wanted-Reads·.Learnt, scan-gather-Reads·.Asked, scan-gather-Reads·.Learnt, rules-proofs-tried-at-node-Reads·.Asked, rules-proofs-tried-at-node-Reads·.Learnt, rules-proofs-found-nothing-Reads·.Asked, rules-proofs-found-nothing-Reads·.Learnt) scan-scan-nodes-Reads·.Pre scan-scan-nodes-Reads·.Post Inv μ
 
-abbrev pub Then1 : (Inv : InvT-loop) → (μ : MeasureT-loop) → Type 0
-Then1 = λ Inv μ. scan-scan-nodes-Lts·.Then1 (rules-proofs-tried-is-wanted-Reads·.Asked, rules-proofs-tried-is-wanted-Reads·.Learnt, scan-gather-Reads·.Asked, scan-gather-Reads·.Learnt, rules-proofs-tried-at-node-Reads·.Asked, rules-proofs-tried-at-node-Reads·.Learnt, rules-proofs-found-nothing-Reads·.Asked, rules-proofs-found-nothing-Reads·.Learnt) scan-scan-nodes-Reads·.Pre scan-scan-nodes-Reads·.Post Inv μ
+abbrev pub Then2 : (Inv : InvT-loop) → (μ : MeasureT-loop) → Type 0
+Then2 = λ Inv μ. scan-scan-nodes-Lts·.Then2 (rules-proofs-tried-is-wanted-Reads·.Asked, rules-proofs-tried-is-wanted-Reads·.Learnt, scan-gather-Reads·.Asked, scan-gather-Reads·.Learnt, rules-proofs-tried-at-node-Reads·.Asked, rules-proofs-tried-at-node-Reads·.Learnt, rules-proofs-found-nothing-Reads·.Asked, rules-proofs-found-nothing-Reads·.Learnt) scan-scan-nodes-Reads·.Pre scan-scan-nodes-Reads·.Post Inv μ
 
 abbrev pub After-gather : (Inv : InvT-loop) → (μ : MeasureT-loop) → Type 0
 After-gather = λ Inv μ. scan-scan-nodes-Lts·.After-gather (rules-proofs-tried-is-wanted-Reads·.Asked, rules-proofs-tried-is-wanted-Reads·.Learnt, scan-gather-Reads·.Asked, scan-gather-Reads·.Learnt, rules-proofs-tried-at-node-Reads·.Asked, rules-proofs-tried-at-node-Reads·.Learnt, rules-proofs-found-nothing-Reads·.Asked, rules-proofs-found-nothing-Reads·.Learnt) scan-scan-nodes-Reads·.Pre scan-scan-nodes-Reads·.Post Inv μ
@@ -63,8 +66,11 @@ After-at-node-arg = λ Inv μ. scan-scan-nodes-Lts·.After-at-node-arg (rules-pr
 abbrev pub After-at-node : (Inv : InvT-loop) → (μ : MeasureT-loop) → Type 0
 After-at-node = λ Inv μ. scan-scan-nodes-Lts·.After-at-node (rules-proofs-tried-is-wanted-Reads·.Asked, rules-proofs-tried-is-wanted-Reads·.Learnt, scan-gather-Reads·.Asked, scan-gather-Reads·.Learnt, rules-proofs-tried-at-node-Reads·.Asked, rules-proofs-tried-at-node-Reads·.Learnt, rules-proofs-found-nothing-Reads·.Asked, rules-proofs-found-nothing-Reads·.Learnt) scan-scan-nodes-Reads·.Pre scan-scan-nodes-Reads·.Post Inv μ
 
-abbrev pub Then2 : (Inv : InvT-loop) → (μ : MeasureT-loop) → Type 0
-Then2 = λ Inv μ. scan-scan-nodes-Lts·.Then2 (rules-proofs-tried-is-wanted-Reads·.Asked, rules-proofs-tried-is-wanted-Reads·.Learnt, scan-gather-Reads·.Asked, scan-gather-Reads·.Learnt, rules-proofs-tried-at-node-Reads·.Asked, rules-proofs-tried-at-node-Reads·.Learnt, rules-proofs-found-nothing-Reads·.Asked, rules-proofs-found-nothing-Reads·.Learnt) scan-scan-nodes-Reads·.Pre scan-scan-nodes-Reads·.Post Inv μ
+abbrev pub Then3 : (Inv : InvT-loop) → (μ : MeasureT-loop) → Type 0
+Then3 = λ Inv μ. scan-scan-nodes-Lts·.Then3 (rules-proofs-tried-is-wanted-Reads·.Asked, rules-proofs-tried-is-wanted-Reads·.Learnt, scan-gather-Reads·.Asked, scan-gather-Reads·.Learnt, rules-proofs-tried-at-node-Reads·.Asked, rules-proofs-tried-at-node-Reads·.Learnt, rules-proofs-found-nothing-Reads·.Asked, rules-proofs-found-nothing-Reads·.Learnt) scan-scan-nodes-Reads·.Pre scan-scan-nodes-Reads·.Post Inv μ
+
+abbrev pub Else3 : (Inv : InvT-loop) → (μ : MeasureT-loop) → Type 0
+Else3 = λ Inv μ. scan-scan-nodes-Lts·.Else3 (rules-proofs-tried-is-wanted-Reads·.Asked, rules-proofs-tried-is-wanted-Reads·.Learnt, scan-gather-Reads·.Asked, scan-gather-Reads·.Learnt, rules-proofs-tried-at-node-Reads·.Asked, rules-proofs-tried-at-node-Reads·.Learnt, rules-proofs-found-nothing-Reads·.Asked, rules-proofs-found-nothing-Reads·.Learnt) scan-scan-nodes-Reads·.Pre scan-scan-nodes-Reads·.Post Inv μ
 
 abbrev pub Else2 : (Inv : InvT-loop) → (μ : MeasureT-loop) → Type 0
 Else2 = λ Inv μ. scan-scan-nodes-Lts·.Else2 (rules-proofs-tried-is-wanted-Reads·.Asked, rules-proofs-tried-is-wanted-Reads·.Learnt, scan-gather-Reads·.Asked, scan-gather-Reads·.Learnt, rules-proofs-tried-at-node-Reads·.Asked, rules-proofs-tried-at-node-Reads·.Learnt, rules-proofs-found-nothing-Reads·.Asked, rules-proofs-found-nothing-Reads·.Learnt) scan-scan-nodes-Reads·.Pre scan-scan-nodes-Reads·.Post Inv μ
@@ -81,20 +87,20 @@ After-nothing = λ Inv μ. scan-scan-nodes-Lts·.After-nothing (rules-proofs-tri
 abbrev pub Need-loop-holds : (Inv : InvT-loop) → (μ : MeasureT-loop) → Type 0
 Need-loop-holds = λ Inv μ. scan-scan-nodes-Lts·.Need-loop-holds (rules-proofs-tried-is-wanted-Reads·.Asked, rules-proofs-tried-is-wanted-Reads·.Learnt, scan-gather-Reads·.Asked, scan-gather-Reads·.Learnt, rules-proofs-tried-at-node-Reads·.Asked, rules-proofs-tried-at-node-Reads·.Learnt, rules-proofs-found-nothing-Reads·.Asked, rules-proofs-found-nothing-Reads·.Learnt) scan-scan-nodes-Reads·.Pre scan-scan-nodes-Reads·.Post Inv μ
 
+abbrev pub Need-element-copy-out-if1 : (Inv : InvT-loop) → (μ : MeasureT-loop) → Type 0
+Need-element-copy-out-if1 = λ Inv μ. scan-scan-nodes-Lts·.Need-element-copy-out-if1 (rules-proofs-tried-is-wanted-Reads·.Asked, rules-proofs-tried-is-wanted-Reads·.Learnt, scan-gather-Reads·.Asked, scan-gather-Reads·.Learnt, rules-proofs-tried-at-node-Reads·.Asked, rules-proofs-tried-at-node-Reads·.Learnt, rules-proofs-found-nothing-Reads·.Asked, rules-proofs-found-nothing-Reads·.Learnt) scan-scan-nodes-Reads·.Pre scan-scan-nodes-Reads·.Post Inv μ
+
 abbrev pub Need-mul-d : (Inv : InvT-loop) → (μ : MeasureT-loop) → Type 0
 Need-mul-d = λ Inv μ. scan-scan-nodes-Lts·.Need-mul-d (rules-proofs-tried-is-wanted-Reads·.Asked, rules-proofs-tried-is-wanted-Reads·.Learnt, scan-gather-Reads·.Asked, scan-gather-Reads·.Learnt, rules-proofs-tried-at-node-Reads·.Asked, rules-proofs-tried-at-node-Reads·.Learnt, rules-proofs-found-nothing-Reads·.Asked, rules-proofs-found-nothing-Reads·.Learnt) scan-scan-nodes-Reads·.Pre scan-scan-nodes-Reads·.Post Inv μ
 
 abbrev pub Need-element-copy-out-d : (Inv : InvT-loop) → (μ : MeasureT-loop) → Type 0
 Need-element-copy-out-d = λ Inv μ. scan-scan-nodes-Lts·.Need-element-copy-out-d (rules-proofs-tried-is-wanted-Reads·.Asked, rules-proofs-tried-is-wanted-Reads·.Learnt, scan-gather-Reads·.Asked, scan-gather-Reads·.Learnt, rules-proofs-tried-at-node-Reads·.Asked, rules-proofs-tried-at-node-Reads·.Learnt, rules-proofs-found-nothing-Reads·.Asked, rules-proofs-found-nothing-Reads·.Learnt) scan-scan-nodes-Reads·.Pre scan-scan-nodes-Reads·.Post Inv μ
 
-abbrev pub Need-element-copy-out-is-wanted : (Inv : InvT-loop) → (μ : MeasureT-loop) → Type 0
-Need-element-copy-out-is-wanted = λ Inv μ. scan-scan-nodes-Lts·.Need-element-copy-out-is-wanted (rules-proofs-tried-is-wanted-Reads·.Asked, rules-proofs-tried-is-wanted-Reads·.Learnt, scan-gather-Reads·.Asked, scan-gather-Reads·.Learnt, rules-proofs-tried-at-node-Reads·.Asked, rules-proofs-tried-at-node-Reads·.Learnt, rules-proofs-found-nothing-Reads·.Asked, rules-proofs-found-nothing-Reads·.Learnt) scan-scan-nodes-Reads·.Pre scan-scan-nodes-Reads·.Post Inv μ
-
 abbrev pub Need-mul-is-wanted : (Inv : InvT-loop) → (μ : MeasureT-loop) → Type 0
 Need-mul-is-wanted = λ Inv μ. scan-scan-nodes-Lts·.Need-mul-is-wanted (rules-proofs-tried-is-wanted-Reads·.Asked, rules-proofs-tried-is-wanted-Reads·.Learnt, scan-gather-Reads·.Asked, scan-gather-Reads·.Learnt, rules-proofs-tried-at-node-Reads·.Asked, rules-proofs-tried-at-node-Reads·.Learnt, rules-proofs-found-nothing-Reads·.Asked, rules-proofs-found-nothing-Reads·.Learnt) scan-scan-nodes-Reads·.Pre scan-scan-nodes-Reads·.Post Inv μ
 
-abbrev pub Need-element-copy-out-is-wanted-2 : (Inv : InvT-loop) → (μ : MeasureT-loop) → Type 0
-Need-element-copy-out-is-wanted-2 = λ Inv μ. scan-scan-nodes-Lts·.Need-element-copy-out-is-wanted-2 (rules-proofs-tried-is-wanted-Reads·.Asked, rules-proofs-tried-is-wanted-Reads·.Learnt, scan-gather-Reads·.Asked, scan-gather-Reads·.Learnt, rules-proofs-tried-at-node-Reads·.Asked, rules-proofs-tried-at-node-Reads·.Learnt, rules-proofs-found-nothing-Reads·.Asked, rules-proofs-found-nothing-Reads·.Learnt) scan-scan-nodes-Reads·.Pre scan-scan-nodes-Reads·.Post Inv μ
+abbrev pub Need-element-copy-out-is-wanted : (Inv : InvT-loop) → (μ : MeasureT-loop) → Type 0
+Need-element-copy-out-is-wanted = λ Inv μ. scan-scan-nodes-Lts·.Need-element-copy-out-is-wanted (rules-proofs-tried-is-wanted-Reads·.Asked, rules-proofs-tried-is-wanted-Reads·.Learnt, scan-gather-Reads·.Asked, scan-gather-Reads·.Learnt, rules-proofs-tried-at-node-Reads·.Asked, rules-proofs-tried-at-node-Reads·.Learnt, rules-proofs-found-nothing-Reads·.Asked, rules-proofs-found-nothing-Reads·.Learnt) scan-scan-nodes-Reads·.Pre scan-scan-nodes-Reads·.Post Inv μ
 
 abbrev pub Need-is-wanted-requires : (Inv : InvT-loop) → (μ : MeasureT-loop) → Type 0
 Need-is-wanted-requires = λ Inv μ. scan-scan-nodes-Lts·.Need-is-wanted-requires (rules-proofs-tried-is-wanted-Reads·.Asked, rules-proofs-tried-is-wanted-Reads·.Learnt, scan-gather-Reads·.Asked, scan-gather-Reads·.Learnt, rules-proofs-tried-at-node-Reads·.Asked, rules-proofs-tried-at-node-Reads·.Learnt, rules-proofs-found-nothing-Reads·.Asked, rules-proofs-found-nothing-Reads·.Learnt) scan-scan-nodes-Reads·.Pre scan-scan-nodes-Reads·.Post Inv μ
@@ -124,7 +130,7 @@ abbrev pub Need-returns-2 : (Inv : InvT-loop) → (μ : MeasureT-loop) → Type 
 Need-returns-2 = λ Inv μ. scan-scan-nodes-Lts·.Need-returns-2 (rules-proofs-tried-is-wanted-Reads·.Asked, rules-proofs-tried-is-wanted-Reads·.Learnt, scan-gather-Reads·.Asked, scan-gather-Reads·.Learnt, rules-proofs-tried-at-node-Reads·.Asked, rules-proofs-tried-at-node-Reads·.Learnt, rules-proofs-found-nothing-Reads·.Asked, rules-proofs-found-nothing-Reads·.Learnt) scan-scan-nodes-Reads·.Pre scan-scan-nodes-Reads·.Post Inv μ
 
 module _ {M : Type 1} where
-  pub spec : (Inv : InvT-loop) → (μ : MeasureT-loop) → (answer : Need-loop-holds Inv μ) → (answer : Need-mul-d Inv μ) → (answer : Need-element-copy-out-d Inv μ) → (answer : Need-element-copy-out-is-wanted Inv μ) → (answer : Need-mul-is-wanted Inv μ) → (answer : Need-element-copy-out-is-wanted-2 Inv μ) → (answer : Need-is-wanted-requires Inv μ) → (answer : Need-gather-requires Inv μ) → (answer : Need-at-node-requires Inv μ) → (answer : Need-returns Inv μ) → (answer : Need-add-i Inv μ) → (answer : Need-loop-less Inv μ) → (answer : Need-loop-again Inv μ) → (answer : Need-nothing-requires Inv μ) → (answer : Need-returns-2 Inv μ) → scan-scan-nodes-Lts·.Closed (rules-proofs-tried-is-wanted-Reads·.Asked, rules-proofs-tried-is-wanted-Reads·.Learnt, scan-gather-Reads·.Asked, scan-gather-Reads·.Learnt, rules-proofs-tried-at-node-Reads·.Asked, rules-proofs-tried-at-node-Reads·.Learnt, rules-proofs-found-nothing-Reads·.Asked, rules-proofs-found-nothing-Reads·.Learnt) scan-scan-nodes-Reads·.Pre scan-scan-nodes-Reads·.Post M
+  pub spec : (Inv : InvT-loop) → (μ : MeasureT-loop) → (answer : Need-loop-holds Inv μ) → (answer : Need-element-copy-out-if1 Inv μ) → (answer : Need-mul-d Inv μ) → (answer : Need-element-copy-out-d Inv μ) → (answer : Need-mul-is-wanted Inv μ) → (answer : Need-element-copy-out-is-wanted Inv μ) → (answer : Need-is-wanted-requires Inv μ) → (answer : Need-gather-requires Inv μ) → (answer : Need-at-node-requires Inv μ) → (answer : Need-returns Inv μ) → (answer : Need-add-i Inv μ) → (answer : Need-loop-less Inv μ) → (answer : Need-loop-again Inv μ) → (answer : Need-nothing-requires Inv μ) → (answer : Need-returns-2 Inv μ) → scan-scan-nodes-Lts·.Closed (rules-proofs-tried-is-wanted-Reads·.Asked, rules-proofs-tried-is-wanted-Reads·.Learnt, scan-gather-Reads·.Asked, scan-gather-Reads·.Learnt, rules-proofs-tried-at-node-Reads·.Asked, rules-proofs-tried-at-node-Reads·.Learnt, rules-proofs-found-nothing-Reads·.Asked, rules-proofs-found-nothing-Reads·.Learnt) scan-scan-nodes-Reads·.Pre scan-scan-nodes-Reads·.Post M
   spec = λ Inv μ answer answer' answer'' answer'3 answer'4 answer'5 answer'6 answer'7 answer'8 answer'9 answer'10 answer'11 answer'12 answer'13 answer'14. scan-scan-nodes-Lts·.spec (rules-proofs-tried-is-wanted-Reads·.Asked, rules-proofs-tried-is-wanted-Reads·.Learnt, scan-gather-Reads·.Asked, scan-gather-Reads·.Learnt, rules-proofs-tried-at-node-Reads·.Asked, rules-proofs-tried-at-node-Reads·.Learnt, rules-proofs-found-nothing-Reads·.Asked, rules-proofs-found-nothing-Reads·.Learnt) scan-scan-nodes-Reads·.Pre scan-scan-nodes-Reads·.Post Inv μ answer answer' answer'' answer'3 answer'4 answer'5 answer'6 answer'7 answer'8 answer'9 answer'10 answer'11 answer'12 answer'13 answer'14
 
   pub close : scan-scan-nodes-Lts·.Closed (rules-proofs-tried-is-wanted-Reads·.Asked, rules-proofs-tried-is-wanted-Reads·.Learnt, scan-gather-Reads·.Asked, scan-gather-Reads·.Learnt, rules-proofs-tried-at-node-Reads·.Asked, rules-proofs-tried-at-node-Reads·.Learnt, rules-proofs-found-nothing-Reads·.Asked, rules-proofs-found-nothing-Reads·.Learnt) scan-scan-nodes-Reads·.Pre scan-scan-nodes-Reads·.Post M → scan-scan-nodes-Statement·.statement M
