@@ -1,5 +1,5 @@
 -- Rule 5, two arcs (01, "The six reductions"): a doubleton row.
-use mathlib.Core.Bool.{Bool, true, false, cond, not}
+use mathlib.Core.Bool.{Bool, cond, not}
 use mathlib.Core.List.{List}
 use Prim.Native.Nat.{ℕ}
 use lib.Dec.{eqb}
@@ -31,12 +31,8 @@ use Rattle.step.specs.Around.{firstAt, secondAt}
 use Rattle.step.specs.Run.{Rule}
 
 -- "ej and ek have the same sign"
-abbrev pub sameBool : Bool → Bool → Bool
-sameBool true t = t
-sameBool false t = not t
-
 unfoldable pub sameSign : Fraction → Fraction → Bool
-sameSign x y = sameBool (isLess zeroFraction x) (isLess zeroFraction y)
+sameSign x y = cond (isLess zeroFraction x) (isLess zeroFraction y) (not (isLess zeroFraction y))
 
 -- "each finite bound z of k gives [its image] as a bound of j; the tighter bound of each side stays"
 unfoldable pub tighter : (Fraction → Fraction → Fraction) → Fraction → Fraction → Worked → Worked
