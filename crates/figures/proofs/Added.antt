@@ -1,6 +1,6 @@
 -- The balances of all nodes in one list, and an arc's flow added to them.
 use mathlib.Core.Path.{_≡_, refl, sym, ap, _∙_}
-use mathlib.Core.Bool.{Bool, true, false, not, _&&_, and-false}
+use mathlib.Core.Bool.{Bool, true, false, cond, not, _&&_, and-false}
 use mathlib.Core.List.{List}
 use Prim.Native.Nat.{ℕ, _<_}
 use native.Mathlib.Omega.{arith}
@@ -17,7 +17,6 @@ use Rattle.network.specs.declared.Arc.{Arc}
 use Rattle.network.specs.Network.{isTouching, isRoot, sideOf}
 use Rattle.figures.specs.declared.Sum.{Sum}
 use Rattle.figures.specs.declared.Sums.{Sums}
-use Rattle.figures.specs.Figures.{balanceBy}
 use Rattle.figures.specs.internal.Listed.{sumAt}
 
 -- one balance replaced: there, and elsewhere
@@ -33,7 +32,7 @@ put s k v = record { at = set (s .at) k (record { w = v }) }
 
 -- an arc adds at the places of its nodes: at the last where there is no such node
 module _ (s : Sums) (t : Arc) (x : Fraction) (p q : ℕ) (v w : Worked) (n : length (s .at) ≡ 34) (from : (i : ℕ) → i < 33 → eqb p i ≡ eqb (t .from) i) (to : (i : ℕ) → i < 33 → eqb q i ≡ (not (isRoot t) && eqb (t .to) i)) (d : v ≡ sumAt s p ⊕ Fits (t .a) ⊗ Fits x) (e : w ≡ sumAt (put s p v) q ⊕ Fits (t .b) ⊗ Fits x) where
-  pub added : (i : ℕ) → i < 33 → sumAt (put (put s p v) q w) i ≡ balanceBy (isTouching t i) (sideOf t i .e) x (sumAt s i)
+  pub added : (i : ℕ) → i < 33 → sumAt (put (put s p v) q w) i ≡ cond (isTouching t i) (sumAt s i ⊕ Fits (sideOf t i .e) ⊗ Fits x) (sumAt s i)
   unfolding isTouching isRoot sideOf
   added i h = by (eqb (t .from) i) refl (eqb (t .to) i) refl
     where
@@ -50,7 +49,7 @@ module _ (s : Sums) (t : Arc) (x : Fraction) (p q : ℕ) (v w : Worked) (n : len
       off-to : eqb q i ≡ false → sumAt two i ≡ sumAt one i
       off-to f = at-other one two q w refl i (λ z. eqb-false q i f (sym z))
 
-      by : (b : Bool) → eqb (t .from) i ≡ b → (c : Bool) → eqb (t .to) i ≡ c → sumAt two i ≡ balanceBy (isTouching t i) (sideOf t i .e) x (sumAt s i)
+      by : (b : Bool) → eqb (t .from) i ≡ b → (c : Bool) → eqb (t .to) i ≡ c → sumAt two i ≡ cond (isTouching t i) (sumAt s i ⊕ Fits (sideOf t i .e) ⊗ Fits x) (sumAt s i)
       by true f c g =
           let k = eqb-true p i (from i h ∙ f) in
           rw f (off-to (to i h ∙ apart c g) ∙ rw (← k) (at-same s one p v refl (omega (arith, n, k, h)) ∙ d))

@@ -1,6 +1,6 @@
 -- The figures of the test in exact numbers: where they fit, a balance is what the flow brings to the node, a reduced cost is the program's, and the value is the total.
 use mathlib.Core.Path.{_≡_, refl, sym, ap, ap₂, _∙_, subst}
-use mathlib.Core.Bool.{Bool, true, false}
+use mathlib.Core.Bool.{cond}
 use mathlib.Core.Logic.{_⊎_, inl, inr}
 use Prim.Native.Nat.{ℕ, zero, suc, _+_, _-_, _≤_, _<_}
 use native.Mathlib.Numerals.{add-one}
@@ -36,7 +36,8 @@ use Rattle.network.specs.Pair.{priceAt, flowAt, exactPair}
 use Rattle.network.specs.Legal.{Legal, Gapless}
 use Rattle.network.specs.Program.{exactArc, exactOf, programOf}
 use Rattle.network.proofs.Sane.{sane}
-use Rattle.figures.specs.Figures.{balanceBy, balanceTurn, balanceOf, reducedBy, reducedCost, valueTurn, valueOf}
+use Rattle.step.proofs.Lines.{split}
+use Rattle.figures.specs.Figures.{balanceTurn, balanceOf, reducedCost, valueTurn, valueOf}
 
 -- one term more
 term-exactly : {w : Worked} {s : ℚ} (e x : Fraction) → Exactly w s → Exactly (w ⊕ Fits e ⊗ Fits x) (s +ℚ value e *ℚ value x)
@@ -78,21 +79,22 @@ module _ (e : Exact.Arc) where
   touch-to n = ap₂ _+ℚ_ (only-other (e .from) (e .to) (e .a) n) (only-same (e .to) (e .b)) ∙ ring1 ℚ-ring (e .b) (λ b. :0 :+ b := b) refl
 
 -- a turn of a balance
-turn-exactly : (t : Arc) → ExactLaws.Legal (exactArc t) → (i : ℕ) (x : Fraction) (w : Worked) (s : ℚ) → Exactly w s → Exactly (balanceBy (isTouching t i) (sideOf t i .e) x w) (s +ℚ touch (exactArc t) i *ℚ value x)
+turn-exactly : (t : Arc) → ExactLaws.Legal (exactArc t) → (i : ℕ) (x : Fraction) (w : Worked) (s : ℚ) → Exactly w s → Exactly (cond (isTouching t i) (w ⊕ Fits (sideOf t i .e) ⊗ Fits x) w) (s +ℚ touch (exactArc t) i *ℚ value x)
 unfolding isTouching sideOf
-turn-exactly t l i x w s k = by (eqb (t .from) i) refl (eqb (t .to) i) refl
+turn-exactly t l i x w s k =
+    split (eqb (t .from) i)
+    (λ e. rw e (same (at (subst (λ (k : ℕ). touch (exactArc t) k ≡ value (t .a)) (eqb-true _ _ e) (touch-from (exactArc t) l))) (term-exactly (t .a) x k)))
+    (λ e.
+    split (eqb (t .to) i)
+    (λ f.
+    let q = eqb-true _ _ f in
+    let n : ¬ (t .from ≡ t .to) = λ r. eqb-false _ _ e (r ∙ q) in
+    rw (e, f) (same (at (subst (λ (k : ℕ). touch (exactArc t) k ≡ value (t .b)) q (touch-to (exactArc t) n))) (term-exactly (t .b) x k)))
+    (λ f.
+    rw (e, f) (same (ring1 ℚ-ring s (λ s. s := s :+ :0) refl ∙ ap (λ (q : ℚ). s +ℚ q) (ring1 ℚ-ring (value x) (λ x. :0 := :0 :* x) refl) ∙ at (touch-off (exactArc t) i (eqb-false _ _ e) (eqb-false _ _ f))) k)))
   where
     at : {q : ℚ} → touch (exactArc t) i ≡ q → s +ℚ q *ℚ value x ≡ s +ℚ touch (exactArc t) i *ℚ value x
     at e = ap (λ (q : ℚ). s +ℚ q *ℚ value x) (sym e)
-
-    by : (a : Bool) → eqb (t .from) i ≡ a → (b : Bool) → eqb (t .to) i ≡ b → Exactly (balanceBy (isTouching t i) (sideOf t i .e) x w) (s +ℚ touch (exactArc t) i *ℚ value x)
-    by true e b f = rw e (same (at (subst (λ (k : ℕ). touch (exactArc t) k ≡ value (t .a)) (eqb-true _ _ e) (touch-from (exactArc t) l))) (term-exactly (t .a) x k))
-    by false e true f =
-        let q = eqb-true _ _ f in
-        let n : ¬ (t .from ≡ t .to) = λ r. eqb-false _ _ e (r ∙ q) in
-        rw (e, f) (same (at (subst (λ (k : ℕ). touch (exactArc t) k ≡ value (t .b)) q (touch-to (exactArc t) n))) (term-exactly (t .b) x k))
-    by false e false f =
-        rw (e, f) (same (ring1 ℚ-ring s (λ s. s := s :+ :0) refl ∙ ap (λ (q : ℚ). s +ℚ q) (ring1 ℚ-ring (value x) (λ x. :0 := :0 :* x) refl) ∙ at (touch-off (exactArc t) i (eqb-false _ _ e) (eqb-false _ _ f))) k)
 
 -- ---- a legal network without gaps
 
@@ -143,7 +145,12 @@ module _ {net : Net} (g : Legal net) (h : Gapless net) (pair : Pair) where
   unfolding reducedCost exactOf isRoot
   cost-exactly j l =
       same (sym (reduced-of (exactOf net) (sane g) (j + 1) (omega (arith, g .few-arcs)) (used (j + 1) (omega arith) (omega arith)) (exactPair pair .price)))
-      (by (eqb (t .from) (t .to)) refl)
+      (split (eqb (t .from) (t .to))
+      (λ e.
+      rw e
+      (same (ring3 ℚ-ring (value (t .cost)) (value (t .a) *ℚ p) q (λ c u q. c :- u := (c :- u) :- :0 :* q) refl ∙ ap (λ (b : ℚ). lessℚ (lessℚ (value (t .cost)) (value (t .a) *ℚ p)) (b *ℚ q)) (sym (legal-at j l .b-zero (eqb-true _ _ e))))
+      (minus-exactly (given (t .cost)) (times-gives (given (t .a)) (given (priceAt pair (t .from)))))))
+      (λ e. rw e (minus-exactly (minus-gives (given (t .cost)) (times-gives (given (t .a)) (given (priceAt pair (t .from))))) (times-gives (given (t .b)) (given (priceAt pair (t .to)))))))
     where
       t : Arc
       t = arcAt net (j + 1)
@@ -153,10 +160,3 @@ module _ {net : Net} (g : Legal net) (h : Gapless net) (pair : Pair) where
 
       q : ℚ
       q = value (priceAt pair (t .to))
-
-      by : (r : Bool) → eqb (t .from) (t .to) ≡ r → Exactly (reducedBy r t (priceAt pair (t .from)) (priceAt pair (t .to))) (lessℚ (lessℚ (value (t .cost)) (value (t .a) *ℚ p)) (value (t .b) *ℚ q))
-      by true e =
-          same (ring3 ℚ-ring (value (t .cost)) (value (t .a) *ℚ p) q (λ c u q. c :- u := (c :- u) :- :0 :* q) refl ∙ ap (λ (b : ℚ). lessℚ (lessℚ (value (t .cost)) (value (t .a) *ℚ p)) (b *ℚ q)) (sym (legal-at j l .b-zero (eqb-true _ _ e))))
-          (minus-exactly (given (t .cost)) (times-gives (given (t .a)) (given (priceAt pair (t .from)))))
-      by false e =
-          minus-exactly (minus-gives (given (t .cost)) (times-gives (given (t .a)) (given (priceAt pair (t .from))))) (times-gives (given (t .b)) (given (priceAt pair (t .to))))

@@ -1,5 +1,5 @@
 -- The figures of the optimality test (01, "The optimality test"), and its questions 9 to 12.
-use mathlib.Core.Bool.{Bool, true, false, _&&_, not}
+use mathlib.Core.Bool.{Bool, cond, _&&_, not}
 use mathlib.Core.List.{List, [], _∷_}
 use Prim.Native.Nat.{ℕ, _+_}
 use Rattle.loops.specs.Loops.{all, upto}
@@ -18,24 +18,18 @@ use Rattle.records.specs.Questions.{Question, _asks_}
 
 -- ---- the balance of node i: multiplier × flow over the arcs touching it; "sums start at 0 and run over the arcs upward"
 
-abbrev pub balanceBy : Bool → Fraction → Fraction → Worked → Worked
-balanceBy true e x w = w ⊕ Fits e ⊗ Fits x
-balanceBy false e x w = w
-
 abbrev pub balanceTurn : Net → Pair → ℕ → ℕ → Worked → Worked
-balanceTurn net pair i j w = balanceBy (isTouching (arcAt net (j + 1)) i) (sideOf (arcAt net (j + 1)) i .e) (flowAt pair (j + 1)) w
+balanceTurn net pair i j w = cond (isTouching (arcAt net (j + 1)) i) (w ⊕ Fits (sideOf (arcAt net (j + 1)) i .e) ⊗ Fits (flowAt pair (j + 1))) w
 
 unfoldable pub balanceOf : Net → Pair → ℕ → Worked
 balanceOf net pair i = upto (balanceTurn net pair i) (net .m) (Fits zeroFraction)
 
 -- ---- "reduced cost d = c - a × price(from) - b × price(to), the last term absent for a root arc"
 
-abbrev pub reducedBy : Bool → Arc → Fraction → Fraction → Worked
-reducedBy true t p q = Fits (t .cost) ⊖ Fits (t .a) ⊗ Fits p
-reducedBy false t p q = Fits (t .cost) ⊖ Fits (t .a) ⊗ Fits p ⊖ Fits (t .b) ⊗ Fits q
-
 unfoldable pub reducedCost : Arc → Pair → Worked
-reducedCost t pair = reducedBy (isRoot t) t (priceAt pair (t .from)) (priceAt pair (t .to))
+reducedCost t pair =
+    cond (isRoot t) (Fits (t .cost) ⊖ Fits (t .a) ⊗ Fits (priceAt pair (t .from)))
+    (Fits (t .cost) ⊖ Fits (t .a) ⊗ Fits (priceAt pair (t .from)) ⊖ Fits (t .b) ⊗ Fits (priceAt pair (t .to)))
 
 -- ---- "the value is the sum of c × flow, arcs upward"
 

@@ -1,7 +1,7 @@
 // The figures of the test: balances, reduced costs and the value; and its questions 9 to 12. The loops read an arc in place,
 // so that no network is copied for one; beyond the last number there is none.
 ghost use mathlib.Core.Path.{_≡_};
-ghost use mathlib.Core.Bool.{_&&_, not};
+ghost use mathlib.Core.Bool.{cond, _&&_, not};
 ghost use mathlib.Core.List.{[], _∷_};
 ghost use Prim.Native.Nat.{ℕ, _+_, _<_};
 ghost use lib.Dec.{eqb};
@@ -12,7 +12,7 @@ ghost use Rattle.fraction.specs.Formula.{isFit, figureOf, _⊕_, _⊖_, _⊗_};
 ghost use Rattle.network.specs.Limits.{nodePlaces};
 ghost use Rattle.network.specs.Network.{isTouching, isRoot, sideOf};
 ghost use Rattle.records.specs.Questions.{_asks_, firstNo};
-ghost use Rattle.figures.specs.Figures.{balanceBy, balanceOf, reducedBy, valueOf, balanceFits, costFits, isBalanced, isWithin, isWithinAt, keepsRuleAt, testQuestions};
+ghost use Rattle.figures.specs.Figures.{balanceOf, valueOf, balanceFits, costFits, isBalanced, isWithin, isWithinAt, keepsRuleAt, testQuestions};
 ghost use Rattle.figures.specs.internal.Listed.{sumAt, costIn};
 ghost use Rattle.slackness.specs.Slackness.{keepsRule};
 use fraction::Fraction;
@@ -64,7 +64,7 @@ fn with_term(w: Worked, e: Fraction, x: Fraction) -> Worked
 
 // A balance of node i, and the flow of one arc more where it touches the node.
 fn balance_turn(t: Arc, x: Fraction, i: usize, w: Worked) -> Worked
-    ensures { λ r. ⌜ r ≡ balanceBy (isTouching t i) (sideOf t i .e) x w ⌝ }
+    ensures { λ r. ⌜ r ≡ cond (isTouching t i) (w ⊕ Worked.Fits (sideOf t i .e) ⊗ Worked.Fits x) w ⌝ }
 {
     if network::touches(t, i) {
         let side = network::side_at(t, i);
@@ -100,7 +100,7 @@ fn less_term(w: Worked, e: Fraction, x: Fraction) -> Worked
 
 // An arc's reduced cost, by the prices of its ends.
 fn reduced(t: Arc, p: Fraction, q: Fraction) -> Worked
-    ensures { λ r. ⌜ r ≡ reducedBy (isRoot t) t p q ⌝ }
+    ensures { λ r. ⌜ r ≡ cond (isRoot t) (Worked.Fits (t .cost) ⊖ Worked.Fits (t .a) ⊗ Worked.Fits p) (Worked.Fits (t .cost) ⊖ Worked.Fits (t .a) ⊗ Worked.Fits p ⊖ Worked.Fits (t .b) ⊗ Worked.Fits q) ⌝ }
 {
     let cost = t.cost;
     let a = t.a;
