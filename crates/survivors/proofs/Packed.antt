@@ -9,19 +9,20 @@ use lib.Dec.{eqb, ltb, leb}
 use lib.ListN.{getD, length-set}
 use lib.Seq.{getD-set-same, getD-set-other}
 use borrow.Author.Tests.{lt-ltb, ltb-true, ltb-false, le-leb, lt-leb, leb-true, eqb-true, eqb-false, eq-eqb, ne-eqb}
-use Rattle.loops.specs.Loops.{build, upto, tally, count}
+use Rattle.loops.specs.Loops.{build, upto, count}
 use Rattle.loops.proofs.Laws.{getD-build, upto-keeps, count-same, count-le, count-mono, count-under, count-shift, count-some}
 use Rattle.fraction.specs.declared.Fraction.{Fraction}
 use Rattle.fraction.specs.Exact.{Proper, noFigure}
 use Rattle.fraction.proofs.Laws.{and-both, never}
 use Rattle.network.specs.declared.Arc.{Arc}
 use Rattle.network.specs.declared.Net.{Net}
-use Rattle.network.specs.Network.{noArc, emptyNet, arcAt, supplyAt, isHere, isRoot, withArc, withSupply, withNode}
-use Rattle.survivors.specs.Survivors.{rankOf, renumbered, withSizes, behindNodes, behindArcs, packNode, packArc, packedOf}
+use Rattle.network.specs.Network.{noArc, emptyNet, arcAt, supplyAt, isHere, isUsed, isRoot, withArc, withSupply, withNode}
+use Rattle.survivors.specs.Survivors.{rankOf, renumbered, withSizes, packNode, packArc, packedOf}
 use Rattle.survivors.specs.internal.Ranks.{placed}
 use Rattle.network.specs.Legal.{LegalArc, Legal}
 use Rattle.network.proofs.Numbers.{number, getD-all}
 use Rattle.network.proofs.Kept.{here-number, moved, arc-kept}
+use Rattle.network.proofs.Sane.{used-from}
 
 -- ---- new numbers
 
@@ -182,9 +183,9 @@ module _ {net : Net} (g : Legal net) where
             here = λ j a b. at j a b (eqb j (p .n + 1)) refl;
           }
 
-      next : (s : Bool) → isHere net (i + 1) ≡ s → (behindNodes s (ltb (p .n) 32) net (i + 1) p .n ≡ tally s (count (λ k. isHere net (k + 1)) i)) × Numbered (behindNodes s (ltb (p .n) 32) net (i + 1) p) (tally s (count (λ k. isHere net (k + 1)) i))
-      next false e = k
-      next true e = rw (lt-ltb (p .n) 32 room) (same, grown e)
+      next : (s : Bool) → isHere net (i + 1) ≡ s → Packed net (suc i) (packNode net i p)
+      next false e = rw e k
+      next true e = rw (e, lt-ltb (p .n) 32 room) (same, grown e)
         where
           same : withNode (withSizes p (p .n + 1) (p .m)) (p .n + 1) (supplyAt net (i + 1)) .n ≡ count (λ k. isHere net (k + 1)) i + 1
           same = ap (λ (n : ℕ). n + 1) (k .0)
@@ -212,15 +213,15 @@ module _ {net : Net} (g : Legal net) where
 
   arc-packed : (j : ℕ) (p : Net) → Numbered p (total g) → Numbered (packArc net j p) (total g)
   unfolding packArc withArc
-  arc-packed j p k = by (ltb (arcAt net (j + 1) .from) 1) refl (ltb (p .m) 96) refl
+  arc-packed j p k = by (isUsed net (j + 1) && ltb (p .m) 96) refl
     where
-      by : (s : Bool) → ltb (arcAt net (j + 1) .from) 1 ≡ s → (t : Bool) → ltb (p .m) 96 ≡ t → Numbered (behindArcs s t net (arcAt net (j + 1)) p) (total g)
-      by true a t b = k
-      by false a false b = k
-      by false a true b =
-          let sized = sizes-legal (k .legal) (p .n) (p .m + 1) (omega arith) (omega arith) (k .legal .few-nodes) (omega (arith, ltb-true (p .m) 96 b)) in
-          let fresh = renumbered-legal (record { legal = sized; here = k .here }) (g .used (j + 1) (ltb-false (arcAt net (j + 1) .from) 1 a)) in
-          record { legal = arc-kept sized (p .m + 1) (renumbered net (arcAt net (j + 1))) (inr (omega arith, fresh)); here = k .here }
+      by : (s : Bool) → (isUsed net (j + 1) && ltb (p .m) 96) ≡ s → Numbered (packArc net j p) (total g)
+      by false e = rw e k
+      by true e =
+          let b = and-both (isUsed net (j + 1)) _ e in
+          let sized = sizes-legal (k .legal) (p .n) (p .m + 1) (omega arith) (omega arith) (k .legal .few-nodes) (omega (arith, ltb-true (p .m) 96 (b .1))) in
+          let fresh = renumbered-legal (record { legal = sized; here = k .here }) (g .used (j + 1) (used-from g (j + 1) (b .0))) in
+          rw e (record { legal = arc-kept sized (p .m + 1) (renumbered net (arcAt net (j + 1))) (inr (omega arith, fresh)); here = k .here })
 
   pub packed-numbered : Numbered (packedOf net) (total g)
   unfolding packedOf

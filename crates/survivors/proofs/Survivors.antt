@@ -5,10 +5,10 @@ use mathlib.Core.List.{List}
 use Prim.Native.Nat.{ℕ, zero, suc, _+_, _-_, _≤_, _<_}
 use native.Mathlib.Numerals.{add-one}
 use native.Mathlib.Omega.{arith}
-use lib.Dec.{T, ltb}
-use lib.ListN.{set, replicate}
-use borrow.Author.Tests.{lt-ltb, ltb-true, ltb-false, eq-eqb, ne-eqb}
-use Rattle.loops.specs.Loops.{upto, tally, count}
+use lib.Dec.{T}
+use lib.ListN.{replicate}
+use borrow.Author.Tests.{lt-ltb, eq-eqb, ne-eqb}
+use Rattle.loops.specs.Loops.{upto, count}
 use Rattle.loops.proofs.Laws.{count-le, count-shift}
 use Rattle.algebra.specs.Rat.{ℚ, _+ℚ_, 0ℚ}
 use Rattle.algebra.specs.Sum.{range, only}
@@ -19,13 +19,12 @@ use Rattle.presolve.proofs.Renumber.{Numbering, Renumbered, survivor, find, ren
 use Rattle.presolve.proofs.Spare.{listed, Spare, spare-sound}
 use Rattle.presolve.specs.Net.{column, columnAt, rhsAt}
 use Rattle.presolve.proofs.Net.{column-in, gone-out, rhs-in, rhs-out, row-out}
-use Rattle.fraction.specs.declared.Fraction.{Fraction}
 use Rattle.fraction.specs.Exact.{noFigure}
 use Rattle.fraction.specs.Value.{value}
 use Rattle.network.specs.declared.Arc.{Arc}
 use Rattle.network.specs.declared.Net.{Net}
 use Rattle.network.specs.Network.{noArc, emptyNet, arcAt, supplyAt, isHere, withArc, withSupply, withNode, isUsed}
-use Rattle.survivors.specs.Survivors.{rankOf, arcRank, renumbered, behindNodes, behindArcs, packNode, packArc, packedOf}
+use Rattle.survivors.specs.Survivors.{rankOf, arcRank, renumbered, packNode, packArc, packedOf}
 use Rattle.network.specs.Legal.{Legal, Gapless}
 use Rattle.network.specs.Program.{exactArc, exactOf, programOf}
 use Rattle.network.proofs.Numbers.{number}
@@ -47,41 +46,36 @@ module _ (net : Net) where
   abbrev newArcs : List Arc → ℕ → List Arc
   newArcs l j = packs (isUsed net) (λ k. renumbered net (arcAt net k)) l j
 
-  nodes-are : (i : ℕ) → i ≤ 32
-      → upto (packNode net) i (emptyNet 0 0) ≡ record { n = nodes i; m = 0; here = packs (isHere net) (λ _. true) (replicate 33 false) i; supply = packs (isHere net) (supplyAt net) (replicate 33 noFigure) i; arcs = replicate 97 noArc }
-  unfolding upto count packs packNode withNode withSupply
+  -- the nodes up to i
+  abbrev nodesTo : ℕ → Net
+  nodesTo i = record { n = nodes i; m = 0; here = packs (isHere net) (λ _. true) (replicate 33 false) i; supply = packs (isHere net) (supplyAt net) (replicate 33 noFigure) i; arcs = replicate 97 noArc }
+
+  node-more : (i : ℕ) → i < 32 → (b : Bool) → isHere net (i + 1) ≡ b → packNode net i (nodesTo i) ≡ nodesTo (suc i)
+  unfolding count packs packNode withNode withSupply
+  node-more i h true e = let room : nodes i < 32 = omega (arith, count-le (λ k. isHere net (k + 1)) i) in rw (e, lt-ltb (nodes i) 32 room, number 32 (nodes i) room)
+  node-more i h false e = rw e
+
+  nodes-are : (i : ℕ) → i ≤ 32 → upto (packNode net) i (emptyNet 0 0) ≡ nodesTo i
+  unfolding upto count packs
   nodes-are zero h = refl
-  nodes-are (suc i) h = rw (nodes-are i (omega (arith, add-one i))) (by (isHere net (i + 1)))
-    where
-      room : nodes i < 32
-      room = omega (arith, add-one i, count-le (λ k. isHere net (k + 1)) i)
+  nodes-are (suc i) h = rw (nodes-are i (omega (arith, add-one i))) (node-more i (omega (arith, add-one i)) (isHere net (i + 1)) refl)
 
-      here : List Bool
-      here = packs (isHere net) (λ _. true) (replicate 33 false) i
+  module _ (p : Net) where
+    -- the arcs up to j, behind the nodes of p
+    abbrev arcsTo : ℕ → Net
+    arcsTo j = record { n = p .n; m = arcs j; here = p .here; supply = p .supply; arcs = newArcs (p .arcs) j }
 
-      supply : List Fraction
-      supply = packs (isHere net) (supplyAt net) (replicate 33 noFigure) i
+    arc-more : (j : ℕ) → j < 96 → (b : Bool) → isUsed net (j + 1) ≡ b → packArc net j (arcsTo j) ≡ arcsTo (suc j)
+    unfolding count packs packArc withArc
+    arc-more j h true e = let room : arcs j < 96 = omega (arith, count-le (λ k. isUsed net (k + 1)) j) in rw (e, lt-ltb (arcs j) 96 room, number 96 (arcs j) room)
+    arc-more j h false e = rw e
 
-      by : (b : Bool) → behindNodes b (ltb (nodes i) 32) net (i + 1) (record { n = nodes i; m = 0; here = here; supply = supply; arcs = replicate 97 noArc })
-          ≡ record { n = tally b (nodes i); m = 0; here = cond b (set here (nodes i + 1) true) here; supply = cond b (set supply (nodes i + 1) (supplyAt net (i + 1))) supply; arcs = replicate 97 noArc }
-      by true = rw (lt-ltb (nodes i) 32 room, number 32 (nodes i) room)
-      by false = refl
+    arcs-are : p .m ≡ 0 → (j : ℕ) → j ≤ 96 → upto (packArc net) j p ≡ arcsTo j
+    unfolding upto count packs
+    arcs-are z zero h = rw (← z)
+    arcs-are z (suc j) h = rw (arcs-are z j (omega (arith, add-one j))) (arc-more j (omega (arith, add-one j)) (isUsed net (j + 1)) refl)
 
-  arcs-are : (p : Net) → p .m ≡ 0 → (j : ℕ) → j ≤ 96 → upto (packArc net) j p ≡ record { n = p .n; m = arcs j; here = p .here; supply = p .supply; arcs = newArcs (p .arcs) j }
-  unfolding upto count packs packArc withArc
-  arcs-are p z zero h = rw (← z)
-  arcs-are p z (suc j) h = rw (arcs-are p z j (omega (arith, add-one j))) (by (ltb (arcAt net (j + 1) .from) 1) refl)
-    where
-      room : arcs j < 96
-      room = omega (arith, add-one j, count-le (λ k. isUsed net (k + 1)) j)
-
-      by : (b : Bool) → ltb (arcAt net (j + 1) .from) 1 ≡ b
-          → behindArcs b (ltb (arcs j) 96) net (arcAt net (j + 1)) (record { n = p .n; m = arcs j; here = p .here; supply = p .supply; arcs = newArcs (p .arcs) j })
-          ≡ record { n = p .n; m = tally (isUsed net (j + 1)) (arcs j); here = p .here; supply = p .supply; arcs = cond (isUsed net (j + 1)) (set (newArcs (p .arcs) j) (arcs j + 1) (renumbered net (arcAt net (j + 1)))) (newArcs (p .arcs) j) }
-      by true e = rw (eq-eqb (arcAt net (j + 1) .from) 0 (omega (arith, ltb-true (arcAt net (j + 1) .from) 1 e)))
-      by false e = rw (ne-eqb (arcAt net (j + 1) .from) 0 (λ q. omega (arith, ltb-false (arcAt net (j + 1) .from) 1 e)), lt-ltb (arcs j) 96 room, number 96 (arcs j) room)
-
-  pub packed-is : packedOf net ≡ record { n = nodes 32; m = arcs 96; here = packs (isHere net) (λ _. true) (replicate 33 false) 32; supply = packs (isHere net) (supplyAt net) (replicate 33 noFigure) 32; arcs = newArcs (replicate 97 noArc) 96 }
+  pub packed-is : packedOf net ≡ arcsTo (nodesTo 32) 96
   unfolding packedOf
   packed-is = rw (nodes-are 32 (omega arith)) (arcs-are _ refl 96 (omega arith))
 

@@ -1,5 +1,5 @@
 -- What is left of a network, numbered from 1 (01, "Records"), and a pair of it at the original numbers.
-use mathlib.Core.Bool.{Bool, true, false, cond, _&&_}
+use mathlib.Core.Bool.{cond, _&&_}
 use Prim.Native.Nat.{ℕ, _+_}
 use lib.Dec.{ltb, leb}
 use Rattle.loops.specs.Loops.{build, count, upto}
@@ -31,23 +31,13 @@ renumbered net t = between (rankOf net (t .from)) (rankOf net (t .to)) t
 abbrev pub withSizes : Net → ℕ → ℕ → Net
 withSizes p n m = record { n = n; m = m; here = p .here; supply = p .supply; arcs = p .arcs }
 
--- node i + 1 of net, where it is left, behind the nodes of p
-abbrev pub behindNodes : Bool → Bool → Net → ℕ → Net → Net
-behindNodes true true net i p = withNode (withSizes p (p .n + 1) (p .m)) (p .n + 1) (supplyAt net i)
-behindNodes true false net i p = p
-behindNodes false room net i p = p
-
+-- node i + 1 of net, where it is left and there is room, behind the nodes of p
 unfoldable pub packNode : Net → ℕ → Net → Net
-packNode net i p = behindNodes (isHere net (i + 1)) (ltb (p .n) maxNodes) net (i + 1) p
+packNode net i p = cond (isHere net (i + 1) && ltb (p .n) maxNodes) (withNode (withSizes p (p .n + 1) (p .m)) (p .n + 1) (supplyAt net (i + 1))) p
 
--- arc j + 1 of net, where it is left, behind the arcs of p
-abbrev pub behindArcs : Bool → Bool → Net → Arc → Net → Net
-behindArcs true room net t p = p
-behindArcs false true net t p = withArc (withSizes p (p .n) (p .m + 1)) (p .m + 1) (renumbered net t)
-behindArcs false false net t p = p
-
+-- arc j + 1 of net, where it is left and there is room, behind the arcs of p
 unfoldable pub packArc : Net → ℕ → Net → Net
-packArc net j p = behindArcs (ltb (arcAt net (j + 1) .from) 1) (ltb (p .m) maxArcs) net (arcAt net (j + 1)) p
+packArc net j p = cond (isUsed net (j + 1) && ltb (p .m) maxArcs) (withArc (withSizes p (p .n) (p .m + 1)) (p .m + 1) (renumbered net (arcAt net (j + 1)))) p
 
 unfoldable pub packedOf : Net → Net
 packedOf net = upto (packArc net) maxArcs (upto (packNode net) maxNodes (emptyNet 0 0))

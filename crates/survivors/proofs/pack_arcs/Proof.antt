@@ -8,7 +8,7 @@ use Rattle.survivors.specs.Survivors.{packArc}
 use Rattle.network.specs.declared.Net.{Net}
 use Rattle.presolve.proofs.Junction.{q}
 use borrow.Author.Needs.{needs}
-use borrow.Author.Tests.{le-ltb, lt-ltb}
+use borrow.Author.Tests.{lt-ltb, eq-eqb, ne-eqb}
 use mathlib.Core.Logic.{⊎-elim}
 use mathlib.Core.Path.{_∙_, _≡_, ap}
 use native.Mathlib.Omega.{arith}
@@ -28,8 +28,8 @@ turn c =
     let net = c .before .before .before .before .before .before .before .before .args .t1 in
     let t = arcAt net (c .before .before .before .before .loop .j + 1) in
     ⊎-elim
-    (λ w. (w .3 ∙ rw (le-ltb _ _ (w .0 .taken), lt-ltb _ _ room, number 96 (c .before .before .before .before .loop .q .m) room, w .2 .ensures, c .before .before .before .before .before .before .node-ranks .ensures, placed-is net (t .from), placed-is net (t .to)), omega (arith, ap (λ (p : Net). p .m) (w .3))))
-    (λ w. (w .1 ∙ rw (lt-ltb _ _ (w .0 .left)), omega (arith, ap (λ (p : Net). p .m) (w .1))))
+    (λ w. (w .3 ∙ rw (ne-eqb (t .from) 0 (λ q. omega arith), lt-ltb _ _ room, number 96 (c .before .before .before .before .loop .q .m) room, w .2 .ensures, c .before .before .before .before .before .before .node-ranks .ensures, placed-is net (t .from), placed-is net (t .to)), omega (arith, ap (λ (p : Net). p .m) (w .3))))
+    (λ w. (w .1 ∙ rw (eq-eqb (t .from) 0 (omega arith)), omega (arith, ap (λ (p : Net). p .m) (w .1))))
     (c .if1 .came)
 
 loop-holds : tie.Need-loop-holds Inv-loop μ-loop
