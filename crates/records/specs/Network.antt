@@ -1,5 +1,5 @@
 -- A network's record (01, "Records"): the questions 2 to 5 in their order ("Questions before work"), the network that it holds, and the record of a network.
-use mathlib.Core.Bool.{Bool, true, false, cond, _&&_, _||_, not}
+use mathlib.Core.Bool.{Bool, false, cond, _&&_, _||_, not}
 use mathlib.Core.List.{List, [], _∷_}
 use Prim.Native.Nat.{ℕ, _+_, _-_, _*_, _/_, _%_}
 use lib.Dec.{eqb, ltb, leb}
@@ -135,12 +135,8 @@ roleFigure t r =
     (cond (eqb r 1) (wholeOf (t .to)) (cond (eqb r 2) (t .cost) (cond (eqb r 3) (t .lower) (cond (eqb r 4) (t .upper) (cond (eqb r 5) (t .a) (t .b))))))
 
 -- figure k: "supplies, then the arcs' figures"
-abbrev pub figureBy : Bool → Net → ℕ → Fraction
-figureBy true net k = supplyAt net (k + 1)
-figureBy false net k = roleFigure (arcAt net ((k - net .n) / 7 + 1)) ((k - net .n) % 7)
-
 unfoldable pub figureOf : Net → ℕ → Fraction
-figureOf net k = figureBy (ltb k (net .n)) net k
+figureOf net k = cond (ltb k (net .n)) (supplyAt net (k + 1)) (roleFigure (arcAt net ((k - net .n) / 7 + 1)) ((k - net .n) % 7))
 
 -- "n, m; then n + 7m numerators; then as many denominators"
 unfoldable pub networkOf : Net → ℕ → List ℤ

@@ -1,5 +1,5 @@
 -- A pair's record (01, "Records"): question 8, the pair that it holds, and the record of a pair.
-use mathlib.Core.Bool.{Bool, true, false, cond, _&&_}
+use mathlib.Core.Bool.{Bool, cond, _&&_}
 use mathlib.Core.List.{List}
 use Prim.Native.Nat.{ℕ, _+_, _-_, _*_}
 use lib.Dec.{eqb, leb}
@@ -36,12 +36,8 @@ abbrev pub flowTurn : List ℤ → ℕ → ℕ → ℕ → Pair → Pair
 flowTurn ys n t j pair = withFlow pair (j + 1) (figureAt ys t (n + j))
 
 -- none where the sizes are beyond the limits
-abbrev pub pairBy : Bool → List ℤ → ℕ → ℕ → Pair
-pairBy true ys n m = upto (flowTurn ys n (n + m)) m (upto (priceTurn ys (n + m)) n noPair)
-pairBy false ys n m = noPair
-
 unfoldable pub pairOf : List ℤ → ℕ → ℕ → Pair
-pairOf ys n m = pairBy (leb n maxNodes && leb m maxArcs) ys n m
+pairOf ys n m = cond (leb n maxNodes && leb m maxArcs) (upto (flowTurn ys n (n + m)) m (upto (priceTurn ys (n + m)) n noPair)) noPair
 
 -- ---- the record of a pair
 

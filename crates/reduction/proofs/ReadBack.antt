@@ -22,9 +22,10 @@ use Rattle.network.specs.Network.{noArc, arcAt, supplyAt, isHere, isRoot}
 use Rattle.network.specs.Legal.{Bound, LegalArc, Legal, Gapless}
 use Rattle.network.proofs.Numbers.{puts, puts-long, puts-out, puts-in, getD-all, by-number}
 use Rattle.network.proofs.Kept.{here-within}
+use Rattle.step.proofs.Lines.{split}
 use Rattle.records.specs.Questions.{firstNo}
 use Rattle.records.specs.Arrays.{figureAt, arraysOf}
-use Rattle.records.specs.Network.{figures, sizesRight, roleOf, isPermitted, isInForm, isEnd, hasEnds, arcIn, isWeighted, isWeightedAt, questions, readOf, roleFigure, figureBy, figureOf, networkOf}
+use Rattle.records.specs.Network.{figures, sizesRight, roleOf, isPermitted, isInForm, isEnd, hasEnds, arcIn, isWeighted, isWeightedAt, questions, readOf, roleFigure, figureOf, networkOf}
 use Rattle.records.specs.Cut.{cutNetwork}
 use Rattle.records.proofs.Questions.{asked}
 use Rattle.records.proofs.Arrays.{with-room}
@@ -140,11 +141,9 @@ module _ {net : Net} (g : Legal net) (u : Gapless net) where
 
   figure-permitted : (k : ℕ) → k < many → isPermitted (roleOf (net .n) k) (figureOf net k) ≡ true
   unfolding roleOf figureOf
-  figure-permitted k l = by (ltb k (net .n)) refl
-    where
-      by : (b : Bool) → ltb k (net .n) ≡ b → isPermitted (cond b 0 ((k - net .n) % 7)) (figureBy b net k) ≡ true
-      by true e = proper-permitted 0 _ (g .supply-proper (k + 1) (u .node-in (k + 1) (omega arith) (omega (arith, ltb-true k (net .n) e))))
-      by false e = role-permitted (arc-legal ((k - net .n) / 7) (let b = ltb-false k (net .n) e in omega arith)) ((k - net .n) % 7) (omega arith)
+  figure-permitted k l =
+      split (ltb k (net .n)) (λ e. rw e (proper-permitted 0 _ (g .supply-proper (k + 1) (u .node-in (k + 1) (omega arith) (omega (arith, ltb-true k (net .n) e))))))
+      (λ e. rw e (role-permitted (arc-legal ((k - net .n) / 7) (let b = ltb-false k (net .n) e in omega arith)) ((k - net .n) % 7) (omega arith)))
 
   -- ---- words that hold the figures of such a network
 
