@@ -34,12 +34,12 @@ use Rattle.step.specs.declared.Outcome.the-variants.{Passes, NoFlow as NoFlow·
 use Rattle.step.specs.Outcome.{onlyWhere, noFlowWhere, fits}
 use Rattle.step.specs.Dropped.{supplyLess, dropped, lowerBack}
 use Rattle.step.specs.Back.{figure, restored, quoteAt}
-use Rattle.step.specs.Run.{upward, nextFrom, runBy, runOf, backFrom, wayBack}
+use Rattle.step.specs.Run.{ruleFrom, upward, nextFrom, runBy, runOf, wayBack}
 use Rattle.closed_arc.specs.ClosedArc.{closed}
 use Rattle.bare_node.specs.BareNode.{bare, bareNode, bareBack}
-use Rattle.single_arc.specs.SingleArc.{forcedOut, singleArc, singleBack}
+use Rattle.single_arc.specs.SingleArc.{forcedOut, single, singleArc, singleBack}
 use Rattle.costly_arc.specs.CostlyArc.{isOpenRoot, isCostlier, hasPair, costlyArc}
-use Rattle.two_arcs.specs.TwoArcs.{sameSign, tighter, imageOf, merged, kept, twoArcs, twoBack}
+use Rattle.two_arcs.specs.TwoArcs.{sameSign, tighter, imageOf, merged, kept, two, twoArcs, twoBack}
 use Rattle.crossing.specs.Crossing.{hasSignAt, signedAfter, isFree, isApart, crossed as crossedArc, crossedAt, crossing, crossingBack}
 use Rattle.rules.specs.Table.{reduced}
 use Rattle.survivors.specs.Survivors.{spreadOf}
@@ -253,5 +253,5 @@ abbrev pub table : List Row
 table = A ∷ A-text ∷ A-back ∷ A-back-text ∷ B ∷ E ∷ F ∷ G ∷ H ∷ I ∷ J ∷ []
 
 pub marked : All table
-unfolding gcd gcdBy build upto count all any scan isOperand isProper fitted reduceOf sumOf productOf differenceOf quotientOf negationOf reciprocalOf isLess isSame isZero isFinite fromWords denWord pairOf _⊕_ _⊖_ _⊗_ _⊘_ ⊝_ withArc withSupply withNode without applied isTouching degreeOf touchingAfter isRoot farEnd sideOf figureAt sizesRight figuresRight endsRight multipliersRight questions roleOf isPermitted isEnd hasEnds arcIn isWeighted netOf readOf rankOf packNode packArc packedOf arraysOf wordOf roleFigure figureOf hasRoom recordOf networkOf withPrice withFlow hasSizes isPair pairRead balanceOf reducedCost valueOf allFit isWithin isAt keepsRule testQuestions pairQuestions onlyWhere noFlowWhere fits supplyLess dropped lowerBack figure restored quoteAt upward nextFrom runBy runOf backFrom wayBack closed bare bareNode bareBack forcedOut singleArc singleBack isOpenRoot isCostlier hasPair costlyArc sameSign tighter imageOf merged kept twoArcs twoBack hasSignAt signedAfter isFree isApart crossedArc crossedAt crossing crossingBack arcRank spreadOf stackRecord Stack.stackOf sameWords isRoomy reduceTable isRoomyBack offerTable runTable restoreTable broughtBack pairFigure pairWords separator digit pieces valueFrom wordsIn wordsOf digitsIn digits behindSpaces spaced lineOf recordLines reduceText stackSplit splitSized splitOf restoreText
+unfolding gcd gcdBy build upto count all any scan isOperand isProper fitted reduceOf sumOf productOf differenceOf quotientOf negationOf reciprocalOf isLess isSame isZero isFinite fromWords denWord pairOf _⊕_ _⊖_ _⊗_ _⊘_ ⊝_ withArc withSupply withNode without applied isTouching degreeOf touchingAfter isRoot farEnd sideOf figureAt sizesRight figuresRight endsRight multipliersRight questions roleOf isPermitted isEnd hasEnds arcIn isWeighted netOf readOf rankOf packNode packArc packedOf arraysOf wordOf roleFigure figureOf hasRoom recordOf networkOf withPrice withFlow hasSizes isPair pairRead balanceOf reducedCost valueOf allFit isWithin isAt keepsRule testQuestions pairQuestions onlyWhere noFlowWhere fits supplyLess dropped lowerBack figure restored quoteAt upward nextFrom ruleFrom runBy runOf wayBack closed bare bareNode bareBack forcedOut single singleArc singleBack isOpenRoot isCostlier hasPair costlyArc sameSign tighter imageOf merged kept two twoArcs twoBack hasSignAt signedAfter isFree isApart crossedArc crossedAt crossing crossingBack arcRank spreadOf stackRecord Stack.stackOf sameWords isRoomy reduceTable isRoomyBack offerTable runTable restoreTable broughtBack pairFigure pairWords separator digit pieces valueFrom wordsIn wordsOf digitsIn digits behindSpaces spaced lineOf recordLines reduceText stackSplit splitSized splitOf restoreText
 marked = (refl, (refl, (refl, (refl, (refl, (refl, (refl, (refl, (refl, (refl, (refl, tt)))))))))))

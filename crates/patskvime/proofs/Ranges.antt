@@ -1,7 +1,6 @@
 -- The numbers that an answer can have.
 use mathlib.Core.Path.{_≡_, refl}
 use mathlib.Core.List.{List}
-use mathlib.Core.Logic.{inl, inr}
 use Prim.Native.Nat.{ℕ, zero, suc, _≤_}
 use native.Mathlib.Omega.{arith}
 use native.Mathlib.Numerals.{add-one}
@@ -14,7 +13,8 @@ use Rattle.records.proofs.Tables.{up-to}
 use Rattle.step.specs.declared.Next.{Next}
 use Rattle.step.specs.declared.Next.the-variants.{Stops, Refuted, Takes}
 use Rattle.step.specs.Applies.{Shown}
-use Rattle.rules.specs.Table.{rules, reduced}
+use Rattle.rules.specs.Table.{rules, lastRule, reduced}
+use Rattle.rules.proofs.Whole.{few-places}
 use Rattle.figures.specs.Figures.{testQuestions}
 use Rattle.optimality.specs.Test.{pairQuestions, testTable}
 use Rattle.reduction.specs.declared.Answer.{Answer}
@@ -28,15 +28,9 @@ use Rattle.restoration.specs.declared.Answer as Restoring
 use Rattle.restoration.specs.Restore as Restore
 use Rattle.patskvime.specs.Codes.{Within, codeOf, Ranged}
 
--- a rule that shows no flow is one of six, at one of its places
-shown-within : (net : Net) {i r : ℕ} → Shown 1 rules net r i → Within 1 6 r × Within 1 96 i
-shown-within net (inl h) = ((omega (arith, h .0), omega (arith, h .0)), (h .1, omega (arith, h .2)))
-shown-within net (inr (inl h)) = ((omega (arith, h .0), omega (arith, h .0)), (h .1, omega (arith, h .2)))
-shown-within net (inr (inr (inl h))) = ((omega (arith, h .0), omega (arith, h .0)), (h .1, omega (arith, h .2)))
-shown-within net (inr (inr (inr (inl h)))) = ((omega (arith, h .0), omega (arith, h .0)), (h .1, omega (arith, h .2)))
-shown-within net (inr (inr (inr (inr (inl h))))) = ((omega (arith, h .0), omega (arith, h .0)), (h .1, omega (arith, h .2)))
-shown-within net (inr (inr (inr (inr (inr (inl h)))))) = ((omega (arith, h .0), omega (arith, h .0)), (h .1, omega (arith, h .2)))
-shown-within net (inr (inr (inr (inr (inr (inr h)))))) = absurd h
+-- a rule that shows no flow is one of the table, at one of its places
+shown-within : {net : Net} {i r : ℕ} → Shown rules net r i → Within 1 lastRule r × Within 1 96 i
+shown-within {r = r} h = (h .rule, (h .place .0, omega (arith, h .place .1, few-places r)))
 
 module _ (xs : List ℤ) (o s w k : ℕ) where
   few : refusalOf xs o s w k ≤ 5
@@ -45,7 +39,7 @@ module _ (xs : List ℤ) (o s w k : ℕ) where
 
   answer-ranged : (r : Answer) → r ≡ answerOf (refusalOf xs o s w k) (reduced (readOf xs)) → Ranged r
   answer-ranged Reduced e = tt
-  answer-ranged (NoFlow rule place) e = shown-within _ (shown xs o s w k e rule place refl)
+  answer-ranged (NoFlow rule place) e = shown-within (shown xs o s w k e rule place refl)
   answer-ranged (Refused q) e = by (refusalOf xs o s w k) few e
     where
       on : (n : Next) → Refused q ≡ endAnswer n → Within 1 5 q

@@ -5,6 +5,7 @@ use Prim.Native.Nat.{ℕ, _+_, _*_, _≤_}
 use lib.IntN.{ℤ}
 use Rattle.network.specs.Limits.{maxArcs}
 use Rattle.network.specs.ArcList.{noArcs}
+use Rattle.rules.specs.Table.{lastRule}
 use Rattle.reduction.specs.declared.Answer.{Answer}
 use Rattle.reduction.specs.declared.Answer.the-variants.{Reduced, NoFlow, Refused}
 use Rattle.reduction.specs.Reduce.{Reduction}
@@ -25,7 +26,7 @@ Within low high x = (low ≤ x) × (x ≤ high)
 
 abbrev pub Ranged : Answer → Type 0
 Ranged Reduced = Unit {0}
-Ranged (NoFlow rule place) = Within 1 6 rule × Within 1 maxArcs place
+Ranged (NoFlow rule place) = Within 1 lastRule rule × Within 1 maxArcs place
 Ranged (Refused q) = Within 1 5 q
 
 -- ---- a call, with an arc list of its own: all that it says of an answer, and the result, which is the answer's code

@@ -5,7 +5,7 @@ ghost use mathlib.Core.Path.{_≡_};
 ghost use mathlib.Core.List.{List};
 ghost use lib.ListN.{length};
 ghost use Rattle.step.specs.declared.Step.{Step};
-ghost use Rattle.step.specs.Run.{backFrom, backOf, at, undo, wayBack};
+ghost use Rattle.step.specs.Run.{ruleOf, backOf, at, undo, wayBack};
 ghost use Rattle.rules.specs.Table.{rules};
 ghost use Rattle.log.specs.Log.{Holds};
 ghost use Rattle.postsolve.specs.Postsolve.{wayOf, arcsTurn, arcsBack};
@@ -29,7 +29,7 @@ pub struct Back {
 
 // A step undone. Where a figure was too wide, nothing is worked any more.
 fn undo_step(rule: usize, old: Old, b: Back) -> Back
-    ensures { λ r. ⌜ wayOf r ≡ undo (backFrom 1 rules rule old) (wayOf b) ⌝ }
+    ensures { λ r. ⌜ wayOf r ≡ undo (ruleOf rules rule .back old) (wayOf b) ⌝ }
 {
     if !b.fits {
         return b;

@@ -22,7 +22,7 @@ use Rattle.step.specs.declared.Next.the-variants.{Stops, Refuted, Takes}
 use Rattle.step.specs.Run.{Run, backOf}
 use Rattle.step.specs.Applies.{NoneApplies, Shown}
 use Rattle.step.proofs.RunLaws.{run-ends}
-use Rattle.rules.specs.Table.{rules, nextOf, reduced}
+use Rattle.rules.specs.Table.{rules, lastRule, nextOf, reduced}
 use Rattle.rules.proofs.Whole as Whole
 use Rattle.search.specs.Search as Search
 use Rattle.search.proofs.Questions.{AllYes, all-yes, legal-read}
@@ -91,7 +91,7 @@ module _ (xs : List ℤ) (o s w k : ℕ) where
     ended z = is ∙ ap (λ q. answerOf q run) (sym number ∙ z)
 
     -- no rule applies to what is left, at any place; "there are at most n + m steps"
-    until-none : r ≡ Reduced → NoneApplies 6 rules (run .net)
+    until-none : r ≡ Reduced → NoneApplies lastRule rules (run .net)
     until-none e = let z = ap numberOf e in Whole.none-applies (readOf xs) (legal z) (λ k i q. never (let c = sym e ∙ ended z ∙ ap endAnswer q in cc))
 
     few-steps : numberOf r ≡ 0 → length (run .steps) ≤ nOf xs + mOf xs
@@ -108,8 +108,8 @@ module _ (xs : List ℤ) (o s w k : ℕ) where
     refuted : (rule i : ℕ) → r ≡ NoFlow rule i → run .ends ≡ Refuted rule i
     refuted rule i e = ended-no-flow (run .ends) rule i (sym e ∙ ended (ap numberOf e))
 
-    pub shown : (rule i : ℕ) → r ≡ NoFlow rule i → Shown 1 rules (run .net) rule i
-    shown rule i e = next-shown 6 rules _ rule i (sym (run-ends nextOf (backOf rules) Whole.next-right 128 (readOf xs)) ∙ refuted rule i e)
+    pub shown : (rule i : ℕ) → r ≡ NoFlow rule i → Shown rules (run .net) rule i
+    shown rule i e = next-shown lastRule rules _ rule i (sym (run-ends nextOf (backOf rules) Whole.next-right 128 (readOf xs)) ∙ refuted rule i e)
 
     pub flowless : (rule i : ℕ) → r ≡ NoFlow rule i → LP.NoFlow (programOf (readOf xs))
     flowless rule i e = Whole.flowless (readOf xs) (legal (ap numberOf e)) rule i (refuted rule i e)

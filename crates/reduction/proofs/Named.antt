@@ -1,10 +1,12 @@
 -- Where the search answers no flow, the rule that it names shows it at the place that it names.
 use mathlib.Core.Path.{_≡_, refl}
 use mathlib.Core.List.{List, [], _∷_}
-use mathlib.Core.Logic.{_⊎_, inl, inr}
+use mathlib.Core.Logic.{_⊎_, inl, inr, ⊎-elim}
 use Prim.Native.Nat.{ℕ, zero, suc, _+_, _≤_, _<_}
 use native.Mathlib.Numerals.{add-one}
 use native.Mathlib.Omega.{arith}
+use lib.ListN.{length}
+use borrow.Author.Tests.{eq-eqb, ne-eqb}
 use Rattle.fraction.proofs.Laws.{never}
 use Rattle.network.specs.declared.Net.{Net}
 use Rattle.step.specs.declared.Outcome.{Outcome}
@@ -12,7 +14,7 @@ use Rattle.step.specs.declared.Outcome.the-variants.{Passes, NoFlow, Changes}
 use Rattle.step.specs.declared.Next.{Next}
 use Rattle.step.specs.declared.Next.the-variants.{Refuted}
 use Rattle.step.specs.Applies.{Shown}
-use Rattle.step.specs.Run.{Rule, orElse, upward, nextFrom, nextBy}
+use Rattle.step.specs.Run.{Rule, ruleFrom, orElse, upward, nextFrom, nextBy}
 
 -- at one of the places, or what comes after them
 upward-shown : (rule : ℕ → Outcome) (k many from : ℕ) (rest : Next) (r i : ℕ) → upward rule k many from rest ≡ Refuted r i → ((r ≡ k) × (from ≤ i) × (i < from + many) × (rule i ≡ NoFlow)) ⊎ (rest ≡ Refuted r i)
@@ -29,16 +31,16 @@ upward-shown rule k (suc many) from rest r i e = by (rule from) refl e (upward-s
     by NoFlow f e on = let p : from ≡ i = cc in inl (cc, omega arith, omega (arith, add-one many), rw (← p) f)
     by (Changes c) f e on = never cc
 
-from-shown : (h k : ℕ) (rules : List Rule) (net : Net) (r i : ℕ) → nextFrom h k rules net ≡ Refuted r i → Shown k rules net r i
-unfolding nextFrom
+-- by one of the rules, of numbers k upward
+from-shown : (h k : ℕ) (rules : List Rule) (net : Net) (r i : ℕ) → nextFrom h k rules net ≡ Refuted r i → (k ≤ r) × (r < k + length rules) × (1 ≤ i) × (i ≤ ruleFrom k rules r .last) × (ruleFrom k rules r .at net i ≡ NoFlow)
+unfolding nextFrom ruleFrom
 from-shown zero k [] net r i e = never cc
 from-shown zero k (R ∷ rules) net r i e = never cc
 from-shown (suc h) k [] net r i e = never cc
-from-shown (suc h) k (R ∷ rules) net r i e = by (upward-shown (R .at net) k (R .last) 1 _ r i e) (from-shown h (suc k) rules net r i)
-  where
-    by : ((r ≡ k) × (1 ≤ i) × (i < 1 + R .last) × (R .at net i ≡ NoFlow)) ⊎ (nextFrom h (suc k) rules net ≡ Refuted r i) → (nextFrom h (suc k) rules net ≡ Refuted r i → Shown (suc k) rules net r i) → Shown k (R ∷ rules) net r i
-    by (inl f) on = inl (f .0, f .1, omega (arith, f .2), f .3)
-    by (inr f) on = inr (on f)
+from-shown (suc h) k (R ∷ rules) net r i e =
+    ⊎-elim (λ f. let q = f .0 in rw (eq-eqb r k q) (omega arith, omega (arith, add-one (length rules)), f .1, omega (arith, f .2), f .3))
+    (λ f. let g = from-shown h (suc k) rules net r i f in rw (ne-eqb r k (λ z. omega (arith, g .0, add-one k))) (omega (arith, g .0, add-one k), omega (arith, g .1, add-one k, add-one (length rules)), g .2, g .3, g .4))
+    (upward-shown (R .at net) k (R .last) 1 _ r i e)
 
-pub next-shown : (h : ℕ) (rules : List Rule) (net : Net) (r i : ℕ) → nextBy h rules net ≡ Refuted r i → Shown 1 rules net r i
-next-shown h rules net r i e = from-shown h 1 rules net r i e
+pub next-shown : (h : ℕ) (rules : List Rule) (net : Net) (r i : ℕ) → nextBy h rules net ≡ Refuted r i → Shown rules net r i
+next-shown h rules net r i e = let f = from-shown h 1 rules net r i e in record { rule = (f .0, omega (arith, f .1)); place = (f .2, f .3); shows = f .4 }

@@ -23,7 +23,7 @@ use Rattle.step.specs.declared.Next.{Next}
 use Rattle.step.specs.declared.Next.the-variants.{Stops, Refuted, Takes}
 use Rattle.step.specs.Run.{Run}
 use Rattle.step.specs.Applies.{NoneApplies, Shown}
-use Rattle.rules.specs.Table.{rules, reduced}
+use Rattle.rules.specs.Table.{rules, lastRule, reduced}
 use Rattle.reduction.specs.declared.Answer.{Answer}
 use Rattle.reduction.specs.declared.Answer.the-variants.{Reduced, NoFlow, Refused}
 
@@ -94,10 +94,10 @@ pub record Reduction (xs : List ℤ) (o s w k : ℕ) (r : Answer) (out stack scr
   pub scratch-is : scratch ≡ zeros w
   pub arcs-is : arcs ≡ noArcs k
   -- "until none applies": no rule applies to what is left, at any place; "there are at most n + m steps"
-  pub until-none : r ≡ Reduced → NoneApplies 6 rules (reduced (readOf xs) .net)
+  pub until-none : r ≡ Reduced → NoneApplies lastRule rules (reduced (readOf xs) .net)
   pub few-steps : numberOf r ≡ 0 → length (reduced (readOf xs) .steps) ≤ nOf xs + mOf xs
   -- the record written, cut to its length, passes 2 to 5 and is read as that network: the test asks of it what restoring asks
   pub reads-back : r ≡ Reduced → (firstNo (questions (cutNetwork (packedOf (reduced (readOf xs) .net)) out)) ≡ 0) × (readOf (cutNetwork (packedOf (reduced (readOf xs) .net)) out) ≡ packedOf (reduced (readOf xs) .net))
   -- no flow: the rule named shows it at the place named, and the network given has no feasible flow, in fractions of any width
-  pub shown : (rule place : ℕ) → r ≡ NoFlow rule place → Shown 1 rules (reduced (readOf xs) .net) rule place
+  pub shown : (rule place : ℕ) → r ≡ NoFlow rule place → Shown rules (reduced (readOf xs) .net) rule place
   pub flowless : (rule place : ℕ) → r ≡ NoFlow rule place → LP.NoFlow (programOf (readOf xs))

@@ -19,7 +19,7 @@ use Rattle.step.specs.Run.{ruleOf, backOf, at, wayBack}
 use Rattle.step.proofs.Fewer.{left-within, legal-left}
 use Rattle.step.proofs.Figures.{Sized}
 use Rattle.step.specs.Applies.{NoneApplies}
-use Rattle.step.proofs.RunLaws.{Lawful, rule-unused, NextLaws, RunLaws, next-laws, stops-none, run-laws, run-done, run-ends, restored-solved}
+use Rattle.step.proofs.RunLaws.{Lawful, rule-places, rule-unused, NextLaws, RunLaws, next-laws, stops-none, run-laws, run-done, run-ends, restored-solved}
 use Rattle.closed_arc.specs.ClosedArc.{closedArc}
 use Rattle.closed_arc.proofs.Laws as ClosedArc
 use Rattle.bare_node.proofs.Laws as BareNode
@@ -33,6 +33,9 @@ use Rattle.rules.specs.Table.{rules, lastRule, nextOf, reduced}
 -- THE TABLE IS LAWFUL: a row for each rule; rule 4 comes where rule 1 has passed
 pub lawful : Lawful (λ net. Unit {0}) rules
 lawful = (ClosedArc.laws, (BareNode.laws, (SingleArc.laws, (CostlyArc.laws (λ net p. p .0 .0 .1), (TwoArcs.laws, (Crossing.laws, tt))))))
+
+pub few-places : (r : ℕ) → ruleOf rules r .last ≤ 96
+few-places = rule-places (λ net. Unit {0}) 1 rules lawful
 
 -- a rule passes at a number not in use: rules of nodes, and rule 1
 pub node-unused : {net : Net} → Legal net → (k i : ℕ) → isOfNodes k ≡ true → isHere net i ≡ false → ruleOf rules k .at net i ≡ Passes

@@ -44,12 +44,7 @@ fn force(i: usize, j: usize, t: Arc, w: Side, r: Fraction, s: Fraction) -> Outco
 }
 
 // Rule 3 at node i of this degree, where u is the first arc.
-pub fn single_arc(
-    supply: [Fraction; NODE_PLACES],
-    i: usize,
-    degree: usize,
-    u: ArcUpdate,
-) -> Outcome
+pub fn single_arc(supply: [Fraction; NODE_PLACES], i: usize, degree: usize, u: ArcUpdate) -> Outcome
     ensures { λ x. ⌜ x ≡ single supply i degree u ⌝ }
 {
     if degree != 1 {

@@ -43,7 +43,12 @@ abbrev pub Lawful : (Net → Type 0) → List Rule → Type 0
 Lawful P [] = Unit {0}
 Lawful P (R ∷ rules) = RuleLaws P R × Lawful (λ net. P net × Passing R net) rules
 
--- a rule of the table, by its number, passes at a number not in use
+-- a rule of the table, by its number: its places, and that it passes at a number not in use
+pub rule-places : (P : Net → Type 0) (k : ℕ) (rules : List Rule) → Lawful P rules → (r : ℕ) → ruleFrom k rules r .last ≤ 96
+unfolding ruleFrom
+rule-places P k [] laws r = omega arith
+rule-places P k (R ∷ rules) laws r = split (eqb r k) (λ e. rw e (laws .0 .few-places)) (λ e. rw e (rule-places _ (suc k) rules (laws .1) r))
+
 pub rule-unused : (P : Net → Type 0) (k : ℕ) (rules : List Rule) → Lawful P rules → (net : Net) → Legal net → (r i : ℕ) → inUse (ruleFrom k rules r) net i ≡ false → ruleFrom k rules r .at net i ≡ Passes
 unfolding ruleFrom
 rule-unused P k [] laws net g r i = λ h. refl

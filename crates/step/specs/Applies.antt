@@ -1,11 +1,11 @@
 -- Whether rules of a table apply to a network, and where.
 use mathlib.Core.Path.{_≡_}
 use mathlib.Core.List.{List, [], _∷_}
-use mathlib.Core.Logic.{_⊎_}
 use Prim.Native.Nat.{ℕ, zero, suc, _≤_}
+use lib.ListN.{length}
 use Rattle.network.specs.declared.Net.{Net}
 use Rattle.step.specs.declared.Outcome.the-variants.{Passes, NoFlow}
-use Rattle.step.specs.Run.{Rule}
+use Rattle.step.specs.Run.{Rule, ruleOf}
 
 -- a rule passes at all its places
 abbrev pub Passing : Rule → Net → Type 0
@@ -17,7 +17,8 @@ NoneApplies zero rules net = Unit {0}
 NoneApplies (suc h) [] net = Unit {0}
 NoneApplies (suc h) (R ∷ rules) net = Passing R net × NoneApplies h rules net
 
--- rule r of a table whose first is number k answers no flow at place i
-abbrev pub Shown : ℕ → List Rule → Net → ℕ → ℕ → Type 0
-Shown k [] net r i = ⊥
-Shown k (R ∷ rules) net r i = ((r ≡ k) × (1 ≤ i) × (i ≤ R .last) × (R .at net i ≡ NoFlow)) ⊎ Shown (suc k) rules net r i
+-- rule r of a table answers no flow at place i
+pub record Shown (rules : List Rule) (net : Net) (r i : ℕ) : Type 0 where
+  pub rule : (1 ≤ r) × (r ≤ length rules)
+  pub place : (1 ≤ i) × (i ≤ ruleOf rules r .last)
+  pub shows : ruleOf rules r .at net i ≡ NoFlow

@@ -5,13 +5,13 @@ use lib.IntN.{ℤ}
 use Rattle.network.specs.declared.Edit.{Edit}
 use Rattle.network.specs.Network.{noSupplyUpdate}
 use Rattle.step.specs.declared.Old.{Old}
-use Rattle.step.specs.Run.{Way, backFrom, undo}
+use Rattle.step.specs.Run.{Way, ruleOf, undo}
 use Rattle.rules.specs.Table.{rules}
 use Rattle.log.specs.Log.{ruleIn, oldIn}
 
 -- step k undone by the log
 abbrev pub backTurn : List ℤ → ℕ → Way → Way
-backTurn zs k way = undo (backFrom 1 rules (ruleIn zs k) (oldIn zs k)) way
+backTurn zs k way = undo (ruleOf rules (ruleIn zs k) .back (oldIn zs k)) way
 
 -- the old arcs of a step as an edit
 abbrev pub oldEdit : Old → Edit

@@ -7,10 +7,10 @@ use Rattle.probe.proofs.trial.gather.Statement.{statement}
 use Rattle.probe.proofs.trial.gather.Tie as tie
 
 abbrev Inv-loop : tie.InvT-loop
-Inv-loop net i which count₀ numbers₀ j₀ count numbers j = (j ≤ 97) × (count ≤ j)
+Inv-loop net i count₀ numbers₀ j₀ count numbers j = (j ≤ 97) × (count ≤ j)
 
 abbrev μ-loop : tie.MeasureT-loop
-μ-loop net i which count₀ numbers₀ j₀ count numbers j = 97 - j
+μ-loop net i count₀ numbers₀ j₀ count numbers j = 97 - j
 
 loop-again : tie.Need-loop-again Inv-loop μ-loop
 loop-again c = (omega arith, ⊎-elim (λ w. omega (arith, w .1)) (λ w. omega (arith, w .1)) (c .if1 .came))

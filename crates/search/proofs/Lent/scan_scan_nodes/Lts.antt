@@ -215,10 +215,10 @@ abbrev pub q0 : Row.Entry
 q0 = (5, Rows.any-gone q2)
 
 abbrev pub ps : L.List (FnKinds.PK 1)
-ps = L._∷_ (Value.pVal record { ty = Declared.row network-proofs-Nodes·.the-type; one = Path.refl; val = StructLaws.val network-proofs-Nodes·.the-type network-proofs-Nodes-Laws·.the-laws; tells = StructLaws.tells network-proofs-Nodes·.the-type network-proofs-Nodes-Laws·.the-laws; still = StructLaws.still network-proofs-Nodes·.the-type network-proofs-Nodes-Laws·.the-copy Exit.yes; row = Rows.whole (Declared.row network-proofs-Nodes·.the-type); rd = λ x. x; mk = λ x. x; } λ M 𝓤 H A W. record { copies = StructLaws.copy network-proofs-Nodes·.the-type network-proofs-Nodes-Laws·.the-copy 𝓤 H A W; lawful = StructLaws.lawful network-proofs-Nodes·.the-type network-proofs-Nodes-Laws·.the-laws 𝓤 H A W; makes = StructLaws.makes network-proofs-Nodes·.the-type network-proofs-Nodes-Laws·.the-plain 𝓤 H A; in-mem = Local.mem-whole 𝓤 H A W (Declared.row network-proofs-Nodes·.the-type); of-mem = Local.whole-mem 𝓤 H A W (Declared.row network-proofs-Nodes·.the-type); }) (L._∷_ (ShrSlice.pShrS Rec.row 0 tt) (L._∷_ (Value.pVal record { ty = Declared.row network-proofs-Degrees·.the-type; one = Path.refl; val = StructLaws.val network-proofs-Degrees·.the-type network-proofs-Degrees-Laws·.the-laws; tells = StructLaws.tells network-proofs-Degrees·.the-type network-proofs-Degrees-Laws·.the-laws; still = StructLaws.still network-proofs-Degrees·.the-type network-proofs-Degrees-Laws·.the-copy Exit.yes; row = Rows.whole (Declared.row network-proofs-Degrees·.the-type); rd = λ x. x; mk = λ x. x; } λ M 𝓤 H A W. record { copies = StructLaws.copy network-proofs-Degrees·.the-type network-proofs-Degrees-Laws·.the-copy 𝓤 H A W; lawful = StructLaws.lawful network-proofs-Degrees·.the-type network-proofs-Degrees-Laws·.the-laws 𝓤 H A W; makes = StructLaws.makes network-proofs-Degrees·.the-type network-proofs-Degrees-Laws·.the-plain 𝓤 H A; in-mem = Local.mem-whole 𝓤 H A W (Declared.row network-proofs-Degrees·.the-type); of-mem = Local.whole-mem 𝓤 H A W (Declared.row network-proofs-Degrees·.the-type); }) (L._∷_ (Num.pNum Syntax.w64) L.[])))
+ps = L._∷_ (Value.pVal record { ty = Declared.row network-proofs-Nodes·.the-type; one = Path.refl; val = StructLaws.val network-proofs-Nodes·.the-type network-proofs-Nodes-Laws·.the-laws; tells = StructLaws.tells network-proofs-Nodes·.the-type network-proofs-Nodes-Laws·.the-laws; still = StructLaws.still network-proofs-Nodes·.the-type network-proofs-Nodes-Laws·.the-copy Exit.yes; row = Rows.whole (Declared.row network-proofs-Nodes·.the-type); rd = λ x. x; mk = λ x. x } λ M 𝓤 H A W. record { copies = StructLaws.copy network-proofs-Nodes·.the-type network-proofs-Nodes-Laws·.the-copy 𝓤 H A W; lawful = StructLaws.lawful network-proofs-Nodes·.the-type network-proofs-Nodes-Laws·.the-laws 𝓤 H A W; makes = StructLaws.makes network-proofs-Nodes·.the-type network-proofs-Nodes-Laws·.the-plain 𝓤 H A; in-mem = Local.mem-whole 𝓤 H A W (Declared.row network-proofs-Nodes·.the-type); of-mem = Local.whole-mem 𝓤 H A W (Declared.row network-proofs-Nodes·.the-type) }) (L._∷_ (ShrSlice.pShrS Rec.row 0 tt) (L._∷_ (Value.pVal record { ty = Declared.row network-proofs-Degrees·.the-type; one = Path.refl; val = StructLaws.val network-proofs-Degrees·.the-type network-proofs-Degrees-Laws·.the-laws; tells = StructLaws.tells network-proofs-Degrees·.the-type network-proofs-Degrees-Laws·.the-laws; still = StructLaws.still network-proofs-Degrees·.the-type network-proofs-Degrees-Laws·.the-copy Exit.yes; row = Rows.whole (Declared.row network-proofs-Degrees·.the-type); rd = λ x. x; mk = λ x. x } λ M 𝓤 H A W. record { copies = StructLaws.copy network-proofs-Degrees·.the-type network-proofs-Degrees-Laws·.the-copy 𝓤 H A W; lawful = StructLaws.lawful network-proofs-Degrees·.the-type network-proofs-Degrees-Laws·.the-laws 𝓤 H A W; makes = StructLaws.makes network-proofs-Degrees·.the-type network-proofs-Degrees-Laws·.the-plain 𝓤 H A; in-mem = Local.mem-whole 𝓤 H A W (Declared.row network-proofs-Degrees·.the-type); of-mem = Local.whole-mem 𝓤 H A W (Declared.row network-proofs-Degrees·.the-type) }) (L._∷_ (Num.pNum Syntax.w64) L.[])))
 
 abbrev pub r : FnKinds.RK 1
-r = Value.rVal record { ty = Declared.row rules-proofs-found-Found·.the-type; one = Path.refl; val = StructLaws.val rules-proofs-found-Found·.the-type rules-proofs-found-Found-Laws·.the-laws; tells = StructLaws.tells rules-proofs-found-Found·.the-type rules-proofs-found-Found-Laws·.the-laws; still = StructLaws.still rules-proofs-found-Found·.the-type rules-proofs-found-Found-Laws·.the-copy Exit.yes; row = Rows.whole (Declared.row rules-proofs-found-Found·.the-type); rd = λ x. x; mk = λ x. x; } λ M 𝓤 H A W. record { copies = StructLaws.copy rules-proofs-found-Found·.the-type rules-proofs-found-Found-Laws·.the-copy 𝓤 H A W; lawful = StructLaws.lawful rules-proofs-found-Found·.the-type rules-proofs-found-Found-Laws·.the-laws 𝓤 H A W; makes = StructLaws.makes rules-proofs-found-Found·.the-type rules-proofs-found-Found-Laws·.the-plain 𝓤 H A; in-mem = Local.mem-whole 𝓤 H A W (Declared.row rules-proofs-found-Found·.the-type); of-mem = Local.whole-mem 𝓤 H A W (Declared.row rules-proofs-found-Found·.the-type); }
+r = Value.rVal record { ty = Declared.row rules-proofs-found-Found·.the-type; one = Path.refl; val = StructLaws.val rules-proofs-found-Found·.the-type rules-proofs-found-Found-Laws·.the-laws; tells = StructLaws.tells rules-proofs-found-Found·.the-type rules-proofs-found-Found-Laws·.the-laws; still = StructLaws.still rules-proofs-found-Found·.the-type rules-proofs-found-Found-Laws·.the-copy Exit.yes; row = Rows.whole (Declared.row rules-proofs-found-Found·.the-type); rd = λ x. x; mk = λ x. x } λ M 𝓤 H A W. record { copies = StructLaws.copy rules-proofs-found-Found·.the-type rules-proofs-found-Found-Laws·.the-copy 𝓤 H A W; lawful = StructLaws.lawful rules-proofs-found-Found·.the-type rules-proofs-found-Found-Laws·.the-laws 𝓤 H A W; makes = StructLaws.makes rules-proofs-found-Found·.the-type rules-proofs-found-Found-Laws·.the-plain 𝓤 H A; in-mem = Local.mem-whole 𝓤 H A W (Declared.row rules-proofs-found-Found·.the-type); of-mem = Local.whole-mem 𝓤 H A W (Declared.row rules-proofs-found-Found·.the-type) }
 
 abbrev pub xs : L.List Syntax.Ty
 xs = L._∷_ q2 (L._∷_ q12 (L._∷_ (Syntax.tyInt Syntax.w64) (L._∷_ (Syntax.tyInt Syntax.w64) (L._∷_ (Syntax.tyStruct (L._∷_ 115 (L._∷_ 116 (L._∷_ 101 (L._∷_ 112 (L._∷_ 58 (L._∷_ 58 (L._∷_ 65 (L._∷_ 114 (L._∷_ 111 (L._∷_ 117 (L._∷_ 110 (L._∷_ 100 L.[])))))))))))) (Syntax.tcons q9 (Syntax.tcons q9 (Syntax.tcons q9 (Syntax.tcons q9 Syntax.tnil))))) (L._∷_ (Syntax.tyStruct (L._∷_ 114 (L._∷_ 117 (L._∷_ 108 (L._∷_ 101 (L._∷_ 115 (L._∷_ 58 (L._∷_ 58 (L._∷_ 102 (L._∷_ 111 (L._∷_ 117 (L._∷_ 110 (L._∷_ 100 (L._∷_ 58 (L._∷_ 58 (L._∷_ 70 (L._∷_ 111 (L._∷_ 117 (L._∷_ 110 (L._∷_ 100 L.[]))))))))))))))))))) (Syntax.tcons Syntax.tyBool (Syntax.tcons Syntax.tyBool (Syntax.tcons (Syntax.tyStruct (L._∷_ 115 (L._∷_ 116 (L._∷_ 101 (L._∷_ 112 (L._∷_ 58 (L._∷_ 58 (L._∷_ 83 (L._∷_ 116 (L._∷_ 101 (L._∷_ 112 L.[])))))))))) (Syntax.tcons (Syntax.tyInt Syntax.w64) (Syntax.tcons (Syntax.tyInt Syntax.w64) (Syntax.tcons (Syntax.tyStruct (L._∷_ 115 (L._∷_ 116 (L._∷_ 101 (L._∷_ 112 (L._∷_ 58 (L._∷_ 58 (L._∷_ 67 (L._∷_ 104 (L._∷_ 97 (L._∷_ 110 (L._∷_ 103 (L._∷_ 101 L.[])))))))))))) (Syntax.tcons (Syntax.tyStruct (L._∷_ 110 (L._∷_ 101 (L._∷_ 116 (L._∷_ 119 (L._∷_ 111 (L._∷_ 114 (L._∷_ 107 (L._∷_ 58 (L._∷_ 58 (L._∷_ 69 (L._∷_ 100 (L._∷_ 105 (L._∷_ 116 L.[]))))))))))))) (Syntax.tcons q9 (Syntax.tcons q9 (Syntax.tcons q9 (Syntax.tcons q9 (Syntax.tcons q3 (Syntax.tcons q3 (Syntax.tcons (Syntax.tyInt Syntax.w64) Syntax.tnil)))))))) (Syntax.tcons (Syntax.tyStruct (L._∷_ 115 (L._∷_ 116 (L._∷_ 101 (L._∷_ 112 (L._∷_ 58 (L._∷_ 58 (L._∷_ 79 (L._∷_ 108 (L._∷_ 100 L.[]))))))))) (Syntax.tcons (Syntax.tyInt Syntax.w64) (Syntax.tcons q8 (Syntax.tcons q9 (Syntax.tcons q9 (Syntax.tcons q9 (Syntax.tcons q9 (Syntax.tcons q5 Syntax.tnil)))))))) Syntax.tnil))) Syntax.tnil)))) Syntax.tnil)))) (L._∷_ (Syntax.tyInt Syntax.w64) (L._∷_ Syntax.tyBool (L._∷_ Syntax.tyPtr (L._∷_ Syntax.tyPtr (L._∷_ Syntax.tyBool (L._∷_ (Syntax.tyInt Syntax.w64) (L._∷_ Syntax.tyPtr (L._∷_ Syntax.tyPtr (L._∷_ (Syntax.tyInt Syntax.w64) (L._∷_ Syntax.tyBool (L._∷_ Syntax.tyPtr (L._∷_ Syntax.tyPtr (L._∷_ q8 (L._∷_ q6 (L._∷_ Syntax.tyBool L.[]))))))))))))))))))))
@@ -227,7 +227,7 @@ abbrev pub m : Nat.ℕ
 m = 0
 
 abbrev pub ps·0 : L.List (FnKinds.PK 0)
-ps·0 = L._∷_ (Num.pNum Syntax.w64) (L._∷_ (Num.pNum Syntax.w64) (L._∷_ (Value.pVal record { ty = Declared.row fraction-proofs-Fraction·.the-type; one = Path.refl; val = StructLaws.val fraction-proofs-Fraction·.the-type fraction-proofs-Fraction-Laws·.the-laws; tells = StructLaws.tells fraction-proofs-Fraction·.the-type fraction-proofs-Fraction-Laws·.the-laws; still = StructLaws.still fraction-proofs-Fraction·.the-type fraction-proofs-Fraction-Laws·.the-copy Exit.yes; row = Rows.whole (Declared.row fraction-proofs-Fraction·.the-type); rd = λ x. x; mk = λ x. x; } λ M 𝓤 H A W. record { copies = StructLaws.copy fraction-proofs-Fraction·.the-type fraction-proofs-Fraction-Laws·.the-copy 𝓤 H A W; lawful = StructLaws.lawful fraction-proofs-Fraction·.the-type fraction-proofs-Fraction-Laws·.the-laws 𝓤 H A W; makes = StructLaws.makes fraction-proofs-Fraction·.the-type fraction-proofs-Fraction-Laws·.the-plain 𝓤 H A; in-mem = Local.mem-whole 𝓤 H A W (Declared.row fraction-proofs-Fraction·.the-type); of-mem = Local.whole-mem 𝓤 H A W (Declared.row fraction-proofs-Fraction·.the-type); }) L.[]))
+ps·0 = L._∷_ (Num.pNum Syntax.w64) (L._∷_ (Num.pNum Syntax.w64) (L._∷_ (Value.pVal record { ty = Declared.row fraction-proofs-Fraction·.the-type; one = Path.refl; val = StructLaws.val fraction-proofs-Fraction·.the-type fraction-proofs-Fraction-Laws·.the-laws; tells = StructLaws.tells fraction-proofs-Fraction·.the-type fraction-proofs-Fraction-Laws·.the-laws; still = StructLaws.still fraction-proofs-Fraction·.the-type fraction-proofs-Fraction-Laws·.the-copy Exit.yes; row = Rows.whole (Declared.row fraction-proofs-Fraction·.the-type); rd = λ x. x; mk = λ x. x } λ M 𝓤 H A W. record { copies = StructLaws.copy fraction-proofs-Fraction·.the-type fraction-proofs-Fraction-Laws·.the-copy 𝓤 H A W; lawful = StructLaws.lawful fraction-proofs-Fraction·.the-type fraction-proofs-Fraction-Laws·.the-laws 𝓤 H A W; makes = StructLaws.makes fraction-proofs-Fraction·.the-type fraction-proofs-Fraction-Laws·.the-plain 𝓤 H A; in-mem = Local.mem-whole 𝓤 H A W (Declared.row fraction-proofs-Fraction·.the-type); of-mem = Local.whole-mem 𝓤 H A W (Declared.row fraction-proofs-Fraction·.the-type) }) L.[]))
 
 abbrev pub r·0 : FnKinds.RK 0
 r·0 = KBool.rBool
@@ -236,19 +236,19 @@ abbrev pub ps·1 : L.List (FnKinds.PK 1)
 ps·1 = L._∷_ (ShrSlice.pShrS Rec.row 0 tt) (L._∷_ (Num.pNum Syntax.w64) (L._∷_ (Num.pNum Syntax.w64) L.[]))
 
 abbrev pub r·1 : FnKinds.RK 1
-r·1 = Value.rVal record { ty = Declared.row step-proofs-Around·.the-type; one = Path.refl; val = StructLaws.val step-proofs-Around·.the-type step-proofs-Around-Laws·.the-laws; tells = StructLaws.tells step-proofs-Around·.the-type step-proofs-Around-Laws·.the-laws; still = StructLaws.still step-proofs-Around·.the-type step-proofs-Around-Laws·.the-copy Exit.yes; row = Rows.whole (Declared.row step-proofs-Around·.the-type); rd = λ x. x; mk = λ x. x; } λ M 𝓤 H A W. record { copies = StructLaws.copy step-proofs-Around·.the-type step-proofs-Around-Laws·.the-copy 𝓤 H A W; lawful = StructLaws.lawful step-proofs-Around·.the-type step-proofs-Around-Laws·.the-laws 𝓤 H A W; makes = StructLaws.makes step-proofs-Around·.the-type step-proofs-Around-Laws·.the-plain 𝓤 H A; in-mem = Local.mem-whole 𝓤 H A W (Declared.row step-proofs-Around·.the-type); of-mem = Local.whole-mem 𝓤 H A W (Declared.row step-proofs-Around·.the-type); }
+r·1 = Value.rVal record { ty = Declared.row step-proofs-Around·.the-type; one = Path.refl; val = StructLaws.val step-proofs-Around·.the-type step-proofs-Around-Laws·.the-laws; tells = StructLaws.tells step-proofs-Around·.the-type step-proofs-Around-Laws·.the-laws; still = StructLaws.still step-proofs-Around·.the-type step-proofs-Around-Laws·.the-copy Exit.yes; row = Rows.whole (Declared.row step-proofs-Around·.the-type); rd = λ x. x; mk = λ x. x } λ M 𝓤 H A W. record { copies = StructLaws.copy step-proofs-Around·.the-type step-proofs-Around-Laws·.the-copy 𝓤 H A W; lawful = StructLaws.lawful step-proofs-Around·.the-type step-proofs-Around-Laws·.the-laws 𝓤 H A W; makes = StructLaws.makes step-proofs-Around·.the-type step-proofs-Around-Laws·.the-plain 𝓤 H A; in-mem = Local.mem-whole 𝓤 H A W (Declared.row step-proofs-Around·.the-type); of-mem = Local.whole-mem 𝓤 H A W (Declared.row step-proofs-Around·.the-type) }
 
 abbrev pub ps·2 : L.List (FnKinds.PK 0)
-ps·2 = L._∷_ (KArray.pArr (KArray.eStruct fraction-proofs-Fraction·.the-type fraction-proofs-Fraction-Laws·.the-laws fraction-proofs-Fraction-Laws·.the-copy) (KArray.eStruct-laws fraction-proofs-Fraction·.the-type fraction-proofs-Fraction-Laws·.the-laws fraction-proofs-Fraction-Laws·.the-copy fraction-proofs-Fraction-Laws·.the-plain) 33) (L._∷_ (Num.pNum Syntax.w64) (L._∷_ (Num.pNum Syntax.w64) (L._∷_ (Num.pNum Syntax.w64) (L._∷_ (Value.pVal record { ty = Declared.row step-proofs-Around·.the-type; one = Path.refl; val = StructLaws.val step-proofs-Around·.the-type step-proofs-Around-Laws·.the-laws; tells = StructLaws.tells step-proofs-Around·.the-type step-proofs-Around-Laws·.the-laws; still = StructLaws.still step-proofs-Around·.the-type step-proofs-Around-Laws·.the-copy Exit.yes; row = Rows.whole (Declared.row step-proofs-Around·.the-type); rd = λ x. x; mk = λ x. x; } λ M 𝓤 H A W. record { copies = StructLaws.copy step-proofs-Around·.the-type step-proofs-Around-Laws·.the-copy 𝓤 H A W; lawful = StructLaws.lawful step-proofs-Around·.the-type step-proofs-Around-Laws·.the-laws 𝓤 H A W; makes = StructLaws.makes step-proofs-Around·.the-type step-proofs-Around-Laws·.the-plain 𝓤 H A; in-mem = Local.mem-whole 𝓤 H A W (Declared.row step-proofs-Around·.the-type); of-mem = Local.whole-mem 𝓤 H A W (Declared.row step-proofs-Around·.the-type); }) L.[]))))
+ps·2 = L._∷_ (KArray.pArr (KArray.eStruct fraction-proofs-Fraction·.the-type fraction-proofs-Fraction-Laws·.the-laws fraction-proofs-Fraction-Laws·.the-copy) (KArray.eStruct-laws fraction-proofs-Fraction·.the-type fraction-proofs-Fraction-Laws·.the-laws fraction-proofs-Fraction-Laws·.the-copy fraction-proofs-Fraction-Laws·.the-plain) 33) (L._∷_ (Num.pNum Syntax.w64) (L._∷_ (Num.pNum Syntax.w64) (L._∷_ (Num.pNum Syntax.w64) (L._∷_ (Value.pVal record { ty = Declared.row step-proofs-Around·.the-type; one = Path.refl; val = StructLaws.val step-proofs-Around·.the-type step-proofs-Around-Laws·.the-laws; tells = StructLaws.tells step-proofs-Around·.the-type step-proofs-Around-Laws·.the-laws; still = StructLaws.still step-proofs-Around·.the-type step-proofs-Around-Laws·.the-copy Exit.yes; row = Rows.whole (Declared.row step-proofs-Around·.the-type); rd = λ x. x; mk = λ x. x } λ M 𝓤 H A W. record { copies = StructLaws.copy step-proofs-Around·.the-type step-proofs-Around-Laws·.the-copy 𝓤 H A W; lawful = StructLaws.lawful step-proofs-Around·.the-type step-proofs-Around-Laws·.the-laws 𝓤 H A W; makes = StructLaws.makes step-proofs-Around·.the-type step-proofs-Around-Laws·.the-plain 𝓤 H A; in-mem = Local.mem-whole 𝓤 H A W (Declared.row step-proofs-Around·.the-type); of-mem = Local.whole-mem 𝓤 H A W (Declared.row step-proofs-Around·.the-type) }) L.[]))))
 
 abbrev pub r·2 : FnKinds.RK 0
-r·2 = Value.rVal record { ty = Declared.row rules-proofs-found-Found·.the-type; one = Path.refl; val = StructLaws.val rules-proofs-found-Found·.the-type rules-proofs-found-Found-Laws·.the-laws; tells = StructLaws.tells rules-proofs-found-Found·.the-type rules-proofs-found-Found-Laws·.the-laws; still = StructLaws.still rules-proofs-found-Found·.the-type rules-proofs-found-Found-Laws·.the-copy Exit.yes; row = Rows.whole (Declared.row rules-proofs-found-Found·.the-type); rd = λ x. x; mk = λ x. x; } λ M 𝓤 H A W. record { copies = StructLaws.copy rules-proofs-found-Found·.the-type rules-proofs-found-Found-Laws·.the-copy 𝓤 H A W; lawful = StructLaws.lawful rules-proofs-found-Found·.the-type rules-proofs-found-Found-Laws·.the-laws 𝓤 H A W; makes = StructLaws.makes rules-proofs-found-Found·.the-type rules-proofs-found-Found-Laws·.the-plain 𝓤 H A; in-mem = Local.mem-whole 𝓤 H A W (Declared.row rules-proofs-found-Found·.the-type); of-mem = Local.whole-mem 𝓤 H A W (Declared.row rules-proofs-found-Found·.the-type); }
+r·2 = Value.rVal record { ty = Declared.row rules-proofs-found-Found·.the-type; one = Path.refl; val = StructLaws.val rules-proofs-found-Found·.the-type rules-proofs-found-Found-Laws·.the-laws; tells = StructLaws.tells rules-proofs-found-Found·.the-type rules-proofs-found-Found-Laws·.the-laws; still = StructLaws.still rules-proofs-found-Found·.the-type rules-proofs-found-Found-Laws·.the-copy Exit.yes; row = Rows.whole (Declared.row rules-proofs-found-Found·.the-type); rd = λ x. x; mk = λ x. x } λ M 𝓤 H A W. record { copies = StructLaws.copy rules-proofs-found-Found·.the-type rules-proofs-found-Found-Laws·.the-copy 𝓤 H A W; lawful = StructLaws.lawful rules-proofs-found-Found·.the-type rules-proofs-found-Found-Laws·.the-laws 𝓤 H A W; makes = StructLaws.makes rules-proofs-found-Found·.the-type rules-proofs-found-Found-Laws·.the-plain 𝓤 H A; in-mem = Local.mem-whole 𝓤 H A W (Declared.row rules-proofs-found-Found·.the-type); of-mem = Local.whole-mem 𝓤 H A W (Declared.row rules-proofs-found-Found·.the-type) }
 
 abbrev pub ps·3 : L.List (FnKinds.PK 0)
 ps·3 = L.[]
 
 abbrev pub r·3 : FnKinds.RK 0
-r·3 = Value.rVal record { ty = Declared.row rules-proofs-found-Found·.the-type; one = Path.refl; val = StructLaws.val rules-proofs-found-Found·.the-type rules-proofs-found-Found-Laws·.the-laws; tells = StructLaws.tells rules-proofs-found-Found·.the-type rules-proofs-found-Found-Laws·.the-laws; still = StructLaws.still rules-proofs-found-Found·.the-type rules-proofs-found-Found-Laws·.the-copy Exit.yes; row = Rows.whole (Declared.row rules-proofs-found-Found·.the-type); rd = λ x. x; mk = λ x. x; } λ M 𝓤 H A W. record { copies = StructLaws.copy rules-proofs-found-Found·.the-type rules-proofs-found-Found-Laws·.the-copy 𝓤 H A W; lawful = StructLaws.lawful rules-proofs-found-Found·.the-type rules-proofs-found-Found-Laws·.the-laws 𝓤 H A W; makes = StructLaws.makes rules-proofs-found-Found·.the-type rules-proofs-found-Found-Laws·.the-plain 𝓤 H A; in-mem = Local.mem-whole 𝓤 H A W (Declared.row rules-proofs-found-Found·.the-type); of-mem = Local.whole-mem 𝓤 H A W (Declared.row rules-proofs-found-Found·.the-type); }
+r·3 = Value.rVal record { ty = Declared.row rules-proofs-found-Found·.the-type; one = Path.refl; val = StructLaws.val rules-proofs-found-Found·.the-type rules-proofs-found-Found-Laws·.the-laws; tells = StructLaws.tells rules-proofs-found-Found·.the-type rules-proofs-found-Found-Laws·.the-laws; still = StructLaws.still rules-proofs-found-Found·.the-type rules-proofs-found-Found-Laws·.the-copy Exit.yes; row = Rows.whole (Declared.row rules-proofs-found-Found·.the-type); rd = λ x. x; mk = λ x. x } λ M 𝓤 H A W. record { copies = StructLaws.copy rules-proofs-found-Found·.the-type rules-proofs-found-Found-Laws·.the-copy 𝓤 H A W; lawful = StructLaws.lawful rules-proofs-found-Found·.the-type rules-proofs-found-Found-Laws·.the-laws 𝓤 H A W; makes = StructLaws.makes rules-proofs-found-Found·.the-type rules-proofs-found-Found-Laws·.the-plain 𝓤 H A; in-mem = Local.mem-whole 𝓤 H A W (Declared.row rules-proofs-found-Found·.the-type); of-mem = Local.whole-mem 𝓤 H A W (Declared.row rules-proofs-found-Found·.the-type) }
 
 abbrev pub hs : L.List Syntax.Home
 hs = L._∷_ Syntax.valueLocal (L._∷_ Syntax.valueLocal (L._∷_ Syntax.valueLocal (L._∷_ Syntax.valueLocal (L._∷_ Syntax.valueLocal (L._∷_ Syntax.memorySlot (L._∷_ Syntax.memorySlot (L._∷_ Syntax.valueLocal (L._∷_ Syntax.valueLocal (L._∷_ Syntax.valueLocal (L._∷_ Syntax.valueLocal (L._∷_ Syntax.valueLocal (L._∷_ Syntax.valueLocal (L._∷_ Syntax.valueLocal (L._∷_ Syntax.valueLocal (L._∷_ Syntax.valueLocal (L._∷_ Syntax.valueLocal (L._∷_ Syntax.valueLocal (L._∷_ Syntax.valueLocal (L._∷_ Syntax.valueLocal (L._∷_ Syntax.valueLocal (L._∷_ Syntax.valueLocal (L._∷_ Syntax.valueLocal (L._∷_ Syntax.valueLocal (L._∷_ Syntax.valueLocal (L._∷_ Syntax.valueLocal L.[])))))))))))))))))))))))))
@@ -885,7 +885,7 @@ module _ (claims· : Claims) where
   s14 = λ bs. Scalar.n-room T17 13 Syntax.tyPtr
 
   abbrev s15 : (bs : L.List Nat.ℕ) → Typed.Both T18 T19
-  s15 = λ bs. WayStmt.k-way-copy-out T18 (Row.out 14 (Row.out 5 (T18 .locals))) (λ u. Row.drop 14 (Row.out 5 (T18 .locals)) (Row.drop 5 (T18 .locals) u)) 12 (Rows.sc-here Row.sBool) (λ u. ListN.getD (At.getAt (network-proofs-Nodes·.the-type .parts) 2 (network-proofs-Nodes·.struct .as-values (u .1 .1 .1 .1 .1 .0))) (u .1 .1 .1 .1 .1 .1 .1 .0) Bool.false) (λ T′. record { locals = Row.setRow 5 q21 (Row.setRow 14 (14, Rows.sc-here Row.sPtr) T′); slots = L.[]; }) (λ u T′ m′. Row.set 5 q21 (u .1 .1 .1 .1 .1 .0) (Row.setRow 14 (14, Rows.sc-here Row.sPtr) T′) (Row.set 14 (14, Rows.sc-here Row.sPtr) (u .1 .1 .1 .1 .1 .1 .1 .1 .1 .1 .1 .1 .1 .1 .0) T′ m′)) (λ u. Path._≡_ (u .1 .1 .1 .1 .1 .1 .1 .1 .1 .1 .1 .1 .1 .1 .0 .0) (Row.hd 0 (Row.tl (Row.tl (Row.tl (Row.tl (Row.tl bs)))))) × Path._≡_ (u .1 .1 .1 .1 .1 .1 .1 .1 .1 .1 .1 .1 .1 .1 .0 .1) (Shared.byByte (u .1 .1 .1 .1 .1 .1 .1 .0) (Nat._+_ Nat.zero 16)) × Asked.InArray T18 (λ u. u .1 .1 .1 .1 .1 .1 .1 .0) 33 u) λ u. Unit
+  s15 = λ bs. WayStmt.k-way-copy-out T18 (Row.out 14 (Row.out 5 (T18 .locals))) (λ u. Row.drop 14 (Row.out 5 (T18 .locals)) (Row.drop 5 (T18 .locals) u)) 12 (Rows.sc-here Row.sBool) (λ u. ListN.getD (At.getAt (network-proofs-Nodes·.the-type .parts) 2 (network-proofs-Nodes·.struct .as-values (u .1 .1 .1 .1 .1 .0))) (u .1 .1 .1 .1 .1 .1 .1 .0) Bool.false) (λ T′. record { locals = Row.setRow 5 q21 (Row.setRow 14 (14, Rows.sc-here Row.sPtr) T′); slots = L.[] }) (λ u T′ m′. Row.set 5 q21 (u .1 .1 .1 .1 .1 .0) (Row.setRow 14 (14, Rows.sc-here Row.sPtr) T′) (Row.set 14 (14, Rows.sc-here Row.sPtr) (u .1 .1 .1 .1 .1 .1 .1 .1 .1 .1 .1 .1 .1 .1 .0) T′ m′)) (λ u. Path._≡_ (u .1 .1 .1 .1 .1 .1 .1 .1 .1 .1 .1 .1 .1 .1 .0 .0) (Row.hd 0 (Row.tl (Row.tl (Row.tl (Row.tl (Row.tl bs)))))) × Path._≡_ (u .1 .1 .1 .1 .1 .1 .1 .1 .1 .1 .1 .1 .1 .1 .0 .1) (Shared.byByte (u .1 .1 .1 .1 .1 .1 .1 .0) (Nat._+_ Nat.zero 16)) × Asked.InArray T18 (λ u. u .1 .1 .1 .1 .1 .1 .1 .0) 33 u) λ u. Unit
 
   abbrev s16 : (bs : L.List Nat.ℕ) → Typed.Mo T19 → Typed.Mo T20
   s16 = λ bs. Scalar.n-room T19 14 Syntax.tyPtr
@@ -912,7 +912,7 @@ module _ (claims· : Claims) where
   s23 = λ bs. Scalar.n-room T27 17 Syntax.tyPtr
 
   abbrev s24 : (bs : L.List Nat.ℕ) → Typed.Both T28 T29
-  s24 = λ bs. WayStmt.k-way-copy-out T28 (Row.out 18 (Row.out 6 (T28 .locals))) (λ u. Row.drop 18 (Row.out 6 (T28 .locals)) (Row.drop 6 (T28 .locals) u)) 19 q35 (λ u. ListN.getD (At.getAt (network-proofs-Degrees·.the-type .parts) 0 (network-proofs-Degrees·.struct .as-values (u .1 .1 .1 .1 .1 .1 .0))) (u .1 .1 .1 .1 .1 .1 .1 .0) 0) (λ T′. record { locals = Row.setRow 6 q18 (Row.setRow 18 (18, Rows.sc-here Row.sPtr) T′); slots = L.[]; }) (λ u T′ m′. Row.set 6 q18 (u .1 .1 .1 .1 .1 .1 .0) (Row.setRow 18 (18, Rows.sc-here Row.sPtr) T′) (Row.set 18 (18, Rows.sc-here Row.sPtr) (u .1 .1 .1 .1 .1 .1 .1 .1 .1 .1 .1 .1 .1 .1 .1 .1 .1 .1 .0) T′ m′)) (λ u. Path._≡_ (u .1 .1 .1 .1 .1 .1 .1 .1 .1 .1 .1 .1 .1 .1 .1 .1 .1 .1 .0 .0) (Row.hd 0 (Row.tl (Row.tl (Row.tl (Row.tl (Row.tl (Row.tl bs))))))) × Path._≡_ (u .1 .1 .1 .1 .1 .1 .1 .1 .1 .1 .1 .1 .1 .1 .1 .1 .1 .1 .0 .1) (Shared.bySize 8 (u .1 .1 .1 .1 .1 .1 .1 .0) (Nat._+_ Nat.zero 0)) × Asked.InArray T28 (λ u. u .1 .1 .1 .1 .1 .1 .1 .0) 33 u) λ u. Unit
+  s24 = λ bs. WayStmt.k-way-copy-out T28 (Row.out 18 (Row.out 6 (T28 .locals))) (λ u. Row.drop 18 (Row.out 6 (T28 .locals)) (Row.drop 6 (T28 .locals) u)) 19 q35 (λ u. ListN.getD (At.getAt (network-proofs-Degrees·.the-type .parts) 0 (network-proofs-Degrees·.struct .as-values (u .1 .1 .1 .1 .1 .1 .0))) (u .1 .1 .1 .1 .1 .1 .1 .0) 0) (λ T′. record { locals = Row.setRow 6 q18 (Row.setRow 18 (18, Rows.sc-here Row.sPtr) T′); slots = L.[] }) (λ u T′ m′. Row.set 6 q18 (u .1 .1 .1 .1 .1 .1 .0) (Row.setRow 18 (18, Rows.sc-here Row.sPtr) T′) (Row.set 18 (18, Rows.sc-here Row.sPtr) (u .1 .1 .1 .1 .1 .1 .1 .1 .1 .1 .1 .1 .1 .1 .1 .1 .1 .1 .0) T′ m′)) (λ u. Path._≡_ (u .1 .1 .1 .1 .1 .1 .1 .1 .1 .1 .1 .1 .1 .1 .1 .1 .1 .1 .0 .0) (Row.hd 0 (Row.tl (Row.tl (Row.tl (Row.tl (Row.tl (Row.tl bs))))))) × Path._≡_ (u .1 .1 .1 .1 .1 .1 .1 .1 .1 .1 .1 .1 .1 .1 .1 .1 .1 .1 .0 .1) (Shared.bySize 8 (u .1 .1 .1 .1 .1 .1 .1 .0) (Nat._+_ Nat.zero 0)) × Asked.InArray T28 (λ u. u .1 .1 .1 .1 .1 .1 .1 .0) 33 u) λ u. Unit
 
   abbrev s25 : (bs : L.List Nat.ℕ) → Typed.Mo T29 → Typed.Mo T30
   s25 = λ bs. Scalar.n-room T29 16 (Syntax.tyInt Syntax.w64)
@@ -939,7 +939,7 @@ module _ (claims· : Claims) where
   s32 = λ bs. Scalar.n-room T36 21 Syntax.tyPtr
 
   abbrev s33 : (bs : L.List Nat.ℕ) → Typed.Both T37 T38
-  s33 = λ bs. WayStmt.k-way-copy-out T37 (Row.out 22 (Row.out 5 (T37 .locals))) (λ u. Row.drop 22 (Row.out 5 (T37 .locals)) (Row.drop 5 (T37 .locals) u)) 23 q19 (λ u. ListN.getD (At.getAt (network-proofs-Nodes·.the-type .parts) 3 (network-proofs-Nodes·.struct .as-values (u .1 .1 .1 .1 .1 .0))) (u .1 .1 .1 .1 .1 .1 .1 .0) (fraction-proofs-Fraction·.struct .make (IntN.pos 0, (0, tt)) tt)) (λ T′. record { locals = Row.setRow 5 q21 (Row.setRow 22 (22, Rows.sc-here Row.sPtr) T′); slots = L.[]; }) (λ u T′ m′. Row.set 5 q21 (u .1 .1 .1 .1 .1 .0) (Row.setRow 22 (22, Rows.sc-here Row.sPtr) T′) (Row.set 22 (22, Rows.sc-here Row.sPtr) (u .1 .1 .1 .1 .1 .1 .1 .1 .1 .1 .1 .1 .1 .1 .1 .1 .1 .1 .1 .1 .1 .1 .0) T′ m′)) (λ u. Path._≡_ (u .1 .1 .1 .1 .1 .1 .1 .1 .1 .1 .1 .1 .1 .1 .1 .1 .1 .1 .1 .1 .1 .1 .0 .0) (Row.hd 0 (Row.tl (Row.tl (Row.tl (Row.tl (Row.tl bs)))))) × Path._≡_ (u .1 .1 .1 .1 .1 .1 .1 .1 .1 .1 .1 .1 .1 .1 .1 .1 .1 .1 .1 .1 .1 .1 .0 .1) (Shared.bySize 8 (u .1 .1 .1 .1 .1 .1 .1 .0) (Nat._+_ Nat.zero 52)) × Asked.InArray T37 (λ u. u .1 .1 .1 .1 .1 .1 .1 .0) 33 u) λ u. Unit
+  s33 = λ bs. WayStmt.k-way-copy-out T37 (Row.out 22 (Row.out 5 (T37 .locals))) (λ u. Row.drop 22 (Row.out 5 (T37 .locals)) (Row.drop 5 (T37 .locals) u)) 23 q19 (λ u. ListN.getD (At.getAt (network-proofs-Nodes·.the-type .parts) 3 (network-proofs-Nodes·.struct .as-values (u .1 .1 .1 .1 .1 .0))) (u .1 .1 .1 .1 .1 .1 .1 .0) (fraction-proofs-Fraction·.struct .make (IntN.pos 0, (0, tt)) tt)) (λ T′. record { locals = Row.setRow 5 q21 (Row.setRow 22 (22, Rows.sc-here Row.sPtr) T′); slots = L.[] }) (λ u T′ m′. Row.set 5 q21 (u .1 .1 .1 .1 .1 .0) (Row.setRow 22 (22, Rows.sc-here Row.sPtr) T′) (Row.set 22 (22, Rows.sc-here Row.sPtr) (u .1 .1 .1 .1 .1 .1 .1 .1 .1 .1 .1 .1 .1 .1 .1 .1 .1 .1 .1 .1 .1 .1 .0) T′ m′)) (λ u. Path._≡_ (u .1 .1 .1 .1 .1 .1 .1 .1 .1 .1 .1 .1 .1 .1 .1 .1 .1 .1 .1 .1 .1 .1 .0 .0) (Row.hd 0 (Row.tl (Row.tl (Row.tl (Row.tl (Row.tl bs)))))) × Path._≡_ (u .1 .1 .1 .1 .1 .1 .1 .1 .1 .1 .1 .1 .1 .1 .1 .1 .1 .1 .1 .1 .1 .1 .0 .1) (Shared.bySize 8 (u .1 .1 .1 .1 .1 .1 .1 .0) (Nat._+_ Nat.zero 52)) × Asked.InArray T37 (λ u. u .1 .1 .1 .1 .1 .1 .1 .0) 33 u) λ u. Unit
 
   abbrev s34 : (bs : L.List Nat.ℕ) → Typed.Mo T38 → Typed.Mo T39
   s34 = λ bs. Scalar.n-room T38 16 (Syntax.tyInt Syntax.w64)
@@ -957,10 +957,10 @@ module _ (claims· : Claims) where
   s38 = λ bs. Scalar.n-room T42 20 Syntax.tyBool
 
   abbrev s39 : (bs : L.List Nat.ℕ) → Typed.Both T43 T44
-  s39 = λ bs. Call.callB ps·1 r·1 (claims· .2) (claims· .3) T43 (record { pos = 2; ty = Syntax.tyRef (Syntax.named 0) Syntax.imm Rec.named; ref = λ x. x; }, (Num.vAt 7 λ x. x, (Num.vAt 8 λ x. x, tt))) 9 (L._∷_ 0 L.[]) (Syntax.tyStruct (L._∷_ 115 (L._∷_ 116 (L._∷_ 101 (L._∷_ 112 (L._∷_ 58 (L._∷_ 58 (L._∷_ 65 (L._∷_ 114 (L._∷_ 111 (L._∷_ 117 (L._∷_ 110 (L._∷_ 100 L.[])))))))))))) (Syntax.tcons q9 (Syntax.tcons q9 (Syntax.tcons q9 (Syntax.tcons q9 Syntax.tnil)))))
+  s39 = λ bs. Call.callB ps·1 r·1 (claims· .2) (claims· .3) T43 (record { pos = 2; ty = Syntax.tyRef (Syntax.named 0) Syntax.imm Rec.named; ref = λ x. x }, (Num.vAt 7 λ x. x, (Num.vAt 8 λ x. x, tt))) 9 (L._∷_ 0 L.[]) (Syntax.tyStruct (L._∷_ 115 (L._∷_ 116 (L._∷_ 101 (L._∷_ 112 (L._∷_ 58 (L._∷_ 58 (L._∷_ 65 (L._∷_ 114 (L._∷_ 111 (L._∷_ 117 (L._∷_ 110 (L._∷_ 100 L.[])))))))))))) (Syntax.tcons q9 (Syntax.tcons q9 (Syntax.tcons q9 (Syntax.tcons q9 Syntax.tnil)))))
 
   abbrev s40 : (bs : L.List Nat.ℕ) → Typed.Both T44 T45
-  s40 = λ bs. WayStmt.k-way-copy-out T44 (Row.out 5 (T44 .locals)) (λ u. Row.drop 5 (T44 .locals) u) 24 (ARows.arrF (Declared.row fraction-proofs-Fraction·.the-type) 33 0) (λ u. At.getAt (network-proofs-Nodes·.the-type .parts) 3 (network-proofs-Nodes·.struct .as-values (u .1 .1 .1 .1 .1 .0))) (λ T′. record { locals = Row.setRow 5 q21 T′; slots = L.[]; }) (λ u T′ m′. Row.set 5 q21 (u .1 .1 .1 .1 .1 .0) T′ m′) (λ u. Unit) λ u. Unit
+  s40 = λ bs. WayStmt.k-way-copy-out T44 (Row.out 5 (T44 .locals)) (λ u. Row.drop 5 (T44 .locals) u) 24 (ARows.arrF (Declared.row fraction-proofs-Fraction·.the-type) 33 0) (λ u. At.getAt (network-proofs-Nodes·.the-type .parts) 3 (network-proofs-Nodes·.struct .as-values (u .1 .1 .1 .1 .1 .0))) (λ T′. record { locals = Row.setRow 5 q21 T′; slots = L.[] }) (λ u T′ m′. Row.set 5 q21 (u .1 .1 .1 .1 .1 .0) T′ m′) (λ u. Unit) λ u. Unit
 
   abbrev s41 : (bs : L.List Nat.ℕ) → Typed.Both T45 T46
   s41 = λ bs. Call.callB ps·2 r·2 (claims· .4) (claims· .5) T45 (record { pos = 24; st = L.[]; d = 0; at = λ x. x }, (Num.vAt 4 λ x. x, (Num.vAt 7 λ x. x, (Num.vAt 8 λ x. x, (record { pos = 9; st = L.[]; d = 0; at = λ x. x }, tt))))) 10 L.[] (Syntax.tyStruct (L._∷_ 114 (L._∷_ 117 (L._∷_ 108 (L._∷_ 101 (L._∷_ 115 (L._∷_ 58 (L._∷_ 58 (L._∷_ 102 (L._∷_ 111 (L._∷_ 117 (L._∷_ 110 (L._∷_ 100 (L._∷_ 58 (L._∷_ 58 (L._∷_ 70 (L._∷_ 111 (L._∷_ 117 (L._∷_ 110 (L._∷_ 100 L.[]))))))))))))))))))) (Syntax.tcons Syntax.tyBool (Syntax.tcons Syntax.tyBool (Syntax.tcons (Syntax.tyStruct (L._∷_ 115 (L._∷_ 116 (L._∷_ 101 (L._∷_ 112 (L._∷_ 58 (L._∷_ 58 (L._∷_ 83 (L._∷_ 116 (L._∷_ 101 (L._∷_ 112 L.[])))))))))) (Syntax.tcons (Syntax.tyInt Syntax.w64) (Syntax.tcons (Syntax.tyInt Syntax.w64) (Syntax.tcons (Syntax.tyStruct (L._∷_ 115 (L._∷_ 116 (L._∷_ 101 (L._∷_ 112 (L._∷_ 58 (L._∷_ 58 (L._∷_ 67 (L._∷_ 104 (L._∷_ 97 (L._∷_ 110 (L._∷_ 103 (L._∷_ 101 L.[])))))))))))) (Syntax.tcons (Syntax.tyStruct (L._∷_ 110 (L._∷_ 101 (L._∷_ 116 (L._∷_ 119 (L._∷_ 111 (L._∷_ 114 (L._∷_ 107 (L._∷_ 58 (L._∷_ 58 (L._∷_ 69 (L._∷_ 100 (L._∷_ 105 (L._∷_ 116 L.[]))))))))))))) (Syntax.tcons q9 (Syntax.tcons q9 (Syntax.tcons q9 (Syntax.tcons q9 (Syntax.tcons q3 (Syntax.tcons q3 (Syntax.tcons (Syntax.tyInt Syntax.w64) Syntax.tnil)))))))) (Syntax.tcons (Syntax.tyStruct (L._∷_ 115 (L._∷_ 116 (L._∷_ 101 (L._∷_ 112 (L._∷_ 58 (L._∷_ 58 (L._∷_ 79 (L._∷_ 108 (L._∷_ 100 L.[]))))))))) (Syntax.tcons (Syntax.tyInt Syntax.w64) (Syntax.tcons q8 (Syntax.tcons q9 (Syntax.tcons q9 (Syntax.tcons q9 (Syntax.tcons q9 (Syntax.tcons q5 Syntax.tnil)))))))) Syntax.tnil))) Syntax.tnil)))) Syntax.tnil))))
@@ -1283,208 +1283,208 @@ module _ (claims· : Claims) where
 
       module _ (κs : Lifetimes.Lfts 1) (qs : Lifetimes.Shares 1) where
         abbrev G0 : Row.Cx
-        G0 = record { locals = L._++_ t0 t1; slots = L._∷_ (Row.lease (κs .0) (qs .0)) L.[]; }
+        G0 = record { locals = L._++_ t0 t1; slots = L._∷_ (Row.lease (κs .0) (qs .0)) L.[] }
 
         abbrev G1 : Row.Cx
-        G1 = record { locals = L._++_ t2 t1; slots = L._∷_ (Row.lease (κs .0) (qs .0)) L.[]; }
+        G1 = record { locals = L._++_ t2 t1; slots = L._∷_ (Row.lease (κs .0) (qs .0)) L.[] }
 
         abbrev G2 : Row.Cx
-        G2 = record { locals = L._++_ t3 t1; slots = L._∷_ (Row.lease (κs .0) (qs .0)) L.[]; }
+        G2 = record { locals = L._++_ t3 t1; slots = L._∷_ (Row.lease (κs .0) (qs .0)) L.[] }
 
         abbrev G3 : Row.Cx
-        G3 = record { locals = L._++_ t4 t1; slots = L._∷_ (Row.lease (κs .0) (qs .0)) L.[]; }
+        G3 = record { locals = L._++_ t4 t1; slots = L._∷_ (Row.lease (κs .0) (qs .0)) L.[] }
 
         abbrev G4 : Row.Cx
-        G4 = record { locals = L._++_ t5 t1; slots = L._∷_ (Row.lease (κs .0) (qs .0)) L.[]; }
+        G4 = record { locals = L._++_ t5 t1; slots = L._∷_ (Row.lease (κs .0) (qs .0)) L.[] }
 
         abbrev G5 : Row.Cx
-        G5 = record { locals = L._++_ t6 t1; slots = L._∷_ (Row.lease (κs .0) (qs .0)) L.[]; }
+        G5 = record { locals = L._++_ t6 t1; slots = L._∷_ (Row.lease (κs .0) (qs .0)) L.[] }
 
         abbrev G6 : Row.Cx
-        G6 = record { locals = L._++_ t7 t1; slots = L._∷_ (Row.lease (κs .0) (qs .0)) L.[]; }
+        G6 = record { locals = L._++_ t7 t1; slots = L._∷_ (Row.lease (κs .0) (qs .0)) L.[] }
 
         abbrev G7 : Row.Cx
-        G7 = record { locals = L._++_ t8 t1; slots = L._∷_ (Row.lease (κs .0) (qs .0)) L.[]; }
+        G7 = record { locals = L._++_ t8 t1; slots = L._∷_ (Row.lease (κs .0) (qs .0)) L.[] }
 
         abbrev G8 : Row.Cx
-        G8 = record { locals = L._++_ t9 t1; slots = L._∷_ (Row.lease (κs .0) (qs .0)) L.[]; }
+        G8 = record { locals = L._++_ t9 t1; slots = L._∷_ (Row.lease (κs .0) (qs .0)) L.[] }
 
         abbrev G9 : Row.Cx
-        G9 = record { locals = L._++_ t10 t1; slots = L._∷_ (Row.lease (κs .0) (qs .0)) L.[]; }
+        G9 = record { locals = L._++_ t10 t1; slots = L._∷_ (Row.lease (κs .0) (qs .0)) L.[] }
 
         abbrev G10 : Row.Cx
-        G10 = record { locals = L._++_ t7 t1; slots = L._∷_ (Row.lease (κs .0) (qs .0)) L.[]; }
+        G10 = record { locals = L._++_ t7 t1; slots = L._∷_ (Row.lease (κs .0) (qs .0)) L.[] }
 
         abbrev G11 : Row.Cx
-        G11 = record { locals = L._++_ t11 t1; slots = L._∷_ (Row.lease (κs .0) (qs .0)) L.[]; }
+        G11 = record { locals = L._++_ t11 t1; slots = L._∷_ (Row.lease (κs .0) (qs .0)) L.[] }
 
         abbrev G12 : Row.Cx
-        G12 = record { locals = L._++_ t7 t1; slots = L._∷_ (Row.lease (κs .0) (qs .0)) L.[]; }
+        G12 = record { locals = L._++_ t7 t1; slots = L._∷_ (Row.lease (κs .0) (qs .0)) L.[] }
 
         abbrev G13 : Row.Cx
-        G13 = record { locals = L._++_ t12 t1; slots = L._∷_ (Row.lease (κs .0) (qs .0)) L.[]; }
+        G13 = record { locals = L._++_ t12 t1; slots = L._∷_ (Row.lease (κs .0) (qs .0)) L.[] }
 
         abbrev G14 : Row.Cx
-        G14 = record { locals = L._++_ t13 t1; slots = L._∷_ (Row.lease (κs .0) (qs .0)) L.[]; }
+        G14 = record { locals = L._++_ t13 t1; slots = L._∷_ (Row.lease (κs .0) (qs .0)) L.[] }
 
         abbrev G15 : Row.Cx
-        G15 = record { locals = L._++_ t8 t1; slots = L._∷_ (Row.lease (κs .0) (qs .0)) L.[]; }
+        G15 = record { locals = L._++_ t8 t1; slots = L._∷_ (Row.lease (κs .0) (qs .0)) L.[] }
 
         abbrev G16 : Row.Cx
-        G16 = record { locals = L._++_ t14 t1; slots = L._∷_ (Row.lease (κs .0) (qs .0)) L.[]; }
+        G16 = record { locals = L._++_ t14 t1; slots = L._∷_ (Row.lease (κs .0) (qs .0)) L.[] }
 
         abbrev G17 : Row.Cx
-        G17 = record { locals = L._++_ t15 t1; slots = L._∷_ (Row.lease (κs .0) (qs .0)) L.[]; }
+        G17 = record { locals = L._++_ t15 t1; slots = L._∷_ (Row.lease (κs .0) (qs .0)) L.[] }
 
         abbrev G18 : Row.Cx
-        G18 = record { locals = L._++_ t16 t1; slots = L._∷_ (Row.lease (κs .0) (qs .0)) L.[]; }
+        G18 = record { locals = L._++_ t16 t1; slots = L._∷_ (Row.lease (κs .0) (qs .0)) L.[] }
 
         abbrev G19 : Row.Cx
-        G19 = record { locals = L._++_ t17 t1; slots = L._∷_ (Row.lease (κs .0) (qs .0)) L.[]; }
+        G19 = record { locals = L._++_ t17 t1; slots = L._∷_ (Row.lease (κs .0) (qs .0)) L.[] }
 
         abbrev G20 : Row.Cx
-        G20 = record { locals = L._++_ t11 t1; slots = L._∷_ (Row.lease (κs .0) (qs .0)) L.[]; }
+        G20 = record { locals = L._++_ t11 t1; slots = L._∷_ (Row.lease (κs .0) (qs .0)) L.[] }
 
         abbrev G21 : Row.Cx
-        G21 = record { locals = L._++_ t18 t1; slots = L._∷_ (Row.lease (κs .0) (qs .0)) L.[]; }
+        G21 = record { locals = L._++_ t18 t1; slots = L._∷_ (Row.lease (κs .0) (qs .0)) L.[] }
 
         abbrev G22 : Row.Cx
-        G22 = record { locals = L._++_ t7 t1; slots = L._∷_ (Row.lease (κs .0) (qs .0)) L.[]; }
+        G22 = record { locals = L._++_ t7 t1; slots = L._∷_ (Row.lease (κs .0) (qs .0)) L.[] }
 
         abbrev G23 : Row.Cx
-        G23 = record { locals = L._++_ t19 t1; slots = L._∷_ (Row.lease (κs .0) (qs .0)) L.[]; }
+        G23 = record { locals = L._++_ t19 t1; slots = L._∷_ (Row.lease (κs .0) (qs .0)) L.[] }
 
         abbrev G24 : Row.Cx
-        G24 = record { locals = L._++_ t7 t1; slots = L._∷_ (Row.lease (κs .0) (qs .0)) L.[]; }
+        G24 = record { locals = L._++_ t7 t1; slots = L._∷_ (Row.lease (κs .0) (qs .0)) L.[] }
 
         abbrev G25 : Row.Cx
-        G25 = record { locals = L._++_ t7 t20; slots = L._∷_ (Row.lease (κs .0) (qs .0)) L.[]; }
+        G25 = record { locals = L._++_ t7 t20; slots = L._∷_ (Row.lease (κs .0) (qs .0)) L.[] }
 
         abbrev G26 : Row.Cx
-        G26 = record { locals = L._++_ t7 t21; slots = L._∷_ (Row.lease (κs .0) (qs .0)) L.[]; }
+        G26 = record { locals = L._++_ t7 t21; slots = L._∷_ (Row.lease (κs .0) (qs .0)) L.[] }
 
         abbrev G27 : Row.Cx
-        G27 = record { locals = L._++_ t7 t22; slots = L._∷_ (Row.lease (κs .0) (qs .0)) L.[]; }
+        G27 = record { locals = L._++_ t7 t22; slots = L._∷_ (Row.lease (κs .0) (qs .0)) L.[] }
 
         abbrev G28 : Row.Cx
-        G28 = record { locals = L._++_ t7 t23; slots = L._∷_ (Row.lease (κs .0) (qs .0)) L.[]; }
+        G28 = record { locals = L._++_ t7 t23; slots = L._∷_ (Row.lease (κs .0) (qs .0)) L.[] }
 
         abbrev G29 : Row.Cx
-        G29 = record { locals = L._++_ t7 t24; slots = L._∷_ (Row.lease (κs .0) (qs .0)) L.[]; }
+        G29 = record { locals = L._++_ t7 t24; slots = L._∷_ (Row.lease (κs .0) (qs .0)) L.[] }
 
         abbrev G30 : Row.Cx
-        G30 = record { locals = L._++_ t7 t25; slots = L._∷_ (Row.lease (κs .0) (qs .0)) L.[]; }
+        G30 = record { locals = L._++_ t7 t25; slots = L._∷_ (Row.lease (κs .0) (qs .0)) L.[] }
 
         abbrev G31 : Row.Cx
-        G31 = record { locals = L._++_ t7 t26; slots = L._∷_ (Row.lease (κs .0) (qs .0)) L.[]; }
+        G31 = record { locals = L._++_ t7 t26; slots = L._∷_ (Row.lease (κs .0) (qs .0)) L.[] }
 
         abbrev G32 : Row.Cx
-        G32 = record { locals = L._++_ t27 t26; slots = L._∷_ (Row.lease (κs .0) (qs .0)) L.[]; }
+        G32 = record { locals = L._++_ t27 t26; slots = L._∷_ (Row.lease (κs .0) (qs .0)) L.[] }
 
         abbrev G33 : Row.Cx
-        G33 = record { locals = L._++_ t27 t1; slots = L._∷_ (Row.lease (κs .0) (qs .0)) L.[]; }
+        G33 = record { locals = L._++_ t27 t1; slots = L._∷_ (Row.lease (κs .0) (qs .0)) L.[] }
 
         abbrev G34 : Row.Cx
-        G34 = record { locals = L._++_ t27 t20; slots = L._∷_ (Row.lease (κs .0) (qs .0)) L.[]; }
+        G34 = record { locals = L._++_ t27 t20; slots = L._∷_ (Row.lease (κs .0) (qs .0)) L.[] }
 
         abbrev G35 : Row.Cx
-        G35 = record { locals = L._++_ t27 t28; slots = L._∷_ (Row.lease (κs .0) (qs .0)) L.[]; }
+        G35 = record { locals = L._++_ t27 t28; slots = L._∷_ (Row.lease (κs .0) (qs .0)) L.[] }
 
         abbrev G36 : Row.Cx
-        G36 = record { locals = L._++_ t27 t29; slots = L._∷_ (Row.lease (κs .0) (qs .0)) L.[]; }
+        G36 = record { locals = L._++_ t27 t29; slots = L._∷_ (Row.lease (κs .0) (qs .0)) L.[] }
 
         abbrev G37 : Row.Cx
-        G37 = record { locals = L._++_ t27 t30; slots = L._∷_ (Row.lease (κs .0) (qs .0)) L.[]; }
+        G37 = record { locals = L._++_ t27 t30; slots = L._∷_ (Row.lease (κs .0) (qs .0)) L.[] }
 
         abbrev G38 : Row.Cx
-        G38 = record { locals = L._++_ t27 t31; slots = L._∷_ (Row.lease (κs .0) (qs .0)) L.[]; }
+        G38 = record { locals = L._++_ t27 t31; slots = L._∷_ (Row.lease (κs .0) (qs .0)) L.[] }
 
         abbrev G39 : Row.Cx
-        G39 = record { locals = L._++_ t27 t32; slots = L._∷_ (Row.lease (κs .0) (qs .0)) L.[]; }
+        G39 = record { locals = L._++_ t27 t32; slots = L._∷_ (Row.lease (κs .0) (qs .0)) L.[] }
 
         abbrev G40 : Row.Cx
-        G40 = record { locals = L._++_ t27 t33; slots = L._∷_ (Row.lease (κs .0) (qs .0)) L.[]; }
+        G40 = record { locals = L._++_ t27 t33; slots = L._∷_ (Row.lease (κs .0) (qs .0)) L.[] }
 
         abbrev G41 : Row.Cx
-        G41 = record { locals = L._++_ t27 t34; slots = L._∷_ (Row.lease (κs .0) (qs .0)) L.[]; }
+        G41 = record { locals = L._++_ t27 t34; slots = L._∷_ (Row.lease (κs .0) (qs .0)) L.[] }
 
         abbrev G42 : Row.Cx
-        G42 = record { locals = L._++_ t27 t35; slots = L._∷_ (Row.lease (κs .0) (qs .0)) L.[]; }
+        G42 = record { locals = L._++_ t27 t35; slots = L._∷_ (Row.lease (κs .0) (qs .0)) L.[] }
 
         abbrev G43 : Row.Cx
-        G43 = record { locals = L._++_ t27 t1; slots = L._∷_ (Row.lease (κs .0) (qs .0)) L.[]; }
+        G43 = record { locals = L._++_ t27 t1; slots = L._∷_ (Row.lease (κs .0) (qs .0)) L.[] }
 
         abbrev G44 : Row.Cx
-        G44 = record { locals = L._++_ t36 t1; slots = L._∷_ (Row.lease (κs .0) (qs .0)) L.[]; }
+        G44 = record { locals = L._++_ t36 t1; slots = L._∷_ (Row.lease (κs .0) (qs .0)) L.[] }
 
         abbrev G45 : Row.Cx
-        G45 = record { locals = L._++_ t36 t37; slots = L._∷_ (Row.lease (κs .0) (qs .0)) L.[]; }
+        G45 = record { locals = L._++_ t36 t37; slots = L._∷_ (Row.lease (κs .0) (qs .0)) L.[] }
 
         abbrev G46 : Row.Cx
-        G46 = record { locals = L._++_ t38 t37; slots = L._∷_ (Row.lease (κs .0) (qs .0)) L.[]; }
+        G46 = record { locals = L._++_ t38 t37; slots = L._∷_ (Row.lease (κs .0) (qs .0)) L.[] }
 
         abbrev G47 : Row.Cx
-        G47 = record { locals = L._++_ t39 t37; slots = L._∷_ (Row.lease (κs .0) (qs .0)) L.[]; }
+        G47 = record { locals = L._++_ t39 t37; slots = L._∷_ (Row.lease (κs .0) (qs .0)) L.[] }
 
         abbrev G48 : Row.Cx
-        G48 = record { locals = L._++_ t39 t1; slots = L._∷_ (Row.lease (κs .0) (qs .0)) L.[]; }
+        G48 = record { locals = L._++_ t39 t1; slots = L._∷_ (Row.lease (κs .0) (qs .0)) L.[] }
 
         abbrev G49 : Row.Cx
-        G49 = record { locals = L._++_ t39 t40; slots = L._∷_ (Row.lease (κs .0) (qs .0)) L.[]; }
+        G49 = record { locals = L._++_ t39 t40; slots = L._∷_ (Row.lease (κs .0) (qs .0)) L.[] }
 
         abbrev G50 : Row.Cx
-        G50 = record { locals = L._++_ t41 t40; slots = L._∷_ (Row.lease (κs .0) (qs .0)) L.[]; }
+        G50 = record { locals = L._++_ t41 t40; slots = L._∷_ (Row.lease (κs .0) (qs .0)) L.[] }
 
         abbrev G51 : Row.Cx
-        G51 = record { locals = L._++_ t42 t40; slots = L._∷_ (Row.lease (κs .0) (qs .0)) L.[]; }
+        G51 = record { locals = L._++_ t42 t40; slots = L._∷_ (Row.lease (κs .0) (qs .0)) L.[] }
 
         abbrev G52 : Row.Cx
-        G52 = record { locals = L._++_ t42 t1; slots = L._∷_ (Row.lease (κs .0) (qs .0)) L.[]; }
+        G52 = record { locals = L._++_ t42 t1; slots = L._∷_ (Row.lease (κs .0) (qs .0)) L.[] }
 
         abbrev G53 : Row.Cx
-        G53 = record { locals = L._++_ t43 t1; slots = L._∷_ (Row.lease (κs .0) (qs .0)) L.[]; }
+        G53 = record { locals = L._++_ t43 t1; slots = L._∷_ (Row.lease (κs .0) (qs .0)) L.[] }
 
         abbrev G54 : Row.Cx
-        G54 = record { locals = L._++_ t44 t1; slots = L._∷_ (Row.lease (κs .0) (qs .0)) L.[]; }
+        G54 = record { locals = L._++_ t44 t1; slots = L._∷_ (Row.lease (κs .0) (qs .0)) L.[] }
 
         abbrev G55 : Row.Cx
-        G55 = record { locals = L._++_ t45 t1; slots = L._∷_ (Row.lease (κs .0) (qs .0)) L.[]; }
+        G55 = record { locals = L._++_ t45 t1; slots = L._∷_ (Row.lease (κs .0) (qs .0)) L.[] }
 
         abbrev G56 : Row.Cx
-        G56 = record { locals = L._++_ t46 t1; slots = L._∷_ (Row.lease (κs .0) (qs .0)) L.[]; }
+        G56 = record { locals = L._++_ t46 t1; slots = L._∷_ (Row.lease (κs .0) (qs .0)) L.[] }
 
         abbrev G57 : Row.Cx
-        G57 = record { locals = L._++_ t2 t1; slots = L._∷_ (Row.lease (κs .0) (qs .0)) L.[]; }
+        G57 = record { locals = L._++_ t2 t1; slots = L._∷_ (Row.lease (κs .0) (qs .0)) L.[] }
 
         abbrev G58 : Row.Cx
-        G58 = record { locals = L._++_ t47 t40; slots = L._∷_ (Row.lease (κs .0) (qs .0)) L.[]; }
+        G58 = record { locals = L._++_ t47 t40; slots = L._∷_ (Row.lease (κs .0) (qs .0)) L.[] }
 
         abbrev G59 : Row.Cx
-        G59 = record { locals = L._++_ t7 t40; slots = L._∷_ (Row.lease (κs .0) (qs .0)) L.[]; }
+        G59 = record { locals = L._++_ t7 t40; slots = L._∷_ (Row.lease (κs .0) (qs .0)) L.[] }
 
         abbrev G60 : Row.Cx
-        G60 = record { locals = L._++_ t7 t1; slots = L._∷_ (Row.lease (κs .0) (qs .0)) L.[]; }
+        G60 = record { locals = L._++_ t7 t1; slots = L._∷_ (Row.lease (κs .0) (qs .0)) L.[] }
 
         abbrev G61 : Row.Cx
-        G61 = record { locals = L._++_ t7 t35; slots = L._∷_ (Row.lease (κs .0) (qs .0)) L.[]; }
+        G61 = record { locals = L._++_ t7 t35; slots = L._∷_ (Row.lease (κs .0) (qs .0)) L.[] }
 
         abbrev G62 : Row.Cx
-        G62 = record { locals = L._++_ t7 t1; slots = L._∷_ (Row.lease (κs .0) (qs .0)) L.[]; }
+        G62 = record { locals = L._++_ t7 t1; slots = L._∷_ (Row.lease (κs .0) (qs .0)) L.[] }
 
         abbrev G63 : Row.Cx
-        G63 = record { locals = L._++_ t7 t1; slots = L._∷_ (Row.lease (κs .0) (qs .0)) L.[]; }
+        G63 = record { locals = L._++_ t7 t1; slots = L._∷_ (Row.lease (κs .0) (qs .0)) L.[] }
 
         abbrev G64 : Row.Cx
-        G64 = record { locals = L._++_ t7 t1; slots = L._∷_ (Row.lease (κs .0) (qs .0)) L.[]; }
+        G64 = record { locals = L._++_ t7 t1; slots = L._∷_ (Row.lease (κs .0) (qs .0)) L.[] }
 
         abbrev G65 : Row.Cx
-        G65 = record { locals = L._++_ t48 t1; slots = L._∷_ (Row.lease (κs .0) (qs .0)) L.[]; }
+        G65 = record { locals = L._++_ t48 t1; slots = L._∷_ (Row.lease (κs .0) (qs .0)) L.[] }
 
         abbrev G66 : Row.Cx
-        G66 = record { locals = L._++_ t49 t1; slots = L._∷_ (Row.lease (κs .0) (qs .0)) L.[]; }
+        G66 = record { locals = L._++_ t49 t1; slots = L._∷_ (Row.lease (κs .0) (qs .0)) L.[] }
 
         abbrev G67 : Row.Cx
-        G67 = record { locals = L._++_ t2 t1; slots = L._∷_ (Row.lease (κs .0) (qs .0)) L.[]; }
+        G67 = record { locals = L._++_ t2 t1; slots = L._∷_ (Row.lease (κs .0) (qs .0)) L.[] }
 
         abbrev Δ0 : Typed.Outs
         Δ0 = record { next = Option.none; exits = L.[]; returns = Option.some G1 }
@@ -1587,10 +1587,10 @@ module _ (claims· : Claims) where
           d25 = Typed.s-seq 𝓤 H A W 𝓣 E G45 G46 b24 b31 Δ5 (Typed.both (s41 bs)) (at24 bs) (Plain.t-call-plain 𝓤 H A W 𝓣 0 ps·2 r·2 (claims· .4) (claims· .5) "rules::tried::at_node" (known .2) E (λ pos β. β) G45 (record { pos = 24; st = L.[]; d = 0; at = λ x. x }, (Num.vAt 4 λ x. x, (Num.vAt 7 λ x. x, (Num.vAt 8 λ x. x, (record { pos = 9; st = L.[]; d = 0; at = λ x. x }, tt))))) 10 L.[] (Call.sub-id 𝓤 H A W (G45 .slots)) ((KArray.arr-yields 𝓤 H A W (KArray.eStruct fraction-proofs-Fraction·.the-type fraction-proofs-Fraction-Laws·.the-laws fraction-proofs-Fraction-Laws·.the-copy) (KArray.eStruct-laws fraction-proofs-Fraction·.the-type fraction-proofs-Fraction-Laws·.the-laws fraction-proofs-Fraction-Laws·.the-copy fraction-proofs-Fraction-Laws·.the-plain) 33, Path.refl), ((Scalar.reads-sc 𝓤 H A W (Row.sInt Syntax.w64), Path.refl), ((Scalar.reads-sc 𝓤 H A W (Row.sInt Syntax.w64), Path.refl), ((Scalar.reads-sc 𝓤 H A W (Row.sInt Syntax.w64), Path.refl), ((Yields.yields-copy 𝓤 H A W (λ ρ. Unit) (Declared.row step-proofs-Around·.the-type) Path.refl (Copies.cStruct step-proofs-Around·.the-type step-proofs-Around-Laws·.the-laws step-proofs-Around-Laws·.the-copy .copy 𝓤 H A W) (Rows.whole (Declared.row step-proofs-Around·.the-type)) (λ x. x) (λ x. x) (λ ρ told. Local.mem-whole 𝓤 H A W (Declared.row step-proofs-Around·.the-type) ρ) λ ρ told. Local.whole-mem 𝓤 H A W (Declared.row step-proofs-Around·.the-type) ρ, Path.refl), tt))))) (TReads.room-gone 𝓤 H A (Syntax.tyStruct (L._∷_ 114 (L._∷_ 117 (L._∷_ 108 (L._∷_ 101 (L._∷_ 115 (L._∷_ 58 (L._∷_ 58 (L._∷_ 102 (L._∷_ 111 (L._∷_ 117 (L._∷_ 110 (L._∷_ 100 (L._∷_ 58 (L._∷_ 58 (L._∷_ 70 (L._∷_ 111 (L._∷_ 117 (L._∷_ 110 (L._∷_ 100 L.[]))))))))))))))))))) (Syntax.tcons Syntax.tyBool (Syntax.tcons Syntax.tyBool (Syntax.tcons (Syntax.tyStruct (L._∷_ 115 (L._∷_ 116 (L._∷_ 101 (L._∷_ 112 (L._∷_ 58 (L._∷_ 58 (L._∷_ 83 (L._∷_ 116 (L._∷_ 101 (L._∷_ 112 L.[])))))))))) (Syntax.tcons (Syntax.tyInt Syntax.w64) (Syntax.tcons (Syntax.tyInt Syntax.w64) (Syntax.tcons (Syntax.tyStruct (L._∷_ 115 (L._∷_ 116 (L._∷_ 101 (L._∷_ 112 (L._∷_ 58 (L._∷_ 58 (L._∷_ 67 (L._∷_ 104 (L._∷_ 97 (L._∷_ 110 (L._∷_ 103 (L._∷_ 101 L.[])))))))))))) (Syntax.tcons (Syntax.tyStruct (L._∷_ 110 (L._∷_ 101 (L._∷_ 116 (L._∷_ 119 (L._∷_ 111 (L._∷_ 114 (L._∷_ 107 (L._∷_ 58 (L._∷_ 58 (L._∷_ 69 (L._∷_ 100 (L._∷_ 105 (L._∷_ 116 L.[]))))))))))))) (Syntax.tcons q9 (Syntax.tcons q9 (Syntax.tcons q9 (Syntax.tcons q9 (Syntax.tcons q3 (Syntax.tcons q3 (Syntax.tcons (Syntax.tyInt Syntax.w64) Syntax.tnil)))))))) (Syntax.tcons (Syntax.tyStruct (L._∷_ 115 (L._∷_ 116 (L._∷_ 101 (L._∷_ 112 (L._∷_ 58 (L._∷_ 58 (L._∷_ 79 (L._∷_ 108 (L._∷_ 100 L.[]))))))))) (Syntax.tcons (Syntax.tyInt Syntax.w64) (Syntax.tcons q8 (Syntax.tcons q9 (Syntax.tcons q9 (Syntax.tcons q9 (Syntax.tcons q9 (Syntax.tcons q5 Syntax.tnil)))))))) Syntax.tnil))) Syntax.tnil)))) Syntax.tnil))))) tt Path.refl) d24
 
           d26 : Typed.Typed 𝓤 H A 𝓣 E G44 b33 Δ5 (at26 bs)
-          d26 = Typed.s-seq 𝓤 H A W 𝓣 E G44 G45 b23 b32 Δ5 (Typed.both (s40 bs)) (at25 bs) (WayStmt.t-way-copy-out 𝓤 H A W E 𝓣 (DArray.Array (Declared.row fraction-proofs-Fraction·.the-type) 33) Path.refl (Copies.cArr (Declared.row fraction-proofs-Fraction·.the-type) (Copies.cStruct fraction-proofs-Fraction·.the-type fraction-proofs-Fraction-Laws·.the-laws fraction-proofs-Fraction-Laws·.the-copy) 33 .copy 𝓤 H A W) (λ ρ. Unit) G44 (Row.out 5 (G44 .locals)) (λ u. Row.drop 5 (G44 .locals) u) (G44 .slots) 5 (λ t. L._∷_ (Syntax.field 3) t) q6 q6 24 (ARows.arrF (Declared.row fraction-proofs-Fraction·.the-type) 33 0) (λ x. x) (λ u. At.getAt (network-proofs-Nodes·.the-type .parts) 3 (network-proofs-Nodes·.struct .as-values (u .1 .1 .1 .1 .1 .0))) (λ u. (Row.hd 0 (Row.tl (Row.tl (Row.tl (Row.tl (Row.tl bs))))), Nat._+_ 0 52)) (λ T′. record { locals = Row.setRow 5 q21 T′; slots = G44 .slots; }) (λ u T′ m′. Row.set 5 q21 (u .1 .1 .1 .1 .1 .0) T′ m′) (λ u. Unit) (λ x. Unit) (Own.told-none 𝓤 H A (G44 .slots)) (DerefMove.learns-nothing 𝓤 H A (DArray.Array (Declared.row fraction-proofs-Fraction·.the-type) 33)) (λ ρ told u asked. StructWay.w-partˢ 𝓤 H A W E (Declared.row network-proofs-Nodes·.the-type) (DArray.Array (Declared.row fraction-proofs-Fraction·.the-type) 33) q2 q6 3 52 (u .1 .1 .1 .1 .1 .0) (At.getAt (network-proofs-Nodes·.the-type .parts) 3 (network-proofs-Nodes·.struct .as-values (u .1 .1 .1 .1 .1 .0))) (Row.hd 0 (Row.tl (Row.tl (Row.tl (Row.tl (Row.tl bs))))), 0) (RuleWay.w-look 𝓤 H A W E (RuleWay.w-local 𝓤 H A W E G44 ρ u (G44 .slots) 5 (Declared.row network-proofs-Nodes·.the-type) q23 (λ x. x) (λ x. x) (u .1 .1 .1 .1 .1 .0) (Local.mem-whole 𝓤 H A W (Declared.row network-proofs-Nodes·.the-type) ρ (u .1 .1 .1 .1 .1 .0) (Row.hd 0 (Row.tl (Row.tl (Row.tl (Row.tl (Row.tl bs))))))) (Local.whole-mem 𝓤 H A W (Declared.row network-proofs-Nodes·.the-type) ρ (u .1 .1 .1 .1 .1 .0) (Row.hd 0 (Row.tl (Row.tl (Row.tl (Row.tl (Row.tl bs))))))))) Path.refl λ q. Items.cut-records 𝓤 H A q (Declared.row network-proofs-Nodes·.the-type) fraction-proofs-Fraction·.the-type 33 52 (u .1 .1 .1 .1 .1 .0) (u .1 .1 .1 .1 .1 .0) (At.getAt (network-proofs-Nodes·.the-type .parts) 3 (network-proofs-Nodes·.struct .as-values (u .1 .1 .1 .1 .1 .0))) (At.getAt (network-proofs-Nodes·.the-type .parts) 3 (network-proofs-Nodes·.struct .as-values (u .1 .1 .1 .1 .1 .0))) (Row.hd 0 (Row.tl (Row.tl (Row.tl (Row.tl (Row.tl bs))))), 0) (Behind.look-at 𝓤 H A W q network-proofs-Nodes·.the-type network-proofs-Nodes-Laws·.the-laws 3 52 Path.refl Path.refl (Row.hd 0 (Row.tl (Row.tl (Row.tl (Row.tl (Row.tl bs))))), 0) (u .1 .1 .1 .1 .1 .0) (network-proofs-Nodes·.struct .as-values (u .1 .1 .1 .1 .1 .0)) Path.refl)) (TReads.room-gone 𝓤 H A q6) (Yields.makes-mem 𝓤 H A W (λ ρ. Unit) (DArray.Array (Declared.row fraction-proofs-Fraction·.the-type) 33) Path.refl (ARows.arrF (Declared.row fraction-proofs-Fraction·.the-type) 33 0) (λ x. x) λ ρ told. Whole.arr-mem 𝓤 H A W (Declared.row fraction-proofs-Fraction·.the-type) 33 tt ρ) Path.refl Path.refl Path.refl) d25
+          d26 = Typed.s-seq 𝓤 H A W 𝓣 E G44 G45 b23 b32 Δ5 (Typed.both (s40 bs)) (at25 bs) (WayStmt.t-way-copy-out 𝓤 H A W E 𝓣 (DArray.Array (Declared.row fraction-proofs-Fraction·.the-type) 33) Path.refl (Copies.cArr (Declared.row fraction-proofs-Fraction·.the-type) (Copies.cStruct fraction-proofs-Fraction·.the-type fraction-proofs-Fraction-Laws·.the-laws fraction-proofs-Fraction-Laws·.the-copy) 33 .copy 𝓤 H A W) (λ ρ. Unit) G44 (Row.out 5 (G44 .locals)) (λ u. Row.drop 5 (G44 .locals) u) (G44 .slots) 5 (λ t. L._∷_ (Syntax.field 3) t) q6 q6 24 (ARows.arrF (Declared.row fraction-proofs-Fraction·.the-type) 33 0) (λ x. x) (λ u. At.getAt (network-proofs-Nodes·.the-type .parts) 3 (network-proofs-Nodes·.struct .as-values (u .1 .1 .1 .1 .1 .0))) (λ u. (Row.hd 0 (Row.tl (Row.tl (Row.tl (Row.tl (Row.tl bs))))), Nat._+_ 0 52)) (λ T′. record { locals = Row.setRow 5 q21 T′; slots = G44 .slots }) (λ u T′ m′. Row.set 5 q21 (u .1 .1 .1 .1 .1 .0) T′ m′) (λ u. Unit) (λ x. Unit) (Own.told-none 𝓤 H A (G44 .slots)) (DerefMove.learns-nothing 𝓤 H A (DArray.Array (Declared.row fraction-proofs-Fraction·.the-type) 33)) (λ ρ told u asked. StructWay.w-partˢ 𝓤 H A W E (Declared.row network-proofs-Nodes·.the-type) (DArray.Array (Declared.row fraction-proofs-Fraction·.the-type) 33) q2 q6 3 52 (u .1 .1 .1 .1 .1 .0) (At.getAt (network-proofs-Nodes·.the-type .parts) 3 (network-proofs-Nodes·.struct .as-values (u .1 .1 .1 .1 .1 .0))) (Row.hd 0 (Row.tl (Row.tl (Row.tl (Row.tl (Row.tl bs))))), 0) (RuleWay.w-look 𝓤 H A W E (RuleWay.w-local 𝓤 H A W E G44 ρ u (G44 .slots) 5 (Declared.row network-proofs-Nodes·.the-type) q23 (λ x. x) (λ x. x) (u .1 .1 .1 .1 .1 .0) (Local.mem-whole 𝓤 H A W (Declared.row network-proofs-Nodes·.the-type) ρ (u .1 .1 .1 .1 .1 .0) (Row.hd 0 (Row.tl (Row.tl (Row.tl (Row.tl (Row.tl bs))))))) (Local.whole-mem 𝓤 H A W (Declared.row network-proofs-Nodes·.the-type) ρ (u .1 .1 .1 .1 .1 .0) (Row.hd 0 (Row.tl (Row.tl (Row.tl (Row.tl (Row.tl bs))))))))) Path.refl λ q. Items.cut-records 𝓤 H A q (Declared.row network-proofs-Nodes·.the-type) fraction-proofs-Fraction·.the-type 33 52 (u .1 .1 .1 .1 .1 .0) (u .1 .1 .1 .1 .1 .0) (At.getAt (network-proofs-Nodes·.the-type .parts) 3 (network-proofs-Nodes·.struct .as-values (u .1 .1 .1 .1 .1 .0))) (At.getAt (network-proofs-Nodes·.the-type .parts) 3 (network-proofs-Nodes·.struct .as-values (u .1 .1 .1 .1 .1 .0))) (Row.hd 0 (Row.tl (Row.tl (Row.tl (Row.tl (Row.tl bs))))), 0) (Behind.look-at 𝓤 H A W q network-proofs-Nodes·.the-type network-proofs-Nodes-Laws·.the-laws 3 52 Path.refl Path.refl (Row.hd 0 (Row.tl (Row.tl (Row.tl (Row.tl (Row.tl bs))))), 0) (u .1 .1 .1 .1 .1 .0) (network-proofs-Nodes·.struct .as-values (u .1 .1 .1 .1 .1 .0)) Path.refl)) (TReads.room-gone 𝓤 H A q6) (Yields.makes-mem 𝓤 H A W (λ ρ. Unit) (DArray.Array (Declared.row fraction-proofs-Fraction·.the-type) 33) Path.refl (ARows.arrF (Declared.row fraction-proofs-Fraction·.the-type) 33 0) (λ x. x) λ ρ told. Whole.arr-mem 𝓤 H A W (Declared.row fraction-proofs-Fraction·.the-type) 33 tt ρ) Path.refl Path.refl Path.refl) d25
 
           d27 : Typed.Typed 𝓤 H A 𝓣 E G43 b34 Δ5 (at27 bs)
-          d27 = Typed.s-seq 𝓤 H A W 𝓣 E G43 G44 b22 b33 Δ5 (Typed.both (s39 bs)) (at26 bs) (Plain.t-call-plain 𝓤 H A W 𝓣 1 ps·1 r·1 (claims· .2) (claims· .3) "search::scan::gather" (known .1) E (λ pos β. β) G43 (record { pos = 2; ty = Syntax.tyRef (Syntax.named 0) Syntax.imm Rec.named; ref = λ x. x; }, (Num.vAt 7 λ x. x, (Num.vAt 8 λ x. x, tt))) 9 (L._∷_ 0 L.[]) (Call.sub-id 𝓤 H A W (G43 .slots)) (ShrSlice.spares-sslice 𝓤 H A W Rec.row q24 0, Shared.reads-sslice 𝓤 H A W Rec.row q24 0, Path.refl, ((Scalar.reads-sc 𝓤 H A W (Row.sInt Syntax.w64), Path.refl), ((Scalar.reads-sc 𝓤 H A W (Row.sInt Syntax.w64), Path.refl), tt))) (TReads.room-gone 𝓤 H A (Syntax.tyStruct (L._∷_ 115 (L._∷_ 116 (L._∷_ 101 (L._∷_ 112 (L._∷_ 58 (L._∷_ 58 (L._∷_ 65 (L._∷_ 114 (L._∷_ 111 (L._∷_ 117 (L._∷_ 110 (L._∷_ 100 L.[])))))))))))) (Syntax.tcons q9 (Syntax.tcons q9 (Syntax.tcons q9 (Syntax.tcons q9 Syntax.tnil)))))) (tt, tt) Path.refl) d26
+          d27 = Typed.s-seq 𝓤 H A W 𝓣 E G43 G44 b22 b33 Δ5 (Typed.both (s39 bs)) (at26 bs) (Plain.t-call-plain 𝓤 H A W 𝓣 1 ps·1 r·1 (claims· .2) (claims· .3) "search::scan::gather" (known .1) E (λ pos β. β) G43 (record { pos = 2; ty = Syntax.tyRef (Syntax.named 0) Syntax.imm Rec.named; ref = λ x. x }, (Num.vAt 7 λ x. x, (Num.vAt 8 λ x. x, tt))) 9 (L._∷_ 0 L.[]) (Call.sub-id 𝓤 H A W (G43 .slots)) (ShrSlice.spares-sslice 𝓤 H A W Rec.row q24 0, Shared.reads-sslice 𝓤 H A W Rec.row q24 0, Path.refl, ((Scalar.reads-sc 𝓤 H A W (Row.sInt Syntax.w64), Path.refl), ((Scalar.reads-sc 𝓤 H A W (Row.sInt Syntax.w64), Path.refl), tt))) (TReads.room-gone 𝓤 H A (Syntax.tyStruct (L._∷_ 115 (L._∷_ 116 (L._∷_ 101 (L._∷_ 112 (L._∷_ 58 (L._∷_ 58 (L._∷_ 65 (L._∷_ 114 (L._∷_ 111 (L._∷_ 117 (L._∷_ 110 (L._∷_ 100 L.[])))))))))))) (Syntax.tcons q9 (Syntax.tcons q9 (Syntax.tcons q9 (Syntax.tcons q9 Syntax.tnil)))))) (tt, tt) Path.refl) d26
 
           d28 : Typed.Typed 𝓤 H A 𝓣 E G42 b34 Δ5 (at28 bs)
           d28 = Typed.g-pre 𝓤 H A W 𝓣 E G42 G43 b34 Δ5 (Typed.pass T42 T43 (s38 bs)) (at27 bs) (Scalar.g-room 𝓤 H A W E G42 20 Syntax.tyBool (Scalar.room-sc 𝓤 H A W Row.sBool)) d27
@@ -1620,7 +1620,7 @@ module _ (claims· : Claims) where
           d36 = Typed.g-pre 𝓤 H A W 𝓣 E G38 G39 b37 Δ5 (Typed.pass T38 T39 (s34 bs)) (at35 bs) (Scalar.g-room 𝓤 H A W E G38 16 (Syntax.tyInt Syntax.w64) (Scalar.room-sc 𝓤 H A W (Row.sInt Syntax.w64))) d35
 
           d37 : Typed.Typed 𝓤 H A 𝓣 E G37 b38 Δ5 (at37 bs)
-          d37 = Typed.s-seq 𝓤 H A W 𝓣 E G37 G38 b20 b37 Δ5 (Typed.both (s33 bs)) (at36 bs) (WayStmt.t-way-copy-out 𝓤 H A W E 𝓣 (Declared.row fraction-proofs-Fraction·.the-type) Path.refl (Copies.cStruct fraction-proofs-Fraction·.the-type fraction-proofs-Fraction-Laws·.the-laws fraction-proofs-Fraction-Laws·.the-copy .copy 𝓤 H A W) (λ ρ. Unit) G37 (Row.out 22 (Row.out 5 (G37 .locals))) (λ u. Row.drop 22 (Row.out 5 (G37 .locals)) (Row.drop 5 (G37 .locals) u)) (G37 .slots) 22 (λ t. L._∷_ (Syntax.deref q8) t) q8 q8 23 q19 (λ x. x) (λ u. ListN.getD (At.getAt (network-proofs-Nodes·.the-type .parts) 3 (network-proofs-Nodes·.struct .as-values (u .1 .1 .1 .1 .1 .0))) (u .1 .1 .1 .1 .1 .1 .1 .0) (fraction-proofs-Fraction·.struct .make (IntN.pos 0, (0, tt)) tt)) (λ u. (Row.hd 0 (Row.tl (Row.tl (Row.tl (Row.tl (Row.tl bs))))), Shared.bySize 8 (u .1 .1 .1 .1 .1 .1 .1 .0) (Nat._+_ Nat.zero 52))) (λ T′. record { locals = Row.setRow 5 q21 (Row.setRow 22 (22, Rows.sc-here Row.sPtr) T′); slots = G37 .slots; }) (λ u T′ m′. Row.set 5 q21 (u .1 .1 .1 .1 .1 .0) (Row.setRow 22 (22, Rows.sc-here Row.sPtr) T′) (Row.set 22 (22, Rows.sc-here Row.sPtr) (u .1 .1 .1 .1 .1 .1 .1 .1 .1 .1 .1 .1 .1 .1 .1 .1 .1 .1 .1 .1 .1 .1 .0) T′ m′)) (λ u. Path._≡_ (u .1 .1 .1 .1 .1 .1 .1 .1 .1 .1 .1 .1 .1 .1 .1 .1 .1 .1 .1 .1 .1 .1 .0 .0) (Row.hd 0 (Row.tl (Row.tl (Row.tl (Row.tl (Row.tl bs)))))) × Path._≡_ (u .1 .1 .1 .1 .1 .1 .1 .1 .1 .1 .1 .1 .1 .1 .1 .1 .1 .1 .1 .1 .1 .1 .0 .1) (Shared.bySize 8 (u .1 .1 .1 .1 .1 .1 .1 .0) (Nat._+_ Nat.zero 52)) × Asked.InArray G37 (λ u. u .1 .1 .1 .1 .1 .1 .1 .0) 33 u) (λ x. Unit) (Own.told-none 𝓤 H A (G37 .slots)) (DerefMove.learns-nothing 𝓤 H A (Declared.row fraction-proofs-Fraction·.the-type)) (λ ρ told u asked. RuleWay.w-look 𝓤 H A W E (ItemWay.w-item-look 𝓤 H A W E (Declared.row network-proofs-Nodes·.the-type) (Declared.row fraction-proofs-Fraction·.the-type) 33 tt q6 q8 3 52 (λ x. At.getAt (network-proofs-Nodes·.the-type .parts) 3 (network-proofs-Nodes·.struct .as-values x)) (λ x ys. x) (Shared.bySize 8) (λ i o. Elements.at-mul o 8 i) G37 ρ u (G37 .slots) 5 22 (u .1 .1 .1 .1 .1 .1 .1 .0) (fraction-proofs-Fraction·.struct .make (IntN.pos 0, (0, tt)) tt) (λ x. x) (λ x. x) (TReads.as-is 𝓤 H A q23) (TReads.as-is 𝓤 H A (Rows.sc-here Row.sPtr)) Path.refl (asked .0) (asked .1) (asked .2) Path.refl λ a. Items.cut-records 𝓤 H A TreeShare.fullShare (Declared.row network-proofs-Nodes·.the-type) fraction-proofs-Fraction·.the-type 33 52 (u .1 .1 .1 .1 .1 .0) (u .1 .1 .1 .1 .1 .0) (At.getAt (network-proofs-Nodes·.the-type .parts) 3 (network-proofs-Nodes·.struct .as-values (u .1 .1 .1 .1 .1 .0))) (At.getAt (network-proofs-Nodes·.the-type .parts) 3 (network-proofs-Nodes·.struct .as-values (u .1 .1 .1 .1 .1 .0))) a (Behind.look-at 𝓤 H A W TreeShare.fullShare network-proofs-Nodes·.the-type network-proofs-Nodes-Laws·.the-laws 3 52 Path.refl Path.refl a (u .1 .1 .1 .1 .1 .0) (network-proofs-Nodes·.struct .as-values (u .1 .1 .1 .1 .1 .0)) Path.refl))) (TReads.room-gone 𝓤 H A q8) (Yields.makes-mem 𝓤 H A W (λ ρ. Unit) (Declared.row fraction-proofs-Fraction·.the-type) Path.refl q19 (λ x. x) λ ρ told. Local.whole-mem 𝓤 H A W (Declared.row fraction-proofs-Fraction·.the-type) ρ) Path.refl Path.refl Path.refl) d36
+          d37 = Typed.s-seq 𝓤 H A W 𝓣 E G37 G38 b20 b37 Δ5 (Typed.both (s33 bs)) (at36 bs) (WayStmt.t-way-copy-out 𝓤 H A W E 𝓣 (Declared.row fraction-proofs-Fraction·.the-type) Path.refl (Copies.cStruct fraction-proofs-Fraction·.the-type fraction-proofs-Fraction-Laws·.the-laws fraction-proofs-Fraction-Laws·.the-copy .copy 𝓤 H A W) (λ ρ. Unit) G37 (Row.out 22 (Row.out 5 (G37 .locals))) (λ u. Row.drop 22 (Row.out 5 (G37 .locals)) (Row.drop 5 (G37 .locals) u)) (G37 .slots) 22 (λ t. L._∷_ (Syntax.deref q8) t) q8 q8 23 q19 (λ x. x) (λ u. ListN.getD (At.getAt (network-proofs-Nodes·.the-type .parts) 3 (network-proofs-Nodes·.struct .as-values (u .1 .1 .1 .1 .1 .0))) (u .1 .1 .1 .1 .1 .1 .1 .0) (fraction-proofs-Fraction·.struct .make (IntN.pos 0, (0, tt)) tt)) (λ u. (Row.hd 0 (Row.tl (Row.tl (Row.tl (Row.tl (Row.tl bs))))), Shared.bySize 8 (u .1 .1 .1 .1 .1 .1 .1 .0) (Nat._+_ Nat.zero 52))) (λ T′. record { locals = Row.setRow 5 q21 (Row.setRow 22 (22, Rows.sc-here Row.sPtr) T′); slots = G37 .slots }) (λ u T′ m′. Row.set 5 q21 (u .1 .1 .1 .1 .1 .0) (Row.setRow 22 (22, Rows.sc-here Row.sPtr) T′) (Row.set 22 (22, Rows.sc-here Row.sPtr) (u .1 .1 .1 .1 .1 .1 .1 .1 .1 .1 .1 .1 .1 .1 .1 .1 .1 .1 .1 .1 .1 .1 .0) T′ m′)) (λ u. Path._≡_ (u .1 .1 .1 .1 .1 .1 .1 .1 .1 .1 .1 .1 .1 .1 .1 .1 .1 .1 .1 .1 .1 .1 .0 .0) (Row.hd 0 (Row.tl (Row.tl (Row.tl (Row.tl (Row.tl bs)))))) × Path._≡_ (u .1 .1 .1 .1 .1 .1 .1 .1 .1 .1 .1 .1 .1 .1 .1 .1 .1 .1 .1 .1 .1 .1 .0 .1) (Shared.bySize 8 (u .1 .1 .1 .1 .1 .1 .1 .0) (Nat._+_ Nat.zero 52)) × Asked.InArray G37 (λ u. u .1 .1 .1 .1 .1 .1 .1 .0) 33 u) (λ x. Unit) (Own.told-none 𝓤 H A (G37 .slots)) (DerefMove.learns-nothing 𝓤 H A (Declared.row fraction-proofs-Fraction·.the-type)) (λ ρ told u asked. RuleWay.w-look 𝓤 H A W E (ItemWay.w-item-look 𝓤 H A W E (Declared.row network-proofs-Nodes·.the-type) (Declared.row fraction-proofs-Fraction·.the-type) 33 tt q6 q8 3 52 (λ x. At.getAt (network-proofs-Nodes·.the-type .parts) 3 (network-proofs-Nodes·.struct .as-values x)) (λ x ys. x) (Shared.bySize 8) (λ i o. Elements.at-mul o 8 i) G37 ρ u (G37 .slots) 5 22 (u .1 .1 .1 .1 .1 .1 .1 .0) (fraction-proofs-Fraction·.struct .make (IntN.pos 0, (0, tt)) tt) (λ x. x) (λ x. x) (TReads.as-is 𝓤 H A q23) (TReads.as-is 𝓤 H A (Rows.sc-here Row.sPtr)) Path.refl (asked .0) (asked .1) (asked .2) Path.refl λ a. Items.cut-records 𝓤 H A TreeShare.fullShare (Declared.row network-proofs-Nodes·.the-type) fraction-proofs-Fraction·.the-type 33 52 (u .1 .1 .1 .1 .1 .0) (u .1 .1 .1 .1 .1 .0) (At.getAt (network-proofs-Nodes·.the-type .parts) 3 (network-proofs-Nodes·.struct .as-values (u .1 .1 .1 .1 .1 .0))) (At.getAt (network-proofs-Nodes·.the-type .parts) 3 (network-proofs-Nodes·.struct .as-values (u .1 .1 .1 .1 .1 .0))) a (Behind.look-at 𝓤 H A W TreeShare.fullShare network-proofs-Nodes·.the-type network-proofs-Nodes-Laws·.the-laws 3 52 Path.refl Path.refl a (u .1 .1 .1 .1 .1 .0) (network-proofs-Nodes·.struct .as-values (u .1 .1 .1 .1 .1 .0)) Path.refl))) (TReads.room-gone 𝓤 H A q8) (Yields.makes-mem 𝓤 H A W (λ ρ. Unit) (Declared.row fraction-proofs-Fraction·.the-type) Path.refl q19 (λ x. x) λ ρ told. Local.whole-mem 𝓤 H A W (Declared.row fraction-proofs-Fraction·.the-type) ρ) Path.refl Path.refl Path.refl) d36
 
           d38 : Typed.Typed 𝓤 H A 𝓣 E G36 b38 Δ5 (at38 bs)
           d38 = Typed.g-pre 𝓤 H A W 𝓣 E G36 G37 b38 Δ5 (Typed.pass T36 T37 (s32 bs)) (at37 bs) (Scalar.g-room 𝓤 H A W E G36 21 Syntax.tyPtr (Scalar.room-sc 𝓤 H A W Row.sPtr)) d37
@@ -1647,7 +1647,7 @@ module _ (claims· : Claims) where
           d45 = Typed.g-pre 𝓤 H A W 𝓣 E G29 G30 b42 Δ5 (Typed.pass T29 T30 (s25 bs)) (at44 bs) (Scalar.g-room 𝓤 H A W E G29 16 (Syntax.tyInt Syntax.w64) (Scalar.room-sc 𝓤 H A W (Row.sInt Syntax.w64))) d44
 
           d46 : Typed.Typed 𝓤 H A 𝓣 E G28 b43 Δ5 (at46 bs)
-          d46 = Typed.s-seq 𝓤 H A W 𝓣 E G28 G29 b15 b42 Δ5 (Typed.both (s24 bs)) (at45 bs) (WayStmt.t-way-copy-out 𝓤 H A W E 𝓣 (Referent.rtF (Referent.fInt Syntax.w64)) Path.refl (Copies.cRf (Referent.fInt Syntax.w64) .copy 𝓤 H A W) (λ ρ. Unit) G28 (Row.out 18 (Row.out 6 (G28 .locals))) (λ u. Row.drop 18 (Row.out 6 (G28 .locals)) (Row.drop 6 (G28 .locals) u)) (G28 .slots) 18 (λ t. L._∷_ (Syntax.deref (Syntax.tyInt Syntax.w64)) t) (Syntax.tyInt Syntax.w64) (Syntax.tyInt Syntax.w64) 19 q35 (λ x. x) (λ u. ListN.getD (At.getAt (network-proofs-Degrees·.the-type .parts) 0 (network-proofs-Degrees·.struct .as-values (u .1 .1 .1 .1 .1 .1 .0))) (u .1 .1 .1 .1 .1 .1 .1 .0) 0) (λ u. (Row.hd 0 (Row.tl (Row.tl (Row.tl (Row.tl (Row.tl (Row.tl bs)))))), Shared.bySize 8 (u .1 .1 .1 .1 .1 .1 .1 .0) (Nat._+_ Nat.zero 0))) (λ T′. record { locals = Row.setRow 6 q18 (Row.setRow 18 (18, Rows.sc-here Row.sPtr) T′); slots = G28 .slots; }) (λ u T′ m′. Row.set 6 q18 (u .1 .1 .1 .1 .1 .1 .0) (Row.setRow 18 (18, Rows.sc-here Row.sPtr) T′) (Row.set 18 (18, Rows.sc-here Row.sPtr) (u .1 .1 .1 .1 .1 .1 .1 .1 .1 .1 .1 .1 .1 .1 .1 .1 .1 .1 .0) T′ m′)) (λ u. Path._≡_ (u .1 .1 .1 .1 .1 .1 .1 .1 .1 .1 .1 .1 .1 .1 .1 .1 .1 .1 .0 .0) (Row.hd 0 (Row.tl (Row.tl (Row.tl (Row.tl (Row.tl (Row.tl bs))))))) × Path._≡_ (u .1 .1 .1 .1 .1 .1 .1 .1 .1 .1 .1 .1 .1 .1 .1 .1 .1 .1 .0 .1) (Shared.bySize 8 (u .1 .1 .1 .1 .1 .1 .1 .0) (Nat._+_ Nat.zero 0)) × Asked.InArray G28 (λ u. u .1 .1 .1 .1 .1 .1 .1 .0) 33 u) (λ x. Unit) (Own.told-none 𝓤 H A (G28 .slots)) (DerefMove.learns-nothing 𝓤 H A (Referent.rtF (Referent.fInt Syntax.w64))) (λ ρ told u asked. RuleWay.w-look 𝓤 H A W E (ItemWay.w-item-look 𝓤 H A W E (Declared.row network-proofs-Degrees·.the-type) (Referent.rtF (Referent.fInt Syntax.w64)) 33 tt q25 (Syntax.tyInt Syntax.w64) 0 0 (λ x. At.getAt (network-proofs-Degrees·.the-type .parts) 0 (network-proofs-Degrees·.struct .as-values x)) (λ x ys. x) (Shared.bySize 8) (λ i o. Elements.at-mul o 8 i) G28 ρ u (G28 .slots) 6 18 (u .1 .1 .1 .1 .1 .1 .1 .0) 0 (λ x. x) (λ x. x) (TReads.as-is 𝓤 H A q22) (TReads.as-is 𝓤 H A (Rows.sc-here Row.sPtr)) Path.refl (asked .0) (asked .1) (asked .2) Path.refl λ a. Items.cut-array 𝓤 H A TreeShare.fullShare (Declared.row network-proofs-Degrees·.the-type) (Referent.rtF (Referent.fInt Syntax.w64)) 33 0 (u .1 .1 .1 .1 .1 .1 .0) (u .1 .1 .1 .1 .1 .1 .0) (At.getAt (network-proofs-Degrees·.the-type .parts) 0 (network-proofs-Degrees·.struct .as-values (u .1 .1 .1 .1 .1 .1 .0))) (At.getAt (network-proofs-Degrees·.the-type .parts) 0 (network-proofs-Degrees·.struct .as-values (u .1 .1 .1 .1 .1 .1 .0))) a (Behind.look-at 𝓤 H A W TreeShare.fullShare network-proofs-Degrees·.the-type network-proofs-Degrees-Laws·.the-laws 0 0 Path.refl Path.refl a (u .1 .1 .1 .1 .1 .1 .0) (network-proofs-Degrees·.struct .as-values (u .1 .1 .1 .1 .1 .1 .0)) Path.refl))) (TReads.room-gone 𝓤 H A (Syntax.tyInt Syntax.w64)) (Yields.makes-mem 𝓤 H A W (λ ρ. Unit) (Referent.rtF (Referent.fInt Syntax.w64)) Path.refl q35 (λ x. x) λ ρ told. Local.sc-mem 𝓤 H A W (Referent.fInt Syntax.w64) ρ) Path.refl Path.refl Path.refl) d45
+          d46 = Typed.s-seq 𝓤 H A W 𝓣 E G28 G29 b15 b42 Δ5 (Typed.both (s24 bs)) (at45 bs) (WayStmt.t-way-copy-out 𝓤 H A W E 𝓣 (Referent.rtF (Referent.fInt Syntax.w64)) Path.refl (Copies.cRf (Referent.fInt Syntax.w64) .copy 𝓤 H A W) (λ ρ. Unit) G28 (Row.out 18 (Row.out 6 (G28 .locals))) (λ u. Row.drop 18 (Row.out 6 (G28 .locals)) (Row.drop 6 (G28 .locals) u)) (G28 .slots) 18 (λ t. L._∷_ (Syntax.deref (Syntax.tyInt Syntax.w64)) t) (Syntax.tyInt Syntax.w64) (Syntax.tyInt Syntax.w64) 19 q35 (λ x. x) (λ u. ListN.getD (At.getAt (network-proofs-Degrees·.the-type .parts) 0 (network-proofs-Degrees·.struct .as-values (u .1 .1 .1 .1 .1 .1 .0))) (u .1 .1 .1 .1 .1 .1 .1 .0) 0) (λ u. (Row.hd 0 (Row.tl (Row.tl (Row.tl (Row.tl (Row.tl (Row.tl bs)))))), Shared.bySize 8 (u .1 .1 .1 .1 .1 .1 .1 .0) (Nat._+_ Nat.zero 0))) (λ T′. record { locals = Row.setRow 6 q18 (Row.setRow 18 (18, Rows.sc-here Row.sPtr) T′); slots = G28 .slots }) (λ u T′ m′. Row.set 6 q18 (u .1 .1 .1 .1 .1 .1 .0) (Row.setRow 18 (18, Rows.sc-here Row.sPtr) T′) (Row.set 18 (18, Rows.sc-here Row.sPtr) (u .1 .1 .1 .1 .1 .1 .1 .1 .1 .1 .1 .1 .1 .1 .1 .1 .1 .1 .0) T′ m′)) (λ u. Path._≡_ (u .1 .1 .1 .1 .1 .1 .1 .1 .1 .1 .1 .1 .1 .1 .1 .1 .1 .1 .0 .0) (Row.hd 0 (Row.tl (Row.tl (Row.tl (Row.tl (Row.tl (Row.tl bs))))))) × Path._≡_ (u .1 .1 .1 .1 .1 .1 .1 .1 .1 .1 .1 .1 .1 .1 .1 .1 .1 .1 .0 .1) (Shared.bySize 8 (u .1 .1 .1 .1 .1 .1 .1 .0) (Nat._+_ Nat.zero 0)) × Asked.InArray G28 (λ u. u .1 .1 .1 .1 .1 .1 .1 .0) 33 u) (λ x. Unit) (Own.told-none 𝓤 H A (G28 .slots)) (DerefMove.learns-nothing 𝓤 H A (Referent.rtF (Referent.fInt Syntax.w64))) (λ ρ told u asked. RuleWay.w-look 𝓤 H A W E (ItemWay.w-item-look 𝓤 H A W E (Declared.row network-proofs-Degrees·.the-type) (Referent.rtF (Referent.fInt Syntax.w64)) 33 tt q25 (Syntax.tyInt Syntax.w64) 0 0 (λ x. At.getAt (network-proofs-Degrees·.the-type .parts) 0 (network-proofs-Degrees·.struct .as-values x)) (λ x ys. x) (Shared.bySize 8) (λ i o. Elements.at-mul o 8 i) G28 ρ u (G28 .slots) 6 18 (u .1 .1 .1 .1 .1 .1 .1 .0) 0 (λ x. x) (λ x. x) (TReads.as-is 𝓤 H A q22) (TReads.as-is 𝓤 H A (Rows.sc-here Row.sPtr)) Path.refl (asked .0) (asked .1) (asked .2) Path.refl λ a. Items.cut-array 𝓤 H A TreeShare.fullShare (Declared.row network-proofs-Degrees·.the-type) (Referent.rtF (Referent.fInt Syntax.w64)) 33 0 (u .1 .1 .1 .1 .1 .1 .0) (u .1 .1 .1 .1 .1 .1 .0) (At.getAt (network-proofs-Degrees·.the-type .parts) 0 (network-proofs-Degrees·.struct .as-values (u .1 .1 .1 .1 .1 .1 .0))) (At.getAt (network-proofs-Degrees·.the-type .parts) 0 (network-proofs-Degrees·.struct .as-values (u .1 .1 .1 .1 .1 .1 .0))) a (Behind.look-at 𝓤 H A W TreeShare.fullShare network-proofs-Degrees·.the-type network-proofs-Degrees-Laws·.the-laws 0 0 Path.refl Path.refl a (u .1 .1 .1 .1 .1 .1 .0) (network-proofs-Degrees·.struct .as-values (u .1 .1 .1 .1 .1 .1 .0)) Path.refl))) (TReads.room-gone 𝓤 H A (Syntax.tyInt Syntax.w64)) (Yields.makes-mem 𝓤 H A W (λ ρ. Unit) (Referent.rtF (Referent.fInt Syntax.w64)) Path.refl q35 (λ x. x) λ ρ told. Local.sc-mem 𝓤 H A W (Referent.fInt Syntax.w64) ρ) Path.refl Path.refl Path.refl) d45
 
           d47 : Typed.Typed 𝓤 H A 𝓣 E G27 b43 Δ5 (at47 bs)
           d47 = Typed.g-pre 𝓤 H A W 𝓣 E G27 G28 b43 Δ5 (Typed.pass T27 T28 (s23 bs)) (at46 bs) (Scalar.g-room 𝓤 H A W E G27 17 Syntax.tyPtr (Scalar.room-sc 𝓤 H A W Row.sPtr)) d46
@@ -1690,7 +1690,7 @@ module _ (claims· : Claims) where
           d59 = Typed.g-pre 𝓤 H A W 𝓣 E G19 G20 b51 Δ3 (Typed.pass T19 T20 (s16 bs)) (at58 bs) (Scalar.g-room 𝓤 H A W E G19 14 Syntax.tyPtr (Scalar.room-sc 𝓤 H A W Row.sPtr)) d58
 
           d60 : Typed.Typed 𝓤 H A 𝓣 E G18 b52 Δ3 (at60 bs)
-          d60 = Typed.s-seq 𝓤 H A W 𝓣 E G18 G19 b10 b51 Δ3 (Typed.both (s15 bs)) (at59 bs) (WayStmt.t-way-copy-out 𝓤 H A W E 𝓣 (Referent.rtF Referent.fBool) Path.refl (Copies.cRf Referent.fBool .copy 𝓤 H A W) (λ ρ. Unit) G18 (Row.out 14 (Row.out 5 (G18 .locals))) (λ u. Row.drop 14 (Row.out 5 (G18 .locals)) (Row.drop 5 (G18 .locals) u)) (G18 .slots) 14 (λ t. L._∷_ (Syntax.deref Syntax.tyBool) t) Syntax.tyBool Syntax.tyBool 12 (Rows.sc-here Row.sBool) (λ x. x) (λ u. ListN.getD (At.getAt (network-proofs-Nodes·.the-type .parts) 2 (network-proofs-Nodes·.struct .as-values (u .1 .1 .1 .1 .1 .0))) (u .1 .1 .1 .1 .1 .1 .1 .0) Bool.false) (λ u. (Row.hd 0 (Row.tl (Row.tl (Row.tl (Row.tl (Row.tl bs))))), Shared.byByte (u .1 .1 .1 .1 .1 .1 .1 .0) (Nat._+_ Nat.zero 16))) (λ T′. record { locals = Row.setRow 5 q21 (Row.setRow 14 (14, Rows.sc-here Row.sPtr) T′); slots = G18 .slots; }) (λ u T′ m′. Row.set 5 q21 (u .1 .1 .1 .1 .1 .0) (Row.setRow 14 (14, Rows.sc-here Row.sPtr) T′) (Row.set 14 (14, Rows.sc-here Row.sPtr) (u .1 .1 .1 .1 .1 .1 .1 .1 .1 .1 .1 .1 .1 .1 .0) T′ m′)) (λ u. Path._≡_ (u .1 .1 .1 .1 .1 .1 .1 .1 .1 .1 .1 .1 .1 .1 .0 .0) (Row.hd 0 (Row.tl (Row.tl (Row.tl (Row.tl (Row.tl bs)))))) × Path._≡_ (u .1 .1 .1 .1 .1 .1 .1 .1 .1 .1 .1 .1 .1 .1 .0 .1) (Shared.byByte (u .1 .1 .1 .1 .1 .1 .1 .0) (Nat._+_ Nat.zero 16)) × Asked.InArray G18 (λ u. u .1 .1 .1 .1 .1 .1 .1 .0) 33 u) (λ x. Unit) (Own.told-none 𝓤 H A (G18 .slots)) (DerefMove.learns-nothing 𝓤 H A (Referent.rtF Referent.fBool)) (λ ρ told u asked. RuleWay.w-look 𝓤 H A W E (ItemWay.w-item-look 𝓤 H A W E (Declared.row network-proofs-Nodes·.the-type) (Referent.rtF Referent.fBool) 33 tt q36 Syntax.tyBool 2 16 (λ x. At.getAt (network-proofs-Nodes·.the-type .parts) 2 (network-proofs-Nodes·.struct .as-values x)) (λ x ys. x) Shared.byByte (λ i o. Elements.at-byte o i) G18 ρ u (G18 .slots) 5 14 (u .1 .1 .1 .1 .1 .1 .1 .0) Bool.false (λ x. x) (λ x. x) (TReads.as-is 𝓤 H A q23) (TReads.as-is 𝓤 H A (Rows.sc-here Row.sPtr)) Path.refl (asked .0) (asked .1) (asked .2) Path.refl λ a. Items.cut-array 𝓤 H A TreeShare.fullShare (Declared.row network-proofs-Nodes·.the-type) (Referent.rtF Referent.fBool) 33 16 (u .1 .1 .1 .1 .1 .0) (u .1 .1 .1 .1 .1 .0) (At.getAt (network-proofs-Nodes·.the-type .parts) 2 (network-proofs-Nodes·.struct .as-values (u .1 .1 .1 .1 .1 .0))) (At.getAt (network-proofs-Nodes·.the-type .parts) 2 (network-proofs-Nodes·.struct .as-values (u .1 .1 .1 .1 .1 .0))) a (Behind.look-at 𝓤 H A W TreeShare.fullShare network-proofs-Nodes·.the-type network-proofs-Nodes-Laws·.the-laws 2 16 Path.refl Path.refl a (u .1 .1 .1 .1 .1 .0) (network-proofs-Nodes·.struct .as-values (u .1 .1 .1 .1 .1 .0)) Path.refl))) (TReads.room-gone 𝓤 H A Syntax.tyBool) (Yields.makes-mem 𝓤 H A W (λ ρ. Unit) (Referent.rtF Referent.fBool) Path.refl (Rows.sc-here Row.sBool) (λ x. x) λ ρ told. Local.sc-mem 𝓤 H A W Referent.fBool ρ) Path.refl Path.refl Path.refl) d59
+          d60 = Typed.s-seq 𝓤 H A W 𝓣 E G18 G19 b10 b51 Δ3 (Typed.both (s15 bs)) (at59 bs) (WayStmt.t-way-copy-out 𝓤 H A W E 𝓣 (Referent.rtF Referent.fBool) Path.refl (Copies.cRf Referent.fBool .copy 𝓤 H A W) (λ ρ. Unit) G18 (Row.out 14 (Row.out 5 (G18 .locals))) (λ u. Row.drop 14 (Row.out 5 (G18 .locals)) (Row.drop 5 (G18 .locals) u)) (G18 .slots) 14 (λ t. L._∷_ (Syntax.deref Syntax.tyBool) t) Syntax.tyBool Syntax.tyBool 12 (Rows.sc-here Row.sBool) (λ x. x) (λ u. ListN.getD (At.getAt (network-proofs-Nodes·.the-type .parts) 2 (network-proofs-Nodes·.struct .as-values (u .1 .1 .1 .1 .1 .0))) (u .1 .1 .1 .1 .1 .1 .1 .0) Bool.false) (λ u. (Row.hd 0 (Row.tl (Row.tl (Row.tl (Row.tl (Row.tl bs))))), Shared.byByte (u .1 .1 .1 .1 .1 .1 .1 .0) (Nat._+_ Nat.zero 16))) (λ T′. record { locals = Row.setRow 5 q21 (Row.setRow 14 (14, Rows.sc-here Row.sPtr) T′); slots = G18 .slots }) (λ u T′ m′. Row.set 5 q21 (u .1 .1 .1 .1 .1 .0) (Row.setRow 14 (14, Rows.sc-here Row.sPtr) T′) (Row.set 14 (14, Rows.sc-here Row.sPtr) (u .1 .1 .1 .1 .1 .1 .1 .1 .1 .1 .1 .1 .1 .1 .0) T′ m′)) (λ u. Path._≡_ (u .1 .1 .1 .1 .1 .1 .1 .1 .1 .1 .1 .1 .1 .1 .0 .0) (Row.hd 0 (Row.tl (Row.tl (Row.tl (Row.tl (Row.tl bs)))))) × Path._≡_ (u .1 .1 .1 .1 .1 .1 .1 .1 .1 .1 .1 .1 .1 .1 .0 .1) (Shared.byByte (u .1 .1 .1 .1 .1 .1 .1 .0) (Nat._+_ Nat.zero 16)) × Asked.InArray G18 (λ u. u .1 .1 .1 .1 .1 .1 .1 .0) 33 u) (λ x. Unit) (Own.told-none 𝓤 H A (G18 .slots)) (DerefMove.learns-nothing 𝓤 H A (Referent.rtF Referent.fBool)) (λ ρ told u asked. RuleWay.w-look 𝓤 H A W E (ItemWay.w-item-look 𝓤 H A W E (Declared.row network-proofs-Nodes·.the-type) (Referent.rtF Referent.fBool) 33 tt q36 Syntax.tyBool 2 16 (λ x. At.getAt (network-proofs-Nodes·.the-type .parts) 2 (network-proofs-Nodes·.struct .as-values x)) (λ x ys. x) Shared.byByte (λ i o. Elements.at-byte o i) G18 ρ u (G18 .slots) 5 14 (u .1 .1 .1 .1 .1 .1 .1 .0) Bool.false (λ x. x) (λ x. x) (TReads.as-is 𝓤 H A q23) (TReads.as-is 𝓤 H A (Rows.sc-here Row.sPtr)) Path.refl (asked .0) (asked .1) (asked .2) Path.refl λ a. Items.cut-array 𝓤 H A TreeShare.fullShare (Declared.row network-proofs-Nodes·.the-type) (Referent.rtF Referent.fBool) 33 16 (u .1 .1 .1 .1 .1 .0) (u .1 .1 .1 .1 .1 .0) (At.getAt (network-proofs-Nodes·.the-type .parts) 2 (network-proofs-Nodes·.struct .as-values (u .1 .1 .1 .1 .1 .0))) (At.getAt (network-proofs-Nodes·.the-type .parts) 2 (network-proofs-Nodes·.struct .as-values (u .1 .1 .1 .1 .1 .0))) a (Behind.look-at 𝓤 H A W TreeShare.fullShare network-proofs-Nodes·.the-type network-proofs-Nodes-Laws·.the-laws 2 16 Path.refl Path.refl a (u .1 .1 .1 .1 .1 .0) (network-proofs-Nodes·.struct .as-values (u .1 .1 .1 .1 .1 .0)) Path.refl))) (TReads.room-gone 𝓤 H A Syntax.tyBool) (Yields.makes-mem 𝓤 H A W (λ ρ. Unit) (Referent.rtF Referent.fBool) Path.refl (Rows.sc-here Row.sBool) (λ x. x) λ ρ told. Local.sc-mem 𝓤 H A W Referent.fBool ρ) Path.refl Path.refl Path.refl) d59
 
           d61 : Typed.Typed 𝓤 H A 𝓣 E G17 b52 Δ3 (at61 bs)
           d61 = Typed.g-pre 𝓤 H A W 𝓣 E G17 G18 b52 Δ3 (Typed.pass T17 T18 (s14 bs)) (at60 bs) (Scalar.g-room 𝓤 H A W E G17 13 Syntax.tyPtr (Scalar.room-sc 𝓤 H A W Row.sPtr)) d60
@@ -1751,9 +1751,9 @@ module _ (claims· : Claims) where
 
       module _ (κs : Lifetimes.Lfts 1) where
         pub record Args : Type 0 where
-          pub t1 : FnKinds.Den {n = 1} κs (Value.pVal record { ty = Declared.row network-proofs-Nodes·.the-type; one = Path.refl; val = StructLaws.val network-proofs-Nodes·.the-type network-proofs-Nodes-Laws·.the-laws; tells = StructLaws.tells network-proofs-Nodes·.the-type network-proofs-Nodes-Laws·.the-laws; still = StructLaws.still network-proofs-Nodes·.the-type network-proofs-Nodes-Laws·.the-copy Exit.yes; row = Rows.whole (Declared.row network-proofs-Nodes·.the-type); rd = λ x. x; mk = λ x. x; } λ M 𝓤 H A W. record { copies = StructLaws.copy network-proofs-Nodes·.the-type network-proofs-Nodes-Laws·.the-copy 𝓤 H A W; lawful = StructLaws.lawful network-proofs-Nodes·.the-type network-proofs-Nodes-Laws·.the-laws 𝓤 H A W; makes = StructLaws.makes network-proofs-Nodes·.the-type network-proofs-Nodes-Laws·.the-plain 𝓤 H A; in-mem = Local.mem-whole 𝓤 H A W (Declared.row network-proofs-Nodes·.the-type); of-mem = Local.whole-mem 𝓤 H A W (Declared.row network-proofs-Nodes·.the-type); })
+          pub t1 : FnKinds.Den {n = 1} κs (Value.pVal record { ty = Declared.row network-proofs-Nodes·.the-type; one = Path.refl; val = StructLaws.val network-proofs-Nodes·.the-type network-proofs-Nodes-Laws·.the-laws; tells = StructLaws.tells network-proofs-Nodes·.the-type network-proofs-Nodes-Laws·.the-laws; still = StructLaws.still network-proofs-Nodes·.the-type network-proofs-Nodes-Laws·.the-copy Exit.yes; row = Rows.whole (Declared.row network-proofs-Nodes·.the-type); rd = λ x. x; mk = λ x. x } λ M 𝓤 H A W. record { copies = StructLaws.copy network-proofs-Nodes·.the-type network-proofs-Nodes-Laws·.the-copy 𝓤 H A W; lawful = StructLaws.lawful network-proofs-Nodes·.the-type network-proofs-Nodes-Laws·.the-laws 𝓤 H A W; makes = StructLaws.makes network-proofs-Nodes·.the-type network-proofs-Nodes-Laws·.the-plain 𝓤 H A; in-mem = Local.mem-whole 𝓤 H A W (Declared.row network-proofs-Nodes·.the-type); of-mem = Local.whole-mem 𝓤 H A W (Declared.row network-proofs-Nodes·.the-type) })
           pub arcs : FnKinds.Den {n = 1} κs (ShrSlice.pShrS Rec.row 0 tt)
-          pub t3 : FnKinds.Den {n = 1} κs (Value.pVal record { ty = Declared.row network-proofs-Degrees·.the-type; one = Path.refl; val = StructLaws.val network-proofs-Degrees·.the-type network-proofs-Degrees-Laws·.the-laws; tells = StructLaws.tells network-proofs-Degrees·.the-type network-proofs-Degrees-Laws·.the-laws; still = StructLaws.still network-proofs-Degrees·.the-type network-proofs-Degrees-Laws·.the-copy Exit.yes; row = Rows.whole (Declared.row network-proofs-Degrees·.the-type); rd = λ x. x; mk = λ x. x; } λ M 𝓤 H A W. record { copies = StructLaws.copy network-proofs-Degrees·.the-type network-proofs-Degrees-Laws·.the-copy 𝓤 H A W; lawful = StructLaws.lawful network-proofs-Degrees·.the-type network-proofs-Degrees-Laws·.the-laws 𝓤 H A W; makes = StructLaws.makes network-proofs-Degrees·.the-type network-proofs-Degrees-Laws·.the-plain 𝓤 H A; in-mem = Local.mem-whole 𝓤 H A W (Declared.row network-proofs-Degrees·.the-type); of-mem = Local.whole-mem 𝓤 H A W (Declared.row network-proofs-Degrees·.the-type); })
+          pub t3 : FnKinds.Den {n = 1} κs (Value.pVal record { ty = Declared.row network-proofs-Degrees·.the-type; one = Path.refl; val = StructLaws.val network-proofs-Degrees·.the-type network-proofs-Degrees-Laws·.the-laws; tells = StructLaws.tells network-proofs-Degrees·.the-type network-proofs-Degrees-Laws·.the-laws; still = StructLaws.still network-proofs-Degrees·.the-type network-proofs-Degrees-Laws·.the-copy Exit.yes; row = Rows.whole (Declared.row network-proofs-Degrees·.the-type); rd = λ x. x; mk = λ x. x } λ M 𝓤 H A W. record { copies = StructLaws.copy network-proofs-Degrees·.the-type network-proofs-Degrees-Laws·.the-copy 𝓤 H A W; lawful = StructLaws.lawful network-proofs-Degrees·.the-type network-proofs-Degrees-Laws·.the-laws 𝓤 H A W; makes = StructLaws.makes network-proofs-Degrees·.the-type network-proofs-Degrees-Laws·.the-plain 𝓤 H A; in-mem = Local.mem-whole 𝓤 H A W (Declared.row network-proofs-Degrees·.the-type); of-mem = Local.whole-mem 𝓤 H A W (Declared.row network-proofs-Degrees·.the-type) })
           pub k : FnKinds.Den {n = 1} κs (Num.pNum Syntax.w64)
 
         abbrev pub dens : (a : Args) → FnKinds.Dens κs ps
@@ -2017,14 +2017,14 @@ module _ (claims· : Claims) where
 
       module _ (before· : Then2) where
         abbrev pub After-gather·own : Type 0
-        After-gather·own = Called.Called ps·1 r·1 (claims· .3) T43 (record { pos = 2; ty = Syntax.tyRef (Syntax.named 0) Syntax.imm Rec.named; ref = λ x. x; }, (Num.vAt 7 λ x. x, (Num.vAt 8 λ x. x, tt))) (m40 (before· .before))
+        After-gather·own = Called.Called ps·1 r·1 (claims· .3) T43 (record { pos = 2; ty = Syntax.tyRef (Syntax.named 0) Syntax.imm Rec.named; ref = λ x. x }, (Num.vAt 7 λ x. x, (Num.vAt 8 λ x. x, tt))) (m40 (before· .before))
 
       pub record After-gather : Type 0 where
         pub before : Then2
         pub gather : After-gather·own before
 
       abbrev pub After-gather·gave : (c : After-gather) → s39 (c .before .before .before .before .before .before .before .before .before .blocks) .gives (m40 (c .before .before))
-      After-gather·gave = λ c. Called.given ps·1 r·1 (claims· .3) T43 (record { pos = 2; ty = Syntax.tyRef (Syntax.named 0) Syntax.imm Rec.named; ref = λ x. x; }, (Num.vAt 7 λ x. x, (Num.vAt 8 λ x. x, tt))) (m40 (c .before .before)) (c .gather)
+      After-gather·gave = λ c. Called.given ps·1 r·1 (claims· .3) T43 (record { pos = 2; ty = Syntax.tyRef (Syntax.named 0) Syntax.imm Rec.named; ref = λ x. x }, (Num.vAt 7 λ x. x, (Num.vAt 8 λ x. x, tt))) (m40 (c .before .before)) (c .gather)
 
       abbrev pub m42 : (before : After-gather) → (given : s40 (before .before .before .before .before .before .before .before .before .before .blocks) .gives (m41 (before .before) (After-gather·gave before))) → Typed.Mo T45
       m42 = λ before given. s40 (before .before .before .before .before .before .before .before .before .before .blocks) .next (m41 (before .before) (After-gather·gave before)) given
@@ -2145,7 +2145,7 @@ module _ (claims· : Claims) where
 
       module _ (before· : After-if12) where
         pub record Joined1·own : Type 0 where
-          pub came : Logic._⊎_ ((if1 : Then1·own before·) × (d : After-d·own record { before = before·; if1 = if1; }) × (is-wanted-arg : After-is-wanted-arg·own record { before = record { before = before·; if1 = if1 }; d = d; }) × (is-wanted : After-is-wanted·own record { before = record { before = record { before = before·; if1 = if1 }; d = d }; is-wanted-arg = is-wanted-arg; }) × (if2 : Then2·own record { before = record { before = record { before = record { before = before·; if1 = if1 }; d = d }; is-wanted-arg = is-wanted-arg; }; is-wanted = is-wanted; }) × (gather : After-gather·own record { before = record { before = record { before = record { before = record { before = before·; if1 = if1 }; d = d }; is-wanted-arg = is-wanted-arg; }; is-wanted = is-wanted; }; if2 = if2; }) × (at-node-arg : After-at-node-arg·own record { before = record { before = record { before = record { before = record { before = record { before = before·; if1 = if1 }; d = d }; is-wanted-arg = is-wanted-arg; }; is-wanted = is-wanted; }; if2 = if2; }; gather = gather; }) × (at-node : After-at-node·own record { before = record { before = record { before = record { before = record { before = record { before = record { before = before·; if1 = if1 }; d = d }; is-wanted-arg = is-wanted-arg; }; is-wanted = is-wanted; }; if2 = if2; }; gather = gather; }; at-node-arg = at-node-arg; }) × Else3·own record { before = record { before = record { before = record { before = record { before = record { before = record { before = record { before = before·; if1 = if1 }; d = d }; is-wanted-arg = is-wanted-arg; }; is-wanted = is-wanted; }; if2 = if2; }; gather = gather; }; at-node-arg = at-node-arg; }; at-node = at-node; }) (Logic._⊎_ ((if1 : Then1·own before·) × (d : After-d·own record { before = before·; if1 = if1; }) × (is-wanted-arg : After-is-wanted-arg·own record { before = record { before = before·; if1 = if1 }; d = d; }) × (is-wanted : After-is-wanted·own record { before = record { before = record { before = before·; if1 = if1 }; d = d }; is-wanted-arg = is-wanted-arg; }) × Else2·own record { before = record { before = record { before = record { before = before·; if1 = if1 }; d = d }; is-wanted-arg = is-wanted-arg; }; is-wanted = is-wanted; }) (Else1·own before·))
+          pub came : Logic._⊎_ ((if1 : Then1·own before·) × (d : After-d·own record { before = before·; if1 = if1 }) × (is-wanted-arg : After-is-wanted-arg·own record { before = record { before = before·; if1 = if1 }; d = d }) × (is-wanted : After-is-wanted·own record { before = record { before = record { before = before·; if1 = if1 }; d = d }; is-wanted-arg = is-wanted-arg }) × (if2 : Then2·own record { before = record { before = record { before = record { before = before·; if1 = if1 }; d = d }; is-wanted-arg = is-wanted-arg }; is-wanted = is-wanted }) × (gather : After-gather·own record { before = record { before = record { before = record { before = record { before = before·; if1 = if1 }; d = d }; is-wanted-arg = is-wanted-arg }; is-wanted = is-wanted }; if2 = if2 }) × (at-node-arg : After-at-node-arg·own record { before = record { before = record { before = record { before = record { before = record { before = before·; if1 = if1 }; d = d }; is-wanted-arg = is-wanted-arg }; is-wanted = is-wanted }; if2 = if2 }; gather = gather }) × (at-node : After-at-node·own record { before = record { before = record { before = record { before = record { before = record { before = record { before = before·; if1 = if1 }; d = d }; is-wanted-arg = is-wanted-arg }; is-wanted = is-wanted }; if2 = if2 }; gather = gather }; at-node-arg = at-node-arg }) × Else3·own record { before = record { before = record { before = record { before = record { before = record { before = record { before = record { before = before·; if1 = if1 }; d = d }; is-wanted-arg = is-wanted-arg }; is-wanted = is-wanted }; if2 = if2 }; gather = gather }; at-node-arg = at-node-arg }; at-node = at-node }) (Logic._⊎_ ((if1 : Then1·own before·) × (d : After-d·own record { before = before·; if1 = if1 }) × (is-wanted-arg : After-is-wanted-arg·own record { before = record { before = before·; if1 = if1 }; d = d }) × (is-wanted : After-is-wanted·own record { before = record { before = record { before = before·; if1 = if1 }; d = d }; is-wanted-arg = is-wanted-arg }) × Else2·own record { before = record { before = record { before = record { before = before·; if1 = if1 }; d = d }; is-wanted-arg = is-wanted-arg }; is-wanted = is-wanted }) (Else1·own before·))
 
       pub record Joined1 : Type 0 where
         pub before : After-if12
@@ -2194,23 +2194,23 @@ module _ (claims· : Claims) where
         lay9 = λ c. ((tt, (Path.refl, (tt, (tt, tt)))), returns-2 record { before = c .before; nothing = c .nothing })
 
         lay8 : (c : After-loop) → at72 (c .before .before .blocks) (W0 (c .before .before .κs) (c .before .before .args) (c .before .before .blocks)) (m13 (c .before))
-        lay8 = λ c. (nothing-requires record { before = c .before; loop-test = c .loop-test }, λ g. lay9 record { before = record { before = c .before; loop-test = c .loop-test }; nothing = Called.called ps·3 r·3 (claims· .7) T7 tt (m13 (c .before)) g; })
+        lay8 = λ c. (nothing-requires record { before = c .before; loop-test = c .loop-test }, λ g. lay9 record { before = record { before = c .before; loop-test = c .loop-test }; nothing = Called.called ps·3 r·3 (claims· .7) T7 tt (m13 (c .before)) g })
 
         lay7 : (c : Joined1) → at56 (c .before .before .before .before .blocks) (W3 (c .before .before .before .before) (c .before .before .before .loop .i)) (m61 (c .before))
         unfolding at56
         lay7 = λ c. (add-i record { before = c .before; if1 = c .if1 }, (μ·0 (Row.get 2 (T6 .locals) (m5 (c .before .before .before .before .κs) (c .before .before .before .before .args) (c .before .before .before .before .blocks)) .now) (Row.get 4 (T6 .locals) (m5 (c .before .before .before .before .κs) (c .before .before .before .before .args) (c .before .before .before .before .blocks))) (Row.get 5 (T6 .locals) (m5 (c .before .before .before .before .κs) (c .before .before .before .before .args) (c .before .before .before .before .blocks))) (Row.get 6 (T6 .locals) (m5 (c .before .before .before .before .κs) (c .before .before .before .before .args) (c .before .before .before .before .blocks))) (Row.get 7 (T6 .locals) (m5 (c .before .before .before .before .κs) (c .before .before .before .before .args) (c .before .before .before .before .blocks))) (Row.get 7 (T6 .locals) (m62 (c .before))), loop-less record { before = c .before; if1 = c .if1 }, (Row.get 7 (T6 .locals) (m62 (c .before)), Path.refl {a = m62 (c .before)}, loop-again record { before = c .before; if1 = c .if1 }, Path.refl {a = μ·0 (Row.get 2 (T6 .locals) (m5 (c .before .before .before .before .κs) (c .before .before .before .before .args) (c .before .before .before .before .blocks)) .now) (Row.get 4 (T6 .locals) (m5 (c .before .before .before .before .κs) (c .before .before .before .before .args) (c .before .before .before .before .blocks))) (Row.get 5 (T6 .locals) (m5 (c .before .before .before .before .κs) (c .before .before .before .before .args) (c .before .before .before .before .blocks))) (Row.get 6 (T6 .locals) (m5 (c .before .before .before .before .κs) (c .before .before .before .before .args) (c .before .before .before .before .blocks))) (Row.get 7 (T6 .locals) (m5 (c .before .before .before .before .κs) (c .before .before .before .before .args) (c .before .before .before .before .blocks))) (Row.get 7 (T6 .locals) (m62 (c .before)))})))
 
         lay6 : (c : After-at-node) → at24 (c .before .before .before .before .before .before .before .before .before .before .before .blocks) (W5 (c .before .before .before .before .before .before .before .before .before) (c .before .before .before .before .before .before .before .before .if12 .given)) (m43 (c .before) (After-at-node·gave c))
-        lay6 = λ c. (λ taken. ((tt, (Path.refl, (tt, (tt, tt)))), returns record { before = record { before = c .before; at-node = c .at-node }; if3 = record { taken = taken }; }), λ left. lay7 record { before = record { before = c .before .before .before .before .before .before .before .before .before; if12 = c .before .before .before .before .before .before .before .before .if12; }; if1 = record { came = Logic.inl (c .before .before .before .before .before .before .before .if1, c .before .before .before .before .before .before .d, c .before .before .before .before .before .is-wanted-arg, c .before .before .before .before .is-wanted, c .before .before .before .if2, c .before .before .gather, c .before .at-node-arg, c .at-node, record { left = left }); }; })
+        lay6 = λ c. (λ taken. ((tt, (Path.refl, (tt, (tt, tt)))), returns record { before = record { before = c .before; at-node = c .at-node }; if3 = record { taken = taken } }), λ left. lay7 record { before = record { before = c .before .before .before .before .before .before .before .before .before; if12 = c .before .before .before .before .before .before .before .before .if12 }; if1 = record { came = Logic.inl (c .before .before .before .before .before .before .before .if1, c .before .before .before .before .before .before .d, c .before .before .before .before .before .is-wanted-arg, c .before .before .before .before .is-wanted, c .before .before .before .if2, c .before .before .gather, c .before .at-node-arg, c .at-node, record { left = left }) } })
 
         lay5 : (c : After-gather) → at26 (c .before .before .before .before .before .before .before .before .before .blocks) (W5 (c .before .before .before .before .before .before .before) (c .before .before .before .before .before .before .if12 .given)) (m41 (c .before) (After-gather·gave c))
-        lay5 = λ c. (tt, λ g. (at-node-requires record { before = record { before = c .before; gather = c .gather }; at-node-arg = record { given = g }; }, λ g'. lay6 record { before = record { before = record { before = c .before; gather = c .gather }; at-node-arg = record { given = g }; }; at-node = Called.called ps·2 r·2 (claims· .5) T45 (record { pos = 24; st = L.[]; d = 0; at = λ x. x }, (Num.vAt 4 λ x. x, (Num.vAt 7 λ x. x, (Num.vAt 8 λ x. x, (record { pos = 9; st = L.[]; d = 0; at = λ x. x }, tt))))) (m42 record { before = c .before; gather = c .gather } g) g'; }))
+        lay5 = λ c. (tt, λ g. (at-node-requires record { before = record { before = c .before; gather = c .gather }; at-node-arg = record { given = g } }, λ g'. lay6 record { before = record { before = record { before = c .before; gather = c .gather }; at-node-arg = record { given = g } }; at-node = Called.called ps·2 r·2 (claims· .5) T45 (record { pos = 24; st = L.[]; d = 0; at = λ x. x }, (Num.vAt 4 λ x. x, (Num.vAt 7 λ x. x, (Num.vAt 8 λ x. x, (record { pos = 9; st = L.[]; d = 0; at = λ x. x }, tt))))) (m42 record { before = c .before; gather = c .gather } g) g' }))
 
         lay4 : (c : After-is-wanted) → at33 (c .before .before .before .before .before .before .before .blocks) (W5 (c .before .before .before .before .before) (c .before .before .before .before .if12 .given)) (m38 (c .before) (After-is-wanted·gave c))
-        lay4 = λ c. (λ taken. (gather-requires record { before = record { before = c .before; is-wanted = c .is-wanted }; if2 = record { taken = taken }; }, λ g. lay5 record { before = record { before = record { before = c .before; is-wanted = c .is-wanted }; if2 = record { taken = taken }; }; gather = Called.called ps·1 r·1 (claims· .3) T43 (record { pos = 2; ty = Syntax.tyRef (Syntax.named 0) Syntax.imm Rec.named; ref = λ x. x; }, (Num.vAt 7 λ x. x, (Num.vAt 8 λ x. x, tt))) (m40 record { before = c .before; is-wanted = c .is-wanted }) g; }), λ left. lay7 record { before = record { before = c .before .before .before .before .before; if12 = c .before .before .before .before .if12; }; if1 = record { came = Logic.inr (Logic.inl (c .before .before .before .if1, c .before .before .d, c .before .is-wanted-arg, c .is-wanted, record { left = left })); }; })
+        lay4 = λ c. (λ taken. (gather-requires record { before = record { before = c .before; is-wanted = c .is-wanted }; if2 = record { taken = taken } }, λ g. lay5 record { before = record { before = record { before = c .before; is-wanted = c .is-wanted }; if2 = record { taken = taken } }; gather = Called.called ps·1 r·1 (claims· .3) T43 (record { pos = 2; ty = Syntax.tyRef (Syntax.named 0) Syntax.imm Rec.named; ref = λ x. x }, (Num.vAt 7 λ x. x, (Num.vAt 8 λ x. x, tt))) (m40 record { before = c .before; is-wanted = c .is-wanted }) g }), λ left. lay7 record { before = record { before = c .before .before .before .before .before; if12 = c .before .before .before .before .if12 }; if1 = record { came = Logic.inr (Logic.inl (c .before .before .before .if1, c .before .before .d, c .before .is-wanted-arg, c .is-wanted, record { left = left })) } })
 
         lay3 : (c : In-loop) → at63 (c .before .before .blocks) (W3 (c .before .before) (c .before .loop .i)) (m10 (c .before))
-        lay3 = λ c. (tt, ((Path.refl, Path.refl, element-copy-out-if1 record { before = c .before; loop-test = c .loop-test }), λ g. (λ taken. (mul-d record { before = record { before = record { before = c .before; loop-test = c .loop-test }; if12 = record { given = g }; }; if1 = record { taken = taken }; }, (tt, ((Path.refl, Path.refl, element-copy-out-d record { before = record { before = record { before = c .before; loop-test = c .loop-test }; if12 = record { given = g }; }; if1 = record { taken = taken }; }), λ g'. (mul-is-wanted record { before = record { before = record { before = record { before = c .before; loop-test = c .loop-test }; if12 = record { given = g }; }; if1 = record { taken = taken }; }; d = record { given = g' }; }, (tt, ((Path.refl, Path.refl, element-copy-out-is-wanted record { before = record { before = record { before = record { before = c .before; loop-test = c .loop-test; }; if12 = record { given = g }; }; if1 = record { taken = taken }; }; d = record { given = g' }; }), λ g''. (is-wanted-requires record { before = record { before = record { before = record { before = record { before = c .before; loop-test = c .loop-test; }; if12 = record { given = g }; }; if1 = record { taken = taken }; }; d = record { given = g' }; }; is-wanted-arg = record { given = g'' }; }, λ g'3. lay4 record { before = record { before = record { before = record { before = record { before = record { before = c .before; loop-test = c .loop-test; }; if12 = record { given = g }; }; if1 = record { taken = taken }; }; d = record { given = g' }; }; is-wanted-arg = record { given = g'' }; }; is-wanted = Called.called ps·0 r·0 (claims· .1) T40 (Num.vAt 4 λ x. x, (Num.vAt 8 λ x. x, (record { pos = 23; st = L.[]; d = 0; at = λ x. x }, tt))) (m37 record { before = record { before = record { before = record { before = c .before; loop-test = c .loop-test; }; if12 = record { given = g }; }; if1 = record { taken = taken }; }; d = record { given = g' }; } g'') g'3; }))))))), λ left. lay7 record { before = record { before = record { before = c .before; loop-test = c .loop-test }; if12 = record { given = g }; }; if1 = record { came = Logic.inr (Logic.inr record { left = left }) }; })))
+        lay3 = λ c. (tt, ((Path.refl, Path.refl, element-copy-out-if1 record { before = c .before; loop-test = c .loop-test }), λ g. (λ taken. (mul-d record { before = record { before = record { before = c .before; loop-test = c .loop-test }; if12 = record { given = g } }; if1 = record { taken = taken } }, (tt, ((Path.refl, Path.refl, element-copy-out-d record { before = record { before = record { before = c .before; loop-test = c .loop-test }; if12 = record { given = g } }; if1 = record { taken = taken } }), λ g'. (mul-is-wanted record { before = record { before = record { before = record { before = c .before; loop-test = c .loop-test }; if12 = record { given = g } }; if1 = record { taken = taken } }; d = record { given = g' } }, (tt, ((Path.refl, Path.refl, element-copy-out-is-wanted record { before = record { before = record { before = record { before = c .before; loop-test = c .loop-test }; if12 = record { given = g } }; if1 = record { taken = taken } }; d = record { given = g' } }), λ g''. (is-wanted-requires record { before = record { before = record { before = record { before = record { before = c .before; loop-test = c .loop-test }; if12 = record { given = g } }; if1 = record { taken = taken } }; d = record { given = g' } }; is-wanted-arg = record { given = g'' } }, λ g'3. lay4 record { before = record { before = record { before = record { before = record { before = record { before = c .before; loop-test = c .loop-test }; if12 = record { given = g } }; if1 = record { taken = taken } }; d = record { given = g' } }; is-wanted-arg = record { given = g'' } }; is-wanted = Called.called ps·0 r·0 (claims· .1) T40 (Num.vAt 4 λ x. x, (Num.vAt 8 λ x. x, (record { pos = 23; st = L.[]; d = 0; at = λ x. x }, tt))) (m37 record { before = record { before = record { before = record { before = c .before; loop-test = c .loop-test }; if12 = record { given = g } }; if1 = record { taken = taken } }; d = record { given = g' } } g'') g'3 }))))))), λ left. lay7 record { before = record { before = record { before = c .before; loop-test = c .loop-test }; if12 = record { given = g } }; if1 = record { came = Logic.inr (Logic.inr record { left = left }) } })))
 
         lay2 : (c : After-loop) → at5 (c .before .before .blocks) (W4 (c .before .before) (c .before .loop .i)) (m9 (c .before .before) (c .before .loop .i))
         lay2 = λ c. lay8 record { before = c .before; loop-test = c .loop-test }
@@ -2219,11 +2219,11 @@ module _ (claims· : Claims) where
         lay1 = λ c. lay3 record { before = c .before; loop-test = c .loop-test }
 
         pub laid : (c : Start) → at78 (c .blocks) (W0 (c .κs) (c .args) (c .blocks)) (m0 (c .κs) (c .args) (c .blocks))
-        laid = λ c. ((Row.get 7 (T6 .locals) (m5 (c .κs) (c .args) (c .blocks)), Path.refl {a = m5 (c .κs) (c .args) (c .blocks)}, loop-holds c), λ vs inv. (tt, (λ taken. lay1 record { before = record { before = c; loop = record { i = vs; inv = inv } }; loop-test = record { taken = Tests.leb-true (Row.get 7 (T8 .locals) (m7 c vs)) (Row.get 11 (T8 .locals) (m7 c vs)) taken; }; }, λ left. lay2 record { before = record { before = c; loop = record { i = vs; inv = inv } }; loop-test = record { left = Tests.leb-false (Row.get 7 (T8 .locals) (m7 c vs)) (Row.get 11 (T8 .locals) (m7 c vs)) left; }; })))
+        laid = λ c. ((Row.get 7 (T6 .locals) (m5 (c .κs) (c .args) (c .blocks)), Path.refl {a = m5 (c .κs) (c .args) (c .blocks)}, loop-holds c), λ vs inv. (tt, (λ taken. lay1 record { before = record { before = c; loop = record { i = vs; inv = inv } }; loop-test = record { taken = Tests.leb-true (Row.get 7 (T8 .locals) (m7 c vs)) (Row.get 11 (T8 .locals) (m7 c vs)) taken } }, λ left. lay2 record { before = record { before = c; loop = record { i = vs; inv = inv } }; loop-test = record { left = Tests.leb-false (Row.get 7 (T8 .locals) (m7 c vs)) (Row.get 11 (T8 .locals) (m7 c vs)) left } })))
 
         module _ (κs : Lifetimes.Lfts 1) (qs : Lifetimes.Shares 1) where
           pub asked : (a : FnKinds.Dens κs ps) → (good : FnKinds.GoodsP κs ps a) → (pre : Pre· κs a) → (bs : L.List Nat.ℕ) → Φ bs (Any.wantQ 1 ps r xs m κs qs a (Post· κs a)) (Function.init 1 ps r xs m κs qs a)
-          asked = λ a good pre bs. laid record { κs = κs; args = record { t1 = a .0; arcs = a .1 .0; t3 = a .1 .1 .0; k = a .1 .1 .1 .0 }; blocks = bs; good = good; fits = record { k = record { fits = good .1 .1 .1 .0 .1 } }; pre = pre; }
+          asked = λ a good pre bs. laid record { κs = κs; args = record { t1 = a .0; arcs = a .1 .0; t3 = a .1 .1 .0; k = a .1 .1 .1 .0 }; blocks = bs; good = good; fits = record { k = record { fits = good .1 .1 .1 .0 .1 } }; pre = pre }
 
         module _ {M : Type 1} (𝓤 : URA.URA M) (H : Wp.Heap 𝓤) (A : Atoms.Atoms 𝓤) (W : Kit.Given 𝓤 H A) (𝓣 : Wp.Tables 𝓤 H) (known0 : Plain.Known 𝓤 H A W 𝓣 0 ps·0 r·0 (claims· .0) (claims· .1) "rules::tried::is_wanted") (known1 : Plain.Known 𝓤 H A W 𝓣 1 ps·1 r·1 (claims· .2) (claims· .3) "search::scan::gather") (known2 : Plain.Known 𝓤 H A W 𝓣 0 ps·2 r·2 (claims· .4) (claims· .5) "rules::tried::at_node") (known3 : Plain.Known 𝓤 H A W 𝓣 0 ps·3 r·3 (claims· .6) (claims· .7) "rules::found::nothing") where
           pub spec : Statement.Triple 𝓤 (Wp.WpFn 𝓤 H (𝓣 .C) (𝓣 .Λ) (Function.fnOf 1 ps r xs m hs body)) (Function.plainOf 𝓤 H A 1 ps r Pre· Post·)
