@@ -55,16 +55,25 @@ pub fn at_arc(supply: [Fraction; NODE_PLACES], j: usize, t: Arc) -> Found
 
 // ---- the rules of nodes
 
-// Whether rule k may apply at a node of this degree and supply; where not, it passes there.
-pub fn is_wanted(k: usize, degree: usize, r: Fraction) -> bool
-    ensures { λ x. ⌜ ((net : Net) (i : ℕ) → degreeOf net i ≡ degree → supplyAt net i ≡ r → isOfNodes k ≡ true → x ≡ false → ruleOf rules k .at net i ≡ Passes) ⌝ }
+// The degree that rule k asks for: at a node of another degree it passes.
+pub fn wanted(k: usize) -> usize
+    ensures { λ d. ⌜ ((net : Net) (i : ℕ) → isOfNodes k ≡ true → (degreeOf net i ≡ d → ⊥) → ruleOf rules k .at net i ≡ Passes) ⌝ }
 {
     match k {
-        2 => degree == 0,
-        3 => degree == 1,
-        5 => degree == 2,
-        6 => degree == 4 && r.is_zero(),
-        _ => false,
+        3 => 1,
+        5 => 2,
+        6 => 4,
+        _ => 0,
+    }
+}
+
+// Whether rule k may apply at a node of supply r; where not, it passes there.
+pub fn may_apply(k: usize, r: Fraction) -> bool
+    ensures { λ x. ⌜ ((net : Net) (i : ℕ) → supplyAt net i ≡ r → x ≡ false → ruleOf rules k .at net i ≡ Passes) ⌝ }
+{
+    match k {
+        6 => r.is_zero(),
+        _ => true,
     }
 }
 

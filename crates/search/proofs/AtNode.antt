@@ -1,13 +1,14 @@
 -- What the list tells of a node: its degree, and the arcs there.
 use mathlib.Core.Path.{_≡_, refl, sym, ap, _∙_}
-use mathlib.Core.Bool.{Bool, true, false}
+use mathlib.Core.Bool.{Bool, true, false, _&&_}
 use mathlib.Core.List.{List}
 use Prim.Native.Nat.{ℕ, zero, suc, _+_, _-_, _≤_, _<_}
 use native.Mathlib.Numerals.{add-one}
 use native.Mathlib.Omega.{arith}
-use lib.Dec.{ltb}
+use lib.Dec.{eqb, ltb}
 use lib.ListN.{getD}
-use borrow.Author.Tests.{ne-eqb, ltb-true}
+use borrow.Author.Tests.{ne-eqb, eqb-true, eqb-false, ltb-true}
+use Rattle.fraction.proofs.Laws.{and-both}
 use Rattle.loops.specs.Loops.{count}
 use Rattle.network.specs.declared.Arc.{Arc}
 use Rattle.network.specs.declared.ArcUpdate.{ArcUpdate}
@@ -19,10 +20,15 @@ use Rattle.network.specs.Network.{arcAt, isHere, isTouching, degreeOf, AreDegre
 use Rattle.network.specs.Legal.{Legal}
 use Rattle.network.proofs.Kept.{here-number}
 use Rattle.step.specs.declared.Around.{Around}
+use Rattle.step.specs.declared.Outcome.the-variants.{Passes}
 use Rattle.step.specs.Around.{Near, Given}
+use Rattle.step.specs.Run.{ruleOf}
 use Rattle.step.specs.Back.{oldArc}
 use Rattle.step.proofs.Lines.{split}
 use Rattle.step.proofs.Touch.{touching-first}
+use Rattle.rules.specs.Table.{rules}
+use Rattle.rules.specs.Tried.{isOfNodes}
+use Rattle.rules.proofs.Whole.{node-unused}
 
 -- ---- the degrees by the numbers up to m
 
@@ -44,9 +50,14 @@ module _ {net : Net} (g : Legal net) where
       rw e (sym (count-stop (λ j. isTouching (arcAt net j) i) (net .m + 1) (96 - net .m) (λ j k. untouched i j l (omega arith))) ∙ ap (count (λ j. isTouching (arcAt net j) i)) n))
       (λ e. rw e)
 
-  -- a node in use, as it is handed to a rule
-  pub given : (ds : List ℕ) → AreDegreesTo net (net .m) ds → (i : ℕ) → i < 33 → isHere net i ≡ true → {near : Around} → Near net i (getD ds i 0) near → Given net (net .supply) i (getD ds i 0) near
-  given ds a i m h n = record { legal = g; here = h; supplies = refl; degree = sym (degrees-are ds a i (here-number g i h .0) m); arcs = n }
+  module _ (ds : List ℕ) (are : AreDegreesTo net (net .m) ds) (i : ℕ) (m : i < 33) (d : ℕ) where
+    -- a node in use of degree d, as it is handed to a rule
+    pub given : (isHere net i && eqb (getD ds i 0) d) ≡ true → {near : Around} → Near net i d near → Given net (net .supply) i d near
+    given e n = let b = and-both (isHere net i) _ e in record { legal = g; here = b .0; supplies = refl; degree = sym (degrees-are ds are i (here-number g i (b .0) .0) m) ∙ eqb-true _ _ (b .1); arcs = n }
+
+    -- where it is not one, a rule that asks for that degree passes
+    pub elsewhere : 1 ≤ i → (k : ℕ) → isOfNodes k ≡ true → ((degreeOf net i ≡ d → ⊥) → ruleOf rules k .at net i ≡ Passes) → (isHere net i && eqb (getD ds i 0) d) ≡ false → ruleOf rules k .at net i ≡ Passes
+    elsewhere l k n w e = split (isHere net i) (λ h. w (λ z. eqb-false _ _ (rw h at e) (degrees-are ds are i l m ∙ z))) (node-unused g k i n)
 
 -- the arcs at a node, as the list has them
 pub old-is : (nodes : Nodes) (xs : List Arc) (i k : ℕ) {a : ℕ} {t : Arc} {u : ArcUpdate} → u ≡ record { number = a; arc = t } → t ≡ recordAt xs a → a ≡ touchingAfter (netIn nodes xs) i k → u ≡ oldArc (netIn nodes xs) (touchingAfter (netIn nodes xs) i k)

@@ -1,7 +1,8 @@
 // The search for the next step: the rules in order, each at its places upward.
 ghost use mathlib.Core.Path.{_≡_};
-ghost use mathlib.Core.Bool.{true};
+ghost use mathlib.Core.Bool.{true, _&&_};
 ghost use Prim.Native.Nat.{_≤_};
+ghost use lib.Dec.{eqb};
 ghost use Rattle.network.specs.declared.Nodes.{Nodes};
 ghost use Rattle.network.specs.Limits.{maxNodes, maxArcs};
 ghost use Rattle.network.specs.ArcList.{netIn};
@@ -108,16 +109,23 @@ pub(crate) fn gather(arcs: &[Arc], i: usize, d: usize) -> Around
     }
 }
 
+// Whether a node is in use and of degree d.
+fn has_degree(here: bool, degree: usize, d: usize) -> bool
+    ensures { λ r. ⌜ r ≡ (here && eqb degree d) ⌝ }
+{
+    here && degree == d
+}
+
 // Rule k at the nodes upward.
 pub(crate) fn scan_nodes(nodes: Nodes, arcs: &[Arc], degrees: Degrees, k: usize) -> Found
     requires { ⌜ Legal (netIn nodes (now arcs)) × AreDegreesTo (netIn nodes (now arcs)) (nodes .m) (degrees .at) × (isOfNodes k ≡ true) ⌝ }
     ensures { λ r. ⌜ r ≡ foundOf (upward (ruleOf rules k .at (netIn nodes (now (arcs .entry)))) k maxNodes 1 Stops) ⌝ }
 {
+    let d = rules::tried::wanted(k);
     let mut i = 1;
     while i <= nodes.n {
-        if nodes.here[i] {
-            let d = degrees.at[i];
-            if rules::tried::is_wanted(k, d, nodes.supply[i]) {
+        if has_degree(nodes.here[i], degrees.at[i], d) {
+            if rules::tried::may_apply(k, nodes.supply[i]) {
                 let near = gather(arcs, i, d);
                 let x = rules::tried::at_node(nodes.supply, k, i, d, near);
                 if x.found {

@@ -155,10 +155,10 @@ abbrev pub q0 : Row.Entry
 q0 = (1, Rows.any-gone q1)
 
 abbrev pub ps : L.List (FnKinds.PK 1)
-ps = L._∷_ (Value.pVal record { ty = Declared.row network-proofs-Nodes·.the-type; one = Path.refl; val = StructLaws.val network-proofs-Nodes·.the-type network-proofs-Nodes-Laws·.the-laws; tells = StructLaws.tells network-proofs-Nodes·.the-type network-proofs-Nodes-Laws·.the-laws; still = StructLaws.still network-proofs-Nodes·.the-type network-proofs-Nodes-Laws·.the-copy Exit.yes; row = Rows.whole (Declared.row network-proofs-Nodes·.the-type); rd = λ x. x; mk = λ x. x } λ M 𝓤 H A W. record { copies = StructLaws.copy network-proofs-Nodes·.the-type network-proofs-Nodes-Laws·.the-copy 𝓤 H A W; lawful = StructLaws.lawful network-proofs-Nodes·.the-type network-proofs-Nodes-Laws·.the-laws 𝓤 H A W; makes = StructLaws.makes network-proofs-Nodes·.the-type network-proofs-Nodes-Laws·.the-plain 𝓤 H A; in-mem = Local.mem-whole 𝓤 H A W (Declared.row network-proofs-Nodes·.the-type); of-mem = Local.whole-mem 𝓤 H A W (Declared.row network-proofs-Nodes·.the-type) }) (L._∷_ (ShrSlice.pShrS Rec.row 0 tt) (L._∷_ (Value.pVal record { ty = Declared.row costly-arc-proofs-Seen·.the-type; one = Path.refl; val = StructLaws.val costly-arc-proofs-Seen·.the-type costly-arc-proofs-Seen-Laws·.the-laws; tells = StructLaws.tells costly-arc-proofs-Seen·.the-type costly-arc-proofs-Seen-Laws·.the-laws; still = StructLaws.still costly-arc-proofs-Seen·.the-type costly-arc-proofs-Seen-Laws·.the-copy Exit.yes; row = Rows.whole (Declared.row costly-arc-proofs-Seen·.the-type); rd = λ x. x; mk = λ x. x } λ M 𝓤 H A W. record { copies = StructLaws.copy costly-arc-proofs-Seen·.the-type costly-arc-proofs-Seen-Laws·.the-copy 𝓤 H A W; lawful = StructLaws.lawful costly-arc-proofs-Seen·.the-type costly-arc-proofs-Seen-Laws·.the-laws 𝓤 H A W; makes = StructLaws.makes costly-arc-proofs-Seen·.the-type costly-arc-proofs-Seen-Laws·.the-plain 𝓤 H A; in-mem = Local.mem-whole 𝓤 H A W (Declared.row costly-arc-proofs-Seen·.the-type); of-mem = Local.whole-mem 𝓤 H A W (Declared.row costly-arc-proofs-Seen·.the-type) }) (L._∷_ (Num.pNum Syntax.w8) L.[])))
+ps = L._∷_ (Value.pVal record { ty = Declared.row network-proofs-Nodes·.the-type; one = Path.refl; val = StructLaws.val network-proofs-Nodes·.the-type network-proofs-Nodes-Laws·.the-laws; tells = StructLaws.tells network-proofs-Nodes·.the-type network-proofs-Nodes-Laws·.the-laws; still = StructLaws.still network-proofs-Nodes·.the-type network-proofs-Nodes-Laws·.the-copy Exit.yes; row = Rows.whole (Declared.row network-proofs-Nodes·.the-type); rd = λ x. x; mk = λ x. x; } λ M 𝓤 H A W. record { copies = StructLaws.copy network-proofs-Nodes·.the-type network-proofs-Nodes-Laws·.the-copy 𝓤 H A W; lawful = StructLaws.lawful network-proofs-Nodes·.the-type network-proofs-Nodes-Laws·.the-laws 𝓤 H A W; makes = StructLaws.makes network-proofs-Nodes·.the-type network-proofs-Nodes-Laws·.the-plain 𝓤 H A; in-mem = Local.mem-whole 𝓤 H A W (Declared.row network-proofs-Nodes·.the-type); of-mem = Local.whole-mem 𝓤 H A W (Declared.row network-proofs-Nodes·.the-type); }) (L._∷_ (ShrSlice.pShrS Rec.row 0 tt) (L._∷_ (Value.pVal record { ty = Declared.row costly-arc-proofs-Seen·.the-type; one = Path.refl; val = StructLaws.val costly-arc-proofs-Seen·.the-type costly-arc-proofs-Seen-Laws·.the-laws; tells = StructLaws.tells costly-arc-proofs-Seen·.the-type costly-arc-proofs-Seen-Laws·.the-laws; still = StructLaws.still costly-arc-proofs-Seen·.the-type costly-arc-proofs-Seen-Laws·.the-copy Exit.yes; row = Rows.whole (Declared.row costly-arc-proofs-Seen·.the-type); rd = λ x. x; mk = λ x. x; } λ M 𝓤 H A W. record { copies = StructLaws.copy costly-arc-proofs-Seen·.the-type costly-arc-proofs-Seen-Laws·.the-copy 𝓤 H A W; lawful = StructLaws.lawful costly-arc-proofs-Seen·.the-type costly-arc-proofs-Seen-Laws·.the-laws 𝓤 H A W; makes = StructLaws.makes costly-arc-proofs-Seen·.the-type costly-arc-proofs-Seen-Laws·.the-plain 𝓤 H A; in-mem = Local.mem-whole 𝓤 H A W (Declared.row costly-arc-proofs-Seen·.the-type); of-mem = Local.whole-mem 𝓤 H A W (Declared.row costly-arc-proofs-Seen·.the-type); }) (L._∷_ (Num.pNum Syntax.w8) L.[])))
 
 abbrev pub r : FnKinds.RK 1
-r = Value.rVal record { ty = Declared.row rules-proofs-tried-Looked·.the-type; one = Path.refl; val = StructLaws.val rules-proofs-tried-Looked·.the-type rules-proofs-tried-Looked-Laws·.the-laws; tells = StructLaws.tells rules-proofs-tried-Looked·.the-type rules-proofs-tried-Looked-Laws·.the-laws; still = StructLaws.still rules-proofs-tried-Looked·.the-type rules-proofs-tried-Looked-Laws·.the-copy Exit.yes; row = Rows.whole (Declared.row rules-proofs-tried-Looked·.the-type); rd = λ x. x; mk = λ x. x } λ M 𝓤 H A W. record { copies = StructLaws.copy rules-proofs-tried-Looked·.the-type rules-proofs-tried-Looked-Laws·.the-copy 𝓤 H A W; lawful = StructLaws.lawful rules-proofs-tried-Looked·.the-type rules-proofs-tried-Looked-Laws·.the-laws 𝓤 H A W; makes = StructLaws.makes rules-proofs-tried-Looked·.the-type rules-proofs-tried-Looked-Laws·.the-plain 𝓤 H A; in-mem = Local.mem-whole 𝓤 H A W (Declared.row rules-proofs-tried-Looked·.the-type); of-mem = Local.whole-mem 𝓤 H A W (Declared.row rules-proofs-tried-Looked·.the-type) }
+r = Value.rVal record { ty = Declared.row rules-proofs-tried-Looked·.the-type; one = Path.refl; val = StructLaws.val rules-proofs-tried-Looked·.the-type rules-proofs-tried-Looked-Laws·.the-laws; tells = StructLaws.tells rules-proofs-tried-Looked·.the-type rules-proofs-tried-Looked-Laws·.the-laws; still = StructLaws.still rules-proofs-tried-Looked·.the-type rules-proofs-tried-Looked-Laws·.the-copy Exit.yes; row = Rows.whole (Declared.row rules-proofs-tried-Looked·.the-type); rd = λ x. x; mk = λ x. x; } λ M 𝓤 H A W. record { copies = StructLaws.copy rules-proofs-tried-Looked·.the-type rules-proofs-tried-Looked-Laws·.the-copy 𝓤 H A W; lawful = StructLaws.lawful rules-proofs-tried-Looked·.the-type rules-proofs-tried-Looked-Laws·.the-laws 𝓤 H A W; makes = StructLaws.makes rules-proofs-tried-Looked·.the-type rules-proofs-tried-Looked-Laws·.the-plain 𝓤 H A; in-mem = Local.mem-whole 𝓤 H A W (Declared.row rules-proofs-tried-Looked·.the-type); of-mem = Local.whole-mem 𝓤 H A W (Declared.row rules-proofs-tried-Looked·.the-type); }
 
 abbrev pub xs : L.List Syntax.Ty
 xs = L._∷_ (Syntax.tyStruct (L._∷_ 114 (L._∷_ 117 (L._∷_ 108 (L._∷_ 101 (L._∷_ 115 (L._∷_ 58 (L._∷_ 58 (L._∷_ 102 (L._∷_ 111 (L._∷_ 117 (L._∷_ 110 (L._∷_ 100 (L._∷_ 58 (L._∷_ 58 (L._∷_ 70 (L._∷_ 111 (L._∷_ 117 (L._∷_ 110 (L._∷_ 100 L.[]))))))))))))))))))) (Syntax.tcons Syntax.tyBool (Syntax.tcons Syntax.tyBool (Syntax.tcons (Syntax.tyStruct (L._∷_ 115 (L._∷_ 116 (L._∷_ 101 (L._∷_ 112 (L._∷_ 58 (L._∷_ 58 (L._∷_ 83 (L._∷_ 116 (L._∷_ 101 (L._∷_ 112 L.[])))))))))) (Syntax.tcons (Syntax.tyInt Syntax.w64) (Syntax.tcons (Syntax.tyInt Syntax.w64) (Syntax.tcons (Syntax.tyStruct (L._∷_ 115 (L._∷_ 116 (L._∷_ 101 (L._∷_ 112 (L._∷_ 58 (L._∷_ 58 (L._∷_ 67 (L._∷_ 104 (L._∷_ 97 (L._∷_ 110 (L._∷_ 103 (L._∷_ 101 L.[])))))))))))) (Syntax.tcons (Syntax.tyStruct (L._∷_ 110 (L._∷_ 101 (L._∷_ 116 (L._∷_ 119 (L._∷_ 111 (L._∷_ 114 (L._∷_ 107 (L._∷_ 58 (L._∷_ 58 (L._∷_ 69 (L._∷_ 100 (L._∷_ 105 (L._∷_ 116 L.[]))))))))))))) (Syntax.tcons q8 (Syntax.tcons q8 (Syntax.tcons q8 (Syntax.tcons q8 (Syntax.tcons q2 (Syntax.tcons q2 (Syntax.tcons (Syntax.tyInt Syntax.w64) Syntax.tnil)))))))) (Syntax.tcons (Syntax.tyStruct (L._∷_ 115 (L._∷_ 116 (L._∷_ 101 (L._∷_ 112 (L._∷_ 58 (L._∷_ 58 (L._∷_ 79 (L._∷_ 108 (L._∷_ 100 L.[]))))))))) (Syntax.tcons (Syntax.tyInt Syntax.w64) (Syntax.tcons q7 (Syntax.tcons q8 (Syntax.tcons q8 (Syntax.tcons q8 (Syntax.tcons q8 (Syntax.tcons q5 Syntax.tnil)))))))) Syntax.tnil))) Syntax.tnil)))) Syntax.tnil)))) (L._∷_ q10 (L._∷_ q6 (L._∷_ (Syntax.tyInt Syntax.w64) (L._∷_ (Syntax.tyStruct (L._∷_ 114 (L._∷_ 117 (L._∷_ 108 (L._∷_ 101 (L._∷_ 115 (L._∷_ 58 (L._∷_ 58 (L._∷_ 116 (L._∷_ 114 (L._∷_ 105 (L._∷_ 101 (L._∷_ 100 (L._∷_ 58 (L._∷_ 58 (L._∷_ 76 (L._∷_ 111 (L._∷_ 111 (L._∷_ 107 (L._∷_ 101 (L._∷_ 100 L.[])))))))))))))))))))) (Syntax.tcons (Syntax.tyStruct (L._∷_ 114 (L._∷_ 117 (L._∷_ 108 (L._∷_ 101 (L._∷_ 115 (L._∷_ 58 (L._∷_ 58 (L._∷_ 102 (L._∷_ 111 (L._∷_ 117 (L._∷_ 110 (L._∷_ 100 (L._∷_ 58 (L._∷_ 58 (L._∷_ 70 (L._∷_ 111 (L._∷_ 117 (L._∷_ 110 (L._∷_ 100 L.[]))))))))))))))))))) (Syntax.tcons Syntax.tyBool (Syntax.tcons Syntax.tyBool (Syntax.tcons (Syntax.tyStruct (L._∷_ 115 (L._∷_ 116 (L._∷_ 101 (L._∷_ 112 (L._∷_ 58 (L._∷_ 58 (L._∷_ 83 (L._∷_ 116 (L._∷_ 101 (L._∷_ 112 L.[])))))))))) (Syntax.tcons (Syntax.tyInt Syntax.w64) (Syntax.tcons (Syntax.tyInt Syntax.w64) (Syntax.tcons (Syntax.tyStruct (L._∷_ 115 (L._∷_ 116 (L._∷_ 101 (L._∷_ 112 (L._∷_ 58 (L._∷_ 58 (L._∷_ 67 (L._∷_ 104 (L._∷_ 97 (L._∷_ 110 (L._∷_ 103 (L._∷_ 101 L.[])))))))))))) (Syntax.tcons (Syntax.tyStruct (L._∷_ 110 (L._∷_ 101 (L._∷_ 116 (L._∷_ 119 (L._∷_ 111 (L._∷_ 114 (L._∷_ 107 (L._∷_ 58 (L._∷_ 58 (L._∷_ 69 (L._∷_ 100 (L._∷_ 105 (L._∷_ 116 L.[]))))))))))))) (Syntax.tcons q8 (Syntax.tcons q8 (Syntax.tcons q8 (Syntax.tcons q8 (Syntax.tcons q2 (Syntax.tcons q2 (Syntax.tcons (Syntax.tyInt Syntax.w64) Syntax.tnil)))))))) (Syntax.tcons (Syntax.tyStruct (L._∷_ 115 (L._∷_ 116 (L._∷_ 101 (L._∷_ 112 (L._∷_ 58 (L._∷_ 58 (L._∷_ 79 (L._∷_ 108 (L._∷_ 100 L.[]))))))))) (Syntax.tcons (Syntax.tyInt Syntax.w64) (Syntax.tcons q7 (Syntax.tcons q8 (Syntax.tcons q8 (Syntax.tcons q8 (Syntax.tcons q8 (Syntax.tcons q5 Syntax.tnil)))))))) Syntax.tnil))) Syntax.tnil)))) Syntax.tnil)))) (Syntax.tcons q6 Syntax.tnil))) (L._∷_ (Syntax.tyStruct (L._∷_ 114 (L._∷_ 117 (L._∷_ 108 (L._∷_ 101 (L._∷_ 115 (L._∷_ 58 (L._∷_ 58 (L._∷_ 102 (L._∷_ 111 (L._∷_ 117 (L._∷_ 110 (L._∷_ 100 (L._∷_ 58 (L._∷_ 58 (L._∷_ 70 (L._∷_ 111 (L._∷_ 117 (L._∷_ 110 (L._∷_ 100 L.[]))))))))))))))))))) (Syntax.tcons Syntax.tyBool (Syntax.tcons Syntax.tyBool (Syntax.tcons (Syntax.tyStruct (L._∷_ 115 (L._∷_ 116 (L._∷_ 101 (L._∷_ 112 (L._∷_ 58 (L._∷_ 58 (L._∷_ 83 (L._∷_ 116 (L._∷_ 101 (L._∷_ 112 L.[])))))))))) (Syntax.tcons (Syntax.tyInt Syntax.w64) (Syntax.tcons (Syntax.tyInt Syntax.w64) (Syntax.tcons (Syntax.tyStruct (L._∷_ 115 (L._∷_ 116 (L._∷_ 101 (L._∷_ 112 (L._∷_ 58 (L._∷_ 58 (L._∷_ 67 (L._∷_ 104 (L._∷_ 97 (L._∷_ 110 (L._∷_ 103 (L._∷_ 101 L.[])))))))))))) (Syntax.tcons (Syntax.tyStruct (L._∷_ 110 (L._∷_ 101 (L._∷_ 116 (L._∷_ 119 (L._∷_ 111 (L._∷_ 114 (L._∷_ 107 (L._∷_ 58 (L._∷_ 58 (L._∷_ 69 (L._∷_ 100 (L._∷_ 105 (L._∷_ 116 L.[]))))))))))))) (Syntax.tcons q8 (Syntax.tcons q8 (Syntax.tcons q8 (Syntax.tcons q8 (Syntax.tcons q2 (Syntax.tcons q2 (Syntax.tcons (Syntax.tyInt Syntax.w64) Syntax.tnil)))))))) (Syntax.tcons (Syntax.tyStruct (L._∷_ 115 (L._∷_ 116 (L._∷_ 101 (L._∷_ 112 (L._∷_ 58 (L._∷_ 58 (L._∷_ 79 (L._∷_ 108 (L._∷_ 100 L.[]))))))))) (Syntax.tcons (Syntax.tyInt Syntax.w64) (Syntax.tcons q7 (Syntax.tcons q8 (Syntax.tcons q8 (Syntax.tcons q8 (Syntax.tcons q8 (Syntax.tcons q5 Syntax.tnil)))))))) Syntax.tnil))) Syntax.tnil)))) Syntax.tnil)))) (L._∷_ Syntax.tyBool (L._∷_ Syntax.tyBool L.[])))))))
@@ -167,28 +167,28 @@ abbrev pub m : Nat.ℕ
 m = 0
 
 abbrev pub ps·0 : L.List (FnKinds.PK 1)
-ps·0 = L._∷_ (Value.pVal record { ty = Declared.row network-proofs-Nodes·.the-type; one = Path.refl; val = StructLaws.val network-proofs-Nodes·.the-type network-proofs-Nodes-Laws·.the-laws; tells = StructLaws.tells network-proofs-Nodes·.the-type network-proofs-Nodes-Laws·.the-laws; still = StructLaws.still network-proofs-Nodes·.the-type network-proofs-Nodes-Laws·.the-copy Exit.yes; row = Rows.whole (Declared.row network-proofs-Nodes·.the-type); rd = λ x. x; mk = λ x. x } λ M 𝓤 H A W. record { copies = StructLaws.copy network-proofs-Nodes·.the-type network-proofs-Nodes-Laws·.the-copy 𝓤 H A W; lawful = StructLaws.lawful network-proofs-Nodes·.the-type network-proofs-Nodes-Laws·.the-laws 𝓤 H A W; makes = StructLaws.makes network-proofs-Nodes·.the-type network-proofs-Nodes-Laws·.the-plain 𝓤 H A; in-mem = Local.mem-whole 𝓤 H A W (Declared.row network-proofs-Nodes·.the-type); of-mem = Local.whole-mem 𝓤 H A W (Declared.row network-proofs-Nodes·.the-type) }) (L._∷_ (ShrSlice.pShrS Rec.row 0 tt) L.[])
+ps·0 = L._∷_ (Value.pVal record { ty = Declared.row network-proofs-Nodes·.the-type; one = Path.refl; val = StructLaws.val network-proofs-Nodes·.the-type network-proofs-Nodes-Laws·.the-laws; tells = StructLaws.tells network-proofs-Nodes·.the-type network-proofs-Nodes-Laws·.the-laws; still = StructLaws.still network-proofs-Nodes·.the-type network-proofs-Nodes-Laws·.the-copy Exit.yes; row = Rows.whole (Declared.row network-proofs-Nodes·.the-type); rd = λ x. x; mk = λ x. x; } λ M 𝓤 H A W. record { copies = StructLaws.copy network-proofs-Nodes·.the-type network-proofs-Nodes-Laws·.the-copy 𝓤 H A W; lawful = StructLaws.lawful network-proofs-Nodes·.the-type network-proofs-Nodes-Laws·.the-laws 𝓤 H A W; makes = StructLaws.makes network-proofs-Nodes·.the-type network-proofs-Nodes-Laws·.the-plain 𝓤 H A; in-mem = Local.mem-whole 𝓤 H A W (Declared.row network-proofs-Nodes·.the-type); of-mem = Local.whole-mem 𝓤 H A W (Declared.row network-proofs-Nodes·.the-type); }) (L._∷_ (ShrSlice.pShrS Rec.row 0 tt) L.[])
 
 abbrev pub r·0 : FnKinds.RK 1
-r·0 = Value.rVal record { ty = Declared.row rules-proofs-found-Found·.the-type; one = Path.refl; val = StructLaws.val rules-proofs-found-Found·.the-type rules-proofs-found-Found-Laws·.the-laws; tells = StructLaws.tells rules-proofs-found-Found·.the-type rules-proofs-found-Found-Laws·.the-laws; still = StructLaws.still rules-proofs-found-Found·.the-type rules-proofs-found-Found-Laws·.the-copy Exit.yes; row = Rows.whole (Declared.row rules-proofs-found-Found·.the-type); rd = λ x. x; mk = λ x. x } λ M 𝓤 H A W. record { copies = StructLaws.copy rules-proofs-found-Found·.the-type rules-proofs-found-Found-Laws·.the-copy 𝓤 H A W; lawful = StructLaws.lawful rules-proofs-found-Found·.the-type rules-proofs-found-Found-Laws·.the-laws 𝓤 H A W; makes = StructLaws.makes rules-proofs-found-Found·.the-type rules-proofs-found-Found-Laws·.the-plain 𝓤 H A; in-mem = Local.mem-whole 𝓤 H A W (Declared.row rules-proofs-found-Found·.the-type); of-mem = Local.whole-mem 𝓤 H A W (Declared.row rules-proofs-found-Found·.the-type) }
+r·0 = Value.rVal record { ty = Declared.row rules-proofs-found-Found·.the-type; one = Path.refl; val = StructLaws.val rules-proofs-found-Found·.the-type rules-proofs-found-Found-Laws·.the-laws; tells = StructLaws.tells rules-proofs-found-Found·.the-type rules-proofs-found-Found-Laws·.the-laws; still = StructLaws.still rules-proofs-found-Found·.the-type rules-proofs-found-Found-Laws·.the-copy Exit.yes; row = Rows.whole (Declared.row rules-proofs-found-Found·.the-type); rd = λ x. x; mk = λ x. x; } λ M 𝓤 H A W. record { copies = StructLaws.copy rules-proofs-found-Found·.the-type rules-proofs-found-Found-Laws·.the-copy 𝓤 H A W; lawful = StructLaws.lawful rules-proofs-found-Found·.the-type rules-proofs-found-Found-Laws·.the-laws 𝓤 H A W; makes = StructLaws.makes rules-proofs-found-Found·.the-type rules-proofs-found-Found-Laws·.the-plain 𝓤 H A; in-mem = Local.mem-whole 𝓤 H A W (Declared.row rules-proofs-found-Found·.the-type); of-mem = Local.whole-mem 𝓤 H A W (Declared.row rules-proofs-found-Found·.the-type); }
 
 abbrev pub ps·1 : L.List (FnKinds.PK 1)
 ps·1 = L._∷_ (ShrSlice.pShrS Rec.row 0 tt) (L._∷_ (Num.pNum Syntax.w64) L.[])
 
 abbrev pub r·1 : FnKinds.RK 1
-r·1 = Value.rVal record { ty = Declared.row network-proofs-Degrees·.the-type; one = Path.refl; val = StructLaws.val network-proofs-Degrees·.the-type network-proofs-Degrees-Laws·.the-laws; tells = StructLaws.tells network-proofs-Degrees·.the-type network-proofs-Degrees-Laws·.the-laws; still = StructLaws.still network-proofs-Degrees·.the-type network-proofs-Degrees-Laws·.the-copy Exit.yes; row = Rows.whole (Declared.row network-proofs-Degrees·.the-type); rd = λ x. x; mk = λ x. x } λ M 𝓤 H A W. record { copies = StructLaws.copy network-proofs-Degrees·.the-type network-proofs-Degrees-Laws·.the-copy 𝓤 H A W; lawful = StructLaws.lawful network-proofs-Degrees·.the-type network-proofs-Degrees-Laws·.the-laws 𝓤 H A W; makes = StructLaws.makes network-proofs-Degrees·.the-type network-proofs-Degrees-Laws·.the-plain 𝓤 H A; in-mem = Local.mem-whole 𝓤 H A W (Declared.row network-proofs-Degrees·.the-type); of-mem = Local.whole-mem 𝓤 H A W (Declared.row network-proofs-Degrees·.the-type) }
+r·1 = Value.rVal record { ty = Declared.row network-proofs-Degrees·.the-type; one = Path.refl; val = StructLaws.val network-proofs-Degrees·.the-type network-proofs-Degrees-Laws·.the-laws; tells = StructLaws.tells network-proofs-Degrees·.the-type network-proofs-Degrees-Laws·.the-laws; still = StructLaws.still network-proofs-Degrees·.the-type network-proofs-Degrees-Laws·.the-copy Exit.yes; row = Rows.whole (Declared.row network-proofs-Degrees·.the-type); rd = λ x. x; mk = λ x. x; } λ M 𝓤 H A W. record { copies = StructLaws.copy network-proofs-Degrees·.the-type network-proofs-Degrees-Laws·.the-copy 𝓤 H A W; lawful = StructLaws.lawful network-proofs-Degrees·.the-type network-proofs-Degrees-Laws·.the-laws 𝓤 H A W; makes = StructLaws.makes network-proofs-Degrees·.the-type network-proofs-Degrees-Laws·.the-plain 𝓤 H A; in-mem = Local.mem-whole 𝓤 H A W (Declared.row network-proofs-Degrees·.the-type); of-mem = Local.whole-mem 𝓤 H A W (Declared.row network-proofs-Degrees·.the-type); }
 
 abbrev pub ps·2 : L.List (FnKinds.PK 1)
-ps·2 = L._∷_ (Value.pVal record { ty = Declared.row network-proofs-Nodes·.the-type; one = Path.refl; val = StructLaws.val network-proofs-Nodes·.the-type network-proofs-Nodes-Laws·.the-laws; tells = StructLaws.tells network-proofs-Nodes·.the-type network-proofs-Nodes-Laws·.the-laws; still = StructLaws.still network-proofs-Nodes·.the-type network-proofs-Nodes-Laws·.the-copy Exit.yes; row = Rows.whole (Declared.row network-proofs-Nodes·.the-type); rd = λ x. x; mk = λ x. x } λ M 𝓤 H A W. record { copies = StructLaws.copy network-proofs-Nodes·.the-type network-proofs-Nodes-Laws·.the-copy 𝓤 H A W; lawful = StructLaws.lawful network-proofs-Nodes·.the-type network-proofs-Nodes-Laws·.the-laws 𝓤 H A W; makes = StructLaws.makes network-proofs-Nodes·.the-type network-proofs-Nodes-Laws·.the-plain 𝓤 H A; in-mem = Local.mem-whole 𝓤 H A W (Declared.row network-proofs-Nodes·.the-type); of-mem = Local.whole-mem 𝓤 H A W (Declared.row network-proofs-Nodes·.the-type) }) (L._∷_ (ShrSlice.pShrS Rec.row 0 tt) (L._∷_ (Value.pVal record { ty = Declared.row network-proofs-Degrees·.the-type; one = Path.refl; val = StructLaws.val network-proofs-Degrees·.the-type network-proofs-Degrees-Laws·.the-laws; tells = StructLaws.tells network-proofs-Degrees·.the-type network-proofs-Degrees-Laws·.the-laws; still = StructLaws.still network-proofs-Degrees·.the-type network-proofs-Degrees-Laws·.the-copy Exit.yes; row = Rows.whole (Declared.row network-proofs-Degrees·.the-type); rd = λ x. x; mk = λ x. x } λ M 𝓤 H A W. record { copies = StructLaws.copy network-proofs-Degrees·.the-type network-proofs-Degrees-Laws·.the-copy 𝓤 H A W; lawful = StructLaws.lawful network-proofs-Degrees·.the-type network-proofs-Degrees-Laws·.the-laws 𝓤 H A W; makes = StructLaws.makes network-proofs-Degrees·.the-type network-proofs-Degrees-Laws·.the-plain 𝓤 H A; in-mem = Local.mem-whole 𝓤 H A W (Declared.row network-proofs-Degrees·.the-type); of-mem = Local.whole-mem 𝓤 H A W (Declared.row network-proofs-Degrees·.the-type) }) (L._∷_ (Value.pVal record { ty = Declared.row costly-arc-proofs-Seen·.the-type; one = Path.refl; val = StructLaws.val costly-arc-proofs-Seen·.the-type costly-arc-proofs-Seen-Laws·.the-laws; tells = StructLaws.tells costly-arc-proofs-Seen·.the-type costly-arc-proofs-Seen-Laws·.the-laws; still = StructLaws.still costly-arc-proofs-Seen·.the-type costly-arc-proofs-Seen-Laws·.the-copy Exit.yes; row = Rows.whole (Declared.row costly-arc-proofs-Seen·.the-type); rd = λ x. x; mk = λ x. x } λ M 𝓤 H A W. record { copies = StructLaws.copy costly-arc-proofs-Seen·.the-type costly-arc-proofs-Seen-Laws·.the-copy 𝓤 H A W; lawful = StructLaws.lawful costly-arc-proofs-Seen·.the-type costly-arc-proofs-Seen-Laws·.the-laws 𝓤 H A W; makes = StructLaws.makes costly-arc-proofs-Seen·.the-type costly-arc-proofs-Seen-Laws·.the-plain 𝓤 H A; in-mem = Local.mem-whole 𝓤 H A W (Declared.row costly-arc-proofs-Seen·.the-type); of-mem = Local.whole-mem 𝓤 H A W (Declared.row costly-arc-proofs-Seen·.the-type) }) (L._∷_ (Num.pNum Syntax.w8) (L._∷_ (Num.pNum Syntax.w64) L.[])))))
+ps·2 = L._∷_ (Value.pVal record { ty = Declared.row network-proofs-Nodes·.the-type; one = Path.refl; val = StructLaws.val network-proofs-Nodes·.the-type network-proofs-Nodes-Laws·.the-laws; tells = StructLaws.tells network-proofs-Nodes·.the-type network-proofs-Nodes-Laws·.the-laws; still = StructLaws.still network-proofs-Nodes·.the-type network-proofs-Nodes-Laws·.the-copy Exit.yes; row = Rows.whole (Declared.row network-proofs-Nodes·.the-type); rd = λ x. x; mk = λ x. x; } λ M 𝓤 H A W. record { copies = StructLaws.copy network-proofs-Nodes·.the-type network-proofs-Nodes-Laws·.the-copy 𝓤 H A W; lawful = StructLaws.lawful network-proofs-Nodes·.the-type network-proofs-Nodes-Laws·.the-laws 𝓤 H A W; makes = StructLaws.makes network-proofs-Nodes·.the-type network-proofs-Nodes-Laws·.the-plain 𝓤 H A; in-mem = Local.mem-whole 𝓤 H A W (Declared.row network-proofs-Nodes·.the-type); of-mem = Local.whole-mem 𝓤 H A W (Declared.row network-proofs-Nodes·.the-type); }) (L._∷_ (ShrSlice.pShrS Rec.row 0 tt) (L._∷_ (Value.pVal record { ty = Declared.row network-proofs-Degrees·.the-type; one = Path.refl; val = StructLaws.val network-proofs-Degrees·.the-type network-proofs-Degrees-Laws·.the-laws; tells = StructLaws.tells network-proofs-Degrees·.the-type network-proofs-Degrees-Laws·.the-laws; still = StructLaws.still network-proofs-Degrees·.the-type network-proofs-Degrees-Laws·.the-copy Exit.yes; row = Rows.whole (Declared.row network-proofs-Degrees·.the-type); rd = λ x. x; mk = λ x. x; } λ M 𝓤 H A W. record { copies = StructLaws.copy network-proofs-Degrees·.the-type network-proofs-Degrees-Laws·.the-copy 𝓤 H A W; lawful = StructLaws.lawful network-proofs-Degrees·.the-type network-proofs-Degrees-Laws·.the-laws 𝓤 H A W; makes = StructLaws.makes network-proofs-Degrees·.the-type network-proofs-Degrees-Laws·.the-plain 𝓤 H A; in-mem = Local.mem-whole 𝓤 H A W (Declared.row network-proofs-Degrees·.the-type); of-mem = Local.whole-mem 𝓤 H A W (Declared.row network-proofs-Degrees·.the-type); }) (L._∷_ (Value.pVal record { ty = Declared.row costly-arc-proofs-Seen·.the-type; one = Path.refl; val = StructLaws.val costly-arc-proofs-Seen·.the-type costly-arc-proofs-Seen-Laws·.the-laws; tells = StructLaws.tells costly-arc-proofs-Seen·.the-type costly-arc-proofs-Seen-Laws·.the-laws; still = StructLaws.still costly-arc-proofs-Seen·.the-type costly-arc-proofs-Seen-Laws·.the-copy Exit.yes; row = Rows.whole (Declared.row costly-arc-proofs-Seen·.the-type); rd = λ x. x; mk = λ x. x; } λ M 𝓤 H A W. record { copies = StructLaws.copy costly-arc-proofs-Seen·.the-type costly-arc-proofs-Seen-Laws·.the-copy 𝓤 H A W; lawful = StructLaws.lawful costly-arc-proofs-Seen·.the-type costly-arc-proofs-Seen-Laws·.the-laws 𝓤 H A W; makes = StructLaws.makes costly-arc-proofs-Seen·.the-type costly-arc-proofs-Seen-Laws·.the-plain 𝓤 H A; in-mem = Local.mem-whole 𝓤 H A W (Declared.row costly-arc-proofs-Seen·.the-type); of-mem = Local.whole-mem 𝓤 H A W (Declared.row costly-arc-proofs-Seen·.the-type); }) (L._∷_ (Num.pNum Syntax.w8) (L._∷_ (Num.pNum Syntax.w64) L.[])))))
 
 abbrev pub r·2 : FnKinds.RK 1
-r·2 = Value.rVal record { ty = Declared.row rules-proofs-tried-Looked·.the-type; one = Path.refl; val = StructLaws.val rules-proofs-tried-Looked·.the-type rules-proofs-tried-Looked-Laws·.the-laws; tells = StructLaws.tells rules-proofs-tried-Looked·.the-type rules-proofs-tried-Looked-Laws·.the-laws; still = StructLaws.still rules-proofs-tried-Looked·.the-type rules-proofs-tried-Looked-Laws·.the-copy Exit.yes; row = Rows.whole (Declared.row rules-proofs-tried-Looked·.the-type); rd = λ x. x; mk = λ x. x } λ M 𝓤 H A W. record { copies = StructLaws.copy rules-proofs-tried-Looked·.the-type rules-proofs-tried-Looked-Laws·.the-copy 𝓤 H A W; lawful = StructLaws.lawful rules-proofs-tried-Looked·.the-type rules-proofs-tried-Looked-Laws·.the-laws 𝓤 H A W; makes = StructLaws.makes rules-proofs-tried-Looked·.the-type rules-proofs-tried-Looked-Laws·.the-plain 𝓤 H A; in-mem = Local.mem-whole 𝓤 H A W (Declared.row rules-proofs-tried-Looked·.the-type); of-mem = Local.whole-mem 𝓤 H A W (Declared.row rules-proofs-tried-Looked·.the-type) }
+r·2 = Value.rVal record { ty = Declared.row rules-proofs-tried-Looked·.the-type; one = Path.refl; val = StructLaws.val rules-proofs-tried-Looked·.the-type rules-proofs-tried-Looked-Laws·.the-laws; tells = StructLaws.tells rules-proofs-tried-Looked·.the-type rules-proofs-tried-Looked-Laws·.the-laws; still = StructLaws.still rules-proofs-tried-Looked·.the-type rules-proofs-tried-Looked-Laws·.the-copy Exit.yes; row = Rows.whole (Declared.row rules-proofs-tried-Looked·.the-type); rd = λ x. x; mk = λ x. x; } λ M 𝓤 H A W. record { copies = StructLaws.copy rules-proofs-tried-Looked·.the-type rules-proofs-tried-Looked-Laws·.the-copy 𝓤 H A W; lawful = StructLaws.lawful rules-proofs-tried-Looked·.the-type rules-proofs-tried-Looked-Laws·.the-laws 𝓤 H A W; makes = StructLaws.makes rules-proofs-tried-Looked·.the-type rules-proofs-tried-Looked-Laws·.the-plain 𝓤 H A; in-mem = Local.mem-whole 𝓤 H A W (Declared.row rules-proofs-tried-Looked·.the-type); of-mem = Local.whole-mem 𝓤 H A W (Declared.row rules-proofs-tried-Looked·.the-type); }
 
 abbrev pub ps·3 : L.List (FnKinds.PK 0)
 ps·3 = L.[]
 
 abbrev pub r·3 : FnKinds.RK 0
-r·3 = Value.rVal record { ty = Declared.row rules-proofs-found-Found·.the-type; one = Path.refl; val = StructLaws.val rules-proofs-found-Found·.the-type rules-proofs-found-Found-Laws·.the-laws; tells = StructLaws.tells rules-proofs-found-Found·.the-type rules-proofs-found-Found-Laws·.the-laws; still = StructLaws.still rules-proofs-found-Found·.the-type rules-proofs-found-Found-Laws·.the-copy Exit.yes; row = Rows.whole (Declared.row rules-proofs-found-Found·.the-type); rd = λ x. x; mk = λ x. x } λ M 𝓤 H A W. record { copies = StructLaws.copy rules-proofs-found-Found·.the-type rules-proofs-found-Found-Laws·.the-copy 𝓤 H A W; lawful = StructLaws.lawful rules-proofs-found-Found·.the-type rules-proofs-found-Found-Laws·.the-laws 𝓤 H A W; makes = StructLaws.makes rules-proofs-found-Found·.the-type rules-proofs-found-Found-Laws·.the-plain 𝓤 H A; in-mem = Local.mem-whole 𝓤 H A W (Declared.row rules-proofs-found-Found·.the-type); of-mem = Local.whole-mem 𝓤 H A W (Declared.row rules-proofs-found-Found·.the-type) }
+r·3 = Value.rVal record { ty = Declared.row rules-proofs-found-Found·.the-type; one = Path.refl; val = StructLaws.val rules-proofs-found-Found·.the-type rules-proofs-found-Found-Laws·.the-laws; tells = StructLaws.tells rules-proofs-found-Found·.the-type rules-proofs-found-Found-Laws·.the-laws; still = StructLaws.still rules-proofs-found-Found·.the-type rules-proofs-found-Found-Laws·.the-copy Exit.yes; row = Rows.whole (Declared.row rules-proofs-found-Found·.the-type); rd = λ x. x; mk = λ x. x; } λ M 𝓤 H A W. record { copies = StructLaws.copy rules-proofs-found-Found·.the-type rules-proofs-found-Found-Laws·.the-copy 𝓤 H A W; lawful = StructLaws.lawful rules-proofs-found-Found·.the-type rules-proofs-found-Found-Laws·.the-laws 𝓤 H A W; makes = StructLaws.makes rules-proofs-found-Found·.the-type rules-proofs-found-Found-Laws·.the-plain 𝓤 H A; in-mem = Local.mem-whole 𝓤 H A W (Declared.row rules-proofs-found-Found·.the-type); of-mem = Local.whole-mem 𝓤 H A W (Declared.row rules-proofs-found-Found·.the-type); }
 
 abbrev pub hs : L.List Syntax.Home
 hs = L._∷_ Syntax.valueLocal (L._∷_ Syntax.valueLocal (L._∷_ Syntax.valueLocal (L._∷_ Syntax.valueLocal (L._∷_ Syntax.valueLocal (L._∷_ Syntax.valueLocal (L._∷_ Syntax.valueLocal (L._∷_ Syntax.valueLocal (L._∷_ Syntax.valueLocal (L._∷_ Syntax.valueLocal (L._∷_ Syntax.valueLocal (L._∷_ Syntax.valueLocal (L._∷_ Syntax.valueLocal L.[]))))))))))))
@@ -594,7 +594,7 @@ MeasureT-loop = Rows.whole (Declared.row network-proofs-Nodes·.the-type) .Mod �
 
 module _ (claims· : Claims) where
   abbrev s0 : (bs : L.List Nat.ℕ) → Typed.Both T0 T2
-  s0 = λ bs. Call.callB ps·0 r·0 (claims· .0) (claims· .1) T0 (record { pos = 1; st = L.[]; d = 0; at = λ x. x }, (record { pos = 2; ty = Syntax.tyRef (Syntax.named 0) Syntax.imm Rec.named; ref = λ x. x }, tt)) 5 (L._∷_ 0 L.[]) (Syntax.tyStruct (L._∷_ 114 (L._∷_ 117 (L._∷_ 108 (L._∷_ 101 (L._∷_ 115 (L._∷_ 58 (L._∷_ 58 (L._∷_ 102 (L._∷_ 111 (L._∷_ 117 (L._∷_ 110 (L._∷_ 100 (L._∷_ 58 (L._∷_ 58 (L._∷_ 70 (L._∷_ 111 (L._∷_ 117 (L._∷_ 110 (L._∷_ 100 L.[]))))))))))))))))))) (Syntax.tcons Syntax.tyBool (Syntax.tcons Syntax.tyBool (Syntax.tcons (Syntax.tyStruct (L._∷_ 115 (L._∷_ 116 (L._∷_ 101 (L._∷_ 112 (L._∷_ 58 (L._∷_ 58 (L._∷_ 83 (L._∷_ 116 (L._∷_ 101 (L._∷_ 112 L.[])))))))))) (Syntax.tcons (Syntax.tyInt Syntax.w64) (Syntax.tcons (Syntax.tyInt Syntax.w64) (Syntax.tcons (Syntax.tyStruct (L._∷_ 115 (L._∷_ 116 (L._∷_ 101 (L._∷_ 112 (L._∷_ 58 (L._∷_ 58 (L._∷_ 67 (L._∷_ 104 (L._∷_ 97 (L._∷_ 110 (L._∷_ 103 (L._∷_ 101 L.[])))))))))))) (Syntax.tcons (Syntax.tyStruct (L._∷_ 110 (L._∷_ 101 (L._∷_ 116 (L._∷_ 119 (L._∷_ 111 (L._∷_ 114 (L._∷_ 107 (L._∷_ 58 (L._∷_ 58 (L._∷_ 69 (L._∷_ 100 (L._∷_ 105 (L._∷_ 116 L.[]))))))))))))) (Syntax.tcons q8 (Syntax.tcons q8 (Syntax.tcons q8 (Syntax.tcons q8 (Syntax.tcons q2 (Syntax.tcons q2 (Syntax.tcons (Syntax.tyInt Syntax.w64) Syntax.tnil)))))))) (Syntax.tcons (Syntax.tyStruct (L._∷_ 115 (L._∷_ 116 (L._∷_ 101 (L._∷_ 112 (L._∷_ 58 (L._∷_ 58 (L._∷_ 79 (L._∷_ 108 (L._∷_ 100 L.[]))))))))) (Syntax.tcons (Syntax.tyInt Syntax.w64) (Syntax.tcons q7 (Syntax.tcons q8 (Syntax.tcons q8 (Syntax.tcons q8 (Syntax.tcons q8 (Syntax.tcons q5 Syntax.tnil)))))))) Syntax.tnil))) Syntax.tnil)))) Syntax.tnil))))
+  s0 = λ bs. Call.callB ps·0 r·0 (claims· .0) (claims· .1) T0 (record { pos = 1; st = L.[]; d = 0; at = λ x. x }, (record { pos = 2; ty = Syntax.tyRef (Syntax.named 0) Syntax.imm Rec.named; ref = λ x. x; }, tt)) 5 (L._∷_ 0 L.[]) (Syntax.tyStruct (L._∷_ 114 (L._∷_ 117 (L._∷_ 108 (L._∷_ 101 (L._∷_ 115 (L._∷_ 58 (L._∷_ 58 (L._∷_ 102 (L._∷_ 111 (L._∷_ 117 (L._∷_ 110 (L._∷_ 100 (L._∷_ 58 (L._∷_ 58 (L._∷_ 70 (L._∷_ 111 (L._∷_ 117 (L._∷_ 110 (L._∷_ 100 L.[]))))))))))))))))))) (Syntax.tcons Syntax.tyBool (Syntax.tcons Syntax.tyBool (Syntax.tcons (Syntax.tyStruct (L._∷_ 115 (L._∷_ 116 (L._∷_ 101 (L._∷_ 112 (L._∷_ 58 (L._∷_ 58 (L._∷_ 83 (L._∷_ 116 (L._∷_ 101 (L._∷_ 112 L.[])))))))))) (Syntax.tcons (Syntax.tyInt Syntax.w64) (Syntax.tcons (Syntax.tyInt Syntax.w64) (Syntax.tcons (Syntax.tyStruct (L._∷_ 115 (L._∷_ 116 (L._∷_ 101 (L._∷_ 112 (L._∷_ 58 (L._∷_ 58 (L._∷_ 67 (L._∷_ 104 (L._∷_ 97 (L._∷_ 110 (L._∷_ 103 (L._∷_ 101 L.[])))))))))))) (Syntax.tcons (Syntax.tyStruct (L._∷_ 110 (L._∷_ 101 (L._∷_ 116 (L._∷_ 119 (L._∷_ 111 (L._∷_ 114 (L._∷_ 107 (L._∷_ 58 (L._∷_ 58 (L._∷_ 69 (L._∷_ 100 (L._∷_ 105 (L._∷_ 116 L.[]))))))))))))) (Syntax.tcons q8 (Syntax.tcons q8 (Syntax.tcons q8 (Syntax.tcons q8 (Syntax.tcons q2 (Syntax.tcons q2 (Syntax.tcons (Syntax.tyInt Syntax.w64) Syntax.tnil)))))))) (Syntax.tcons (Syntax.tyStruct (L._∷_ 115 (L._∷_ 116 (L._∷_ 101 (L._∷_ 112 (L._∷_ 58 (L._∷_ 58 (L._∷_ 79 (L._∷_ 108 (L._∷_ 100 L.[]))))))))) (Syntax.tcons (Syntax.tyInt Syntax.w64) (Syntax.tcons q7 (Syntax.tcons q8 (Syntax.tcons q8 (Syntax.tcons q8 (Syntax.tcons q8 (Syntax.tcons q5 Syntax.tnil)))))))) Syntax.tnil))) Syntax.tnil)))) Syntax.tnil))))
 
   abbrev s1 : (bs : L.List Nat.ℕ) → Typed.Mo T2 → Typed.Mo T3
   s1 = λ bs. Scalar.n-use T2 (Scalar.oFld 5 (L._∷_ (Syntax.field 0) L.[]) Syntax.tyBool 0 (Reads.fieldV rules-proofs-found-Found·.the-type rules-proofs-found-Found-Laws·.the-laws 0)) 11 (Rows.sc-here Row.sBool) (Row.sBool .of)
@@ -627,7 +627,7 @@ module _ (claims· : Claims) where
   s10 = λ bs. Scalar.n-room T12 11 Syntax.tyBool
 
   abbrev s11 : (bs : L.List Nat.ℕ) → Typed.Both T4 T14
-  s11 = λ bs. Call.callB ps·1 r·1 (claims· .2) (claims· .3) T4 (record { pos = 2; ty = Syntax.tyRef (Syntax.named 0) Syntax.imm Rec.named; ref = λ x. x }, (Num.vFld 1 (L._∷_ (Syntax.field 1) L.[]) 8 λ x. network-proofs-Nodes·.struct .as-values x .1 .0, tt)) 6 (L._∷_ 0 L.[]) q10
+  s11 = λ bs. Call.callB ps·1 r·1 (claims· .2) (claims· .3) T4 (record { pos = 2; ty = Syntax.tyRef (Syntax.named 0) Syntax.imm Rec.named; ref = λ x. x; }, (Num.vFld 1 (L._∷_ (Syntax.field 1) L.[]) 8 λ x. network-proofs-Nodes·.struct .as-values x .1 .0, tt)) 6 (L._∷_ 0 L.[]) q10
 
   abbrev s12 : (bs : L.List Nat.ℕ) → Typed.Mo T14 → Typed.Mo T15
   s12 = λ bs. LocalCopy.n-val-copy T14 3 7 (Declared.row costly-arc-proofs-Seen·.the-type) q22 q22 (λ x. x) (λ x. x) λ x. x
@@ -654,7 +654,7 @@ module _ (claims· : Claims) where
   s19 = λ bs. Scalar.n-room T23 12 Syntax.tyBool
 
   abbrev s20 : (bs : L.List Nat.ℕ) → Typed.Both T20 T25
-  s20 = λ bs. Call.callB ps·2 r·2 (claims· .4) (claims· .5) T20 (record { pos = 1; st = L.[]; d = 0; at = λ x. x }, (record { pos = 2; ty = Syntax.tyRef (Syntax.named 0) Syntax.imm Rec.named; ref = λ x. x }, (record { pos = 6; st = L.[]; d = 0; at = λ x. x }, (record { pos = 7; st = L.[]; d = 0; at = λ x. x }, (Num.vAt 4 λ x. x, (Num.vAt 8 λ x. x, tt)))))) 9 (L._∷_ 0 L.[]) (Syntax.tyStruct (L._∷_ 114 (L._∷_ 117 (L._∷_ 108 (L._∷_ 101 (L._∷_ 115 (L._∷_ 58 (L._∷_ 58 (L._∷_ 116 (L._∷_ 114 (L._∷_ 105 (L._∷_ 101 (L._∷_ 100 (L._∷_ 58 (L._∷_ 58 (L._∷_ 76 (L._∷_ 111 (L._∷_ 111 (L._∷_ 107 (L._∷_ 101 (L._∷_ 100 L.[])))))))))))))))))))) (Syntax.tcons (Syntax.tyStruct (L._∷_ 114 (L._∷_ 117 (L._∷_ 108 (L._∷_ 101 (L._∷_ 115 (L._∷_ 58 (L._∷_ 58 (L._∷_ 102 (L._∷_ 111 (L._∷_ 117 (L._∷_ 110 (L._∷_ 100 (L._∷_ 58 (L._∷_ 58 (L._∷_ 70 (L._∷_ 111 (L._∷_ 117 (L._∷_ 110 (L._∷_ 100 L.[]))))))))))))))))))) (Syntax.tcons Syntax.tyBool (Syntax.tcons Syntax.tyBool (Syntax.tcons (Syntax.tyStruct (L._∷_ 115 (L._∷_ 116 (L._∷_ 101 (L._∷_ 112 (L._∷_ 58 (L._∷_ 58 (L._∷_ 83 (L._∷_ 116 (L._∷_ 101 (L._∷_ 112 L.[])))))))))) (Syntax.tcons (Syntax.tyInt Syntax.w64) (Syntax.tcons (Syntax.tyInt Syntax.w64) (Syntax.tcons (Syntax.tyStruct (L._∷_ 115 (L._∷_ 116 (L._∷_ 101 (L._∷_ 112 (L._∷_ 58 (L._∷_ 58 (L._∷_ 67 (L._∷_ 104 (L._∷_ 97 (L._∷_ 110 (L._∷_ 103 (L._∷_ 101 L.[])))))))))))) (Syntax.tcons (Syntax.tyStruct (L._∷_ 110 (L._∷_ 101 (L._∷_ 116 (L._∷_ 119 (L._∷_ 111 (L._∷_ 114 (L._∷_ 107 (L._∷_ 58 (L._∷_ 58 (L._∷_ 69 (L._∷_ 100 (L._∷_ 105 (L._∷_ 116 L.[]))))))))))))) (Syntax.tcons q8 (Syntax.tcons q8 (Syntax.tcons q8 (Syntax.tcons q8 (Syntax.tcons q2 (Syntax.tcons q2 (Syntax.tcons (Syntax.tyInt Syntax.w64) Syntax.tnil)))))))) (Syntax.tcons (Syntax.tyStruct (L._∷_ 115 (L._∷_ 116 (L._∷_ 101 (L._∷_ 112 (L._∷_ 58 (L._∷_ 58 (L._∷_ 79 (L._∷_ 108 (L._∷_ 100 L.[]))))))))) (Syntax.tcons (Syntax.tyInt Syntax.w64) (Syntax.tcons q7 (Syntax.tcons q8 (Syntax.tcons q8 (Syntax.tcons q8 (Syntax.tcons q8 (Syntax.tcons q5 Syntax.tnil)))))))) Syntax.tnil))) Syntax.tnil)))) Syntax.tnil)))) (Syntax.tcons q6 Syntax.tnil)))
+  s20 = λ bs. Call.callB ps·2 r·2 (claims· .4) (claims· .5) T20 (record { pos = 1; st = L.[]; d = 0; at = λ x. x }, (record { pos = 2; ty = Syntax.tyRef (Syntax.named 0) Syntax.imm Rec.named; ref = λ x. x; }, (record { pos = 6; st = L.[]; d = 0; at = λ x. x }, (record { pos = 7; st = L.[]; d = 0; at = λ x. x }, (Num.vAt 4 λ x. x, (Num.vAt 8 λ x. x, tt)))))) 9 (L._∷_ 0 L.[]) (Syntax.tyStruct (L._∷_ 114 (L._∷_ 117 (L._∷_ 108 (L._∷_ 101 (L._∷_ 115 (L._∷_ 58 (L._∷_ 58 (L._∷_ 116 (L._∷_ 114 (L._∷_ 105 (L._∷_ 101 (L._∷_ 100 (L._∷_ 58 (L._∷_ 58 (L._∷_ 76 (L._∷_ 111 (L._∷_ 111 (L._∷_ 107 (L._∷_ 101 (L._∷_ 100 L.[])))))))))))))))))))) (Syntax.tcons (Syntax.tyStruct (L._∷_ 114 (L._∷_ 117 (L._∷_ 108 (L._∷_ 101 (L._∷_ 115 (L._∷_ 58 (L._∷_ 58 (L._∷_ 102 (L._∷_ 111 (L._∷_ 117 (L._∷_ 110 (L._∷_ 100 (L._∷_ 58 (L._∷_ 58 (L._∷_ 70 (L._∷_ 111 (L._∷_ 117 (L._∷_ 110 (L._∷_ 100 L.[]))))))))))))))))))) (Syntax.tcons Syntax.tyBool (Syntax.tcons Syntax.tyBool (Syntax.tcons (Syntax.tyStruct (L._∷_ 115 (L._∷_ 116 (L._∷_ 101 (L._∷_ 112 (L._∷_ 58 (L._∷_ 58 (L._∷_ 83 (L._∷_ 116 (L._∷_ 101 (L._∷_ 112 L.[])))))))))) (Syntax.tcons (Syntax.tyInt Syntax.w64) (Syntax.tcons (Syntax.tyInt Syntax.w64) (Syntax.tcons (Syntax.tyStruct (L._∷_ 115 (L._∷_ 116 (L._∷_ 101 (L._∷_ 112 (L._∷_ 58 (L._∷_ 58 (L._∷_ 67 (L._∷_ 104 (L._∷_ 97 (L._∷_ 110 (L._∷_ 103 (L._∷_ 101 L.[])))))))))))) (Syntax.tcons (Syntax.tyStruct (L._∷_ 110 (L._∷_ 101 (L._∷_ 116 (L._∷_ 119 (L._∷_ 111 (L._∷_ 114 (L._∷_ 107 (L._∷_ 58 (L._∷_ 58 (L._∷_ 69 (L._∷_ 100 (L._∷_ 105 (L._∷_ 116 L.[]))))))))))))) (Syntax.tcons q8 (Syntax.tcons q8 (Syntax.tcons q8 (Syntax.tcons q8 (Syntax.tcons q2 (Syntax.tcons q2 (Syntax.tcons (Syntax.tyInt Syntax.w64) Syntax.tnil)))))))) (Syntax.tcons (Syntax.tyStruct (L._∷_ 115 (L._∷_ 116 (L._∷_ 101 (L._∷_ 112 (L._∷_ 58 (L._∷_ 58 (L._∷_ 79 (L._∷_ 108 (L._∷_ 100 L.[]))))))))) (Syntax.tcons (Syntax.tyInt Syntax.w64) (Syntax.tcons q7 (Syntax.tcons q8 (Syntax.tcons q8 (Syntax.tcons q8 (Syntax.tcons q8 (Syntax.tcons q5 Syntax.tnil)))))))) Syntax.tnil))) Syntax.tnil)))) Syntax.tnil)))) (Syntax.tcons q6 Syntax.tnil)))
 
   abbrev s21 : (bs : L.List Nat.ℕ) → Typed.Mo T25 → Typed.Mo T26
   s21 = λ bs. Scalar.n-room T25 7 q6
@@ -687,7 +687,7 @@ module _ (claims· : Claims) where
   s30 = λ bs. Scalar.n-room T27 12 Syntax.tyBool
 
   abbrev s31 : (bs : L.List Nat.ℕ) → Typed.Both T28 T37
-  s31 = λ bs. WayStmt.k-way-copy-out T28 (Row.out 9 (T28 .locals)) (λ u. Row.drop 9 (T28 .locals) u) 7 q22 (λ u. At.getAt (rules-proofs-tried-Looked·.the-type .parts) 1 (rules-proofs-tried-Looked·.struct .as-values (u .1 .1 .1 .1 .1 .1 .1 .1 .1 .0))) (λ T′. record { locals = Row.setRow 9 q14 T′; slots = L.[] }) (λ u T′ m′. Row.set 9 q14 (u .1 .1 .1 .1 .1 .1 .1 .1 .1 .0) T′ m′) (λ u. Unit) λ u. Unit
+  s31 = λ bs. WayStmt.k-way-copy-out T28 (Row.out 9 (T28 .locals)) (λ u. Row.drop 9 (T28 .locals) u) 7 q22 (λ u. At.getAt (rules-proofs-tried-Looked·.the-type .parts) 1 (rules-proofs-tried-Looked·.struct .as-values (u .1 .1 .1 .1 .1 .1 .1 .1 .1 .0))) (λ T′. record { locals = Row.setRow 9 q14 T′; slots = L.[]; }) (λ u T′ m′. Row.set 9 q14 (u .1 .1 .1 .1 .1 .1 .1 .1 .1 .0) T′ m′) (λ u. Unit) λ u. Unit
 
   abbrev s32 : (bs : L.List Nat.ℕ) → Typed.Mo T37 → Typed.Mo T38
   s32 = λ bs. Scalar.n-room T37 9 (Syntax.tyStruct (L._∷_ 114 (L._∷_ 117 (L._∷_ 108 (L._∷_ 101 (L._∷_ 115 (L._∷_ 58 (L._∷_ 58 (L._∷_ 116 (L._∷_ 114 (L._∷_ 105 (L._∷_ 101 (L._∷_ 100 (L._∷_ 58 (L._∷_ 58 (L._∷_ 76 (L._∷_ 111 (L._∷_ 111 (L._∷_ 107 (L._∷_ 101 (L._∷_ 100 L.[])))))))))))))))))))) (Syntax.tcons (Syntax.tyStruct (L._∷_ 114 (L._∷_ 117 (L._∷_ 108 (L._∷_ 101 (L._∷_ 115 (L._∷_ 58 (L._∷_ 58 (L._∷_ 102 (L._∷_ 111 (L._∷_ 117 (L._∷_ 110 (L._∷_ 100 (L._∷_ 58 (L._∷_ 58 (L._∷_ 70 (L._∷_ 111 (L._∷_ 117 (L._∷_ 110 (L._∷_ 100 L.[]))))))))))))))))))) (Syntax.tcons Syntax.tyBool (Syntax.tcons Syntax.tyBool (Syntax.tcons (Syntax.tyStruct (L._∷_ 115 (L._∷_ 116 (L._∷_ 101 (L._∷_ 112 (L._∷_ 58 (L._∷_ 58 (L._∷_ 83 (L._∷_ 116 (L._∷_ 101 (L._∷_ 112 L.[])))))))))) (Syntax.tcons (Syntax.tyInt Syntax.w64) (Syntax.tcons (Syntax.tyInt Syntax.w64) (Syntax.tcons (Syntax.tyStruct (L._∷_ 115 (L._∷_ 116 (L._∷_ 101 (L._∷_ 112 (L._∷_ 58 (L._∷_ 58 (L._∷_ 67 (L._∷_ 104 (L._∷_ 97 (L._∷_ 110 (L._∷_ 103 (L._∷_ 101 L.[])))))))))))) (Syntax.tcons (Syntax.tyStruct (L._∷_ 110 (L._∷_ 101 (L._∷_ 116 (L._∷_ 119 (L._∷_ 111 (L._∷_ 114 (L._∷_ 107 (L._∷_ 58 (L._∷_ 58 (L._∷_ 69 (L._∷_ 100 (L._∷_ 105 (L._∷_ 116 L.[]))))))))))))) (Syntax.tcons q8 (Syntax.tcons q8 (Syntax.tcons q8 (Syntax.tcons q8 (Syntax.tcons q2 (Syntax.tcons q2 (Syntax.tcons (Syntax.tyInt Syntax.w64) Syntax.tnil)))))))) (Syntax.tcons (Syntax.tyStruct (L._∷_ 115 (L._∷_ 116 (L._∷_ 101 (L._∷_ 112 (L._∷_ 58 (L._∷_ 58 (L._∷_ 79 (L._∷_ 108 (L._∷_ 100 L.[]))))))))) (Syntax.tcons (Syntax.tyInt Syntax.w64) (Syntax.tcons q7 (Syntax.tcons q8 (Syntax.tcons q8 (Syntax.tcons q8 (Syntax.tcons q8 (Syntax.tcons q5 Syntax.tnil)))))))) Syntax.tnil))) Syntax.tnil)))) Syntax.tnil)))) (Syntax.tcons q6 Syntax.tnil)))
@@ -1167,7 +1167,7 @@ module _ (claims· : Claims) where
           d31 = Typed.g-pre 𝓤 H A W 𝓣 E G37 G38 b22 Δ4 (Typed.pass T37 T38 (s32 bs)) (at30 bs) (Scalar.g-room 𝓤 H A W E G37 9 (Syntax.tyStruct (L._∷_ 114 (L._∷_ 117 (L._∷_ 108 (L._∷_ 101 (L._∷_ 115 (L._∷_ 58 (L._∷_ 58 (L._∷_ 116 (L._∷_ 114 (L._∷_ 105 (L._∷_ 101 (L._∷_ 100 (L._∷_ 58 (L._∷_ 58 (L._∷_ 76 (L._∷_ 111 (L._∷_ 111 (L._∷_ 107 (L._∷_ 101 (L._∷_ 100 L.[])))))))))))))))))))) (Syntax.tcons (Syntax.tyStruct (L._∷_ 114 (L._∷_ 117 (L._∷_ 108 (L._∷_ 101 (L._∷_ 115 (L._∷_ 58 (L._∷_ 58 (L._∷_ 102 (L._∷_ 111 (L._∷_ 117 (L._∷_ 110 (L._∷_ 100 (L._∷_ 58 (L._∷_ 58 (L._∷_ 70 (L._∷_ 111 (L._∷_ 117 (L._∷_ 110 (L._∷_ 100 L.[]))))))))))))))))))) (Syntax.tcons Syntax.tyBool (Syntax.tcons Syntax.tyBool (Syntax.tcons (Syntax.tyStruct (L._∷_ 115 (L._∷_ 116 (L._∷_ 101 (L._∷_ 112 (L._∷_ 58 (L._∷_ 58 (L._∷_ 83 (L._∷_ 116 (L._∷_ 101 (L._∷_ 112 L.[])))))))))) (Syntax.tcons (Syntax.tyInt Syntax.w64) (Syntax.tcons (Syntax.tyInt Syntax.w64) (Syntax.tcons (Syntax.tyStruct (L._∷_ 115 (L._∷_ 116 (L._∷_ 101 (L._∷_ 112 (L._∷_ 58 (L._∷_ 58 (L._∷_ 67 (L._∷_ 104 (L._∷_ 97 (L._∷_ 110 (L._∷_ 103 (L._∷_ 101 L.[])))))))))))) (Syntax.tcons (Syntax.tyStruct (L._∷_ 110 (L._∷_ 101 (L._∷_ 116 (L._∷_ 119 (L._∷_ 111 (L._∷_ 114 (L._∷_ 107 (L._∷_ 58 (L._∷_ 58 (L._∷_ 69 (L._∷_ 100 (L._∷_ 105 (L._∷_ 116 L.[]))))))))))))) (Syntax.tcons q8 (Syntax.tcons q8 (Syntax.tcons q8 (Syntax.tcons q8 (Syntax.tcons q2 (Syntax.tcons q2 (Syntax.tcons (Syntax.tyInt Syntax.w64) Syntax.tnil)))))))) (Syntax.tcons (Syntax.tyStruct (L._∷_ 115 (L._∷_ 116 (L._∷_ 101 (L._∷_ 112 (L._∷_ 58 (L._∷_ 58 (L._∷_ 79 (L._∷_ 108 (L._∷_ 100 L.[]))))))))) (Syntax.tcons (Syntax.tyInt Syntax.w64) (Syntax.tcons q7 (Syntax.tcons q8 (Syntax.tcons q8 (Syntax.tcons q8 (Syntax.tcons q8 (Syntax.tcons q5 Syntax.tnil)))))))) Syntax.tnil))) Syntax.tnil)))) Syntax.tnil)))) (Syntax.tcons q6 Syntax.tnil))) (Local.room-whole 𝓤 H A W (Declared.row rules-proofs-tried-Looked·.the-type) (Syntax.tyStruct (L._∷_ 114 (L._∷_ 117 (L._∷_ 108 (L._∷_ 101 (L._∷_ 115 (L._∷_ 58 (L._∷_ 58 (L._∷_ 116 (L._∷_ 114 (L._∷_ 105 (L._∷_ 101 (L._∷_ 100 (L._∷_ 58 (L._∷_ 58 (L._∷_ 76 (L._∷_ 111 (L._∷_ 111 (L._∷_ 107 (L._∷_ 101 (L._∷_ 100 L.[])))))))))))))))))))) (Syntax.tcons (Syntax.tyStruct (L._∷_ 114 (L._∷_ 117 (L._∷_ 108 (L._∷_ 101 (L._∷_ 115 (L._∷_ 58 (L._∷_ 58 (L._∷_ 102 (L._∷_ 111 (L._∷_ 117 (L._∷_ 110 (L._∷_ 100 (L._∷_ 58 (L._∷_ 58 (L._∷_ 70 (L._∷_ 111 (L._∷_ 117 (L._∷_ 110 (L._∷_ 100 L.[]))))))))))))))))))) (Syntax.tcons Syntax.tyBool (Syntax.tcons Syntax.tyBool (Syntax.tcons (Syntax.tyStruct (L._∷_ 115 (L._∷_ 116 (L._∷_ 101 (L._∷_ 112 (L._∷_ 58 (L._∷_ 58 (L._∷_ 83 (L._∷_ 116 (L._∷_ 101 (L._∷_ 112 L.[])))))))))) (Syntax.tcons (Syntax.tyInt Syntax.w64) (Syntax.tcons (Syntax.tyInt Syntax.w64) (Syntax.tcons (Syntax.tyStruct (L._∷_ 115 (L._∷_ 116 (L._∷_ 101 (L._∷_ 112 (L._∷_ 58 (L._∷_ 58 (L._∷_ 67 (L._∷_ 104 (L._∷_ 97 (L._∷_ 110 (L._∷_ 103 (L._∷_ 101 L.[])))))))))))) (Syntax.tcons (Syntax.tyStruct (L._∷_ 110 (L._∷_ 101 (L._∷_ 116 (L._∷_ 119 (L._∷_ 111 (L._∷_ 114 (L._∷_ 107 (L._∷_ 58 (L._∷_ 58 (L._∷_ 69 (L._∷_ 100 (L._∷_ 105 (L._∷_ 116 L.[]))))))))))))) (Syntax.tcons q8 (Syntax.tcons q8 (Syntax.tcons q8 (Syntax.tcons q8 (Syntax.tcons q2 (Syntax.tcons q2 (Syntax.tcons (Syntax.tyInt Syntax.w64) Syntax.tnil)))))))) (Syntax.tcons (Syntax.tyStruct (L._∷_ 115 (L._∷_ 116 (L._∷_ 101 (L._∷_ 112 (L._∷_ 58 (L._∷_ 58 (L._∷_ 79 (L._∷_ 108 (L._∷_ 100 L.[]))))))))) (Syntax.tcons (Syntax.tyInt Syntax.w64) (Syntax.tcons q7 (Syntax.tcons q8 (Syntax.tcons q8 (Syntax.tcons q8 (Syntax.tcons q8 (Syntax.tcons q5 Syntax.tnil)))))))) Syntax.tnil))) Syntax.tnil)))) Syntax.tnil)))) (Syntax.tcons q6 Syntax.tnil))) Path.refl)) d30
 
           d32 : Typed.Typed 𝓤 H A 𝓣 E G28 b23 Δ4 (at32 bs)
-          d32 = Typed.s-seq 𝓤 H A W 𝓣 E G28 G37 b21 b22 Δ4 (Typed.both (s31 bs)) (at31 bs) (WayStmt.t-way-copy-out 𝓤 H A W E 𝓣 (Declared.row costly-arc-proofs-Seen·.the-type) Path.refl (Copies.cStruct costly-arc-proofs-Seen·.the-type costly-arc-proofs-Seen-Laws·.the-laws costly-arc-proofs-Seen-Laws·.the-copy .copy 𝓤 H A W) (λ ρ. Unit) G28 (Row.out 9 (G28 .locals)) (λ u. Row.drop 9 (G28 .locals) u) (G28 .slots) 9 (λ t. L._∷_ (Syntax.field 1) t) q6 q6 7 q22 (λ x. x) (λ u. At.getAt (rules-proofs-tried-Looked·.the-type .parts) 1 (rules-proofs-tried-Looked·.struct .as-values (u .1 .1 .1 .1 .1 .1 .1 .1 .1 .0))) (λ u. (Row.hd 0 (Row.tl (Row.tl (Row.tl (Row.tl (Row.tl (Row.tl (Row.tl (Row.tl (Row.tl bs))))))))), Nat._+_ 0 624)) (λ T′. record { locals = Row.setRow 9 q14 T′; slots = G28 .slots }) (λ u T′ m′. Row.set 9 q14 (u .1 .1 .1 .1 .1 .1 .1 .1 .1 .0) T′ m′) (λ u. Unit) (λ x. Unit) (Own.told-none 𝓤 H A (G28 .slots)) (DerefMove.learns-nothing 𝓤 H A (Declared.row costly-arc-proofs-Seen·.the-type)) (λ ρ told u asked. StructWay.w-partˢ 𝓤 H A W E (Declared.row rules-proofs-tried-Looked·.the-type) (Declared.row costly-arc-proofs-Seen·.the-type) (Syntax.tyStruct (L._∷_ 114 (L._∷_ 117 (L._∷_ 108 (L._∷_ 101 (L._∷_ 115 (L._∷_ 58 (L._∷_ 58 (L._∷_ 116 (L._∷_ 114 (L._∷_ 105 (L._∷_ 101 (L._∷_ 100 (L._∷_ 58 (L._∷_ 58 (L._∷_ 76 (L._∷_ 111 (L._∷_ 111 (L._∷_ 107 (L._∷_ 101 (L._∷_ 100 L.[])))))))))))))))))))) (Syntax.tcons (Syntax.tyStruct (L._∷_ 114 (L._∷_ 117 (L._∷_ 108 (L._∷_ 101 (L._∷_ 115 (L._∷_ 58 (L._∷_ 58 (L._∷_ 102 (L._∷_ 111 (L._∷_ 117 (L._∷_ 110 (L._∷_ 100 (L._∷_ 58 (L._∷_ 58 (L._∷_ 70 (L._∷_ 111 (L._∷_ 117 (L._∷_ 110 (L._∷_ 100 L.[]))))))))))))))))))) (Syntax.tcons Syntax.tyBool (Syntax.tcons Syntax.tyBool (Syntax.tcons (Syntax.tyStruct (L._∷_ 115 (L._∷_ 116 (L._∷_ 101 (L._∷_ 112 (L._∷_ 58 (L._∷_ 58 (L._∷_ 83 (L._∷_ 116 (L._∷_ 101 (L._∷_ 112 L.[])))))))))) (Syntax.tcons (Syntax.tyInt Syntax.w64) (Syntax.tcons (Syntax.tyInt Syntax.w64) (Syntax.tcons (Syntax.tyStruct (L._∷_ 115 (L._∷_ 116 (L._∷_ 101 (L._∷_ 112 (L._∷_ 58 (L._∷_ 58 (L._∷_ 67 (L._∷_ 104 (L._∷_ 97 (L._∷_ 110 (L._∷_ 103 (L._∷_ 101 L.[])))))))))))) (Syntax.tcons (Syntax.tyStruct (L._∷_ 110 (L._∷_ 101 (L._∷_ 116 (L._∷_ 119 (L._∷_ 111 (L._∷_ 114 (L._∷_ 107 (L._∷_ 58 (L._∷_ 58 (L._∷_ 69 (L._∷_ 100 (L._∷_ 105 (L._∷_ 116 L.[]))))))))))))) (Syntax.tcons q8 (Syntax.tcons q8 (Syntax.tcons q8 (Syntax.tcons q8 (Syntax.tcons q2 (Syntax.tcons q2 (Syntax.tcons (Syntax.tyInt Syntax.w64) Syntax.tnil)))))))) (Syntax.tcons (Syntax.tyStruct (L._∷_ 115 (L._∷_ 116 (L._∷_ 101 (L._∷_ 112 (L._∷_ 58 (L._∷_ 58 (L._∷_ 79 (L._∷_ 108 (L._∷_ 100 L.[]))))))))) (Syntax.tcons (Syntax.tyInt Syntax.w64) (Syntax.tcons q7 (Syntax.tcons q8 (Syntax.tcons q8 (Syntax.tcons q8 (Syntax.tcons q8 (Syntax.tcons q5 Syntax.tnil)))))))) Syntax.tnil))) Syntax.tnil)))) Syntax.tnil)))) (Syntax.tcons q6 Syntax.tnil))) q6 1 624 (u .1 .1 .1 .1 .1 .1 .1 .1 .1 .0) (At.getAt (rules-proofs-tried-Looked·.the-type .parts) 1 (rules-proofs-tried-Looked·.struct .as-values (u .1 .1 .1 .1 .1 .1 .1 .1 .1 .0))) (Row.hd 0 (Row.tl (Row.tl (Row.tl (Row.tl (Row.tl (Row.tl (Row.tl (Row.tl (Row.tl bs))))))))), 0) (RuleWay.w-look 𝓤 H A W E (RuleWay.w-local 𝓤 H A W E G28 ρ u (G28 .slots) 9 (Declared.row rules-proofs-tried-Looked·.the-type) q20 (λ x. x) (λ x. x) (u .1 .1 .1 .1 .1 .1 .1 .1 .1 .0) (Local.mem-whole 𝓤 H A W (Declared.row rules-proofs-tried-Looked·.the-type) ρ (u .1 .1 .1 .1 .1 .1 .1 .1 .1 .0) (Row.hd 0 (Row.tl (Row.tl (Row.tl (Row.tl (Row.tl (Row.tl (Row.tl (Row.tl (Row.tl bs))))))))))) (Local.whole-mem 𝓤 H A W (Declared.row rules-proofs-tried-Looked·.the-type) ρ (u .1 .1 .1 .1 .1 .1 .1 .1 .1 .0) (Row.hd 0 (Row.tl (Row.tl (Row.tl (Row.tl (Row.tl (Row.tl (Row.tl (Row.tl (Row.tl bs))))))))))))) Path.refl λ q. Inner.cut-record 𝓤 H A q (Declared.row rules-proofs-tried-Looked·.the-type) costly-arc-proofs-Seen·.the-type 624 (u .1 .1 .1 .1 .1 .1 .1 .1 .1 .0) (u .1 .1 .1 .1 .1 .1 .1 .1 .1 .0) (At.getAt (rules-proofs-tried-Looked·.the-type .parts) 1 (rules-proofs-tried-Looked·.struct .as-values (u .1 .1 .1 .1 .1 .1 .1 .1 .1 .0))) (At.getAt (rules-proofs-tried-Looked·.the-type .parts) 1 (rules-proofs-tried-Looked·.struct .as-values (u .1 .1 .1 .1 .1 .1 .1 .1 .1 .0))) (Row.hd 0 (Row.tl (Row.tl (Row.tl (Row.tl (Row.tl (Row.tl (Row.tl (Row.tl (Row.tl bs))))))))), 0) (Behind.look-at 𝓤 H A W q rules-proofs-tried-Looked·.the-type rules-proofs-tried-Looked-Laws·.the-laws 1 624 Path.refl Path.refl (Row.hd 0 (Row.tl (Row.tl (Row.tl (Row.tl (Row.tl (Row.tl (Row.tl (Row.tl (Row.tl bs))))))))), 0) (u .1 .1 .1 .1 .1 .1 .1 .1 .1 .0) (rules-proofs-tried-Looked·.struct .as-values (u .1 .1 .1 .1 .1 .1 .1 .1 .1 .0)) Path.refl)) (TReads.room-gone 𝓤 H A q6) (Yields.makes-mem 𝓤 H A W (λ ρ. Unit) (Declared.row costly-arc-proofs-Seen·.the-type) Path.refl q22 (λ x. x) λ ρ told. Local.whole-mem 𝓤 H A W (Declared.row costly-arc-proofs-Seen·.the-type) ρ) Path.refl Path.refl Path.refl) d31
+          d32 = Typed.s-seq 𝓤 H A W 𝓣 E G28 G37 b21 b22 Δ4 (Typed.both (s31 bs)) (at31 bs) (WayStmt.t-way-copy-out 𝓤 H A W E 𝓣 (Declared.row costly-arc-proofs-Seen·.the-type) Path.refl (Copies.cStruct costly-arc-proofs-Seen·.the-type costly-arc-proofs-Seen-Laws·.the-laws costly-arc-proofs-Seen-Laws·.the-copy .copy 𝓤 H A W) (λ ρ. Unit) G28 (Row.out 9 (G28 .locals)) (λ u. Row.drop 9 (G28 .locals) u) (G28 .slots) 9 (λ t. L._∷_ (Syntax.field 1) t) q6 q6 7 q22 (λ x. x) (λ u. At.getAt (rules-proofs-tried-Looked·.the-type .parts) 1 (rules-proofs-tried-Looked·.struct .as-values (u .1 .1 .1 .1 .1 .1 .1 .1 .1 .0))) (λ u. (Row.hd 0 (Row.tl (Row.tl (Row.tl (Row.tl (Row.tl (Row.tl (Row.tl (Row.tl (Row.tl bs))))))))), Nat._+_ 0 624)) (λ T′. record { locals = Row.setRow 9 q14 T′; slots = G28 .slots; }) (λ u T′ m′. Row.set 9 q14 (u .1 .1 .1 .1 .1 .1 .1 .1 .1 .0) T′ m′) (λ u. Unit) (λ x. Unit) (Own.told-none 𝓤 H A (G28 .slots)) (DerefMove.learns-nothing 𝓤 H A (Declared.row costly-arc-proofs-Seen·.the-type)) (λ ρ told u asked. StructWay.w-partˢ 𝓤 H A W E (Declared.row rules-proofs-tried-Looked·.the-type) (Declared.row costly-arc-proofs-Seen·.the-type) (Syntax.tyStruct (L._∷_ 114 (L._∷_ 117 (L._∷_ 108 (L._∷_ 101 (L._∷_ 115 (L._∷_ 58 (L._∷_ 58 (L._∷_ 116 (L._∷_ 114 (L._∷_ 105 (L._∷_ 101 (L._∷_ 100 (L._∷_ 58 (L._∷_ 58 (L._∷_ 76 (L._∷_ 111 (L._∷_ 111 (L._∷_ 107 (L._∷_ 101 (L._∷_ 100 L.[])))))))))))))))))))) (Syntax.tcons (Syntax.tyStruct (L._∷_ 114 (L._∷_ 117 (L._∷_ 108 (L._∷_ 101 (L._∷_ 115 (L._∷_ 58 (L._∷_ 58 (L._∷_ 102 (L._∷_ 111 (L._∷_ 117 (L._∷_ 110 (L._∷_ 100 (L._∷_ 58 (L._∷_ 58 (L._∷_ 70 (L._∷_ 111 (L._∷_ 117 (L._∷_ 110 (L._∷_ 100 L.[]))))))))))))))))))) (Syntax.tcons Syntax.tyBool (Syntax.tcons Syntax.tyBool (Syntax.tcons (Syntax.tyStruct (L._∷_ 115 (L._∷_ 116 (L._∷_ 101 (L._∷_ 112 (L._∷_ 58 (L._∷_ 58 (L._∷_ 83 (L._∷_ 116 (L._∷_ 101 (L._∷_ 112 L.[])))))))))) (Syntax.tcons (Syntax.tyInt Syntax.w64) (Syntax.tcons (Syntax.tyInt Syntax.w64) (Syntax.tcons (Syntax.tyStruct (L._∷_ 115 (L._∷_ 116 (L._∷_ 101 (L._∷_ 112 (L._∷_ 58 (L._∷_ 58 (L._∷_ 67 (L._∷_ 104 (L._∷_ 97 (L._∷_ 110 (L._∷_ 103 (L._∷_ 101 L.[])))))))))))) (Syntax.tcons (Syntax.tyStruct (L._∷_ 110 (L._∷_ 101 (L._∷_ 116 (L._∷_ 119 (L._∷_ 111 (L._∷_ 114 (L._∷_ 107 (L._∷_ 58 (L._∷_ 58 (L._∷_ 69 (L._∷_ 100 (L._∷_ 105 (L._∷_ 116 L.[]))))))))))))) (Syntax.tcons q8 (Syntax.tcons q8 (Syntax.tcons q8 (Syntax.tcons q8 (Syntax.tcons q2 (Syntax.tcons q2 (Syntax.tcons (Syntax.tyInt Syntax.w64) Syntax.tnil)))))))) (Syntax.tcons (Syntax.tyStruct (L._∷_ 115 (L._∷_ 116 (L._∷_ 101 (L._∷_ 112 (L._∷_ 58 (L._∷_ 58 (L._∷_ 79 (L._∷_ 108 (L._∷_ 100 L.[]))))))))) (Syntax.tcons (Syntax.tyInt Syntax.w64) (Syntax.tcons q7 (Syntax.tcons q8 (Syntax.tcons q8 (Syntax.tcons q8 (Syntax.tcons q8 (Syntax.tcons q5 Syntax.tnil)))))))) Syntax.tnil))) Syntax.tnil)))) Syntax.tnil)))) (Syntax.tcons q6 Syntax.tnil))) q6 1 624 (u .1 .1 .1 .1 .1 .1 .1 .1 .1 .0) (At.getAt (rules-proofs-tried-Looked·.the-type .parts) 1 (rules-proofs-tried-Looked·.struct .as-values (u .1 .1 .1 .1 .1 .1 .1 .1 .1 .0))) (Row.hd 0 (Row.tl (Row.tl (Row.tl (Row.tl (Row.tl (Row.tl (Row.tl (Row.tl (Row.tl bs))))))))), 0) (RuleWay.w-look 𝓤 H A W E (RuleWay.w-local 𝓤 H A W E G28 ρ u (G28 .slots) 9 (Declared.row rules-proofs-tried-Looked·.the-type) q20 (λ x. x) (λ x. x) (u .1 .1 .1 .1 .1 .1 .1 .1 .1 .0) (Local.mem-whole 𝓤 H A W (Declared.row rules-proofs-tried-Looked·.the-type) ρ (u .1 .1 .1 .1 .1 .1 .1 .1 .1 .0) (Row.hd 0 (Row.tl (Row.tl (Row.tl (Row.tl (Row.tl (Row.tl (Row.tl (Row.tl (Row.tl bs))))))))))) (Local.whole-mem 𝓤 H A W (Declared.row rules-proofs-tried-Looked·.the-type) ρ (u .1 .1 .1 .1 .1 .1 .1 .1 .1 .0) (Row.hd 0 (Row.tl (Row.tl (Row.tl (Row.tl (Row.tl (Row.tl (Row.tl (Row.tl (Row.tl bs))))))))))))) Path.refl λ q. Inner.cut-record 𝓤 H A q (Declared.row rules-proofs-tried-Looked·.the-type) costly-arc-proofs-Seen·.the-type 624 (u .1 .1 .1 .1 .1 .1 .1 .1 .1 .0) (u .1 .1 .1 .1 .1 .1 .1 .1 .1 .0) (At.getAt (rules-proofs-tried-Looked·.the-type .parts) 1 (rules-proofs-tried-Looked·.struct .as-values (u .1 .1 .1 .1 .1 .1 .1 .1 .1 .0))) (At.getAt (rules-proofs-tried-Looked·.the-type .parts) 1 (rules-proofs-tried-Looked·.struct .as-values (u .1 .1 .1 .1 .1 .1 .1 .1 .1 .0))) (Row.hd 0 (Row.tl (Row.tl (Row.tl (Row.tl (Row.tl (Row.tl (Row.tl (Row.tl (Row.tl bs))))))))), 0) (Behind.look-at 𝓤 H A W q rules-proofs-tried-Looked·.the-type rules-proofs-tried-Looked-Laws·.the-laws 1 624 Path.refl Path.refl (Row.hd 0 (Row.tl (Row.tl (Row.tl (Row.tl (Row.tl (Row.tl (Row.tl (Row.tl (Row.tl bs))))))))), 0) (u .1 .1 .1 .1 .1 .1 .1 .1 .1 .0) (rules-proofs-tried-Looked·.struct .as-values (u .1 .1 .1 .1 .1 .1 .1 .1 .1 .0)) Path.refl)) (TReads.room-gone 𝓤 H A q6) (Yields.makes-mem 𝓤 H A W (λ ρ. Unit) (Declared.row costly-arc-proofs-Seen·.the-type) Path.refl q22 (λ x. x) λ ρ told. Local.whole-mem 𝓤 H A W (Declared.row costly-arc-proofs-Seen·.the-type) ρ) Path.refl Path.refl Path.refl) d31
 
           d33 : Typed.Typed 𝓤 H A 𝓣 E G27 b24 Δ4 (at33 bs)
           d33 = Typed.t-seq 𝓤 H A W 𝓣 E G27 G28 b20 b23 Δ4 (at29 bs) (at32 bs) d29 d32
@@ -1179,7 +1179,7 @@ module _ (claims· : Claims) where
           d35 = Typed.g-pre 𝓤 H A W 𝓣 E G25 G26 b25 Δ4 (Typed.pass T25 T26 (s21 bs)) (at34 bs) (Scalar.g-room 𝓤 H A W E G25 7 q6 (Local.room-whole 𝓤 H A W (Declared.row costly-arc-proofs-Seen·.the-type) q6 Path.refl)) d34
 
           d36 : Typed.Typed 𝓤 H A 𝓣 E G20 b26 Δ4 (at36 bs)
-          d36 = Typed.s-seq 𝓤 H A W 𝓣 E G20 G25 b14 b25 Δ4 (Typed.both (s20 bs)) (at35 bs) (Plain.t-call-plain 𝓤 H A W 𝓣 1 ps·2 r·2 (claims· .4) (claims· .5) "search::scan::scan_rule" (known .2) E (λ pos β. β) G20 (record { pos = 1; st = L.[]; d = 0; at = λ x. x }, (record { pos = 2; ty = Syntax.tyRef (Syntax.named 0) Syntax.imm Rec.named; ref = λ x. x }, (record { pos = 6; st = L.[]; d = 0; at = λ x. x }, (record { pos = 7; st = L.[]; d = 0; at = λ x. x }, (Num.vAt 4 λ x. x, (Num.vAt 8 λ x. x, tt)))))) 9 (L._∷_ 0 L.[]) (Call.sub-id 𝓤 H A W (G20 .slots)) ((Yields.yields-copy 𝓤 H A W (λ ρ. Unit) (Declared.row network-proofs-Nodes·.the-type) Path.refl (Copies.cStruct network-proofs-Nodes·.the-type network-proofs-Nodes-Laws·.the-laws network-proofs-Nodes-Laws·.the-copy .copy 𝓤 H A W) (Rows.whole (Declared.row network-proofs-Nodes·.the-type)) (λ x. x) (λ x. x) (λ ρ told. Local.mem-whole 𝓤 H A W (Declared.row network-proofs-Nodes·.the-type) ρ) λ ρ told. Local.whole-mem 𝓤 H A W (Declared.row network-proofs-Nodes·.the-type) ρ, Path.refl), (ShrSlice.spares-sslice 𝓤 H A W Rec.row q23 0, Shared.reads-sslice 𝓤 H A W Rec.row q23 0, Path.refl, ((Yields.yields-copy 𝓤 H A W (λ ρ. Unit) (Declared.row network-proofs-Degrees·.the-type) Path.refl (Copies.cStruct network-proofs-Degrees·.the-type network-proofs-Degrees-Laws·.the-laws network-proofs-Degrees-Laws·.the-copy .copy 𝓤 H A W) (Rows.whole (Declared.row network-proofs-Degrees·.the-type)) (λ x. x) (λ x. x) (λ ρ told. Local.mem-whole 𝓤 H A W (Declared.row network-proofs-Degrees·.the-type) ρ) λ ρ told. Local.whole-mem 𝓤 H A W (Declared.row network-proofs-Degrees·.the-type) ρ, Path.refl), ((Yields.yields-copy 𝓤 H A W (λ ρ. Unit) (Declared.row costly-arc-proofs-Seen·.the-type) Path.refl (Copies.cStruct costly-arc-proofs-Seen·.the-type costly-arc-proofs-Seen-Laws·.the-laws costly-arc-proofs-Seen-Laws·.the-copy .copy 𝓤 H A W) q22 (λ x. x) (λ x. x) (λ ρ told. Local.mem-whole 𝓤 H A W (Declared.row costly-arc-proofs-Seen·.the-type) ρ) λ ρ told. Local.whole-mem 𝓤 H A W (Declared.row costly-arc-proofs-Seen·.the-type) ρ, Path.refl), ((Scalar.reads-sc 𝓤 H A W (Row.sInt Syntax.w8), Path.refl), ((Scalar.reads-sc 𝓤 H A W (Row.sInt Syntax.w64), Path.refl), tt)))))) (TReads.room-gone 𝓤 H A (Syntax.tyStruct (L._∷_ 114 (L._∷_ 117 (L._∷_ 108 (L._∷_ 101 (L._∷_ 115 (L._∷_ 58 (L._∷_ 58 (L._∷_ 116 (L._∷_ 114 (L._∷_ 105 (L._∷_ 101 (L._∷_ 100 (L._∷_ 58 (L._∷_ 58 (L._∷_ 76 (L._∷_ 111 (L._∷_ 111 (L._∷_ 107 (L._∷_ 101 (L._∷_ 100 L.[])))))))))))))))))))) (Syntax.tcons (Syntax.tyStruct (L._∷_ 114 (L._∷_ 117 (L._∷_ 108 (L._∷_ 101 (L._∷_ 115 (L._∷_ 58 (L._∷_ 58 (L._∷_ 102 (L._∷_ 111 (L._∷_ 117 (L._∷_ 110 (L._∷_ 100 (L._∷_ 58 (L._∷_ 58 (L._∷_ 70 (L._∷_ 111 (L._∷_ 117 (L._∷_ 110 (L._∷_ 100 L.[]))))))))))))))))))) (Syntax.tcons Syntax.tyBool (Syntax.tcons Syntax.tyBool (Syntax.tcons (Syntax.tyStruct (L._∷_ 115 (L._∷_ 116 (L._∷_ 101 (L._∷_ 112 (L._∷_ 58 (L._∷_ 58 (L._∷_ 83 (L._∷_ 116 (L._∷_ 101 (L._∷_ 112 L.[])))))))))) (Syntax.tcons (Syntax.tyInt Syntax.w64) (Syntax.tcons (Syntax.tyInt Syntax.w64) (Syntax.tcons (Syntax.tyStruct (L._∷_ 115 (L._∷_ 116 (L._∷_ 101 (L._∷_ 112 (L._∷_ 58 (L._∷_ 58 (L._∷_ 67 (L._∷_ 104 (L._∷_ 97 (L._∷_ 110 (L._∷_ 103 (L._∷_ 101 L.[])))))))))))) (Syntax.tcons (Syntax.tyStruct (L._∷_ 110 (L._∷_ 101 (L._∷_ 116 (L._∷_ 119 (L._∷_ 111 (L._∷_ 114 (L._∷_ 107 (L._∷_ 58 (L._∷_ 58 (L._∷_ 69 (L._∷_ 100 (L._∷_ 105 (L._∷_ 116 L.[]))))))))))))) (Syntax.tcons q8 (Syntax.tcons q8 (Syntax.tcons q8 (Syntax.tcons q8 (Syntax.tcons q2 (Syntax.tcons q2 (Syntax.tcons (Syntax.tyInt Syntax.w64) Syntax.tnil)))))))) (Syntax.tcons (Syntax.tyStruct (L._∷_ 115 (L._∷_ 116 (L._∷_ 101 (L._∷_ 112 (L._∷_ 58 (L._∷_ 58 (L._∷_ 79 (L._∷_ 108 (L._∷_ 100 L.[]))))))))) (Syntax.tcons (Syntax.tyInt Syntax.w64) (Syntax.tcons q7 (Syntax.tcons q8 (Syntax.tcons q8 (Syntax.tcons q8 (Syntax.tcons q8 (Syntax.tcons q5 Syntax.tnil)))))))) Syntax.tnil))) Syntax.tnil)))) Syntax.tnil)))) (Syntax.tcons q6 Syntax.tnil)))) (tt, tt) Path.refl) d35
+          d36 = Typed.s-seq 𝓤 H A W 𝓣 E G20 G25 b14 b25 Δ4 (Typed.both (s20 bs)) (at35 bs) (Plain.t-call-plain 𝓤 H A W 𝓣 1 ps·2 r·2 (claims· .4) (claims· .5) "search::scan::scan_rule" (known .2) E (λ pos β. β) G20 (record { pos = 1; st = L.[]; d = 0; at = λ x. x }, (record { pos = 2; ty = Syntax.tyRef (Syntax.named 0) Syntax.imm Rec.named; ref = λ x. x; }, (record { pos = 6; st = L.[]; d = 0; at = λ x. x }, (record { pos = 7; st = L.[]; d = 0; at = λ x. x }, (Num.vAt 4 λ x. x, (Num.vAt 8 λ x. x, tt)))))) 9 (L._∷_ 0 L.[]) (Call.sub-id 𝓤 H A W (G20 .slots)) ((Yields.yields-copy 𝓤 H A W (λ ρ. Unit) (Declared.row network-proofs-Nodes·.the-type) Path.refl (Copies.cStruct network-proofs-Nodes·.the-type network-proofs-Nodes-Laws·.the-laws network-proofs-Nodes-Laws·.the-copy .copy 𝓤 H A W) (Rows.whole (Declared.row network-proofs-Nodes·.the-type)) (λ x. x) (λ x. x) (λ ρ told. Local.mem-whole 𝓤 H A W (Declared.row network-proofs-Nodes·.the-type) ρ) λ ρ told. Local.whole-mem 𝓤 H A W (Declared.row network-proofs-Nodes·.the-type) ρ, Path.refl), (ShrSlice.spares-sslice 𝓤 H A W Rec.row q23 0, Shared.reads-sslice 𝓤 H A W Rec.row q23 0, Path.refl, ((Yields.yields-copy 𝓤 H A W (λ ρ. Unit) (Declared.row network-proofs-Degrees·.the-type) Path.refl (Copies.cStruct network-proofs-Degrees·.the-type network-proofs-Degrees-Laws·.the-laws network-proofs-Degrees-Laws·.the-copy .copy 𝓤 H A W) (Rows.whole (Declared.row network-proofs-Degrees·.the-type)) (λ x. x) (λ x. x) (λ ρ told. Local.mem-whole 𝓤 H A W (Declared.row network-proofs-Degrees·.the-type) ρ) λ ρ told. Local.whole-mem 𝓤 H A W (Declared.row network-proofs-Degrees·.the-type) ρ, Path.refl), ((Yields.yields-copy 𝓤 H A W (λ ρ. Unit) (Declared.row costly-arc-proofs-Seen·.the-type) Path.refl (Copies.cStruct costly-arc-proofs-Seen·.the-type costly-arc-proofs-Seen-Laws·.the-laws costly-arc-proofs-Seen-Laws·.the-copy .copy 𝓤 H A W) q22 (λ x. x) (λ x. x) (λ ρ told. Local.mem-whole 𝓤 H A W (Declared.row costly-arc-proofs-Seen·.the-type) ρ) λ ρ told. Local.whole-mem 𝓤 H A W (Declared.row costly-arc-proofs-Seen·.the-type) ρ, Path.refl), ((Scalar.reads-sc 𝓤 H A W (Row.sInt Syntax.w8), Path.refl), ((Scalar.reads-sc 𝓤 H A W (Row.sInt Syntax.w64), Path.refl), tt)))))) (TReads.room-gone 𝓤 H A (Syntax.tyStruct (L._∷_ 114 (L._∷_ 117 (L._∷_ 108 (L._∷_ 101 (L._∷_ 115 (L._∷_ 58 (L._∷_ 58 (L._∷_ 116 (L._∷_ 114 (L._∷_ 105 (L._∷_ 101 (L._∷_ 100 (L._∷_ 58 (L._∷_ 58 (L._∷_ 76 (L._∷_ 111 (L._∷_ 111 (L._∷_ 107 (L._∷_ 101 (L._∷_ 100 L.[])))))))))))))))))))) (Syntax.tcons (Syntax.tyStruct (L._∷_ 114 (L._∷_ 117 (L._∷_ 108 (L._∷_ 101 (L._∷_ 115 (L._∷_ 58 (L._∷_ 58 (L._∷_ 102 (L._∷_ 111 (L._∷_ 117 (L._∷_ 110 (L._∷_ 100 (L._∷_ 58 (L._∷_ 58 (L._∷_ 70 (L._∷_ 111 (L._∷_ 117 (L._∷_ 110 (L._∷_ 100 L.[]))))))))))))))))))) (Syntax.tcons Syntax.tyBool (Syntax.tcons Syntax.tyBool (Syntax.tcons (Syntax.tyStruct (L._∷_ 115 (L._∷_ 116 (L._∷_ 101 (L._∷_ 112 (L._∷_ 58 (L._∷_ 58 (L._∷_ 83 (L._∷_ 116 (L._∷_ 101 (L._∷_ 112 L.[])))))))))) (Syntax.tcons (Syntax.tyInt Syntax.w64) (Syntax.tcons (Syntax.tyInt Syntax.w64) (Syntax.tcons (Syntax.tyStruct (L._∷_ 115 (L._∷_ 116 (L._∷_ 101 (L._∷_ 112 (L._∷_ 58 (L._∷_ 58 (L._∷_ 67 (L._∷_ 104 (L._∷_ 97 (L._∷_ 110 (L._∷_ 103 (L._∷_ 101 L.[])))))))))))) (Syntax.tcons (Syntax.tyStruct (L._∷_ 110 (L._∷_ 101 (L._∷_ 116 (L._∷_ 119 (L._∷_ 111 (L._∷_ 114 (L._∷_ 107 (L._∷_ 58 (L._∷_ 58 (L._∷_ 69 (L._∷_ 100 (L._∷_ 105 (L._∷_ 116 L.[]))))))))))))) (Syntax.tcons q8 (Syntax.tcons q8 (Syntax.tcons q8 (Syntax.tcons q8 (Syntax.tcons q2 (Syntax.tcons q2 (Syntax.tcons (Syntax.tyInt Syntax.w64) Syntax.tnil)))))))) (Syntax.tcons (Syntax.tyStruct (L._∷_ 115 (L._∷_ 116 (L._∷_ 101 (L._∷_ 112 (L._∷_ 58 (L._∷_ 58 (L._∷_ 79 (L._∷_ 108 (L._∷_ 100 L.[]))))))))) (Syntax.tcons (Syntax.tyInt Syntax.w64) (Syntax.tcons q7 (Syntax.tcons q8 (Syntax.tcons q8 (Syntax.tcons q8 (Syntax.tcons q8 (Syntax.tcons q5 Syntax.tnil)))))))) Syntax.tnil))) Syntax.tnil)))) Syntax.tnil)))) (Syntax.tcons q6 Syntax.tnil)))) (tt, tt) Path.refl) d35
 
           d37 : Typed.Typed 𝓤 H A 𝓣 E G19 b27 Δ4 (at37 bs)
           d37 = Typed.t-seq 𝓤 H A W 𝓣 E G19 G20 b13 b26 Δ4 (at18 bs) (at36 bs) d18 d36
@@ -1230,7 +1230,7 @@ module _ (claims· : Claims) where
           d52 = Typed.s-seq 𝓤 H A W 𝓣 E G14 G15 b8 b37 Δ0 (Typed.pass T14 T15 (s12 bs)) (at51 bs) (LocalCopy.t-val-copy 𝓤 H A W E 𝓣 (λ ρ. Unit) G14 3 7 (Declared.row costly-arc-proofs-Seen·.the-type) q6 q6 q22 q22 (λ x. x) (λ x. x) (λ x. x) Path.refl (Own.told-none 𝓤 H A (G14 .slots)) (Yields.yields-copy 𝓤 H A W (λ ρ. Unit) (Declared.row costly-arc-proofs-Seen·.the-type) Path.refl (Copies.cStruct costly-arc-proofs-Seen·.the-type costly-arc-proofs-Seen-Laws·.the-laws costly-arc-proofs-Seen-Laws·.the-copy .copy 𝓤 H A W) q22 (λ x. x) (λ x. x) (λ ρ told. Local.mem-whole 𝓤 H A W (Declared.row costly-arc-proofs-Seen·.the-type) ρ) λ ρ told. Local.whole-mem 𝓤 H A W (Declared.row costly-arc-proofs-Seen·.the-type) ρ) (TReads.room-gone 𝓤 H A q6) (Yields.makes-mem 𝓤 H A W (λ ρ. Unit) (Declared.row costly-arc-proofs-Seen·.the-type) Path.refl q22 (λ x. x) λ ρ told. Local.whole-mem 𝓤 H A W (Declared.row costly-arc-proofs-Seen·.the-type) ρ) Path.refl Path.refl) d51
 
           d53 : Typed.Typed 𝓤 H A 𝓣 E G4 b39 Δ0 (at53 bs)
-          d53 = Typed.s-seq 𝓤 H A W 𝓣 E G4 G14 b7 b38 Δ0 (Typed.both (s11 bs)) (at52 bs) (Plain.t-call-plain 𝓤 H A W 𝓣 1 ps·1 r·1 (claims· .2) (claims· .3) "network::list::degrees" (known .1) E (λ pos β. β) G4 (record { pos = 2; ty = Syntax.tyRef (Syntax.named 0) Syntax.imm Rec.named; ref = λ x. x }, (Num.vFld 1 (L._∷_ (Syntax.field 1) L.[]) 8 λ x. network-proofs-Nodes·.struct .as-values x .1 .0, tt)) 6 (L._∷_ 0 L.[]) (Call.sub-id 𝓤 H A W (G4 .slots)) (ShrSlice.spares-sslice 𝓤 H A W Rec.row q23 0, Shared.reads-sslice 𝓤 H A W Rec.row q23 0, Path.refl, ((Reads.reads-field 𝓤 H A W network-proofs-Nodes·.the-type network-proofs-Nodes-Laws·.the-laws 1 (Syntax.tyInt Syntax.w64) 8 Path.refl, Path.refl), tt)) (TReads.room-gone 𝓤 H A q10) (tt, tt) Path.refl) d52
+          d53 = Typed.s-seq 𝓤 H A W 𝓣 E G4 G14 b7 b38 Δ0 (Typed.both (s11 bs)) (at52 bs) (Plain.t-call-plain 𝓤 H A W 𝓣 1 ps·1 r·1 (claims· .2) (claims· .3) "network::list::degrees" (known .1) E (λ pos β. β) G4 (record { pos = 2; ty = Syntax.tyRef (Syntax.named 0) Syntax.imm Rec.named; ref = λ x. x; }, (Num.vFld 1 (L._∷_ (Syntax.field 1) L.[]) 8 λ x. network-proofs-Nodes·.struct .as-values x .1 .0, tt)) 6 (L._∷_ 0 L.[]) (Call.sub-id 𝓤 H A W (G4 .slots)) (ShrSlice.spares-sslice 𝓤 H A W Rec.row q23 0, Shared.reads-sslice 𝓤 H A W Rec.row q23 0, Path.refl, ((Reads.reads-field 𝓤 H A W network-proofs-Nodes·.the-type network-proofs-Nodes-Laws·.the-laws 1 (Syntax.tyInt Syntax.w64) 8 Path.refl, Path.refl), tt)) (TReads.room-gone 𝓤 H A q10) (tt, tt) Path.refl) d52
 
           d54 : Typed.Typed 𝓤 H A 𝓣 E G3 b40 Δ0 (at54 bs)
           d54 = Typed.t-seq 𝓤 H A W 𝓣 E G3 G4 b6 b39 Δ0 (at11 bs) (at53 bs) d11 d53
@@ -1239,16 +1239,16 @@ module _ (claims· : Claims) where
           d55 = Typed.s-seq 𝓤 H A W 𝓣 E G2 G3 b1 b40 Δ0 (Typed.pass T2 T3 (s1 bs)) (at54 bs) (Scalar.t-use 𝓤 H A W E 𝓣 G2 (Scalar.oFld 5 (L._∷_ (Syntax.field 0) L.[]) Syntax.tyBool 0 (Reads.fieldV rules-proofs-found-Found·.the-type rules-proofs-found-Found-Laws·.the-laws 0)) 11 (Rows.sc-here Row.sBool) Syntax.tyBool (Row.valS Row.sBool) (Row.sBool .of) (Reads.reads-field 𝓤 H A W rules-proofs-found-Found·.the-type rules-proofs-found-Found-Laws·.the-laws 0 Syntax.tyBool 0 Path.refl, Path.refl) (TReads.room-gone 𝓤 H A Syntax.tyBool) (Scalar.holds-sc 𝓤 H A W Row.sBool) Path.refl (λ u. Path.refl) λ u. tt) d54
 
           d56 : Typed.Typed 𝓤 H A 𝓣 E G0 b42 Δ0 (at56 bs)
-          d56 = Typed.s-seq 𝓤 H A W 𝓣 E G0 G2 b0 b41 Δ0 (Typed.both (s0 bs)) (at55 bs) (Plain.t-call-plain 𝓤 H A W 𝓣 1 ps·0 r·0 (claims· .0) (claims· .1) "search::scan::scan_closed" (known .0) E (λ pos β. β) G0 (record { pos = 1; st = L.[]; d = 0; at = λ x. x }, (record { pos = 2; ty = Syntax.tyRef (Syntax.named 0) Syntax.imm Rec.named; ref = λ x. x }, tt)) 5 (L._∷_ 0 L.[]) (Call.sub-id 𝓤 H A W (G0 .slots)) ((Yields.yields-copy 𝓤 H A W (λ ρ. Unit) (Declared.row network-proofs-Nodes·.the-type) Path.refl (Copies.cStruct network-proofs-Nodes·.the-type network-proofs-Nodes-Laws·.the-laws network-proofs-Nodes-Laws·.the-copy .copy 𝓤 H A W) (Rows.whole (Declared.row network-proofs-Nodes·.the-type)) (λ x. x) (λ x. x) (λ ρ told. Local.mem-whole 𝓤 H A W (Declared.row network-proofs-Nodes·.the-type) ρ) λ ρ told. Local.whole-mem 𝓤 H A W (Declared.row network-proofs-Nodes·.the-type) ρ, Path.refl), (ShrSlice.spares-sslice 𝓤 H A W Rec.row q23 0, Shared.reads-sslice 𝓤 H A W Rec.row q23 0, Path.refl, tt)) (TReads.room-gone 𝓤 H A (Syntax.tyStruct (L._∷_ 114 (L._∷_ 117 (L._∷_ 108 (L._∷_ 101 (L._∷_ 115 (L._∷_ 58 (L._∷_ 58 (L._∷_ 102 (L._∷_ 111 (L._∷_ 117 (L._∷_ 110 (L._∷_ 100 (L._∷_ 58 (L._∷_ 58 (L._∷_ 70 (L._∷_ 111 (L._∷_ 117 (L._∷_ 110 (L._∷_ 100 L.[]))))))))))))))))))) (Syntax.tcons Syntax.tyBool (Syntax.tcons Syntax.tyBool (Syntax.tcons (Syntax.tyStruct (L._∷_ 115 (L._∷_ 116 (L._∷_ 101 (L._∷_ 112 (L._∷_ 58 (L._∷_ 58 (L._∷_ 83 (L._∷_ 116 (L._∷_ 101 (L._∷_ 112 L.[])))))))))) (Syntax.tcons (Syntax.tyInt Syntax.w64) (Syntax.tcons (Syntax.tyInt Syntax.w64) (Syntax.tcons (Syntax.tyStruct (L._∷_ 115 (L._∷_ 116 (L._∷_ 101 (L._∷_ 112 (L._∷_ 58 (L._∷_ 58 (L._∷_ 67 (L._∷_ 104 (L._∷_ 97 (L._∷_ 110 (L._∷_ 103 (L._∷_ 101 L.[])))))))))))) (Syntax.tcons (Syntax.tyStruct (L._∷_ 110 (L._∷_ 101 (L._∷_ 116 (L._∷_ 119 (L._∷_ 111 (L._∷_ 114 (L._∷_ 107 (L._∷_ 58 (L._∷_ 58 (L._∷_ 69 (L._∷_ 100 (L._∷_ 105 (L._∷_ 116 L.[]))))))))))))) (Syntax.tcons q8 (Syntax.tcons q8 (Syntax.tcons q8 (Syntax.tcons q8 (Syntax.tcons q2 (Syntax.tcons q2 (Syntax.tcons (Syntax.tyInt Syntax.w64) Syntax.tnil)))))))) (Syntax.tcons (Syntax.tyStruct (L._∷_ 115 (L._∷_ 116 (L._∷_ 101 (L._∷_ 112 (L._∷_ 58 (L._∷_ 58 (L._∷_ 79 (L._∷_ 108 (L._∷_ 100 L.[]))))))))) (Syntax.tcons (Syntax.tyInt Syntax.w64) (Syntax.tcons q7 (Syntax.tcons q8 (Syntax.tcons q8 (Syntax.tcons q8 (Syntax.tcons q8 (Syntax.tcons q5 Syntax.tnil)))))))) Syntax.tnil))) Syntax.tnil)))) Syntax.tnil))))) (tt, tt) Path.refl) d55
+          d56 = Typed.s-seq 𝓤 H A W 𝓣 E G0 G2 b0 b41 Δ0 (Typed.both (s0 bs)) (at55 bs) (Plain.t-call-plain 𝓤 H A W 𝓣 1 ps·0 r·0 (claims· .0) (claims· .1) "search::scan::scan_closed" (known .0) E (λ pos β. β) G0 (record { pos = 1; st = L.[]; d = 0; at = λ x. x }, (record { pos = 2; ty = Syntax.tyRef (Syntax.named 0) Syntax.imm Rec.named; ref = λ x. x; }, tt)) 5 (L._∷_ 0 L.[]) (Call.sub-id 𝓤 H A W (G0 .slots)) ((Yields.yields-copy 𝓤 H A W (λ ρ. Unit) (Declared.row network-proofs-Nodes·.the-type) Path.refl (Copies.cStruct network-proofs-Nodes·.the-type network-proofs-Nodes-Laws·.the-laws network-proofs-Nodes-Laws·.the-copy .copy 𝓤 H A W) (Rows.whole (Declared.row network-proofs-Nodes·.the-type)) (λ x. x) (λ x. x) (λ ρ told. Local.mem-whole 𝓤 H A W (Declared.row network-proofs-Nodes·.the-type) ρ) λ ρ told. Local.whole-mem 𝓤 H A W (Declared.row network-proofs-Nodes·.the-type) ρ, Path.refl), (ShrSlice.spares-sslice 𝓤 H A W Rec.row q23 0, Shared.reads-sslice 𝓤 H A W Rec.row q23 0, Path.refl, tt)) (TReads.room-gone 𝓤 H A (Syntax.tyStruct (L._∷_ 114 (L._∷_ 117 (L._∷_ 108 (L._∷_ 101 (L._∷_ 115 (L._∷_ 58 (L._∷_ 58 (L._∷_ 102 (L._∷_ 111 (L._∷_ 117 (L._∷_ 110 (L._∷_ 100 (L._∷_ 58 (L._∷_ 58 (L._∷_ 70 (L._∷_ 111 (L._∷_ 117 (L._∷_ 110 (L._∷_ 100 L.[]))))))))))))))))))) (Syntax.tcons Syntax.tyBool (Syntax.tcons Syntax.tyBool (Syntax.tcons (Syntax.tyStruct (L._∷_ 115 (L._∷_ 116 (L._∷_ 101 (L._∷_ 112 (L._∷_ 58 (L._∷_ 58 (L._∷_ 83 (L._∷_ 116 (L._∷_ 101 (L._∷_ 112 L.[])))))))))) (Syntax.tcons (Syntax.tyInt Syntax.w64) (Syntax.tcons (Syntax.tyInt Syntax.w64) (Syntax.tcons (Syntax.tyStruct (L._∷_ 115 (L._∷_ 116 (L._∷_ 101 (L._∷_ 112 (L._∷_ 58 (L._∷_ 58 (L._∷_ 67 (L._∷_ 104 (L._∷_ 97 (L._∷_ 110 (L._∷_ 103 (L._∷_ 101 L.[])))))))))))) (Syntax.tcons (Syntax.tyStruct (L._∷_ 110 (L._∷_ 101 (L._∷_ 116 (L._∷_ 119 (L._∷_ 111 (L._∷_ 114 (L._∷_ 107 (L._∷_ 58 (L._∷_ 58 (L._∷_ 69 (L._∷_ 100 (L._∷_ 105 (L._∷_ 116 L.[]))))))))))))) (Syntax.tcons q8 (Syntax.tcons q8 (Syntax.tcons q8 (Syntax.tcons q8 (Syntax.tcons q2 (Syntax.tcons q2 (Syntax.tcons (Syntax.tyInt Syntax.w64) Syntax.tnil)))))))) (Syntax.tcons (Syntax.tyStruct (L._∷_ 115 (L._∷_ 116 (L._∷_ 101 (L._∷_ 112 (L._∷_ 58 (L._∷_ 58 (L._∷_ 79 (L._∷_ 108 (L._∷_ 100 L.[]))))))))) (Syntax.tcons (Syntax.tyInt Syntax.w64) (Syntax.tcons q7 (Syntax.tcons q8 (Syntax.tcons q8 (Syntax.tcons q8 (Syntax.tcons q8 (Syntax.tcons q5 Syntax.tnil)))))))) Syntax.tnil))) Syntax.tnil)))) Syntax.tnil))))) (tt, tt) Path.refl) d55
 
           pub typed : Typed.Typed 𝓤 H A 𝓣 E (Function.Γin 1 ps r xs m κs qs) b42 (Function.Δret 1 ps r xs m κs qs) (Φ bs)
           typed = d56
 
       module _ (κs : Lifetimes.Lfts 1) where
         pub record Args : Type 0 where
-          pub nodes : FnKinds.Den {n = 1} κs (Value.pVal record { ty = Declared.row network-proofs-Nodes·.the-type; one = Path.refl; val = StructLaws.val network-proofs-Nodes·.the-type network-proofs-Nodes-Laws·.the-laws; tells = StructLaws.tells network-proofs-Nodes·.the-type network-proofs-Nodes-Laws·.the-laws; still = StructLaws.still network-proofs-Nodes·.the-type network-proofs-Nodes-Laws·.the-copy Exit.yes; row = Rows.whole (Declared.row network-proofs-Nodes·.the-type); rd = λ x. x; mk = λ x. x } λ M 𝓤 H A W. record { copies = StructLaws.copy network-proofs-Nodes·.the-type network-proofs-Nodes-Laws·.the-copy 𝓤 H A W; lawful = StructLaws.lawful network-proofs-Nodes·.the-type network-proofs-Nodes-Laws·.the-laws 𝓤 H A W; makes = StructLaws.makes network-proofs-Nodes·.the-type network-proofs-Nodes-Laws·.the-plain 𝓤 H A; in-mem = Local.mem-whole 𝓤 H A W (Declared.row network-proofs-Nodes·.the-type); of-mem = Local.whole-mem 𝓤 H A W (Declared.row network-proofs-Nodes·.the-type) })
+          pub nodes : FnKinds.Den {n = 1} κs (Value.pVal record { ty = Declared.row network-proofs-Nodes·.the-type; one = Path.refl; val = StructLaws.val network-proofs-Nodes·.the-type network-proofs-Nodes-Laws·.the-laws; tells = StructLaws.tells network-proofs-Nodes·.the-type network-proofs-Nodes-Laws·.the-laws; still = StructLaws.still network-proofs-Nodes·.the-type network-proofs-Nodes-Laws·.the-copy Exit.yes; row = Rows.whole (Declared.row network-proofs-Nodes·.the-type); rd = λ x. x; mk = λ x. x; } λ M 𝓤 H A W. record { copies = StructLaws.copy network-proofs-Nodes·.the-type network-proofs-Nodes-Laws·.the-copy 𝓤 H A W; lawful = StructLaws.lawful network-proofs-Nodes·.the-type network-proofs-Nodes-Laws·.the-laws 𝓤 H A W; makes = StructLaws.makes network-proofs-Nodes·.the-type network-proofs-Nodes-Laws·.the-plain 𝓤 H A; in-mem = Local.mem-whole 𝓤 H A W (Declared.row network-proofs-Nodes·.the-type); of-mem = Local.whole-mem 𝓤 H A W (Declared.row network-proofs-Nodes·.the-type); })
           pub arcs : FnKinds.Den {n = 1} κs (ShrSlice.pShrS Rec.row 0 tt)
-          pub seen : FnKinds.Den {n = 1} κs (Value.pVal record { ty = Declared.row costly-arc-proofs-Seen·.the-type; one = Path.refl; val = StructLaws.val costly-arc-proofs-Seen·.the-type costly-arc-proofs-Seen-Laws·.the-laws; tells = StructLaws.tells costly-arc-proofs-Seen·.the-type costly-arc-proofs-Seen-Laws·.the-laws; still = StructLaws.still costly-arc-proofs-Seen·.the-type costly-arc-proofs-Seen-Laws·.the-copy Exit.yes; row = Rows.whole (Declared.row costly-arc-proofs-Seen·.the-type); rd = λ x. x; mk = λ x. x } λ M 𝓤 H A W. record { copies = StructLaws.copy costly-arc-proofs-Seen·.the-type costly-arc-proofs-Seen-Laws·.the-copy 𝓤 H A W; lawful = StructLaws.lawful costly-arc-proofs-Seen·.the-type costly-arc-proofs-Seen-Laws·.the-laws 𝓤 H A W; makes = StructLaws.makes costly-arc-proofs-Seen·.the-type costly-arc-proofs-Seen-Laws·.the-plain 𝓤 H A; in-mem = Local.mem-whole 𝓤 H A W (Declared.row costly-arc-proofs-Seen·.the-type); of-mem = Local.whole-mem 𝓤 H A W (Declared.row costly-arc-proofs-Seen·.the-type) })
+          pub seen : FnKinds.Den {n = 1} κs (Value.pVal record { ty = Declared.row costly-arc-proofs-Seen·.the-type; one = Path.refl; val = StructLaws.val costly-arc-proofs-Seen·.the-type costly-arc-proofs-Seen-Laws·.the-laws; tells = StructLaws.tells costly-arc-proofs-Seen·.the-type costly-arc-proofs-Seen-Laws·.the-laws; still = StructLaws.still costly-arc-proofs-Seen·.the-type costly-arc-proofs-Seen-Laws·.the-copy Exit.yes; row = Rows.whole (Declared.row costly-arc-proofs-Seen·.the-type); rd = λ x. x; mk = λ x. x; } λ M 𝓤 H A W. record { copies = StructLaws.copy costly-arc-proofs-Seen·.the-type costly-arc-proofs-Seen-Laws·.the-copy 𝓤 H A W; lawful = StructLaws.lawful costly-arc-proofs-Seen·.the-type costly-arc-proofs-Seen-Laws·.the-laws 𝓤 H A W; makes = StructLaws.makes costly-arc-proofs-Seen·.the-type costly-arc-proofs-Seen-Laws·.the-plain 𝓤 H A; in-mem = Local.mem-whole 𝓤 H A W (Declared.row costly-arc-proofs-Seen·.the-type); of-mem = Local.whole-mem 𝓤 H A W (Declared.row costly-arc-proofs-Seen·.the-type); })
           pub time : FnKinds.Den {n = 1} κs (Num.pNum Syntax.w8)
 
         abbrev pub dens : (a : Args) → FnKinds.Dens κs ps
@@ -1280,14 +1280,14 @@ module _ (claims· : Claims) where
 
       module _ (before· : Start) where
         abbrev pub After-scan-closed·own : Type 0
-        After-scan-closed·own = Called.Called ps·0 r·0 (claims· .1) T0 (record { pos = 1; st = L.[]; d = 0; at = λ x. x }, (record { pos = 2; ty = Syntax.tyRef (Syntax.named 0) Syntax.imm Rec.named; ref = λ x. x }, tt)) (m0 (before· .κs) (before· .args) (before· .blocks))
+        After-scan-closed·own = Called.Called ps·0 r·0 (claims· .1) T0 (record { pos = 1; st = L.[]; d = 0; at = λ x. x }, (record { pos = 2; ty = Syntax.tyRef (Syntax.named 0) Syntax.imm Rec.named; ref = λ x. x; }, tt)) (m0 (before· .κs) (before· .args) (before· .blocks))
 
       pub record After-scan-closed : Type 0 where
         pub before : Start
         pub scan-closed : After-scan-closed·own before
 
       abbrev pub After-scan-closed·gave : (c : After-scan-closed) → s0 (c .before .blocks) .gives (m0 (c .before .κs) (c .before .args) (c .before .blocks))
-      After-scan-closed·gave = λ c. Called.given ps·0 r·0 (claims· .1) T0 (record { pos = 1; st = L.[]; d = 0; at = λ x. x }, (record { pos = 2; ty = Syntax.tyRef (Syntax.named 0) Syntax.imm Rec.named; ref = λ x. x }, tt)) (m0 (c .before .κs) (c .before .args) (c .before .blocks)) (c .scan-closed)
+      After-scan-closed·gave = λ c. Called.given ps·0 r·0 (claims· .1) T0 (record { pos = 1; st = L.[]; d = 0; at = λ x. x }, (record { pos = 2; ty = Syntax.tyRef (Syntax.named 0) Syntax.imm Rec.named; ref = λ x. x; }, tt)) (m0 (c .before .κs) (c .before .args) (c .before .blocks)) (c .scan-closed)
 
       abbrev pub m2 : (before : Start) → (given : s0 (before .blocks) .gives (m0 (before .κs) (before .args) (before .blocks))) → Typed.Mo T3
       m2 = λ before given. s1 (before .blocks) (m1 before given)
@@ -1349,14 +1349,14 @@ module _ (claims· : Claims) where
 
       module _ (before· : Else1) where
         abbrev pub After-degrees·own : Type 0
-        After-degrees·own = Called.Called ps·1 r·1 (claims· .3) T4 (record { pos = 2; ty = Syntax.tyRef (Syntax.named 0) Syntax.imm Rec.named; ref = λ x. x }, (Num.vFld 1 (L._∷_ (Syntax.field 1) L.[]) 8 λ x. network-proofs-Nodes·.struct .as-values x .1 .0, tt)) (m11 (before· .before))
+        After-degrees·own = Called.Called ps·1 r·1 (claims· .3) T4 (record { pos = 2; ty = Syntax.tyRef (Syntax.named 0) Syntax.imm Rec.named; ref = λ x. x; }, (Num.vFld 1 (L._∷_ (Syntax.field 1) L.[]) 8 λ x. network-proofs-Nodes·.struct .as-values x .1 .0, tt)) (m11 (before· .before))
 
       pub record After-degrees : Type 0 where
         pub before : Else1
         pub degrees : After-degrees·own before
 
       abbrev pub After-degrees·gave : (c : After-degrees) → s11 (c .before .before .before .blocks) .gives (m11 (c .before .before))
-      After-degrees·gave = λ c. Called.given ps·1 r·1 (claims· .3) T4 (record { pos = 2; ty = Syntax.tyRef (Syntax.named 0) Syntax.imm Rec.named; ref = λ x. x }, (Num.vFld 1 (L._∷_ (Syntax.field 1) L.[]) 8 λ x. network-proofs-Nodes·.struct .as-values x .1 .0, tt)) (m11 (c .before .before)) (c .degrees)
+      After-degrees·gave = λ c. Called.given ps·1 r·1 (claims· .3) T4 (record { pos = 2; ty = Syntax.tyRef (Syntax.named 0) Syntax.imm Rec.named; ref = λ x. x; }, (Num.vFld 1 (L._∷_ (Syntax.field 1) L.[]) 8 λ x. network-proofs-Nodes·.struct .as-values x .1 .0, tt)) (m11 (c .before .before)) (c .degrees)
 
       abbrev pub m13 : (before : Else1) → (given : s11 (before .before .before .blocks) .gives (m11 (before .before))) → Typed.Mo T15
       m13 = λ before given. s12 (before .before .before .blocks) (m12 before given)
@@ -1434,14 +1434,14 @@ module _ (claims· : Claims) where
 
       module _ (before· : In-loop) where
         abbrev pub After-scan-rule·own : Type 0
-        After-scan-rule·own = Called.Called ps·2 r·2 (claims· .5) T20 (record { pos = 1; st = L.[]; d = 0; at = λ x. x }, (record { pos = 2; ty = Syntax.tyRef (Syntax.named 0) Syntax.imm Rec.named; ref = λ x. x }, (record { pos = 6; st = L.[]; d = 0; at = λ x. x }, (record { pos = 7; st = L.[]; d = 0; at = λ x. x }, (Num.vAt 4 λ x. x, (Num.vAt 8 λ x. x, tt)))))) (m18 (before· .before))
+        After-scan-rule·own = Called.Called ps·2 r·2 (claims· .5) T20 (record { pos = 1; st = L.[]; d = 0; at = λ x. x }, (record { pos = 2; ty = Syntax.tyRef (Syntax.named 0) Syntax.imm Rec.named; ref = λ x. x; }, (record { pos = 6; st = L.[]; d = 0; at = λ x. x }, (record { pos = 7; st = L.[]; d = 0; at = λ x. x }, (Num.vAt 4 λ x. x, (Num.vAt 8 λ x. x, tt)))))) (m18 (before· .before))
 
       pub record After-scan-rule : Type 0 where
         pub before : In-loop
         pub scan-rule : After-scan-rule·own before
 
       abbrev pub After-scan-rule·gave : (c : After-scan-rule) → s20 (c .before .before .before .before .before .before .blocks) .gives (m18 (c .before .before))
-      After-scan-rule·gave = λ c. Called.given ps·2 r·2 (claims· .5) T20 (record { pos = 1; st = L.[]; d = 0; at = λ x. x }, (record { pos = 2; ty = Syntax.tyRef (Syntax.named 0) Syntax.imm Rec.named; ref = λ x. x }, (record { pos = 6; st = L.[]; d = 0; at = λ x. x }, (record { pos = 7; st = L.[]; d = 0; at = λ x. x }, (Num.vAt 4 λ x. x, (Num.vAt 8 λ x. x, tt)))))) (m18 (c .before .before)) (c .scan-rule)
+      After-scan-rule·gave = λ c. Called.given ps·2 r·2 (claims· .5) T20 (record { pos = 1; st = L.[]; d = 0; at = λ x. x }, (record { pos = 2; ty = Syntax.tyRef (Syntax.named 0) Syntax.imm Rec.named; ref = λ x. x; }, (record { pos = 6; st = L.[]; d = 0; at = λ x. x }, (record { pos = 7; st = L.[]; d = 0; at = λ x. x }, (Num.vAt 4 λ x. x, (Num.vAt 8 λ x. x, tt)))))) (m18 (c .before .before)) (c .scan-rule)
 
       abbrev pub m23 : (before : In-loop) → (given : s20 (before .before .before .before .before .before .blocks) .gives (m18 (before .before))) → Typed.Mo T26
       m23 = λ before given. s21 (before .before .before .before .before .before .blocks) (m22 before given)
@@ -1564,16 +1564,16 @@ module _ (claims· : Claims) where
         lay10 = λ c. ((tt, (Path.refl, (tt, (tt, tt)))), returns-3 record { before = c .before; nothing = c .nothing })
 
         lay9 : (c : After-loop) → at48 (c .before .before .before .before .before .blocks) (W0 (c .before .before .before .before .before .κs) (c .before .before .before .before .before .args) (c .before .before .before .before .before .blocks)) (m21 (c .before))
-        lay9 = λ c. (nothing-requires record { before = c .before; loop-test = c .loop-test }, λ g. lay10 record { before = record { before = c .before; loop-test = c .loop-test }; nothing = Called.called ps·3 r·3 (claims· .7) T18 tt (m21 (c .before)) g })
+        lay9 = λ c. (nothing-requires record { before = c .before; loop-test = c .loop-test }, λ g. lay10 record { before = record { before = c .before; loop-test = c .loop-test }; nothing = Called.called ps·3 r·3 (claims· .7) T18 tt (m21 (c .before)) g; })
 
         lay8 : (c : Else2) → at32 (c .before .before .before .before .before .before .before .blocks) (W4 (c .before .before .before .before) (c .before .before .before .loop .known) (c .before .before .before .loop .k)) (m32 (c .before))
-        lay8 = λ c. (tt, λ g. (add-k record { before = record { before = c .before; if2 = c .if2 }; known = record { given = g } }, (μ·0 (Row.get 1 (T17 .locals) (m15 (c .before .before .before .before .before) (After-degrees·gave (c .before .before .before .before)))) (Row.get 2 (T17 .locals) (m15 (c .before .before .before .before .before) (After-degrees·gave (c .before .before .before .before))) .now) (Row.get 4 (T17 .locals) (m15 (c .before .before .before .before .before) (After-degrees·gave (c .before .before .before .before)))) (Row.get 6 (T17 .locals) (m15 (c .before .before .before .before .before) (After-degrees·gave (c .before .before .before .before)))) (Row.get 7 (T17 .locals) (m15 (c .before .before .before .before .before) (After-degrees·gave (c .before .before .before .before)))) (Row.get 8 (T17 .locals) (m15 (c .before .before .before .before .before) (After-degrees·gave (c .before .before .before .before)))) (Row.get 7 (T17 .locals) (m35 record { before = c .before; if2 = c .if2 } g)) (Row.get 8 (T17 .locals) (m35 record { before = c .before; if2 = c .if2 } g)), loop-less record { before = record { before = c .before; if2 = c .if2 }; known = record { given = g } }, ((Row.get 7 (T17 .locals) (m35 record { before = c .before; if2 = c .if2 } g), Row.get 8 (T17 .locals) (m35 record { before = c .before; if2 = c .if2 } g)), Path.refl {a = m35 record { before = c .before; if2 = c .if2 } g}, loop-again record { before = record { before = c .before; if2 = c .if2 }; known = record { given = g } }, Path.refl {a = μ·0 (Row.get 1 (T17 .locals) (m15 (c .before .before .before .before .before) (After-degrees·gave (c .before .before .before .before)))) (Row.get 2 (T17 .locals) (m15 (c .before .before .before .before .before) (After-degrees·gave (c .before .before .before .before))) .now) (Row.get 4 (T17 .locals) (m15 (c .before .before .before .before .before) (After-degrees·gave (c .before .before .before .before)))) (Row.get 6 (T17 .locals) (m15 (c .before .before .before .before .before) (After-degrees·gave (c .before .before .before .before)))) (Row.get 7 (T17 .locals) (m15 (c .before .before .before .before .before) (After-degrees·gave (c .before .before .before .before)))) (Row.get 8 (T17 .locals) (m15 (c .before .before .before .before .before) (After-degrees·gave (c .before .before .before .before)))) (Row.get 7 (T17 .locals) (m35 record { before = c .before; if2 = c .if2 } g)) (Row.get 8 (T17 .locals) (m35 record { before = c .before; if2 = c .if2 } g))}))))
+        lay8 = λ c. (tt, λ g. (add-k record { before = record { before = c .before; if2 = c .if2 }; known = record { given = g }; }, (μ·0 (Row.get 1 (T17 .locals) (m15 (c .before .before .before .before .before) (After-degrees·gave (c .before .before .before .before)))) (Row.get 2 (T17 .locals) (m15 (c .before .before .before .before .before) (After-degrees·gave (c .before .before .before .before))) .now) (Row.get 4 (T17 .locals) (m15 (c .before .before .before .before .before) (After-degrees·gave (c .before .before .before .before)))) (Row.get 6 (T17 .locals) (m15 (c .before .before .before .before .before) (After-degrees·gave (c .before .before .before .before)))) (Row.get 7 (T17 .locals) (m15 (c .before .before .before .before .before) (After-degrees·gave (c .before .before .before .before)))) (Row.get 8 (T17 .locals) (m15 (c .before .before .before .before .before) (After-degrees·gave (c .before .before .before .before)))) (Row.get 7 (T17 .locals) (m35 record { before = c .before; if2 = c .if2 } g)) (Row.get 8 (T17 .locals) (m35 record { before = c .before; if2 = c .if2 } g)), loop-less record { before = record { before = c .before; if2 = c .if2 }; known = record { given = g }; }, ((Row.get 7 (T17 .locals) (m35 record { before = c .before; if2 = c .if2 } g), Row.get 8 (T17 .locals) (m35 record { before = c .before; if2 = c .if2 } g)), Path.refl {a = m35 record { before = c .before; if2 = c .if2 } g}, loop-again record { before = record { before = c .before; if2 = c .if2 }; known = record { given = g }; }, Path.refl {a = μ·0 (Row.get 1 (T17 .locals) (m15 (c .before .before .before .before .before) (After-degrees·gave (c .before .before .before .before)))) (Row.get 2 (T17 .locals) (m15 (c .before .before .before .before .before) (After-degrees·gave (c .before .before .before .before))) .now) (Row.get 4 (T17 .locals) (m15 (c .before .before .before .before .before) (After-degrees·gave (c .before .before .before .before)))) (Row.get 6 (T17 .locals) (m15 (c .before .before .before .before .before) (After-degrees·gave (c .before .before .before .before)))) (Row.get 7 (T17 .locals) (m15 (c .before .before .before .before .before) (After-degrees·gave (c .before .before .before .before)))) (Row.get 8 (T17 .locals) (m15 (c .before .before .before .before .before) (After-degrees·gave (c .before .before .before .before)))) (Row.get 7 (T17 .locals) (m35 record { before = c .before; if2 = c .if2 } g)) (Row.get 8 (T17 .locals) (m35 record { before = c .before; if2 = c .if2 } g))}))))
 
         lay7 : (c : After-scan-rule) → at35 (c .before .before .before .before .before .before .blocks) (W4 (c .before .before .before) (c .before .before .loop .known) (c .before .before .loop .k)) (m22 (c .before) (After-scan-rule·gave c))
-        lay7 = λ c. (λ taken. ((tt, (Path.refl, (tt, (tt, tt)))), returns-2 record { before = record { before = c .before; scan-rule = c .scan-rule }; if2 = record { taken = taken } }), λ left. lay8 record { before = record { before = c .before; scan-rule = c .scan-rule }; if2 = record { left = left } })
+        lay7 = λ c. (λ taken. ((tt, (Path.refl, (tt, (tt, tt)))), returns-2 record { before = record { before = c .before; scan-rule = c .scan-rule }; if2 = record { taken = taken }; }), λ left. lay8 record { before = record { before = c .before; scan-rule = c .scan-rule }; if2 = record { left = left }; })
 
         lay6 : (c : In-loop) → at36 (c .before .before .before .before .before .blocks) (W4 (c .before .before) (c .before .loop .known) (c .before .loop .k)) (m18 (c .before))
-        lay6 = λ c. (scan-rule-requires record { before = c .before; loop-test = c .loop-test }, λ g. lay7 record { before = record { before = c .before; loop-test = c .loop-test }; scan-rule = Called.called ps·2 r·2 (claims· .5) T20 (record { pos = 1; st = L.[]; d = 0; at = λ x. x }, (record { pos = 2; ty = Syntax.tyRef (Syntax.named 0) Syntax.imm Rec.named; ref = λ x. x }, (record { pos = 6; st = L.[]; d = 0; at = λ x. x }, (record { pos = 7; st = L.[]; d = 0; at = λ x. x }, (Num.vAt 4 λ x. x, (Num.vAt 8 λ x. x, tt)))))) (m18 (c .before)) g })
+        lay6 = λ c. (scan-rule-requires record { before = c .before; loop-test = c .loop-test }, λ g. lay7 record { before = record { before = c .before; loop-test = c .loop-test }; scan-rule = Called.called ps·2 r·2 (claims· .5) T20 (record { pos = 1; st = L.[]; d = 0; at = λ x. x }, (record { pos = 2; ty = Syntax.tyRef (Syntax.named 0) Syntax.imm Rec.named; ref = λ x. x; }, (record { pos = 6; st = L.[]; d = 0; at = λ x. x }, (record { pos = 7; st = L.[]; d = 0; at = λ x. x }, (Num.vAt 4 λ x. x, (Num.vAt 8 λ x. x, tt)))))) (m18 (c .before)) g; })
 
         lay5 : (c : After-loop) → at17 (c .before .before .before .before .before .blocks) (W5 (c .before .before) (c .before .loop .known) (c .before .loop .k)) (m17 (c .before .before) (c .before .loop .known) (c .before .loop .k))
         lay5 = λ c. lay9 record { before = c .before; loop-test = c .loop-test }
@@ -1582,20 +1582,20 @@ module _ (claims· : Claims) where
         lay4 = λ c. lay6 record { before = c .before; loop-test = c .loop-test }
 
         lay3 : (c : After-degrees) → at52 (c .before .before .before .blocks) (W0 (c .before .before .before .κs) (c .before .before .before .args) (c .before .before .before .blocks)) (m12 (c .before) (After-degrees·gave c))
-        lay3 = λ c. (((Row.get 7 (T17 .locals) (m15 (c .before) (After-degrees·gave c)), Row.get 8 (T17 .locals) (m15 (c .before) (After-degrees·gave c))), Path.refl {a = m15 (c .before) (After-degrees·gave c)}, loop-holds record { before = c .before; degrees = c .degrees }), λ vs inv. (tt, (λ taken. lay4 record { before = record { before = record { before = c .before; degrees = c .degrees }; loop = record { known = vs .0; k = vs .1; inv = inv } }; loop-test = record { taken = Tests.leb-true (Row.get 8 (T17 .locals) (m16 record { before = c .before; degrees = c .degrees } (vs .0) (vs .1))) 6 taken } }, λ left. lay5 record { before = record { before = record { before = c .before; degrees = c .degrees }; loop = record { known = vs .0; k = vs .1; inv = inv } }; loop-test = record { left = Tests.leb-false (Row.get 8 (T17 .locals) (m16 record { before = c .before; degrees = c .degrees } (vs .0) (vs .1))) 6 left } })))
+        lay3 = λ c. (((Row.get 7 (T17 .locals) (m15 (c .before) (After-degrees·gave c)), Row.get 8 (T17 .locals) (m15 (c .before) (After-degrees·gave c))), Path.refl {a = m15 (c .before) (After-degrees·gave c)}, loop-holds record { before = c .before; degrees = c .degrees }), λ vs inv. (tt, (λ taken. lay4 record { before = record { before = record { before = c .before; degrees = c .degrees }; loop = record { known = vs .0; k = vs .1; inv = inv }; }; loop-test = record { taken = Tests.leb-true (Row.get 8 (T17 .locals) (m16 record { before = c .before; degrees = c .degrees; } (vs .0) (vs .1))) 6 taken; }; }, λ left. lay5 record { before = record { before = record { before = c .before; degrees = c .degrees }; loop = record { known = vs .0; k = vs .1; inv = inv }; }; loop-test = record { left = Tests.leb-false (Row.get 8 (T17 .locals) (m16 record { before = c .before; degrees = c .degrees; } (vs .0) (vs .1))) 6 left; }; })))
 
         lay2 : (c : Else1) → at53 (c .before .before .blocks) (W0 (c .before .before .κs) (c .before .before .args) (c .before .before .blocks)) (m11 (c .before))
-        lay2 = λ c. (degrees-requires record { before = c .before; if1 = c .if1 }, λ g. lay3 record { before = record { before = c .before; if1 = c .if1 }; degrees = Called.called ps·1 r·1 (claims· .3) T4 (record { pos = 2; ty = Syntax.tyRef (Syntax.named 0) Syntax.imm Rec.named; ref = λ x. x }, (Num.vFld 1 (L._∷_ (Syntax.field 1) L.[]) 8 λ x. network-proofs-Nodes·.struct .as-values x .1 .0, tt)) (m11 (c .before)) g })
+        lay2 = λ c. (degrees-requires record { before = c .before; if1 = c .if1 }, λ g. lay3 record { before = record { before = c .before; if1 = c .if1 }; degrees = Called.called ps·1 r·1 (claims· .3) T4 (record { pos = 2; ty = Syntax.tyRef (Syntax.named 0) Syntax.imm Rec.named; ref = λ x. x; }, (Num.vFld 1 (L._∷_ (Syntax.field 1) L.[]) 8 λ x. network-proofs-Nodes·.struct .as-values x .1 .0, tt)) (m11 (c .before)) g; })
 
         lay1 : (c : After-scan-closed) → at55 (c .before .blocks) (W0 (c .before .κs) (c .before .args) (c .before .blocks)) (m1 (c .before) (After-scan-closed·gave c))
-        lay1 = λ c. (λ taken. ((tt, (Path.refl, (tt, (tt, tt)))), returns record { before = record { before = c .before; scan-closed = c .scan-closed }; if1 = record { taken = taken } }), λ left. lay2 record { before = record { before = c .before; scan-closed = c .scan-closed }; if1 = record { left = left } })
+        lay1 = λ c. (λ taken. ((tt, (Path.refl, (tt, (tt, tt)))), returns record { before = record { before = c .before; scan-closed = c .scan-closed }; if1 = record { taken = taken }; }), λ left. lay2 record { before = record { before = c .before; scan-closed = c .scan-closed }; if1 = record { left = left }; })
 
         pub laid : (c : Start) → at56 (c .blocks) (W0 (c .κs) (c .args) (c .blocks)) (m0 (c .κs) (c .args) (c .blocks))
-        laid = λ c. (scan-closed-requires c, λ g. lay1 record { before = c; scan-closed = Called.called ps·0 r·0 (claims· .1) T0 (record { pos = 1; st = L.[]; d = 0; at = λ x. x }, (record { pos = 2; ty = Syntax.tyRef (Syntax.named 0) Syntax.imm Rec.named; ref = λ x. x }, tt)) (m0 (c .κs) (c .args) (c .blocks)) g })
+        laid = λ c. (scan-closed-requires c, λ g. lay1 record { before = c; scan-closed = Called.called ps·0 r·0 (claims· .1) T0 (record { pos = 1; st = L.[]; d = 0; at = λ x. x }, (record { pos = 2; ty = Syntax.tyRef (Syntax.named 0) Syntax.imm Rec.named; ref = λ x. x; }, tt)) (m0 (c .κs) (c .args) (c .blocks)) g; })
 
         module _ (κs : Lifetimes.Lfts 1) (qs : Lifetimes.Shares 1) where
           pub asked : (a : FnKinds.Dens κs ps) → (good : FnKinds.GoodsP κs ps a) → (pre : Pre· κs a) → (bs : L.List Nat.ℕ) → Φ bs (Any.wantQ 1 ps r xs m κs qs a (Post· κs a)) (Function.init 1 ps r xs m κs qs a)
-          asked = λ a good pre bs. laid record { κs = κs; args = record { nodes = a .0; arcs = a .1 .0; seen = a .1 .1 .0; time = a .1 .1 .1 .0 }; blocks = bs; good = good; fits = record { time = record { fits = good .1 .1 .1 .0 .1 } }; pre = pre }
+          asked = λ a good pre bs. laid record { κs = κs; args = record { nodes = a .0; arcs = a .1 .0; seen = a .1 .1 .0; time = a .1 .1 .1 .0; }; blocks = bs; good = good; fits = record { time = record { fits = good .1 .1 .1 .0 .1 } }; pre = pre; }
 
         module _ {M : Type 1} (𝓤 : URA.URA M) (H : Wp.Heap 𝓤) (A : Atoms.Atoms 𝓤) (W : Kit.Given 𝓤 H A) (𝓣 : Wp.Tables 𝓤 H) (known0 : Plain.Known 𝓤 H A W 𝓣 1 ps·0 r·0 (claims· .0) (claims· .1) "search::scan::scan_closed") (known1 : Plain.Known 𝓤 H A W 𝓣 1 ps·1 r·1 (claims· .2) (claims· .3) "network::list::degrees") (known2 : Plain.Known 𝓤 H A W 𝓣 1 ps·2 r·2 (claims· .4) (claims· .5) "search::scan::scan_rule") (known3 : Plain.Known 𝓤 H A W 𝓣 0 ps·3 r·3 (claims· .6) (claims· .7) "rules::found::nothing") where
           pub spec : Statement.Triple 𝓤 (Wp.WpFn 𝓤 H (𝓣 .C) (𝓣 .Λ) (Function.fnOf 1 ps r xs m hs body)) (Function.plainOf 𝓤 H A 1 ps r Pre· Post·)
