@@ -7,5 +7,4 @@ pub mod scan_next
 pub mod scan_scan_closed
 pub mod scan_scan_costly
 pub mod scan_scan_nodes
-pub mod scan_scan_rule
 pub mod turn

@@ -7,7 +7,7 @@ use native.Mathlib.Numerals.{add-one}
 use native.Mathlib.Omega.{arith}
 use lib.Dec.{eqb, ltb}
 use lib.ListN.{length}
-use borrow.Author.Tests.{ltb-true, ltb-false, eq-eqb, ne-eqb}
+use borrow.Author.Tests.{ltb-true, ltb-false, eqb-true, eq-eqb, ne-eqb}
 use Rattle.loops.specs.Loops.{all, any}
 use Rattle.loops.proofs.Laws.{all-each}
 use Rattle.step.proofs.Lines.{split}
@@ -23,7 +23,6 @@ use Rattle.step.specs.declared.Next.the-variants.{Stops, Refuted, Takes}
 use Rattle.step.specs.Run.{Rule, ruleFrom, ruleOf, orElse, upward, nextFrom}
 use Rattle.closed_arc.specs.ClosedArc.{closedArc}
 use Rattle.costly_arc.specs.CostlyArc.{isOpenRoot, costlyArc}
-use Rattle.costly_arc.specs.CostlyArc as Costly
 use Rattle.costly_arc.proofs.Upward.{Reached, upward-at, upward-none, orRest, else-rest, upward-rest}
 use Rattle.costly_arc.proofs.Pairs.{none-any}
 use Rattle.costly_arc.proofs.Passing.{no-open-root}
@@ -98,9 +97,14 @@ of-nodes k l m n =
     (past-false (eqb k 1) _ (ne-eqb k 1 (λ z. omega arith))
     (past-false (eqb k 0) _ (ne-eqb k 0 (λ z. omega arith)) (all-each (λ k. eqb k 0 || (eqb k 1 || (eqb k 4 || isOfNodes k))) (lastRule + 1) refl k (omega arith))))
 
-pub costly-is : ruleOf rules 4 ≡ Costly.rule
-unfolding ruleFrom
-costly-is = refl
+-- what the scans find, by the rule's number
+module _ (net : Net) (k : ℕ) {a : Found} where
+  pub by-nodes : isOfNodes k ≡ true → a ≡ foundOf (upward (ruleOf rules k .at net) k 32 1 Stops) → a ≡ foundOf (upward (ruleOf rules k .at net) k (ruleOf rules k .last) 1 Stops)
+  by-nodes n e = rw (eqb-true (ruleOf rules k .last) 32 n) e
+
+  pub by-costly : k ≡ 4 → a ≡ foundOf (upward (costlyArc net) 4 96 1 Stops) → a ≡ foundOf (upward (ruleOf rules k .at net) k (ruleOf rules k .last) 1 Stops)
+  unfolding ruleFrom
+  by-costly q e = rw q e
 
 -- ---- the rules one after the other: at the head of the loop, those before number k find nothing
 

@@ -1,7 +1,6 @@
 // The search for the next step: the rules in order, each at its places upward.
 ghost use mathlib.Core.Path.{_≡_};
 ghost use mathlib.Core.Bool.{true, _&&_};
-ghost use Prim.Native.Nat.{_≤_};
 ghost use lib.Dec.{eqb};
 ghost use Rattle.network.specs.declared.Nodes.{Nodes};
 ghost use Rattle.network.specs.Limits.{maxNodes, maxArcs};
@@ -15,7 +14,7 @@ ghost use Rattle.step.specs.Run.{upward, ruleOf};
 ghost use Rattle.closed_arc.specs.ClosedArc.{closedArc};
 ghost use Rattle.costly_arc.specs.CostlyArc.{costlyArc};
 ghost use Rattle.costly_arc.specs.Seen.{Known};
-ghost use Rattle.rules.specs.Table.{rules, lastRule, nextOf};
+ghost use Rattle.rules.specs.Table.{rules, nextOf};
 ghost use Rattle.rules.specs.Found.{foundOf};
 ghost use Rattle.rules.specs.Tried.{isOfNodes};
 use costly_arc::Seen;
@@ -160,25 +159,6 @@ pub(crate) fn scan_costly(nodes: Nodes, arcs: &[Arc], seen: Seen, time: u8) -> L
 
 // ---- all rules
 
-// Rule k, behind rule 1, at its places upward.
-pub(crate) fn scan_rule(
-    nodes: Nodes,
-    arcs: &[Arc],
-    degrees: Degrees,
-    seen: Seen,
-    time: u8,
-    k: usize,
-) -> Looked
-    requires { ⌜ Legal (netIn nodes (now arcs)) × AreDegreesTo (netIn nodes (now arcs)) (nodes .m) (degrees .at) × Known (netIn nodes (now arcs)) time seen × (2 ≤ k) × (k ≤ lastRule) ⌝ }
-    ensures { λ r. ⌜ (r .found ≡ foundOf (upward (ruleOf rules k .at (netIn nodes (now (arcs .entry)))) k (ruleOf rules k .last) 1 Stops)) × Known (netIn nodes (now (arcs .entry))) time (r .seen) ⌝ }
-{
-    if k == 4 {
-        return scan_costly(nodes, arcs, seen, time);
-    }
-    let found = scan_nodes(nodes, arcs, degrees, k);
-    Looked { found, seen }
-}
-
 // The next step: the first that applies.
 pub(crate) fn next(nodes: Nodes, arcs: &[Arc], seen: Seen, time: u8) -> Looked
     requires { ⌜ Legal (netIn nodes (now arcs)) × Known (netIn nodes (now arcs)) time seen ⌝ }
@@ -192,11 +172,21 @@ pub(crate) fn next(nodes: Nodes, arcs: &[Arc], seen: Seen, time: u8) -> Looked
     let mut known = seen;
     let mut k = 2;
     while k <= LAST_RULE {
-        let x = scan_rule(nodes, arcs, degrees, known, time, k);
-        if x.found.found {
-            return x;
+        if k == 4 {
+            let x = scan_costly(nodes, arcs, known, time);
+            if x.found.found {
+                return x;
+            }
+            known = x.seen;
+        } else {
+            let x = scan_nodes(nodes, arcs, degrees, k);
+            if x.found {
+                return Looked {
+                    found: x,
+                    seen: known,
+                };
+            }
         }
-        known = x.seen;
         k += 1;
     }
     let found = rules::found::nothing();
