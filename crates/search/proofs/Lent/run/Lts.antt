@@ -180,7 +180,7 @@ abbrev pub ps : L.List (FnKinds.PK 3)
 ps = L._∷_ (ShrSlice.pShrS (Signed.SInt Syntax.w32) 0 tt) (L._∷_ (MutSlice.pMutS (Signed.SInt Syntax.w32) 1 tt) (L._∷_ (MutSlice.pMutS Rec.row 2 tt) L.[]))
 
 abbrev pub r : FnKinds.RK 3
-r = Value.rVal record { ty = Declared.row Ran·.the-type; one = Path.refl; val = StructLaws.val Ran·.the-type Ran-Laws·.the-laws; tells = StructLaws.tells Ran·.the-type Ran-Laws·.the-laws; still = StructLaws.still Ran·.the-type Ran-Laws·.the-copy Exit.yes; row = Rows.whole (Declared.row Ran·.the-type); rd = λ x. x; mk = λ x. x; } λ M 𝓤 H A W. record { copies = StructLaws.copy Ran·.the-type Ran-Laws·.the-copy 𝓤 H A W; lawful = StructLaws.lawful Ran·.the-type Ran-Laws·.the-laws 𝓤 H A W; makes = StructLaws.makes Ran·.the-type Ran-Laws·.the-plain 𝓤 H A; in-mem = Local.mem-whole 𝓤 H A W (Declared.row Ran·.the-type); of-mem = Local.whole-mem 𝓤 H A W (Declared.row Ran·.the-type); }
+r = Value.rVal record { ty = Declared.row Ran·.the-type; one = Path.refl; val = StructLaws.val Ran·.the-type Ran-Laws·.the-laws; tells = StructLaws.tells Ran·.the-type Ran-Laws·.the-laws; still = StructLaws.still Ran·.the-type Ran-Laws·.the-copy Exit.yes; row = Rows.whole (Declared.row Ran·.the-type); rd = λ x. x; mk = λ x. x } λ M 𝓤 H A W. record { copies = StructLaws.copy Ran·.the-type Ran-Laws·.the-copy 𝓤 H A W; lawful = StructLaws.lawful Ran·.the-type Ran-Laws·.the-laws 𝓤 H A W; makes = StructLaws.makes Ran·.the-type Ran-Laws·.the-plain 𝓤 H A; in-mem = Local.mem-whole 𝓤 H A W (Declared.row Ran·.the-type); of-mem = Local.whole-mem 𝓤 H A W (Declared.row Ran·.the-type) }
 
 abbrev pub xs : L.List Syntax.Ty
 xs = L._∷_ (Syntax.tyInt Syntax.w64) (L._∷_ q1 (L._∷_ (Syntax.tyInt Syntax.w64) (L._∷_ (Syntax.tyInt Syntax.w64) (L._∷_ q32 (L._∷_ q10 (L._∷_ Syntax.tyBool (L._∷_ Syntax.tyUnit (L._∷_ q33 (L._∷_ q11 (L._∷_ q33 (L._∷_ q11 (L._∷_ (Syntax.tyStruct (L._∷_ 115 (L._∷_ 101 (L._∷_ 97 (L._∷_ 114 (L._∷_ 99 (L._∷_ 104 (L._∷_ 58 (L._∷_ 58 (L._∷_ 80 (L._∷_ 114 (L._∷_ 111 (L._∷_ 103 (L._∷_ 114 (L._∷_ 101 (L._∷_ 115 (L._∷_ 115 L.[])))))))))))))))) (Syntax.tcons q1 (Syntax.tcons (Syntax.tyInt Syntax.w64) (Syntax.tcons q2 (Syntax.tcons Syntax.tyBool (Syntax.tcons Syntax.tyBool (Syntax.tcons (Syntax.tyInt Syntax.w64) (Syntax.tcons (Syntax.tyInt Syntax.w64) Syntax.tnil)))))))) (L._∷_ q29 (L._∷_ q9 (L._∷_ q33 (L._∷_ q11 L.[]))))))))))))))))
@@ -204,7 +204,7 @@ abbrev pub ps·2 : L.List (FnKinds.PK 0)
 ps·2 = L._∷_ (Num.pNum Syntax.w64) L.[]
 
 abbrev pub r·2 : FnKinds.RK 0
-r·2 = Value.rVal record { ty = Declared.row Ran·.the-type; one = Path.refl; val = StructLaws.val Ran·.the-type Ran-Laws·.the-laws; tells = StructLaws.tells Ran·.the-type Ran-Laws·.the-laws; still = StructLaws.still Ran·.the-type Ran-Laws·.the-copy Exit.yes; row = Rows.whole (Declared.row Ran·.the-type); rd = λ x. x; mk = λ x. x; } λ M 𝓤 H A W. record { copies = StructLaws.copy Ran·.the-type Ran-Laws·.the-copy 𝓤 H A W; lawful = StructLaws.lawful Ran·.the-type Ran-Laws·.the-laws 𝓤 H A W; makes = StructLaws.makes Ran·.the-type Ran-Laws·.the-plain 𝓤 H A; in-mem = Local.mem-whole 𝓤 H A W (Declared.row Ran·.the-type); of-mem = Local.whole-mem 𝓤 H A W (Declared.row Ran·.the-type); }
+r·2 = Value.rVal record { ty = Declared.row Ran·.the-type; one = Path.refl; val = StructLaws.val Ran·.the-type Ran-Laws·.the-laws; tells = StructLaws.tells Ran·.the-type Ran-Laws·.the-laws; still = StructLaws.still Ran·.the-type Ran-Laws·.the-copy Exit.yes; row = Rows.whole (Declared.row Ran·.the-type); rd = λ x. x; mk = λ x. x } λ M 𝓤 H A W. record { copies = StructLaws.copy Ran·.the-type Ran-Laws·.the-copy 𝓤 H A W; lawful = StructLaws.lawful Ran·.the-type Ran-Laws·.the-laws 𝓤 H A W; makes = StructLaws.makes Ran·.the-type Ran-Laws·.the-plain 𝓤 H A; in-mem = Local.mem-whole 𝓤 H A W (Declared.row Ran·.the-type); of-mem = Local.whole-mem 𝓤 H A W (Declared.row Ran·.the-type) }
 
 abbrev pub ps·3 : L.List (FnKinds.PK 1)
 ps·3 = L._∷_ (MutSlice.pMutS Rec.row 0 tt) L.[]
@@ -222,19 +222,19 @@ abbrev pub ps·5 : L.List (FnKinds.PK 1)
 ps·5 = L._∷_ (ShrSlice.pShrS (Signed.SInt Syntax.w32) 0 tt) L.[]
 
 abbrev pub r·5 : FnKinds.RK 1
-r·5 = Value.rVal record { ty = Declared.row network-proofs-Nodes·.the-type; one = Path.refl; val = StructLaws.val network-proofs-Nodes·.the-type network-proofs-Nodes-Laws·.the-laws; tells = StructLaws.tells network-proofs-Nodes·.the-type network-proofs-Nodes-Laws·.the-laws; still = StructLaws.still network-proofs-Nodes·.the-type network-proofs-Nodes-Laws·.the-copy Exit.yes; row = Rows.whole (Declared.row network-proofs-Nodes·.the-type); rd = λ x. x; mk = λ x. x; } λ M 𝓤 H A W. record { copies = StructLaws.copy network-proofs-Nodes·.the-type network-proofs-Nodes-Laws·.the-copy 𝓤 H A W; lawful = StructLaws.lawful network-proofs-Nodes·.the-type network-proofs-Nodes-Laws·.the-laws 𝓤 H A W; makes = StructLaws.makes network-proofs-Nodes·.the-type network-proofs-Nodes-Laws·.the-plain 𝓤 H A; in-mem = Local.mem-whole 𝓤 H A W (Declared.row network-proofs-Nodes·.the-type); of-mem = Local.whole-mem 𝓤 H A W (Declared.row network-proofs-Nodes·.the-type); }
+r·5 = Value.rVal record { ty = Declared.row network-proofs-Nodes·.the-type; one = Path.refl; val = StructLaws.val network-proofs-Nodes·.the-type network-proofs-Nodes-Laws·.the-laws; tells = StructLaws.tells network-proofs-Nodes·.the-type network-proofs-Nodes-Laws·.the-laws; still = StructLaws.still network-proofs-Nodes·.the-type network-proofs-Nodes-Laws·.the-copy Exit.yes; row = Rows.whole (Declared.row network-proofs-Nodes·.the-type); rd = λ x. x; mk = λ x. x } λ M 𝓤 H A W. record { copies = StructLaws.copy network-proofs-Nodes·.the-type network-proofs-Nodes-Laws·.the-copy 𝓤 H A W; lawful = StructLaws.lawful network-proofs-Nodes·.the-type network-proofs-Nodes-Laws·.the-laws 𝓤 H A W; makes = StructLaws.makes network-proofs-Nodes·.the-type network-proofs-Nodes-Laws·.the-plain 𝓤 H A; in-mem = Local.mem-whole 𝓤 H A W (Declared.row network-proofs-Nodes·.the-type); of-mem = Local.whole-mem 𝓤 H A W (Declared.row network-proofs-Nodes·.the-type) }
 
 abbrev pub ps·6 : L.List (FnKinds.PK 2)
-ps·6 = L._∷_ (Value.pVal record { ty = Declared.row network-proofs-Nodes·.the-type; one = Path.refl; val = StructLaws.val network-proofs-Nodes·.the-type network-proofs-Nodes-Laws·.the-laws; tells = StructLaws.tells network-proofs-Nodes·.the-type network-proofs-Nodes-Laws·.the-laws; still = StructLaws.still network-proofs-Nodes·.the-type network-proofs-Nodes-Laws·.the-copy Exit.yes; row = Rows.whole (Declared.row network-proofs-Nodes·.the-type); rd = λ x. x; mk = λ x. x; } λ M 𝓤 H A W. record { copies = StructLaws.copy network-proofs-Nodes·.the-type network-proofs-Nodes-Laws·.the-copy 𝓤 H A W; lawful = StructLaws.lawful network-proofs-Nodes·.the-type network-proofs-Nodes-Laws·.the-laws 𝓤 H A W; makes = StructLaws.makes network-proofs-Nodes·.the-type network-proofs-Nodes-Laws·.the-plain 𝓤 H A; in-mem = Local.mem-whole 𝓤 H A W (Declared.row network-proofs-Nodes·.the-type); of-mem = Local.whole-mem 𝓤 H A W (Declared.row network-proofs-Nodes·.the-type); }) (L._∷_ (MutSlice.pMutS (Signed.SInt Syntax.w32) 0 tt) (L._∷_ (MutSlice.pMutS Rec.row 1 tt) L.[]))
+ps·6 = L._∷_ (Value.pVal record { ty = Declared.row network-proofs-Nodes·.the-type; one = Path.refl; val = StructLaws.val network-proofs-Nodes·.the-type network-proofs-Nodes-Laws·.the-laws; tells = StructLaws.tells network-proofs-Nodes·.the-type network-proofs-Nodes-Laws·.the-laws; still = StructLaws.still network-proofs-Nodes·.the-type network-proofs-Nodes-Laws·.the-copy Exit.yes; row = Rows.whole (Declared.row network-proofs-Nodes·.the-type); rd = λ x. x; mk = λ x. x } λ M 𝓤 H A W. record { copies = StructLaws.copy network-proofs-Nodes·.the-type network-proofs-Nodes-Laws·.the-copy 𝓤 H A W; lawful = StructLaws.lawful network-proofs-Nodes·.the-type network-proofs-Nodes-Laws·.the-laws 𝓤 H A W; makes = StructLaws.makes network-proofs-Nodes·.the-type network-proofs-Nodes-Laws·.the-plain 𝓤 H A; in-mem = Local.mem-whole 𝓤 H A W (Declared.row network-proofs-Nodes·.the-type); of-mem = Local.whole-mem 𝓤 H A W (Declared.row network-proofs-Nodes·.the-type) }) (L._∷_ (MutSlice.pMutS (Signed.SInt Syntax.w32) 0 tt) (L._∷_ (MutSlice.pMutS Rec.row 1 tt) L.[]))
 
 abbrev pub r·6 : FnKinds.RK 2
-r·6 = Value.rVal record { ty = Declared.row Progress·.the-type; one = Path.refl; val = StructLaws.val Progress·.the-type Progress-Laws·.the-laws; tells = StructLaws.tells Progress·.the-type Progress-Laws·.the-laws; still = StructLaws.still Progress·.the-type Progress-Laws·.the-copy Exit.yes; row = Rows.whole (Declared.row Progress·.the-type); rd = λ x. x; mk = λ x. x; } λ M 𝓤 H A W. record { copies = StructLaws.copy Progress·.the-type Progress-Laws·.the-copy 𝓤 H A W; lawful = StructLaws.lawful Progress·.the-type Progress-Laws·.the-laws 𝓤 H A W; makes = StructLaws.makes Progress·.the-type Progress-Laws·.the-plain 𝓤 H A; in-mem = Local.mem-whole 𝓤 H A W (Declared.row Progress·.the-type); of-mem = Local.whole-mem 𝓤 H A W (Declared.row Progress·.the-type); }
+r·6 = Value.rVal record { ty = Declared.row Progress·.the-type; one = Path.refl; val = StructLaws.val Progress·.the-type Progress-Laws·.the-laws; tells = StructLaws.tells Progress·.the-type Progress-Laws·.the-laws; still = StructLaws.still Progress·.the-type Progress-Laws·.the-copy Exit.yes; row = Rows.whole (Declared.row Progress·.the-type); rd = λ x. x; mk = λ x. x } λ M 𝓤 H A W. record { copies = StructLaws.copy Progress·.the-type Progress-Laws·.the-copy 𝓤 H A W; lawful = StructLaws.lawful Progress·.the-type Progress-Laws·.the-laws 𝓤 H A W; makes = StructLaws.makes Progress·.the-type Progress-Laws·.the-plain 𝓤 H A; in-mem = Local.mem-whole 𝓤 H A W (Declared.row Progress·.the-type); of-mem = Local.whole-mem 𝓤 H A W (Declared.row Progress·.the-type) }
 
 abbrev pub ps·7 : L.List (FnKinds.PK 0)
-ps·7 = L._∷_ (Value.pVal record { ty = Declared.row Progress·.the-type; one = Path.refl; val = StructLaws.val Progress·.the-type Progress-Laws·.the-laws; tells = StructLaws.tells Progress·.the-type Progress-Laws·.the-laws; still = StructLaws.still Progress·.the-type Progress-Laws·.the-copy Exit.yes; row = Rows.whole (Declared.row Progress·.the-type); rd = λ x. x; mk = λ x. x; } λ M 𝓤 H A W. record { copies = StructLaws.copy Progress·.the-type Progress-Laws·.the-copy 𝓤 H A W; lawful = StructLaws.lawful Progress·.the-type Progress-Laws·.the-laws 𝓤 H A W; makes = StructLaws.makes Progress·.the-type Progress-Laws·.the-plain 𝓤 H A; in-mem = Local.mem-whole 𝓤 H A W (Declared.row Progress·.the-type); of-mem = Local.whole-mem 𝓤 H A W (Declared.row Progress·.the-type); }) L.[]
+ps·7 = L._∷_ (Value.pVal record { ty = Declared.row Progress·.the-type; one = Path.refl; val = StructLaws.val Progress·.the-type Progress-Laws·.the-laws; tells = StructLaws.tells Progress·.the-type Progress-Laws·.the-laws; still = StructLaws.still Progress·.the-type Progress-Laws·.the-copy Exit.yes; row = Rows.whole (Declared.row Progress·.the-type); rd = λ x. x; mk = λ x. x } λ M 𝓤 H A W. record { copies = StructLaws.copy Progress·.the-type Progress-Laws·.the-copy 𝓤 H A W; lawful = StructLaws.lawful Progress·.the-type Progress-Laws·.the-laws 𝓤 H A W; makes = StructLaws.makes Progress·.the-type Progress-Laws·.the-plain 𝓤 H A; in-mem = Local.mem-whole 𝓤 H A W (Declared.row Progress·.the-type); of-mem = Local.whole-mem 𝓤 H A W (Declared.row Progress·.the-type) }) L.[]
 
 abbrev pub r·7 : FnKinds.RK 0
-r·7 = Value.rVal record { ty = Declared.row Ran·.the-type; one = Path.refl; val = StructLaws.val Ran·.the-type Ran-Laws·.the-laws; tells = StructLaws.tells Ran·.the-type Ran-Laws·.the-laws; still = StructLaws.still Ran·.the-type Ran-Laws·.the-copy Exit.yes; row = Rows.whole (Declared.row Ran·.the-type); rd = λ x. x; mk = λ x. x; } λ M 𝓤 H A W. record { copies = StructLaws.copy Ran·.the-type Ran-Laws·.the-copy 𝓤 H A W; lawful = StructLaws.lawful Ran·.the-type Ran-Laws·.the-laws 𝓤 H A W; makes = StructLaws.makes Ran·.the-type Ran-Laws·.the-plain 𝓤 H A; in-mem = Local.mem-whole 𝓤 H A W (Declared.row Ran·.the-type); of-mem = Local.whole-mem 𝓤 H A W (Declared.row Ran·.the-type); }
+r·7 = Value.rVal record { ty = Declared.row Ran·.the-type; one = Path.refl; val = StructLaws.val Ran·.the-type Ran-Laws·.the-laws; tells = StructLaws.tells Ran·.the-type Ran-Laws·.the-laws; still = StructLaws.still Ran·.the-type Ran-Laws·.the-copy Exit.yes; row = Rows.whole (Declared.row Ran·.the-type); rd = λ x. x; mk = λ x. x } λ M 𝓤 H A W. record { copies = StructLaws.copy Ran·.the-type Ran-Laws·.the-copy 𝓤 H A W; lawful = StructLaws.lawful Ran·.the-type Ran-Laws·.the-laws 𝓤 H A W; makes = StructLaws.makes Ran·.the-type Ran-Laws·.the-plain 𝓤 H A; in-mem = Local.mem-whole 𝓤 H A W (Declared.row Ran·.the-type); of-mem = Local.whole-mem 𝓤 H A W (Declared.row Ran·.the-type) }
 
 abbrev pub hs : L.List Syntax.Home
 hs = L._∷_ Syntax.valueLocal (L._∷_ Syntax.valueLocal (L._∷_ Syntax.valueLocal (L._∷_ Syntax.valueLocal (L._∷_ Syntax.valueLocal (L._∷_ Syntax.valueLocal (L._∷_ Syntax.valueLocal (L._∷_ Syntax.valueLocal (L._∷_ Syntax.valueLocal (L._∷_ Syntax.valueLocal (L._∷_ Syntax.valueLocal (L._∷_ Syntax.valueLocal (L._∷_ Syntax.valueLocal (L._∷_ Syntax.valueLocal (L._∷_ Syntax.valueLocal (L._∷_ Syntax.valueLocal (L._∷_ Syntax.valueLocal (L._∷_ Syntax.valueLocal (L._∷_ Syntax.valueLocal (L._∷_ Syntax.valueLocal (L._∷_ Syntax.valueLocal L.[]))))))))))))))))))))
@@ -616,7 +616,7 @@ module _ (claims· : Claims) where
   s3 = Relend.k-sl-aggregate Rec.row (Relend.asShr Rec.row) T4 8 9 3 q32 q32 (λ x. x) (Scalar.oFld 3 (L._∷_ (Syntax.field 1) L.[]) (Syntax.tyInt Syntax.w64) 8 λ v. Shared.lenV (v .0))
 
   abbrev s4 : Typed.Both T5 T6
-  s4 = Call.callB ps·0 r·0 (claims· .0) (claims· .1) T5 (record { pos = 9; ty = Syntax.tyRef Syntax.erased Syntax.imm Rec.named; ref = λ x. x; }, tt) 7 (L._∷_ 3 L.[]) (Syntax.tyInt Syntax.w64)
+  s4 = Call.callB ps·0 r·0 (claims· .0) (claims· .1) T5 (record { pos = 9; ty = Syntax.tyRef Syntax.erased Syntax.imm Rec.named; ref = λ x. x }, tt) 7 (L._∷_ 3 L.[]) (Syntax.tyInt Syntax.w64)
 
   abbrev s5 : Typed.Mo T6 → Typed.Mo T7
   s5 = Scalar.n-room T6 9 q10
@@ -625,7 +625,7 @@ module _ (claims· : Claims) where
   s7 = Reshare.n-back-sl-shr Rec.row T7 3 2 3 q31 Row.off λ x. x
 
   abbrev s9 : Typed.Both T9 T11
-  s9 = Call.callB ps·1 r·1 (claims· .2) (claims· .3) T9 (record { pos = 1; ty = Syntax.tyRef (Syntax.named 0) Syntax.imm (Syntax.tyInt Syntax.w32); ref = λ x. x; }, (Num.vAt 6 λ x. x, (Num.vAt 7 λ x. x, tt))) 4 (L._∷_ 0 L.[]) (Syntax.tyInt Syntax.w64)
+  s9 = Call.callB ps·1 r·1 (claims· .2) (claims· .3) T9 (record { pos = 1; ty = Syntax.tyRef (Syntax.named 0) Syntax.imm (Syntax.tyInt Syntax.w32); ref = λ x. x }, (Num.vAt 6 λ x. x, (Num.vAt 7 λ x. x, tt))) 4 (L._∷_ 0 L.[]) (Syntax.tyInt Syntax.w64)
 
   abbrev s10 : Typed.Mo T11 → Typed.Mo T12
   s10 = Scalar.n-room T11 6 (Syntax.tyInt Syntax.w64)
@@ -655,7 +655,7 @@ module _ (claims· : Claims) where
   s19 = Relend.k-sl-aggregate Rec.row (Relend.asMut Rec.row) T21 12 13 4 q33 q33 (λ x. x) (Scalar.oFld 3 (L._∷_ (Syntax.field 1) L.[]) (Syntax.tyInt Syntax.w64) 8 λ v. Shared.lenV (v .0))
 
   abbrev s20 : Typed.Both T22 T23
-  s20 = Call.callB ps·3 r·3 (claims· .6) (claims· .7) T22 (record { pos = 13; ty = Syntax.tyRef Syntax.erased Syntax.mut Rec.named; ref = λ x. x; }, tt) 11 (L._∷_ 4 L.[]) Syntax.tyUnit
+  s20 = Call.callB ps·3 r·3 (claims· .6) (claims· .7) T22 (record { pos = 13; ty = Syntax.tyRef Syntax.erased Syntax.mut Rec.named; ref = λ x. x }, tt) 11 (L._∷_ 4 L.[]) Syntax.tyUnit
 
   abbrev s21 : Typed.Mo T23 → Typed.Mo T24
   s21 = Scalar.n-room T23 11 Syntax.tyUnit
@@ -670,7 +670,7 @@ module _ (claims· : Claims) where
   s27 = Relend.k-sl-aggregate Rec.row (Relend.asMut Rec.row) T29 14 15 5 q33 q33 (λ x. x) (Scalar.oFld 3 (L._∷_ (Syntax.field 1) L.[]) (Syntax.tyInt Syntax.w64) 8 λ v. Shared.lenV (v .0))
 
   abbrev s28 : Typed.Both T30 T31
-  s28 = Call.callB ps·4 r·4 (claims· .8) (claims· .9) T30 (record { pos = 15; ty = Syntax.tyRef Syntax.erased Syntax.mut Rec.named; ref = λ x. x; }, (record { pos = 1; ty = Syntax.tyRef (Syntax.named 0) Syntax.imm (Syntax.tyInt Syntax.w32); ref = λ x. x; }, tt)) 11 (L._∷_ 5 (L._∷_ 0 L.[])) Syntax.tyUnit
+  s28 = Call.callB ps·4 r·4 (claims· .8) (claims· .9) T30 (record { pos = 15; ty = Syntax.tyRef Syntax.erased Syntax.mut Rec.named; ref = λ x. x }, (record { pos = 1; ty = Syntax.tyRef (Syntax.named 0) Syntax.imm (Syntax.tyInt Syntax.w32); ref = λ x. x }, tt)) 11 (L._∷_ 5 (L._∷_ 0 L.[])) Syntax.tyUnit
 
   abbrev s29 : Typed.Mo T31 → Typed.Mo T32
   s29 = Scalar.n-room T31 11 Syntax.tyUnit
@@ -679,7 +679,7 @@ module _ (claims· : Claims) where
   s31 = Relend.k-back-sl Rec.row T32 15 3 2 5 q31 q33 Row.off (λ x. x) λ x. x
 
   abbrev s33 : Typed.Both T34 T36
-  s33 = Call.callB ps·5 r·5 (claims· .10) (claims· .11) T34 (record { pos = 1; ty = Syntax.tyRef (Syntax.named 0) Syntax.imm (Syntax.tyInt Syntax.w32); ref = λ x. x; }, tt) 5 (L._∷_ 0 L.[]) q1
+  s33 = Call.callB ps·5 r·5 (claims· .10) (claims· .11) T34 (record { pos = 1; ty = Syntax.tyRef (Syntax.named 0) Syntax.imm (Syntax.tyInt Syntax.w32); ref = λ x. x }, tt) 5 (L._∷_ 0 L.[]) q1
 
   abbrev s35 : Typed.Gives T36 T38
   s35 = Relend.k-sl-relend (Signed.SInt Syntax.w32) T36 2 17 1 6 q27 q29 Row.off λ x. x
@@ -694,7 +694,7 @@ module _ (claims· : Claims) where
   s39 = Relend.k-sl-aggregate Rec.row (Relend.asMut Rec.row) T41 19 20 7 q33 q33 (λ x. x) (Scalar.oFld 3 (L._∷_ (Syntax.field 1) L.[]) (Syntax.tyInt Syntax.w64) 8 λ v. Shared.lenV (v .0))
 
   abbrev s40 : Typed.Both T42 T43
-  s40 = Call.callB ps·6 r·6 (claims· .12) (claims· .13) T42 (record { pos = 5; st = L.[]; d = 0; at = λ x. x }, (record { pos = 18; ty = Syntax.tyRef Syntax.erased Syntax.mut (Syntax.tyInt Syntax.w32); ref = λ x. x; }, (record { pos = 20; ty = Syntax.tyRef Syntax.erased Syntax.mut Rec.named; ref = λ x. x; }, tt))) 16 (L._∷_ 6 (L._∷_ 7 L.[])) (Syntax.tyStruct (L._∷_ 115 (L._∷_ 101 (L._∷_ 97 (L._∷_ 114 (L._∷_ 99 (L._∷_ 104 (L._∷_ 58 (L._∷_ 58 (L._∷_ 80 (L._∷_ 114 (L._∷_ 111 (L._∷_ 103 (L._∷_ 114 (L._∷_ 101 (L._∷_ 115 (L._∷_ 115 L.[])))))))))))))))) (Syntax.tcons q1 (Syntax.tcons (Syntax.tyInt Syntax.w64) (Syntax.tcons q2 (Syntax.tcons Syntax.tyBool (Syntax.tcons Syntax.tyBool (Syntax.tcons (Syntax.tyInt Syntax.w64) (Syntax.tcons (Syntax.tyInt Syntax.w64) Syntax.tnil))))))))
+  s40 = Call.callB ps·6 r·6 (claims· .12) (claims· .13) T42 (record { pos = 5; st = L.[]; d = 0; at = λ x. x }, (record { pos = 18; ty = Syntax.tyRef Syntax.erased Syntax.mut (Syntax.tyInt Syntax.w32); ref = λ x. x }, (record { pos = 20; ty = Syntax.tyRef Syntax.erased Syntax.mut Rec.named; ref = λ x. x }, tt))) 16 (L._∷_ 6 (L._∷_ 7 L.[])) (Syntax.tyStruct (L._∷_ 115 (L._∷_ 101 (L._∷_ 97 (L._∷_ 114 (L._∷_ 99 (L._∷_ 104 (L._∷_ 58 (L._∷_ 58 (L._∷_ 80 (L._∷_ 114 (L._∷_ 111 (L._∷_ 103 (L._∷_ 114 (L._∷_ 101 (L._∷_ 115 (L._∷_ 115 L.[])))))))))))))))) (Syntax.tcons q1 (Syntax.tcons (Syntax.tyInt Syntax.w64) (Syntax.tcons q2 (Syntax.tcons Syntax.tyBool (Syntax.tcons Syntax.tyBool (Syntax.tcons (Syntax.tyInt Syntax.w64) (Syntax.tcons (Syntax.tyInt Syntax.w64) Syntax.tnil))))))))
 
   abbrev s41 : Typed.Mo T43 → Typed.Mo T44
   s41 = Scalar.n-room T43 5 q1
@@ -945,166 +945,166 @@ module _ (claims· : Claims) where
         g31 = L._∷_ (0, Rows.any-gone (Syntax.tyStruct (L._∷_ 115 (L._∷_ 101 (L._∷_ 97 (L._∷_ 114 (L._∷_ 99 (L._∷_ 104 (L._∷_ 58 (L._∷_ 58 (L._∷_ 82 (L._∷_ 97 (L._∷_ 110 L.[]))))))))))) (Syntax.tcons (Syntax.tyInt Syntax.w64) (Syntax.tcons q1 (Syntax.tcons (Syntax.tyInt Syntax.w64) (Syntax.tcons q3 Syntax.tnil)))))) (L._∷_ q12 (L._∷_ q13 (L._∷_ (3, Relend.mslice-owed Rec.row q31 2 7 (Row.lease (κs .1 .1 .0) (qs .1 .1 .0))) (L._∷_ q39 (L._∷_ q0 (L._∷_ q35 (L._∷_ q36 (L._∷_ q28 (L._∷_ q8 (L._∷_ q40 (L._∷_ q41 (L._∷_ q23 (L._∷_ q5 (L._∷_ q24 (L._∷_ q6 L.[])))))))))))))))
 
         abbrev G0 : Row.Cx
-        G0 = record { locals = L._++_ t0 t1; slots = L._∷_ (Row.lease (κs .0) (qs .0)) (L._∷_ (Row.lease (κs .1 .0) (qs .1 .0)) (L._∷_ (Row.lease (κs .1 .1 .0) (qs .1 .1 .0)) (L._∷_ Row.off (L._∷_ Row.off (L._∷_ Row.off (L._∷_ Row.off (L._∷_ Row.off L.[]))))))); }
+        G0 = record { locals = L._++_ t0 t1; slots = L._∷_ (Row.lease (κs .0) (qs .0)) (L._∷_ (Row.lease (κs .1 .0) (qs .1 .0)) (L._∷_ (Row.lease (κs .1 .1 .0) (qs .1 .1 .0)) (L._∷_ Row.off (L._∷_ Row.off (L._∷_ Row.off (L._∷_ Row.off (L._∷_ Row.off L.[]))))))) }
 
         abbrev G1 : Row.Cx
-        G1 = record { locals = L._++_ t2 t1; slots = L._∷_ (Row.lease (κs .0) (qs .0)) (L._∷_ (Row.lease (κs .1 .0) (qs .1 .0)) (L._∷_ (Row.lease (κs .1 .1 .0) (qs .1 .1 .0)) (L._∷_ Row.off (L._∷_ Row.off (L._∷_ Row.off (L._∷_ Row.off (L._∷_ Row.off L.[]))))))); }
+        G1 = record { locals = L._++_ t2 t1; slots = L._∷_ (Row.lease (κs .0) (qs .0)) (L._∷_ (Row.lease (κs .1 .0) (qs .1 .0)) (L._∷_ (Row.lease (κs .1 .1 .0) (qs .1 .1 .0)) (L._∷_ Row.off (L._∷_ Row.off (L._∷_ Row.off (L._∷_ Row.off (L._∷_ Row.off L.[]))))))) }
 
         abbrev G2 : Row.Cx
-        G2 = record { locals = L._++_ t3 t1; slots = L._∷_ (Row.lease (κs .0) (qs .0)) (L._∷_ (Row.lease (κs .1 .0) (qs .1 .0)) (L._∷_ (Row.lease (κs .1 .1 .0) (qs .1 .1 .0)) (L._∷_ Row.off (L._∷_ Row.off (L._∷_ Row.off (L._∷_ Row.off (L._∷_ Row.off L.[]))))))); }
+        G2 = record { locals = L._++_ t3 t1; slots = L._∷_ (Row.lease (κs .0) (qs .0)) (L._∷_ (Row.lease (κs .1 .0) (qs .1 .0)) (L._∷_ (Row.lease (κs .1 .1 .0) (qs .1 .1 .0)) (L._∷_ Row.off (L._∷_ Row.off (L._∷_ Row.off (L._∷_ Row.off (L._∷_ Row.off L.[]))))))) }
 
         abbrev G3 : Row.Cx
-        G3 = record { locals = L._++_ t3 t1; slots = L._∷_ (Row.lease (κs .0) (qs .0)) (L._∷_ (Row.lease (κs .1 .0) (qs .1 .0)) (L._∷_ (Row.lease (κs .1 .1 .0) (qs .1 .1 .0)) (L._∷_ Row.alive (L._∷_ Row.off (L._∷_ Row.off (L._∷_ Row.off (L._∷_ Row.off L.[]))))))); }
+        G3 = record { locals = L._++_ t3 t1; slots = L._∷_ (Row.lease (κs .0) (qs .0)) (L._∷_ (Row.lease (κs .1 .0) (qs .1 .0)) (L._∷_ (Row.lease (κs .1 .1 .0) (qs .1 .1 .0)) (L._∷_ Row.alive (L._∷_ Row.off (L._∷_ Row.off (L._∷_ Row.off (L._∷_ Row.off L.[]))))))) }
 
         abbrev G4 : Row.Cx
-        G4 = record { locals = L._++_ g4 t1; slots = L._∷_ (Row.lease (κs .0) (qs .0)) (L._∷_ (Row.lease (κs .1 .0) (qs .1 .0)) (L._∷_ Row.off (L._∷_ Row.alive (L._∷_ Row.off (L._∷_ Row.off (L._∷_ Row.off (L._∷_ Row.off L.[]))))))); }
+        G4 = record { locals = L._++_ g4 t1; slots = L._∷_ (Row.lease (κs .0) (qs .0)) (L._∷_ (Row.lease (κs .1 .0) (qs .1 .0)) (L._∷_ Row.off (L._∷_ Row.alive (L._∷_ Row.off (L._∷_ Row.off (L._∷_ Row.off (L._∷_ Row.off L.[]))))))) }
 
         abbrev G5 : Row.Cx
-        G5 = record { locals = L._++_ g5 t1; slots = L._∷_ (Row.lease (κs .0) (qs .0)) (L._∷_ (Row.lease (κs .1 .0) (qs .1 .0)) (L._∷_ Row.off (L._∷_ Row.alive (L._∷_ Row.off (L._∷_ Row.off (L._∷_ Row.off (L._∷_ Row.off L.[]))))))); }
+        G5 = record { locals = L._++_ g5 t1; slots = L._∷_ (Row.lease (κs .0) (qs .0)) (L._∷_ (Row.lease (κs .1 .0) (qs .1 .0)) (L._∷_ Row.off (L._∷_ Row.alive (L._∷_ Row.off (L._∷_ Row.off (L._∷_ Row.off (L._∷_ Row.off L.[]))))))) }
 
         abbrev G6 : Row.Cx
-        G6 = record { locals = L._++_ g6 t1; slots = L._∷_ (Row.lease (κs .0) (qs .0)) (L._∷_ (Row.lease (κs .1 .0) (qs .1 .0)) (L._∷_ Row.off (L._∷_ Row.alive (L._∷_ Row.off (L._∷_ Row.off (L._∷_ Row.off (L._∷_ Row.off L.[]))))))); }
+        G6 = record { locals = L._++_ g6 t1; slots = L._∷_ (Row.lease (κs .0) (qs .0)) (L._∷_ (Row.lease (κs .1 .0) (qs .1 .0)) (L._∷_ Row.off (L._∷_ Row.alive (L._∷_ Row.off (L._∷_ Row.off (L._∷_ Row.off (L._∷_ Row.off L.[]))))))) }
 
         abbrev G7 : Row.Cx
-        G7 = record { locals = L._++_ g7 t1; slots = L._∷_ (Row.lease (κs .0) (qs .0)) (L._∷_ (Row.lease (κs .1 .0) (qs .1 .0)) (L._∷_ Row.off (L._∷_ Row.alive (L._∷_ Row.off (L._∷_ Row.off (L._∷_ Row.off (L._∷_ Row.off L.[]))))))); }
+        G7 = record { locals = L._++_ g7 t1; slots = L._∷_ (Row.lease (κs .0) (qs .0)) (L._∷_ (Row.lease (κs .1 .0) (qs .1 .0)) (L._∷_ Row.off (L._∷_ Row.alive (L._∷_ Row.off (L._∷_ Row.off (L._∷_ Row.off (L._∷_ Row.off L.[]))))))) }
 
         abbrev G8 : Row.Cx
-        G8 = record { locals = L._++_ g7 t1; slots = L._∷_ (Row.lease (κs .0) (qs .0)) (L._∷_ (Row.lease (κs .1 .0) (qs .1 .0)) (L._∷_ Row.off (L._∷_ Row.dead (L._∷_ Row.off (L._∷_ Row.off (L._∷_ Row.off (L._∷_ Row.off L.[]))))))); }
+        G8 = record { locals = L._++_ g7 t1; slots = L._∷_ (Row.lease (κs .0) (qs .0)) (L._∷_ (Row.lease (κs .1 .0) (qs .1 .0)) (L._∷_ Row.off (L._∷_ Row.dead (L._∷_ Row.off (L._∷_ Row.off (L._∷_ Row.off (L._∷_ Row.off L.[]))))))) }
 
         abbrev G9 : Row.Cx
-        G9 = record { locals = L._++_ t8 t1; slots = L._∷_ (Row.lease (κs .0) (qs .0)) (L._∷_ (Row.lease (κs .1 .0) (qs .1 .0)) (L._∷_ (Row.lease (κs .1 .1 .0) (qs .1 .1 .0)) (L._∷_ Row.dead (L._∷_ Row.off (L._∷_ Row.off (L._∷_ Row.off (L._∷_ Row.off L.[]))))))); }
+        G9 = record { locals = L._++_ t8 t1; slots = L._∷_ (Row.lease (κs .0) (qs .0)) (L._∷_ (Row.lease (κs .1 .0) (qs .1 .0)) (L._∷_ (Row.lease (κs .1 .1 .0) (qs .1 .1 .0)) (L._∷_ Row.dead (L._∷_ Row.off (L._∷_ Row.off (L._∷_ Row.off (L._∷_ Row.off L.[]))))))) }
 
         abbrev G10 : Row.Cx
-        G10 = record { locals = L._++_ t8 t1; slots = L._∷_ (Row.lease (κs .0) (qs .0)) (L._∷_ (Row.lease (κs .1 .0) (qs .1 .0)) (L._∷_ (Row.lease (κs .1 .1 .0) (qs .1 .1 .0)) (L._∷_ Row.off (L._∷_ Row.off (L._∷_ Row.off (L._∷_ Row.off (L._∷_ Row.off L.[]))))))); }
+        G10 = record { locals = L._++_ t8 t1; slots = L._∷_ (Row.lease (κs .0) (qs .0)) (L._∷_ (Row.lease (κs .1 .0) (qs .1 .0)) (L._∷_ (Row.lease (κs .1 .1 .0) (qs .1 .1 .0)) (L._∷_ Row.off (L._∷_ Row.off (L._∷_ Row.off (L._∷_ Row.off (L._∷_ Row.off L.[]))))))) }
 
         abbrev G11 : Row.Cx
-        G11 = record { locals = L._++_ t9 t1; slots = L._∷_ (Row.lease (κs .0) (qs .0)) (L._∷_ (Row.lease (κs .1 .0) (qs .1 .0)) (L._∷_ (Row.lease (κs .1 .1 .0) (qs .1 .1 .0)) (L._∷_ Row.off (L._∷_ Row.off (L._∷_ Row.off (L._∷_ Row.off (L._∷_ Row.off L.[]))))))); }
+        G11 = record { locals = L._++_ t9 t1; slots = L._∷_ (Row.lease (κs .0) (qs .0)) (L._∷_ (Row.lease (κs .1 .0) (qs .1 .0)) (L._∷_ (Row.lease (κs .1 .1 .0) (qs .1 .1 .0)) (L._∷_ Row.off (L._∷_ Row.off (L._∷_ Row.off (L._∷_ Row.off (L._∷_ Row.off L.[]))))))) }
 
         abbrev G12 : Row.Cx
-        G12 = record { locals = L._++_ t10 t1; slots = L._∷_ (Row.lease (κs .0) (qs .0)) (L._∷_ (Row.lease (κs .1 .0) (qs .1 .0)) (L._∷_ (Row.lease (κs .1 .1 .0) (qs .1 .1 .0)) (L._∷_ Row.off (L._∷_ Row.off (L._∷_ Row.off (L._∷_ Row.off (L._∷_ Row.off L.[]))))))); }
+        G12 = record { locals = L._++_ t10 t1; slots = L._∷_ (Row.lease (κs .0) (qs .0)) (L._∷_ (Row.lease (κs .1 .0) (qs .1 .0)) (L._∷_ (Row.lease (κs .1 .1 .0) (qs .1 .1 .0)) (L._∷_ Row.off (L._∷_ Row.off (L._∷_ Row.off (L._∷_ Row.off (L._∷_ Row.off L.[]))))))) }
 
         abbrev G13 : Row.Cx
-        G13 = record { locals = L._++_ t11 t1; slots = L._∷_ (Row.lease (κs .0) (qs .0)) (L._∷_ (Row.lease (κs .1 .0) (qs .1 .0)) (L._∷_ (Row.lease (κs .1 .1 .0) (qs .1 .1 .0)) (L._∷_ Row.off (L._∷_ Row.off (L._∷_ Row.off (L._∷_ Row.off (L._∷_ Row.off L.[]))))))); }
+        G13 = record { locals = L._++_ t11 t1; slots = L._∷_ (Row.lease (κs .0) (qs .0)) (L._∷_ (Row.lease (κs .1 .0) (qs .1 .0)) (L._∷_ (Row.lease (κs .1 .1 .0) (qs .1 .1 .0)) (L._∷_ Row.off (L._∷_ Row.off (L._∷_ Row.off (L._∷_ Row.off (L._∷_ Row.off L.[]))))))) }
 
         abbrev G14 : Row.Cx
-        G14 = record { locals = L._++_ t12 t1; slots = L._∷_ (Row.lease (κs .0) (qs .0)) (L._∷_ (Row.lease (κs .1 .0) (qs .1 .0)) (L._∷_ (Row.lease (κs .1 .1 .0) (qs .1 .1 .0)) (L._∷_ Row.off (L._∷_ Row.off (L._∷_ Row.off (L._∷_ Row.off (L._∷_ Row.off L.[]))))))); }
+        G14 = record { locals = L._++_ t12 t1; slots = L._∷_ (Row.lease (κs .0) (qs .0)) (L._∷_ (Row.lease (κs .1 .0) (qs .1 .0)) (L._∷_ (Row.lease (κs .1 .1 .0) (qs .1 .1 .0)) (L._∷_ Row.off (L._∷_ Row.off (L._∷_ Row.off (L._∷_ Row.off (L._∷_ Row.off L.[]))))))) }
 
         abbrev G15 : Row.Cx
-        G15 = record { locals = L._++_ t11 t1; slots = L._∷_ (Row.lease (κs .0) (qs .0)) (L._∷_ (Row.lease (κs .1 .0) (qs .1 .0)) (L._∷_ (Row.lease (κs .1 .1 .0) (qs .1 .1 .0)) (L._∷_ Row.off (L._∷_ Row.off (L._∷_ Row.off (L._∷_ Row.off (L._∷_ Row.off L.[]))))))); }
+        G15 = record { locals = L._++_ t11 t1; slots = L._∷_ (Row.lease (κs .0) (qs .0)) (L._∷_ (Row.lease (κs .1 .0) (qs .1 .0)) (L._∷_ (Row.lease (κs .1 .1 .0) (qs .1 .1 .0)) (L._∷_ Row.off (L._∷_ Row.off (L._∷_ Row.off (L._∷_ Row.off (L._∷_ Row.off L.[]))))))) }
 
         abbrev G16 : Row.Cx
-        G16 = record { locals = L._++_ t11 t1; slots = L._∷_ (Row.lease (κs .0) (qs .0)) (L._∷_ (Row.lease (κs .1 .0) (qs .1 .0)) (L._∷_ (Row.lease (κs .1 .1 .0) (qs .1 .1 .0)) (L._∷_ Row.off (L._∷_ Row.off (L._∷_ Row.off (L._∷_ Row.off (L._∷_ Row.off L.[]))))))); }
+        G16 = record { locals = L._++_ t11 t1; slots = L._∷_ (Row.lease (κs .0) (qs .0)) (L._∷_ (Row.lease (κs .1 .0) (qs .1 .0)) (L._∷_ (Row.lease (κs .1 .1 .0) (qs .1 .1 .0)) (L._∷_ Row.off (L._∷_ Row.off (L._∷_ Row.off (L._∷_ Row.off (L._∷_ Row.off L.[]))))))) }
 
         abbrev G17 : Row.Cx
-        G17 = record { locals = L._++_ t13 t1; slots = L._∷_ (Row.lease (κs .0) (qs .0)) (L._∷_ (Row.lease (κs .1 .0) (qs .1 .0)) (L._∷_ (Row.lease (κs .1 .1 .0) (qs .1 .1 .0)) (L._∷_ Row.off (L._∷_ Row.off (L._∷_ Row.off (L._∷_ Row.off (L._∷_ Row.off L.[]))))))); }
+        G17 = record { locals = L._++_ t13 t1; slots = L._∷_ (Row.lease (κs .0) (qs .0)) (L._∷_ (Row.lease (κs .1 .0) (qs .1 .0)) (L._∷_ (Row.lease (κs .1 .1 .0) (qs .1 .1 .0)) (L._∷_ Row.off (L._∷_ Row.off (L._∷_ Row.off (L._∷_ Row.off (L._∷_ Row.off L.[]))))))) }
 
         abbrev G18 : Row.Cx
-        G18 = record { locals = L._++_ t2 t1; slots = L._∷_ (Row.lease (κs .0) (qs .0)) (L._∷_ (Row.lease (κs .1 .0) (qs .1 .0)) (L._∷_ (Row.lease (κs .1 .1 .0) (qs .1 .1 .0)) (L._∷_ Row.off (L._∷_ Row.off (L._∷_ Row.off (L._∷_ Row.off (L._∷_ Row.off L.[]))))))); }
+        G18 = record { locals = L._++_ t2 t1; slots = L._∷_ (Row.lease (κs .0) (qs .0)) (L._∷_ (Row.lease (κs .1 .0) (qs .1 .0)) (L._∷_ (Row.lease (κs .1 .1 .0) (qs .1 .1 .0)) (L._∷_ Row.off (L._∷_ Row.off (L._∷_ Row.off (L._∷_ Row.off (L._∷_ Row.off L.[]))))))) }
 
         abbrev G19 : Row.Cx
-        G19 = record { locals = L._++_ t11 t1; slots = L._∷_ (Row.lease (κs .0) (qs .0)) (L._∷_ (Row.lease (κs .1 .0) (qs .1 .0)) (L._∷_ (Row.lease (κs .1 .1 .0) (qs .1 .1 .0)) (L._∷_ Row.off (L._∷_ Row.off (L._∷_ Row.off (L._∷_ Row.off (L._∷_ Row.off L.[]))))))); }
+        G19 = record { locals = L._++_ t11 t1; slots = L._∷_ (Row.lease (κs .0) (qs .0)) (L._∷_ (Row.lease (κs .1 .0) (qs .1 .0)) (L._∷_ (Row.lease (κs .1 .1 .0) (qs .1 .1 .0)) (L._∷_ Row.off (L._∷_ Row.off (L._∷_ Row.off (L._∷_ Row.off (L._∷_ Row.off L.[]))))))) }
 
         abbrev G20 : Row.Cx
-        G20 = record { locals = L._++_ t11 t1; slots = L._∷_ (Row.lease (κs .0) (qs .0)) (L._∷_ (Row.lease (κs .1 .0) (qs .1 .0)) (L._∷_ (Row.lease (κs .1 .1 .0) (qs .1 .1 .0)) (L._∷_ Row.off (L._∷_ Row.alive (L._∷_ Row.off (L._∷_ Row.off (L._∷_ Row.off L.[]))))))); }
+        G20 = record { locals = L._++_ t11 t1; slots = L._∷_ (Row.lease (κs .0) (qs .0)) (L._∷_ (Row.lease (κs .1 .0) (qs .1 .0)) (L._∷_ (Row.lease (κs .1 .1 .0) (qs .1 .1 .0)) (L._∷_ Row.off (L._∷_ Row.alive (L._∷_ Row.off (L._∷_ Row.off (L._∷_ Row.off L.[]))))))) }
 
         abbrev G21 : Row.Cx
-        G21 = record { locals = L._++_ g14 t1; slots = L._∷_ (Row.lease (κs .0) (qs .0)) (L._∷_ (Row.lease (κs .1 .0) (qs .1 .0)) (L._∷_ Row.off (L._∷_ Row.off (L._∷_ Row.alive (L._∷_ Row.off (L._∷_ Row.off (L._∷_ Row.off L.[]))))))); }
+        G21 = record { locals = L._++_ g14 t1; slots = L._∷_ (Row.lease (κs .0) (qs .0)) (L._∷_ (Row.lease (κs .1 .0) (qs .1 .0)) (L._∷_ Row.off (L._∷_ Row.off (L._∷_ Row.alive (L._∷_ Row.off (L._∷_ Row.off (L._∷_ Row.off L.[]))))))) }
 
         abbrev G22 : Row.Cx
-        G22 = record { locals = L._++_ g15 t1; slots = L._∷_ (Row.lease (κs .0) (qs .0)) (L._∷_ (Row.lease (κs .1 .0) (qs .1 .0)) (L._∷_ Row.off (L._∷_ Row.off (L._∷_ Row.alive (L._∷_ Row.off (L._∷_ Row.off (L._∷_ Row.off L.[]))))))); }
+        G22 = record { locals = L._++_ g15 t1; slots = L._∷_ (Row.lease (κs .0) (qs .0)) (L._∷_ (Row.lease (κs .1 .0) (qs .1 .0)) (L._∷_ Row.off (L._∷_ Row.off (L._∷_ Row.alive (L._∷_ Row.off (L._∷_ Row.off (L._∷_ Row.off L.[]))))))) }
 
         abbrev G23 : Row.Cx
-        G23 = record { locals = L._++_ g16 t1; slots = L._∷_ (Row.lease (κs .0) (qs .0)) (L._∷_ (Row.lease (κs .1 .0) (qs .1 .0)) (L._∷_ Row.off (L._∷_ Row.off (L._∷_ Row.alive (L._∷_ Row.off (L._∷_ Row.off (L._∷_ Row.off L.[]))))))); }
+        G23 = record { locals = L._++_ g16 t1; slots = L._∷_ (Row.lease (κs .0) (qs .0)) (L._∷_ (Row.lease (κs .1 .0) (qs .1 .0)) (L._∷_ Row.off (L._∷_ Row.off (L._∷_ Row.alive (L._∷_ Row.off (L._∷_ Row.off (L._∷_ Row.off L.[]))))))) }
 
         abbrev G24 : Row.Cx
-        G24 = record { locals = L._++_ g17 t1; slots = L._∷_ (Row.lease (κs .0) (qs .0)) (L._∷_ (Row.lease (κs .1 .0) (qs .1 .0)) (L._∷_ Row.off (L._∷_ Row.off (L._∷_ Row.alive (L._∷_ Row.off (L._∷_ Row.off (L._∷_ Row.off L.[]))))))); }
+        G24 = record { locals = L._++_ g17 t1; slots = L._∷_ (Row.lease (κs .0) (qs .0)) (L._∷_ (Row.lease (κs .1 .0) (qs .1 .0)) (L._∷_ Row.off (L._∷_ Row.off (L._∷_ Row.alive (L._∷_ Row.off (L._∷_ Row.off (L._∷_ Row.off L.[]))))))) }
 
         abbrev G25 : Row.Cx
-        G25 = record { locals = L._++_ g17 t1; slots = L._∷_ (Row.lease (κs .0) (qs .0)) (L._∷_ (Row.lease (κs .1 .0) (qs .1 .0)) (L._∷_ Row.off (L._∷_ Row.off (L._∷_ Row.dead (L._∷_ Row.off (L._∷_ Row.off (L._∷_ Row.off L.[]))))))); }
+        G25 = record { locals = L._++_ g17 t1; slots = L._∷_ (Row.lease (κs .0) (qs .0)) (L._∷_ (Row.lease (κs .1 .0) (qs .1 .0)) (L._∷_ Row.off (L._∷_ Row.off (L._∷_ Row.dead (L._∷_ Row.off (L._∷_ Row.off (L._∷_ Row.off L.[]))))))) }
 
         abbrev G26 : Row.Cx
-        G26 = record { locals = L._++_ t11 t1; slots = L._∷_ (Row.lease (κs .0) (qs .0)) (L._∷_ (Row.lease (κs .1 .0) (qs .1 .0)) (L._∷_ (Row.lease (κs .1 .1 .0) (qs .1 .1 .0)) (L._∷_ Row.off (L._∷_ Row.dead (L._∷_ Row.off (L._∷_ Row.off (L._∷_ Row.off L.[]))))))); }
+        G26 = record { locals = L._++_ t11 t1; slots = L._∷_ (Row.lease (κs .0) (qs .0)) (L._∷_ (Row.lease (κs .1 .0) (qs .1 .0)) (L._∷_ (Row.lease (κs .1 .1 .0) (qs .1 .1 .0)) (L._∷_ Row.off (L._∷_ Row.dead (L._∷_ Row.off (L._∷_ Row.off (L._∷_ Row.off L.[]))))))) }
 
         abbrev G27 : Row.Cx
-        G27 = record { locals = L._++_ t11 t1; slots = L._∷_ (Row.lease (κs .0) (qs .0)) (L._∷_ (Row.lease (κs .1 .0) (qs .1 .0)) (L._∷_ (Row.lease (κs .1 .1 .0) (qs .1 .1 .0)) (L._∷_ Row.off (L._∷_ Row.off (L._∷_ Row.off (L._∷_ Row.off (L._∷_ Row.off L.[]))))))); }
+        G27 = record { locals = L._++_ t11 t1; slots = L._∷_ (Row.lease (κs .0) (qs .0)) (L._∷_ (Row.lease (κs .1 .0) (qs .1 .0)) (L._∷_ (Row.lease (κs .1 .1 .0) (qs .1 .1 .0)) (L._∷_ Row.off (L._∷_ Row.off (L._∷_ Row.off (L._∷_ Row.off (L._∷_ Row.off L.[]))))))) }
 
         abbrev G28 : Row.Cx
-        G28 = record { locals = L._++_ t11 t1; slots = L._∷_ (Row.lease (κs .0) (qs .0)) (L._∷_ (Row.lease (κs .1 .0) (qs .1 .0)) (L._∷_ (Row.lease (κs .1 .1 .0) (qs .1 .1 .0)) (L._∷_ Row.off (L._∷_ Row.off (L._∷_ Row.alive (L._∷_ Row.off (L._∷_ Row.off L.[]))))))); }
+        G28 = record { locals = L._++_ t11 t1; slots = L._∷_ (Row.lease (κs .0) (qs .0)) (L._∷_ (Row.lease (κs .1 .0) (qs .1 .0)) (L._∷_ (Row.lease (κs .1 .1 .0) (qs .1 .1 .0)) (L._∷_ Row.off (L._∷_ Row.off (L._∷_ Row.alive (L._∷_ Row.off (L._∷_ Row.off L.[]))))))) }
 
         abbrev G29 : Row.Cx
-        G29 = record { locals = L._++_ g18 t1; slots = L._∷_ (Row.lease (κs .0) (qs .0)) (L._∷_ (Row.lease (κs .1 .0) (qs .1 .0)) (L._∷_ Row.off (L._∷_ Row.off (L._∷_ Row.off (L._∷_ Row.alive (L._∷_ Row.off (L._∷_ Row.off L.[]))))))); }
+        G29 = record { locals = L._++_ g18 t1; slots = L._∷_ (Row.lease (κs .0) (qs .0)) (L._∷_ (Row.lease (κs .1 .0) (qs .1 .0)) (L._∷_ Row.off (L._∷_ Row.off (L._∷_ Row.off (L._∷_ Row.alive (L._∷_ Row.off (L._∷_ Row.off L.[]))))))) }
 
         abbrev G30 : Row.Cx
-        G30 = record { locals = L._++_ g19 t1; slots = L._∷_ (Row.lease (κs .0) (qs .0)) (L._∷_ (Row.lease (κs .1 .0) (qs .1 .0)) (L._∷_ Row.off (L._∷_ Row.off (L._∷_ Row.off (L._∷_ Row.alive (L._∷_ Row.off (L._∷_ Row.off L.[]))))))); }
+        G30 = record { locals = L._++_ g19 t1; slots = L._∷_ (Row.lease (κs .0) (qs .0)) (L._∷_ (Row.lease (κs .1 .0) (qs .1 .0)) (L._∷_ Row.off (L._∷_ Row.off (L._∷_ Row.off (L._∷_ Row.alive (L._∷_ Row.off (L._∷_ Row.off L.[]))))))) }
 
         abbrev G31 : Row.Cx
-        G31 = record { locals = L._++_ g20 t1; slots = L._∷_ (Row.lease (κs .0) (qs .0)) (L._∷_ (Row.lease (κs .1 .0) (qs .1 .0)) (L._∷_ Row.off (L._∷_ Row.off (L._∷_ Row.off (L._∷_ Row.alive (L._∷_ Row.off (L._∷_ Row.off L.[]))))))); }
+        G31 = record { locals = L._++_ g20 t1; slots = L._∷_ (Row.lease (κs .0) (qs .0)) (L._∷_ (Row.lease (κs .1 .0) (qs .1 .0)) (L._∷_ Row.off (L._∷_ Row.off (L._∷_ Row.off (L._∷_ Row.alive (L._∷_ Row.off (L._∷_ Row.off L.[]))))))) }
 
         abbrev G32 : Row.Cx
-        G32 = record { locals = L._++_ g21 t1; slots = L._∷_ (Row.lease (κs .0) (qs .0)) (L._∷_ (Row.lease (κs .1 .0) (qs .1 .0)) (L._∷_ Row.off (L._∷_ Row.off (L._∷_ Row.off (L._∷_ Row.alive (L._∷_ Row.off (L._∷_ Row.off L.[]))))))); }
+        G32 = record { locals = L._++_ g21 t1; slots = L._∷_ (Row.lease (κs .0) (qs .0)) (L._∷_ (Row.lease (κs .1 .0) (qs .1 .0)) (L._∷_ Row.off (L._∷_ Row.off (L._∷_ Row.off (L._∷_ Row.alive (L._∷_ Row.off (L._∷_ Row.off L.[]))))))) }
 
         abbrev G33 : Row.Cx
-        G33 = record { locals = L._++_ g21 t1; slots = L._∷_ (Row.lease (κs .0) (qs .0)) (L._∷_ (Row.lease (κs .1 .0) (qs .1 .0)) (L._∷_ Row.off (L._∷_ Row.off (L._∷_ Row.off (L._∷_ Row.dead (L._∷_ Row.off (L._∷_ Row.off L.[]))))))); }
+        G33 = record { locals = L._++_ g21 t1; slots = L._∷_ (Row.lease (κs .0) (qs .0)) (L._∷_ (Row.lease (κs .1 .0) (qs .1 .0)) (L._∷_ Row.off (L._∷_ Row.off (L._∷_ Row.off (L._∷_ Row.dead (L._∷_ Row.off (L._∷_ Row.off L.[]))))))) }
 
         abbrev G34 : Row.Cx
-        G34 = record { locals = L._++_ t11 t1; slots = L._∷_ (Row.lease (κs .0) (qs .0)) (L._∷_ (Row.lease (κs .1 .0) (qs .1 .0)) (L._∷_ (Row.lease (κs .1 .1 .0) (qs .1 .1 .0)) (L._∷_ Row.off (L._∷_ Row.off (L._∷_ Row.dead (L._∷_ Row.off (L._∷_ Row.off L.[]))))))); }
+        G34 = record { locals = L._++_ t11 t1; slots = L._∷_ (Row.lease (κs .0) (qs .0)) (L._∷_ (Row.lease (κs .1 .0) (qs .1 .0)) (L._∷_ (Row.lease (κs .1 .1 .0) (qs .1 .1 .0)) (L._∷_ Row.off (L._∷_ Row.off (L._∷_ Row.dead (L._∷_ Row.off (L._∷_ Row.off L.[]))))))) }
 
         abbrev G35 : Row.Cx
-        G35 = record { locals = L._++_ t11 t1; slots = L._∷_ (Row.lease (κs .0) (qs .0)) (L._∷_ (Row.lease (κs .1 .0) (qs .1 .0)) (L._∷_ (Row.lease (κs .1 .1 .0) (qs .1 .1 .0)) (L._∷_ Row.off (L._∷_ Row.off (L._∷_ Row.off (L._∷_ Row.off (L._∷_ Row.off L.[]))))))); }
+        G35 = record { locals = L._++_ t11 t1; slots = L._∷_ (Row.lease (κs .0) (qs .0)) (L._∷_ (Row.lease (κs .1 .0) (qs .1 .0)) (L._∷_ (Row.lease (κs .1 .1 .0) (qs .1 .1 .0)) (L._∷_ Row.off (L._∷_ Row.off (L._∷_ Row.off (L._∷_ Row.off (L._∷_ Row.off L.[]))))))) }
 
         abbrev G36 : Row.Cx
-        G36 = record { locals = L._++_ t22 t1; slots = L._∷_ (Row.lease (κs .0) (qs .0)) (L._∷_ (Row.lease (κs .1 .0) (qs .1 .0)) (L._∷_ (Row.lease (κs .1 .1 .0) (qs .1 .1 .0)) (L._∷_ Row.off (L._∷_ Row.off (L._∷_ Row.off (L._∷_ Row.off (L._∷_ Row.off L.[]))))))); }
+        G36 = record { locals = L._++_ t22 t1; slots = L._∷_ (Row.lease (κs .0) (qs .0)) (L._∷_ (Row.lease (κs .1 .0) (qs .1 .0)) (L._∷_ (Row.lease (κs .1 .1 .0) (qs .1 .1 .0)) (L._∷_ Row.off (L._∷_ Row.off (L._∷_ Row.off (L._∷_ Row.off (L._∷_ Row.off L.[]))))))) }
 
         abbrev G37 : Row.Cx
-        G37 = record { locals = L._++_ t22 t1; slots = L._∷_ (Row.lease (κs .0) (qs .0)) (L._∷_ (Row.lease (κs .1 .0) (qs .1 .0)) (L._∷_ (Row.lease (κs .1 .1 .0) (qs .1 .1 .0)) (L._∷_ Row.off (L._∷_ Row.off (L._∷_ Row.off (L._∷_ Row.alive (L._∷_ Row.off L.[]))))))); }
+        G37 = record { locals = L._++_ t22 t1; slots = L._∷_ (Row.lease (κs .0) (qs .0)) (L._∷_ (Row.lease (κs .1 .0) (qs .1 .0)) (L._∷_ (Row.lease (κs .1 .1 .0) (qs .1 .1 .0)) (L._∷_ Row.off (L._∷_ Row.off (L._∷_ Row.off (L._∷_ Row.alive (L._∷_ Row.off L.[]))))))) }
 
         abbrev G38 : Row.Cx
-        G38 = record { locals = L._++_ g23 t24; slots = L._∷_ (Row.lease (κs .0) (qs .0)) (L._∷_ Row.off (L._∷_ (Row.lease (κs .1 .1 .0) (qs .1 .1 .0)) (L._∷_ Row.off (L._∷_ Row.off (L._∷_ Row.off (L._∷_ Row.alive (L._∷_ Row.off L.[]))))))); }
+        G38 = record { locals = L._++_ g23 t24; slots = L._∷_ (Row.lease (κs .0) (qs .0)) (L._∷_ Row.off (L._∷_ (Row.lease (κs .1 .1 .0) (qs .1 .1 .0)) (L._∷_ Row.off (L._∷_ Row.off (L._∷_ Row.off (L._∷_ Row.alive (L._∷_ Row.off L.[]))))))) }
 
         abbrev G39 : Row.Cx
-        G39 = record { locals = L._++_ g23 t25; slots = L._∷_ (Row.lease (κs .0) (qs .0)) (L._∷_ Row.off (L._∷_ (Row.lease (κs .1 .1 .0) (qs .1 .1 .0)) (L._∷_ Row.off (L._∷_ Row.off (L._∷_ Row.off (L._∷_ Row.alive (L._∷_ Row.off L.[]))))))); }
+        G39 = record { locals = L._++_ g23 t25; slots = L._∷_ (Row.lease (κs .0) (qs .0)) (L._∷_ Row.off (L._∷_ (Row.lease (κs .1 .1 .0) (qs .1 .1 .0)) (L._∷_ Row.off (L._∷_ Row.off (L._∷_ Row.off (L._∷_ Row.alive (L._∷_ Row.off L.[]))))))) }
 
         abbrev G40 : Row.Cx
-        G40 = record { locals = L._++_ g23 t25; slots = L._∷_ (Row.lease (κs .0) (qs .0)) (L._∷_ Row.off (L._∷_ (Row.lease (κs .1 .1 .0) (qs .1 .1 .0)) (L._∷_ Row.off (L._∷_ Row.off (L._∷_ Row.off (L._∷_ Row.alive (L._∷_ Row.alive L.[]))))))); }
+        G40 = record { locals = L._++_ g23 t25; slots = L._∷_ (Row.lease (κs .0) (qs .0)) (L._∷_ Row.off (L._∷_ (Row.lease (κs .1 .1 .0) (qs .1 .1 .0)) (L._∷_ Row.off (L._∷_ Row.off (L._∷_ Row.off (L._∷_ Row.alive (L._∷_ Row.alive L.[]))))))) }
 
         abbrev G41 : Row.Cx
-        G41 = record { locals = L._++_ g26 t27; slots = L._∷_ (Row.lease (κs .0) (qs .0)) (L._∷_ Row.off (L._∷_ Row.off (L._∷_ Row.off (L._∷_ Row.off (L._∷_ Row.off (L._∷_ Row.alive (L._∷_ Row.alive L.[]))))))); }
+        G41 = record { locals = L._++_ g26 t27; slots = L._∷_ (Row.lease (κs .0) (qs .0)) (L._∷_ Row.off (L._∷_ Row.off (L._∷_ Row.off (L._∷_ Row.off (L._∷_ Row.off (L._∷_ Row.alive (L._∷_ Row.alive L.[]))))))) }
 
         abbrev G42 : Row.Cx
-        G42 = record { locals = L._++_ g26 t28; slots = L._∷_ (Row.lease (κs .0) (qs .0)) (L._∷_ Row.off (L._∷_ Row.off (L._∷_ Row.off (L._∷_ Row.off (L._∷_ Row.off (L._∷_ Row.alive (L._∷_ Row.alive L.[]))))))); }
+        G42 = record { locals = L._++_ g26 t28; slots = L._∷_ (Row.lease (κs .0) (qs .0)) (L._∷_ Row.off (L._∷_ Row.off (L._∷_ Row.off (L._∷_ Row.off (L._∷_ Row.off (L._∷_ Row.alive (L._∷_ Row.alive L.[]))))))) }
 
         abbrev G43 : Row.Cx
-        G43 = record { locals = L._++_ g26 t29; slots = L._∷_ (Row.lease (κs .0) (qs .0)) (L._∷_ Row.off (L._∷_ Row.off (L._∷_ Row.off (L._∷_ Row.off (L._∷_ Row.off (L._∷_ Row.alive (L._∷_ Row.alive L.[]))))))); }
+        G43 = record { locals = L._++_ g26 t29; slots = L._∷_ (Row.lease (κs .0) (qs .0)) (L._∷_ Row.off (L._∷_ Row.off (L._∷_ Row.off (L._∷_ Row.off (L._∷_ Row.off (L._∷_ Row.alive (L._∷_ Row.alive L.[]))))))) }
 
         abbrev G44 : Row.Cx
-        G44 = record { locals = L._++_ g30 t29; slots = L._∷_ (Row.lease (κs .0) (qs .0)) (L._∷_ Row.off (L._∷_ Row.off (L._∷_ Row.off (L._∷_ Row.off (L._∷_ Row.off (L._∷_ Row.alive (L._∷_ Row.alive L.[]))))))); }
+        G44 = record { locals = L._++_ g30 t29; slots = L._∷_ (Row.lease (κs .0) (qs .0)) (L._∷_ Row.off (L._∷_ Row.off (L._∷_ Row.off (L._∷_ Row.off (L._∷_ Row.off (L._∷_ Row.alive (L._∷_ Row.alive L.[]))))))) }
 
         abbrev G45 : Row.Cx
-        G45 = record { locals = L._++_ g30 t29; slots = L._∷_ (Row.lease (κs .0) (qs .0)) (L._∷_ Row.off (L._∷_ Row.off (L._∷_ Row.off (L._∷_ Row.off (L._∷_ Row.off (L._∷_ Row.dead (L._∷_ Row.alive L.[]))))))); }
+        G45 = record { locals = L._++_ g30 t29; slots = L._∷_ (Row.lease (κs .0) (qs .0)) (L._∷_ Row.off (L._∷_ Row.off (L._∷_ Row.off (L._∷_ Row.off (L._∷_ Row.off (L._∷_ Row.dead (L._∷_ Row.alive L.[]))))))) }
 
         abbrev G46 : Row.Cx
-        G46 = record { locals = L._++_ g31 t32; slots = L._∷_ (Row.lease (κs .0) (qs .0)) (L._∷_ (Row.lease (κs .1 .0) (qs .1 .0)) (L._∷_ Row.off (L._∷_ Row.off (L._∷_ Row.off (L._∷_ Row.off (L._∷_ Row.dead (L._∷_ Row.alive L.[]))))))); }
+        G46 = record { locals = L._++_ g31 t32; slots = L._∷_ (Row.lease (κs .0) (qs .0)) (L._∷_ (Row.lease (κs .1 .0) (qs .1 .0)) (L._∷_ Row.off (L._∷_ Row.off (L._∷_ Row.off (L._∷_ Row.off (L._∷_ Row.dead (L._∷_ Row.alive L.[]))))))) }
 
         abbrev G47 : Row.Cx
-        G47 = record { locals = L._++_ g31 t32; slots = L._∷_ (Row.lease (κs .0) (qs .0)) (L._∷_ (Row.lease (κs .1 .0) (qs .1 .0)) (L._∷_ Row.off (L._∷_ Row.off (L._∷_ Row.off (L._∷_ Row.off (L._∷_ Row.off (L._∷_ Row.alive L.[]))))))); }
+        G47 = record { locals = L._++_ g31 t32; slots = L._∷_ (Row.lease (κs .0) (qs .0)) (L._∷_ (Row.lease (κs .1 .0) (qs .1 .0)) (L._∷_ Row.off (L._∷_ Row.off (L._∷_ Row.off (L._∷_ Row.off (L._∷_ Row.off (L._∷_ Row.alive L.[]))))))) }
 
         abbrev G48 : Row.Cx
-        G48 = record { locals = L._++_ g31 t32; slots = L._∷_ (Row.lease (κs .0) (qs .0)) (L._∷_ (Row.lease (κs .1 .0) (qs .1 .0)) (L._∷_ Row.off (L._∷_ Row.off (L._∷_ Row.off (L._∷_ Row.off (L._∷_ Row.off (L._∷_ Row.dead L.[]))))))); }
+        G48 = record { locals = L._++_ g31 t32; slots = L._∷_ (Row.lease (κs .0) (qs .0)) (L._∷_ (Row.lease (κs .1 .0) (qs .1 .0)) (L._∷_ Row.off (L._∷_ Row.off (L._∷_ Row.off (L._∷_ Row.off (L._∷_ Row.off (L._∷_ Row.dead L.[]))))))) }
 
         abbrev G49 : Row.Cx
-        G49 = record { locals = L._++_ t11 t33; slots = L._∷_ (Row.lease (κs .0) (qs .0)) (L._∷_ (Row.lease (κs .1 .0) (qs .1 .0)) (L._∷_ (Row.lease (κs .1 .1 .0) (qs .1 .1 .0)) (L._∷_ Row.off (L._∷_ Row.off (L._∷_ Row.off (L._∷_ Row.off (L._∷_ Row.dead L.[]))))))); }
+        G49 = record { locals = L._++_ t11 t33; slots = L._∷_ (Row.lease (κs .0) (qs .0)) (L._∷_ (Row.lease (κs .1 .0) (qs .1 .0)) (L._∷_ (Row.lease (κs .1 .1 .0) (qs .1 .1 .0)) (L._∷_ Row.off (L._∷_ Row.off (L._∷_ Row.off (L._∷_ Row.off (L._∷_ Row.dead L.[]))))))) }
 
         abbrev G50 : Row.Cx
-        G50 = record { locals = L._++_ t11 t33; slots = L._∷_ (Row.lease (κs .0) (qs .0)) (L._∷_ (Row.lease (κs .1 .0) (qs .1 .0)) (L._∷_ (Row.lease (κs .1 .1 .0) (qs .1 .1 .0)) (L._∷_ Row.off (L._∷_ Row.off (L._∷_ Row.off (L._∷_ Row.off (L._∷_ Row.off L.[]))))))); }
+        G50 = record { locals = L._++_ t11 t33; slots = L._∷_ (Row.lease (κs .0) (qs .0)) (L._∷_ (Row.lease (κs .1 .0) (qs .1 .0)) (L._∷_ (Row.lease (κs .1 .1 .0) (qs .1 .1 .0)) (L._∷_ Row.off (L._∷_ Row.off (L._∷_ Row.off (L._∷_ Row.off (L._∷_ Row.off L.[]))))))) }
 
         abbrev G51 : Row.Cx
-        G51 = record { locals = L._++_ t13 t33; slots = L._∷_ (Row.lease (κs .0) (qs .0)) (L._∷_ (Row.lease (κs .1 .0) (qs .1 .0)) (L._∷_ (Row.lease (κs .1 .1 .0) (qs .1 .1 .0)) (L._∷_ Row.off (L._∷_ Row.off (L._∷_ Row.off (L._∷_ Row.off (L._∷_ Row.off L.[]))))))); }
+        G51 = record { locals = L._++_ t13 t33; slots = L._∷_ (Row.lease (κs .0) (qs .0)) (L._∷_ (Row.lease (κs .1 .0) (qs .1 .0)) (L._∷_ (Row.lease (κs .1 .1 .0) (qs .1 .1 .0)) (L._∷_ Row.off (L._∷_ Row.off (L._∷_ Row.off (L._∷_ Row.off (L._∷_ Row.off L.[]))))))) }
 
         abbrev G52 : Row.Cx
-        G52 = record { locals = L._++_ t2 t33; slots = L._∷_ (Row.lease (κs .0) (qs .0)) (L._∷_ (Row.lease (κs .1 .0) (qs .1 .0)) (L._∷_ (Row.lease (κs .1 .1 .0) (qs .1 .1 .0)) (L._∷_ Row.off (L._∷_ Row.off (L._∷_ Row.off (L._∷_ Row.off (L._∷_ Row.off L.[]))))))); }
+        G52 = record { locals = L._++_ t2 t33; slots = L._∷_ (Row.lease (κs .0) (qs .0)) (L._∷_ (Row.lease (κs .1 .0) (qs .1 .0)) (L._∷_ (Row.lease (κs .1 .1 .0) (qs .1 .1 .0)) (L._∷_ Row.off (L._∷_ Row.off (L._∷_ Row.off (L._∷_ Row.off (L._∷_ Row.off L.[]))))))) }
 
         abbrev G53 : Row.Cx
-        G53 = record { locals = L._++_ t2 t1; slots = L._∷_ (Row.lease (κs .0) (qs .0)) (L._∷_ (Row.lease (κs .1 .0) (qs .1 .0)) (L._∷_ (Row.lease (κs .1 .1 .0) (qs .1 .1 .0)) (L._∷_ Row.off (L._∷_ Row.off (L._∷_ Row.off (L._∷_ Row.off (L._∷_ Row.off L.[]))))))); }
+        G53 = record { locals = L._++_ t2 t1; slots = L._∷_ (Row.lease (κs .0) (qs .0)) (L._∷_ (Row.lease (κs .1 .0) (qs .1 .0)) (L._∷_ (Row.lease (κs .1 .1 .0) (qs .1 .1 .0)) (L._∷_ Row.off (L._∷_ Row.off (L._∷_ Row.off (L._∷_ Row.off (L._∷_ Row.off L.[]))))))) }
 
         abbrev Δ0 : Typed.Outs
         Δ0 = record { next = Option.none; exits = L.[]; returns = Option.some G1 }
@@ -1171,7 +1171,7 @@ module _ (claims· : Claims) where
           d17 = Typed.g-pre 𝓤 H A W 𝓣 E G43 G44 b25 Δ0 (Typed.pass T43 T44 s41) at16 (Scalar.g-room 𝓤 H A W E G43 5 q1 (Local.room-whole 𝓤 H A W (Declared.row network-proofs-Nodes·.the-type) q1 Path.refl)) d16
 
           d18 : Typed.Typed 𝓤 H A 𝓣 E G42 b26 Δ0 at18
-          d18 = Typed.s-seq 𝓤 H A W 𝓣 E G42 G43 b22 b25 Δ0 (Typed.both s40) at17 (Plain.t-call-plain 𝓤 H A W 𝓣 2 ps·6 r·6 (claims· .12) (claims· .13) "search::run_on" (known .6) E (λ pos β. β) G42 (record { pos = 5; st = L.[]; d = 0; at = λ x. x }, (record { pos = 18; ty = Syntax.tyRef Syntax.erased Syntax.mut (Syntax.tyInt Syntax.w32); ref = λ x. x; }, (record { pos = 20; ty = Syntax.tyRef Syntax.erased Syntax.mut Rec.named; ref = λ x. x; }, tt))) 16 (L._∷_ 6 (L._∷_ 7 L.[])) (Call.sub-id 𝓤 H A W (G42 .slots)) ((Yields.yields-copy 𝓤 H A W (λ ρ. Unit) (Declared.row network-proofs-Nodes·.the-type) Path.refl (Copies.cStruct network-proofs-Nodes·.the-type network-proofs-Nodes-Laws·.the-laws network-proofs-Nodes-Laws·.the-copy .copy 𝓤 H A W) (Rows.whole (Declared.row network-proofs-Nodes·.the-type)) (λ x. x) (λ x. x) (λ ρ told. Local.mem-whole 𝓤 H A W (Declared.row network-proofs-Nodes·.the-type) ρ) λ ρ told. Local.whole-mem 𝓤 H A W (Declared.row network-proofs-Nodes·.the-type) ρ, Path.refl), (TReads.as-is 𝓤 H A (Mut.mslice (Signed.SInt Syntax.w32) q29 6), Mut.reads-mslice 𝓤 H A W (Signed.SInt Syntax.w32) q29 6, Path.refl, (TReads.as-is 𝓤 H A (Mut.mslice Rec.row q33 7), Mut.reads-mslice 𝓤 H A W Rec.row q33 7, Path.refl, tt))) (TReads.room-gone 𝓤 H A (Syntax.tyStruct (L._∷_ 115 (L._∷_ 101 (L._∷_ 97 (L._∷_ 114 (L._∷_ 99 (L._∷_ 104 (L._∷_ 58 (L._∷_ 58 (L._∷_ 80 (L._∷_ 114 (L._∷_ 111 (L._∷_ 103 (L._∷_ 114 (L._∷_ 101 (L._∷_ 115 (L._∷_ 115 L.[])))))))))))))))) (Syntax.tcons q1 (Syntax.tcons (Syntax.tyInt Syntax.w64) (Syntax.tcons q2 (Syntax.tcons Syntax.tyBool (Syntax.tcons Syntax.tyBool (Syntax.tcons (Syntax.tyInt Syntax.w64) (Syntax.tcons (Syntax.tyInt Syntax.w64) Syntax.tnil))))))))) (tt, (tt, tt)) Path.refl) d17
+          d18 = Typed.s-seq 𝓤 H A W 𝓣 E G42 G43 b22 b25 Δ0 (Typed.both s40) at17 (Plain.t-call-plain 𝓤 H A W 𝓣 2 ps·6 r·6 (claims· .12) (claims· .13) "search::run_on" (known .6) E (λ pos β. β) G42 (record { pos = 5; st = L.[]; d = 0; at = λ x. x }, (record { pos = 18; ty = Syntax.tyRef Syntax.erased Syntax.mut (Syntax.tyInt Syntax.w32); ref = λ x. x }, (record { pos = 20; ty = Syntax.tyRef Syntax.erased Syntax.mut Rec.named; ref = λ x. x }, tt))) 16 (L._∷_ 6 (L._∷_ 7 L.[])) (Call.sub-id 𝓤 H A W (G42 .slots)) ((Yields.yields-copy 𝓤 H A W (λ ρ. Unit) (Declared.row network-proofs-Nodes·.the-type) Path.refl (Copies.cStruct network-proofs-Nodes·.the-type network-proofs-Nodes-Laws·.the-laws network-proofs-Nodes-Laws·.the-copy .copy 𝓤 H A W) (Rows.whole (Declared.row network-proofs-Nodes·.the-type)) (λ x. x) (λ x. x) (λ ρ told. Local.mem-whole 𝓤 H A W (Declared.row network-proofs-Nodes·.the-type) ρ) λ ρ told. Local.whole-mem 𝓤 H A W (Declared.row network-proofs-Nodes·.the-type) ρ, Path.refl), (TReads.as-is 𝓤 H A (Mut.mslice (Signed.SInt Syntax.w32) q29 6), Mut.reads-mslice 𝓤 H A W (Signed.SInt Syntax.w32) q29 6, Path.refl, (TReads.as-is 𝓤 H A (Mut.mslice Rec.row q33 7), Mut.reads-mslice 𝓤 H A W Rec.row q33 7, Path.refl, tt))) (TReads.room-gone 𝓤 H A (Syntax.tyStruct (L._∷_ 115 (L._∷_ 101 (L._∷_ 97 (L._∷_ 114 (L._∷_ 99 (L._∷_ 104 (L._∷_ 58 (L._∷_ 58 (L._∷_ 80 (L._∷_ 114 (L._∷_ 111 (L._∷_ 103 (L._∷_ 114 (L._∷_ 101 (L._∷_ 115 (L._∷_ 115 L.[])))))))))))))))) (Syntax.tcons q1 (Syntax.tcons (Syntax.tyInt Syntax.w64) (Syntax.tcons q2 (Syntax.tcons Syntax.tyBool (Syntax.tcons Syntax.tyBool (Syntax.tcons (Syntax.tyInt Syntax.w64) (Syntax.tcons (Syntax.tyInt Syntax.w64) Syntax.tnil))))))))) (tt, (tt, tt)) Path.refl) d17
 
           d19 : Typed.Typed 𝓤 H A 𝓣 E G41 b27 Δ0 at19
           d19 = Typed.s-seq 𝓤 H A W 𝓣 E G41 G42 b21 b26 Δ0 (Typed.ask s39) at18 (Relend.t-sl-aggregate 𝓤 H A W E Rec.row 𝓣 (Relend.asMut Rec.row) G41 19 20 7 q33 q33 (λ x. x) (Scalar.oFld 3 (L._∷_ (Syntax.field 1) L.[]) (Syntax.tyInt Syntax.w64) 8 λ v. Shared.lenV (v .0)) (TReads.as-is 𝓤 H A (Relend.msptr Rec.row q33 7)) (TReads.room-gone 𝓤 H A q11) (Relend.reads-owed-len 𝓤 H A W Rec.row q31 2 7 (Row.lease (κs .1 .1 .0) (qs .1 .1 .0)) 8 Path.refl, Path.refl) Path.refl Path.refl λ b o k. tt) d18
@@ -1192,7 +1192,7 @@ module _ (claims· : Claims) where
           d24 = Typed.g-pre 𝓤 H A W 𝓣 E G36 G37 b30 Δ0 (λ Ψ. Ψ) at23 (Lifetime.g-begin 𝓤 H A W E G36 6 (tt, (tt, (tt, (tt, (tt, (tt, (tt, (tt, (tt, (tt, (tt, (tt, (tt, (tt, (tt, (tt, (tt, (tt, (tt, (tt, (tt, tt)))))))))))))))))))))) d23
 
           d25 : Typed.Typed 𝓤 H A 𝓣 E G35 b31 Δ0 at25
-          d25 = Typed.s-seq 𝓤 H A W 𝓣 E G35 G36 b17 b30 Δ0 (Typed.both s33) at24 (Plain.t-call-plain 𝓤 H A W 𝓣 1 ps·5 r·5 (claims· .10) (claims· .11) "records::net::read_beside" (known .5) E (λ pos β. β) G35 (record { pos = 1; ty = Syntax.tyRef (Syntax.named 0) Syntax.imm (Syntax.tyInt Syntax.w32); ref = λ x. x; }, tt) 5 (L._∷_ 0 L.[]) (Call.sub-id 𝓤 H A W (G35 .slots)) (ShrSlice.spares-sslice 𝓤 H A W (Signed.SInt Syntax.w32) q26 0, Shared.reads-sslice 𝓤 H A W (Signed.SInt Syntax.w32) q26 0, Path.refl, tt) (TReads.room-gone 𝓤 H A q1) (tt, tt) Path.refl) d24
+          d25 = Typed.s-seq 𝓤 H A W 𝓣 E G35 G36 b17 b30 Δ0 (Typed.both s33) at24 (Plain.t-call-plain 𝓤 H A W 𝓣 1 ps·5 r·5 (claims· .10) (claims· .11) "records::net::read_beside" (known .5) E (λ pos β. β) G35 (record { pos = 1; ty = Syntax.tyRef (Syntax.named 0) Syntax.imm (Syntax.tyInt Syntax.w32); ref = λ x. x }, tt) 5 (L._∷_ 0 L.[]) (Call.sub-id 𝓤 H A W (G35 .slots)) (ShrSlice.spares-sslice 𝓤 H A W (Signed.SInt Syntax.w32) q26 0, Shared.reads-sslice 𝓤 H A W (Signed.SInt Syntax.w32) q26 0, Path.refl, tt) (TReads.room-gone 𝓤 H A q1) (tt, tt) Path.refl) d24
 
           d26 : Typed.Typed 𝓤 H A 𝓣 E G34 b31 Δ0 at26
           d26 = Typed.g-pre 𝓤 H A W 𝓣 E G34 G35 b31 Δ0 (λ Ψ. Ψ) at25 (Lifetime.g-forget 𝓤 H A W E G34 5 Row.dead Path.refl) d25
@@ -1207,7 +1207,7 @@ module _ (claims· : Claims) where
           d29 = Typed.g-pre 𝓤 H A W 𝓣 E G31 G32 b31 Δ0 (Typed.pass T31 T32 s29) at28 (Scalar.g-room 𝓤 H A W E G31 11 Syntax.tyUnit (Scalar.room-sc 𝓤 H A W Row.sUnit)) d28
 
           d30 : Typed.Typed 𝓤 H A 𝓣 E G30 b32 Δ0 at30
-          d30 = Typed.s-seq 𝓤 H A W 𝓣 E G30 G31 b16 b31 Δ0 (Typed.both s28) at29 (Plain.t-call-plain 𝓤 H A W 𝓣 2 ps·4 r·4 (claims· .8) (claims· .9) "records::net::load" (known .4) E (λ pos β. β) G30 (record { pos = 15; ty = Syntax.tyRef Syntax.erased Syntax.mut Rec.named; ref = λ x. x; }, (record { pos = 1; ty = Syntax.tyRef (Syntax.named 0) Syntax.imm (Syntax.tyInt Syntax.w32); ref = λ x. x; }, tt)) 11 (L._∷_ 5 (L._∷_ 0 L.[])) (Call.sub-id 𝓤 H A W (G30 .slots)) (TReads.as-is 𝓤 H A (Mut.mslice Rec.row q33 5), Mut.reads-mslice 𝓤 H A W Rec.row q33 5, Path.refl, (ShrSlice.spares-sslice 𝓤 H A W (Signed.SInt Syntax.w32) q26 0, Shared.reads-sslice 𝓤 H A W (Signed.SInt Syntax.w32) q26 0, Path.refl, tt)) (TReads.room-gone 𝓤 H A Syntax.tyUnit) (tt, (tt, tt)) Path.refl) d29
+          d30 = Typed.s-seq 𝓤 H A W 𝓣 E G30 G31 b16 b31 Δ0 (Typed.both s28) at29 (Plain.t-call-plain 𝓤 H A W 𝓣 2 ps·4 r·4 (claims· .8) (claims· .9) "records::net::load" (known .4) E (λ pos β. β) G30 (record { pos = 15; ty = Syntax.tyRef Syntax.erased Syntax.mut Rec.named; ref = λ x. x }, (record { pos = 1; ty = Syntax.tyRef (Syntax.named 0) Syntax.imm (Syntax.tyInt Syntax.w32); ref = λ x. x }, tt)) 11 (L._∷_ 5 (L._∷_ 0 L.[])) (Call.sub-id 𝓤 H A W (G30 .slots)) (TReads.as-is 𝓤 H A (Mut.mslice Rec.row q33 5), Mut.reads-mslice 𝓤 H A W Rec.row q33 5, Path.refl, (ShrSlice.spares-sslice 𝓤 H A W (Signed.SInt Syntax.w32) q26 0, Shared.reads-sslice 𝓤 H A W (Signed.SInt Syntax.w32) q26 0, Path.refl, tt)) (TReads.room-gone 𝓤 H A Syntax.tyUnit) (tt, (tt, tt)) Path.refl) d29
 
           d31 : Typed.Typed 𝓤 H A 𝓣 E G29 b33 Δ0 at31
           d31 = Typed.s-seq 𝓤 H A W 𝓣 E G29 G30 b15 b32 Δ0 (Typed.ask s27) at30 (Relend.t-sl-aggregate 𝓤 H A W E Rec.row 𝓣 (Relend.asMut Rec.row) G29 14 15 5 q33 q33 (λ x. x) (Scalar.oFld 3 (L._∷_ (Syntax.field 1) L.[]) (Syntax.tyInt Syntax.w64) 8 λ v. Shared.lenV (v .0)) (TReads.as-is 𝓤 H A (Relend.msptr Rec.row q33 5)) (TReads.room-gone 𝓤 H A q11) (Relend.reads-owed-len 𝓤 H A W Rec.row q31 2 5 (Row.lease (κs .1 .1 .0) (qs .1 .1 .0)) 8 Path.refl, Path.refl) Path.refl Path.refl λ b o k. tt) d30
@@ -1231,7 +1231,7 @@ module _ (claims· : Claims) where
           d37 = Typed.g-pre 𝓤 H A W 𝓣 E G23 G24 b34 Δ0 (Typed.pass T23 T24 s21) at36 (Scalar.g-room 𝓤 H A W E G23 11 Syntax.tyUnit (Scalar.room-sc 𝓤 H A W Row.sUnit)) d36
 
           d38 : Typed.Typed 𝓤 H A 𝓣 E G22 b35 Δ0 at38
-          d38 = Typed.s-seq 𝓤 H A W 𝓣 E G22 G23 b13 b34 Δ0 (Typed.both s20) at37 (Plain.t-call-plain 𝓤 H A W 𝓣 1 ps·3 r·3 (claims· .6) (claims· .7) "network::list::clear" (known .3) E (λ pos β. β) G22 (record { pos = 13; ty = Syntax.tyRef Syntax.erased Syntax.mut Rec.named; ref = λ x. x; }, tt) 11 (L._∷_ 4 L.[]) (Call.sub-id 𝓤 H A W (G22 .slots)) (TReads.as-is 𝓤 H A (Mut.mslice Rec.row q33 4), Mut.reads-mslice 𝓤 H A W Rec.row q33 4, Path.refl, tt) (TReads.room-gone 𝓤 H A Syntax.tyUnit) (tt, tt) Path.refl) d37
+          d38 = Typed.s-seq 𝓤 H A W 𝓣 E G22 G23 b13 b34 Δ0 (Typed.both s20) at37 (Plain.t-call-plain 𝓤 H A W 𝓣 1 ps·3 r·3 (claims· .6) (claims· .7) "network::list::clear" (known .3) E (λ pos β. β) G22 (record { pos = 13; ty = Syntax.tyRef Syntax.erased Syntax.mut Rec.named; ref = λ x. x }, tt) 11 (L._∷_ 4 L.[]) (Call.sub-id 𝓤 H A W (G22 .slots)) (TReads.as-is 𝓤 H A (Mut.mslice Rec.row q33 4), Mut.reads-mslice 𝓤 H A W Rec.row q33 4, Path.refl, tt) (TReads.room-gone 𝓤 H A Syntax.tyUnit) (tt, tt) Path.refl) d37
 
           d39 : Typed.Typed 𝓤 H A 𝓣 E G21 b36 Δ0 at39
           d39 = Typed.s-seq 𝓤 H A W 𝓣 E G21 G22 b12 b35 Δ0 (Typed.ask s19) at38 (Relend.t-sl-aggregate 𝓤 H A W E Rec.row 𝓣 (Relend.asMut Rec.row) G21 12 13 4 q33 q33 (λ x. x) (Scalar.oFld 3 (L._∷_ (Syntax.field 1) L.[]) (Syntax.tyInt Syntax.w64) 8 λ v. Shared.lenV (v .0)) (TReads.as-is 𝓤 H A (Relend.msptr Rec.row q33 4)) (TReads.room-gone 𝓤 H A q11) (Relend.reads-owed-len 𝓤 H A W Rec.row q31 2 4 (Row.lease (κs .1 .1 .0) (qs .1 .1 .0)) 8 Path.refl, Path.refl) Path.refl Path.refl λ b o k. tt) d38
@@ -1255,7 +1255,7 @@ module _ (claims· : Claims) where
           d45 = Typed.g-pre 𝓤 H A W 𝓣 E G11 G12 b39 Δ0 (Typed.pass T11 T12 s10) at44 (Scalar.g-room 𝓤 H A W E G11 6 (Syntax.tyInt Syntax.w64) (Scalar.room-sc 𝓤 H A W (Row.sInt Syntax.w64))) d44
 
           d46 : Typed.Typed 𝓤 H A 𝓣 E G10 b40 Δ0 at46
-          d46 = Typed.s-seq 𝓤 H A W 𝓣 E G10 G11 b4 b39 Δ0 (Typed.both s9) at45 (Plain.t-call-plain 𝓤 H A W 𝓣 1 ps·1 r·1 (claims· .2) (claims· .3) "search::question" (known .1) E (λ pos β. β) G10 (record { pos = 1; ty = Syntax.tyRef (Syntax.named 0) Syntax.imm (Syntax.tyInt Syntax.w32); ref = λ x. x; }, (Num.vAt 6 λ x. x, (Num.vAt 7 λ x. x, tt))) 4 (L._∷_ 0 L.[]) (Call.sub-id 𝓤 H A W (G10 .slots)) (ShrSlice.spares-sslice 𝓤 H A W (Signed.SInt Syntax.w32) q26 0, Shared.reads-sslice 𝓤 H A W (Signed.SInt Syntax.w32) q26 0, Path.refl, ((Scalar.reads-sc 𝓤 H A W (Row.sInt Syntax.w64), Path.refl), ((Scalar.reads-sc 𝓤 H A W (Row.sInt Syntax.w64), Path.refl), tt))) (TReads.room-gone 𝓤 H A (Syntax.tyInt Syntax.w64)) (tt, tt) Path.refl) d45
+          d46 = Typed.s-seq 𝓤 H A W 𝓣 E G10 G11 b4 b39 Δ0 (Typed.both s9) at45 (Plain.t-call-plain 𝓤 H A W 𝓣 1 ps·1 r·1 (claims· .2) (claims· .3) "search::question" (known .1) E (λ pos β. β) G10 (record { pos = 1; ty = Syntax.tyRef (Syntax.named 0) Syntax.imm (Syntax.tyInt Syntax.w32); ref = λ x. x }, (Num.vAt 6 λ x. x, (Num.vAt 7 λ x. x, tt))) 4 (L._∷_ 0 L.[]) (Call.sub-id 𝓤 H A W (G10 .slots)) (ShrSlice.spares-sslice 𝓤 H A W (Signed.SInt Syntax.w32) q26 0, Shared.reads-sslice 𝓤 H A W (Signed.SInt Syntax.w32) q26 0, Path.refl, ((Scalar.reads-sc 𝓤 H A W (Row.sInt Syntax.w64), Path.refl), ((Scalar.reads-sc 𝓤 H A W (Row.sInt Syntax.w64), Path.refl), tt))) (TReads.room-gone 𝓤 H A (Syntax.tyInt Syntax.w64)) (tt, tt) Path.refl) d45
 
           d47 : Typed.Typed 𝓤 H A 𝓣 E G9 b40 Δ0 at47
           d47 = Typed.g-pre 𝓤 H A W 𝓣 E G9 G10 b40 Δ0 (λ Ψ. Ψ) at46 (Lifetime.g-forget 𝓤 H A W E G9 3 Row.dead Path.refl) d46
@@ -1270,7 +1270,7 @@ module _ (claims· : Claims) where
           d50 = Typed.g-pre 𝓤 H A W 𝓣 E G6 G7 b40 Δ0 (Typed.pass T6 T7 s5) at49 (Scalar.g-room 𝓤 H A W E G6 9 q10 (Shared.room-sslice 𝓤 H A W Rec.row q32 3)) d49
 
           d51 : Typed.Typed 𝓤 H A 𝓣 E G5 b41 Δ0 at51
-          d51 = Typed.s-seq 𝓤 H A W 𝓣 E G5 G6 b3 b40 Δ0 (Typed.both s4) at50 (Plain.t-call-plain 𝓤 H A W 𝓣 1 ps·0 r·0 (claims· .0) (claims· .1) "network::list::count" (known .0) E (λ pos β. β) G5 (record { pos = 9; ty = Syntax.tyRef Syntax.erased Syntax.imm Rec.named; ref = λ x. x; }, tt) 7 (L._∷_ 3 L.[]) (Call.sub-id 𝓤 H A W (G5 .slots)) (ShrSlice.spares-sslice 𝓤 H A W Rec.row q32 3, Shared.reads-sslice 𝓤 H A W Rec.row q32 3, Path.refl, tt) (TReads.room-gone 𝓤 H A (Syntax.tyInt Syntax.w64)) (tt, tt) Path.refl) d50
+          d51 = Typed.s-seq 𝓤 H A W 𝓣 E G5 G6 b3 b40 Δ0 (Typed.both s4) at50 (Plain.t-call-plain 𝓤 H A W 𝓣 1 ps·0 r·0 (claims· .0) (claims· .1) "network::list::count" (known .0) E (λ pos β. β) G5 (record { pos = 9; ty = Syntax.tyRef Syntax.erased Syntax.imm Rec.named; ref = λ x. x }, tt) 7 (L._∷_ 3 L.[]) (Call.sub-id 𝓤 H A W (G5 .slots)) (ShrSlice.spares-sslice 𝓤 H A W Rec.row q32 3, Shared.reads-sslice 𝓤 H A W Rec.row q32 3, Path.refl, tt) (TReads.room-gone 𝓤 H A (Syntax.tyInt Syntax.w64)) (tt, tt) Path.refl) d50
 
           d52 : Typed.Typed 𝓤 H A 𝓣 E G4 b42 Δ0 at52
           d52 = Typed.s-seq 𝓤 H A W 𝓣 E G4 G5 b2 b41 Δ0 (Typed.ask s3) at51 (Relend.t-sl-aggregate 𝓤 H A W E Rec.row 𝓣 (Relend.asShr Rec.row) G4 8 9 3 q32 q32 (λ x. x) (Scalar.oFld 3 (L._∷_ (Syntax.field 1) L.[]) (Syntax.tyInt Syntax.w64) 8 λ v. Shared.lenV (v .0)) (TReads.as-is 𝓤 H A (Relend.ssptr Rec.row q32 3)) (TReads.room-gone 𝓤 H A q10) (Reshare.reads-owedS-len 𝓤 H A W Rec.row q31 2 3 (Row.lease (κs .1 .1 .0) (qs .1 .1 .0)) 8 Path.refl, Path.refl) Path.refl Path.refl λ b o k. tt) d51
@@ -1333,14 +1333,14 @@ module _ (claims· : Claims) where
 
       module _ (before· : After-count-arg) where
         abbrev pub After-count·own : Type 0
-        After-count·own = Called.Called ps·0 r·0 (claims· .1) T5 (record { pos = 9; ty = Syntax.tyRef Syntax.erased Syntax.imm Rec.named; ref = λ x. x; }, tt) (m3 (before· .before) (before· .count-arg .given))
+        After-count·own = Called.Called ps·0 r·0 (claims· .1) T5 (record { pos = 9; ty = Syntax.tyRef Syntax.erased Syntax.imm Rec.named; ref = λ x. x }, tt) (m3 (before· .before) (before· .count-arg .given))
 
       pub record After-count : Type 0 where
         pub before : After-count-arg
         pub count : After-count·own before
 
       abbrev pub After-count·gave : (c : After-count) → s4 .gives (m3 (c .before .before) (c .before .count-arg .given))
-      After-count·gave = λ c. Called.given ps·0 r·0 (claims· .1) T5 (record { pos = 9; ty = Syntax.tyRef Syntax.erased Syntax.imm Rec.named; ref = λ x. x; }, tt) (m3 (c .before .before) (c .before .count-arg .given)) (c .count)
+      After-count·gave = λ c. Called.given ps·0 r·0 (claims· .1) T5 (record { pos = 9; ty = Syntax.tyRef Syntax.erased Syntax.imm Rec.named; ref = λ x. x }, tt) (m3 (c .before .before) (c .before .count-arg .given)) (c .count)
 
       abbrev pub m5 : (before : After-count-arg) → (given : s4 .gives (m3 (before .before) (before .count-arg .given))) → Typed.Mo T7
       m5 = λ before given. s5 (m4 before given)
@@ -1356,14 +1356,14 @@ module _ (claims· : Claims) where
 
       module _ (before· : After-count) where
         abbrev pub After-question·own : Type 0
-        After-question·own = Called.Called ps·1 r·1 (claims· .3) T9 (record { pos = 1; ty = Syntax.tyRef (Syntax.named 0) Syntax.imm (Syntax.tyInt Syntax.w32); ref = λ x. x; }, (Num.vAt 6 λ x. x, (Num.vAt 7 λ x. x, tt))) (m6 (before· .before) (After-count·gave before·))
+        After-question·own = Called.Called ps·1 r·1 (claims· .3) T9 (record { pos = 1; ty = Syntax.tyRef (Syntax.named 0) Syntax.imm (Syntax.tyInt Syntax.w32); ref = λ x. x }, (Num.vAt 6 λ x. x, (Num.vAt 7 λ x. x, tt))) (m6 (before· .before) (After-count·gave before·))
 
       pub record After-question : Type 0 where
         pub before : After-count
         pub question : After-question·own before
 
       abbrev pub After-question·gave : (c : After-question) → s9 .gives (m6 (c .before .before) (After-count·gave (c .before)))
-      After-question·gave = λ c. Called.given ps·1 r·1 (claims· .3) T9 (record { pos = 1; ty = Syntax.tyRef (Syntax.named 0) Syntax.imm (Syntax.tyInt Syntax.w32); ref = λ x. x; }, (Num.vAt 6 λ x. x, (Num.vAt 7 λ x. x, tt))) (m6 (c .before .before) (After-count·gave (c .before))) (c .question)
+      After-question·gave = λ c. Called.given ps·1 r·1 (claims· .3) T9 (record { pos = 1; ty = Syntax.tyRef (Syntax.named 0) Syntax.imm (Syntax.tyInt Syntax.w32); ref = λ x. x }, (Num.vAt 6 λ x. x, (Num.vAt 7 λ x. x, tt))) (m6 (c .before .before) (After-count·gave (c .before))) (c .question)
 
       abbrev pub m8 : (before : After-count) → (given : s9 .gives (m6 (before .before) (After-count·gave before))) → Typed.Mo T12
       m8 = λ before given. s10 (m7 before given)
@@ -1447,14 +1447,14 @@ module _ (claims· : Claims) where
 
       module _ (before· : After-clear-arg) where
         abbrev pub After-clear·own : Type 0
-        After-clear·own = Called.Called ps·3 r·3 (claims· .7) T22 (record { pos = 13; ty = Syntax.tyRef Syntax.erased Syntax.mut Rec.named; ref = λ x. x; }, tt) (m16 (before· .before) (before· .clear-arg .given))
+        After-clear·own = Called.Called ps·3 r·3 (claims· .7) T22 (record { pos = 13; ty = Syntax.tyRef Syntax.erased Syntax.mut Rec.named; ref = λ x. x }, tt) (m16 (before· .before) (before· .clear-arg .given))
 
       pub record After-clear : Type 0 where
         pub before : After-clear-arg
         pub clear : After-clear·own before
 
       abbrev pub After-clear·gave : (c : After-clear) → s20 .gives (m16 (c .before .before) (c .before .clear-arg .given))
-      After-clear·gave = λ c. Called.given ps·3 r·3 (claims· .7) T22 (record { pos = 13; ty = Syntax.tyRef Syntax.erased Syntax.mut Rec.named; ref = λ x. x; }, tt) (m16 (c .before .before) (c .before .clear-arg .given)) (c .clear)
+      After-clear·gave = λ c. Called.given ps·3 r·3 (claims· .7) T22 (record { pos = 13; ty = Syntax.tyRef Syntax.erased Syntax.mut Rec.named; ref = λ x. x }, tt) (m16 (c .before .before) (c .before .clear-arg .given)) (c .clear)
 
       abbrev pub m18 : (before : After-clear-arg) → (given : s20 .gives (m16 (before .before) (before .clear-arg .given))) → Typed.Mo T24
       m18 = λ before given. s21 (m17 before given)
@@ -1492,14 +1492,14 @@ module _ (claims· : Claims) where
 
       module _ (before· : After-load-arg) where
         abbrev pub After-load·own : Type 0
-        After-load·own = Called.Called ps·4 r·4 (claims· .9) T30 (record { pos = 15; ty = Syntax.tyRef Syntax.erased Syntax.mut Rec.named; ref = λ x. x; }, (record { pos = 1; ty = Syntax.tyRef (Syntax.named 0) Syntax.imm (Syntax.tyInt Syntax.w32); ref = λ x. x; }, tt)) (m21 (before· .before) (before· .load-arg .given))
+        After-load·own = Called.Called ps·4 r·4 (claims· .9) T30 (record { pos = 15; ty = Syntax.tyRef Syntax.erased Syntax.mut Rec.named; ref = λ x. x }, (record { pos = 1; ty = Syntax.tyRef (Syntax.named 0) Syntax.imm (Syntax.tyInt Syntax.w32); ref = λ x. x }, tt)) (m21 (before· .before) (before· .load-arg .given))
 
       pub record After-load : Type 0 where
         pub before : After-load-arg
         pub load : After-load·own before
 
       abbrev pub After-load·gave : (c : After-load) → s28 .gives (m21 (c .before .before) (c .before .load-arg .given))
-      After-load·gave = λ c. Called.given ps·4 r·4 (claims· .9) T30 (record { pos = 15; ty = Syntax.tyRef Syntax.erased Syntax.mut Rec.named; ref = λ x. x; }, (record { pos = 1; ty = Syntax.tyRef (Syntax.named 0) Syntax.imm (Syntax.tyInt Syntax.w32); ref = λ x. x; }, tt)) (m21 (c .before .before) (c .before .load-arg .given)) (c .load)
+      After-load·gave = λ c. Called.given ps·4 r·4 (claims· .9) T30 (record { pos = 15; ty = Syntax.tyRef Syntax.erased Syntax.mut Rec.named; ref = λ x. x }, (record { pos = 1; ty = Syntax.tyRef (Syntax.named 0) Syntax.imm (Syntax.tyInt Syntax.w32); ref = λ x. x }, tt)) (m21 (c .before .before) (c .before .load-arg .given)) (c .load)
 
       abbrev pub m23 : (before : After-load-arg) → (given : s28 .gives (m21 (before .before) (before .load-arg .given))) → Typed.Mo T32
       m23 = λ before given. s29 (m22 before given)
@@ -1523,14 +1523,14 @@ module _ (claims· : Claims) where
 
       module _ (before· : After-arcs2) where
         abbrev pub After-read-beside·own : Type 0
-        After-read-beside·own = Called.Called ps·5 r·5 (claims· .11) T34 (record { pos = 1; ty = Syntax.tyRef (Syntax.named 0) Syntax.imm (Syntax.tyInt Syntax.w32); ref = λ x. x; }, tt) (m24 (before· .before) (before· .arcs2 .given))
+        After-read-beside·own = Called.Called ps·5 r·5 (claims· .11) T34 (record { pos = 1; ty = Syntax.tyRef (Syntax.named 0) Syntax.imm (Syntax.tyInt Syntax.w32); ref = λ x. x }, tt) (m24 (before· .before) (before· .arcs2 .given))
 
       pub record After-read-beside : Type 0 where
         pub before : After-arcs2
         pub read-beside : After-read-beside·own before
 
       abbrev pub After-read-beside·gave : (c : After-read-beside) → s33 .gives (m24 (c .before .before) (c .before .arcs2 .given))
-      After-read-beside·gave = λ c. Called.given ps·5 r·5 (claims· .11) T34 (record { pos = 1; ty = Syntax.tyRef (Syntax.named 0) Syntax.imm (Syntax.tyInt Syntax.w32); ref = λ x. x; }, tt) (m24 (c .before .before) (c .before .arcs2 .given)) (c .read-beside)
+      After-read-beside·gave = λ c. Called.given ps·5 r·5 (claims· .11) T34 (record { pos = 1; ty = Syntax.tyRef (Syntax.named 0) Syntax.imm (Syntax.tyInt Syntax.w32); ref = λ x. x }, tt) (m24 (c .before .before) (c .before .arcs2 .given)) (c .read-beside)
 
       abbrev pub m26 : (before : After-read-beside) → (given : s35 .gives (m25 (before .before) (After-read-beside·gave before))) → Typed.Mo T38
       m26 = λ before given. s35 .next (m25 (before .before) (After-read-beside·gave before)) given
@@ -1568,14 +1568,14 @@ module _ (claims· : Claims) where
 
       module _ (before· : After-run-on-arg2) where
         abbrev pub After-run-on·own : Type 0
-        After-run-on·own = Called.Called ps·6 r·6 (claims· .13) T42 (record { pos = 5; st = L.[]; d = 0; at = λ x. x }, (record { pos = 18; ty = Syntax.tyRef Syntax.erased Syntax.mut (Syntax.tyInt Syntax.w32); ref = λ x. x; }, (record { pos = 20; ty = Syntax.tyRef Syntax.erased Syntax.mut Rec.named; ref = λ x. x; }, tt))) (m29 (before· .before) (before· .run-on-arg2 .given))
+        After-run-on·own = Called.Called ps·6 r·6 (claims· .13) T42 (record { pos = 5; st = L.[]; d = 0; at = λ x. x }, (record { pos = 18; ty = Syntax.tyRef Syntax.erased Syntax.mut (Syntax.tyInt Syntax.w32); ref = λ x. x }, (record { pos = 20; ty = Syntax.tyRef Syntax.erased Syntax.mut Rec.named; ref = λ x. x }, tt))) (m29 (before· .before) (before· .run-on-arg2 .given))
 
       pub record After-run-on : Type 0 where
         pub before : After-run-on-arg2
         pub run-on : After-run-on·own before
 
       abbrev pub After-run-on·gave : (c : After-run-on) → s40 .gives (m29 (c .before .before) (c .before .run-on-arg2 .given))
-      After-run-on·gave = λ c. Called.given ps·6 r·6 (claims· .13) T42 (record { pos = 5; st = L.[]; d = 0; at = λ x. x }, (record { pos = 18; ty = Syntax.tyRef Syntax.erased Syntax.mut (Syntax.tyInt Syntax.w32); ref = λ x. x; }, (record { pos = 20; ty = Syntax.tyRef Syntax.erased Syntax.mut Rec.named; ref = λ x. x; }, tt))) (m29 (c .before .before) (c .before .run-on-arg2 .given)) (c .run-on)
+      After-run-on·gave = λ c. Called.given ps·6 r·6 (claims· .13) T42 (record { pos = 5; st = L.[]; d = 0; at = λ x. x }, (record { pos = 18; ty = Syntax.tyRef Syntax.erased Syntax.mut (Syntax.tyInt Syntax.w32); ref = λ x. x }, (record { pos = 20; ty = Syntax.tyRef Syntax.erased Syntax.mut Rec.named; ref = λ x. x }, tt))) (m29 (c .before .before) (c .before .run-on-arg2 .given)) (c .run-on)
 
       abbrev pub m31 : (before : After-run-on-arg2) → (given : s40 .gives (m29 (before .before) (before .run-on-arg2 .given))) → Typed.Mo T44
       m31 = λ before given. s41 (m30 before given)
@@ -1639,19 +1639,19 @@ module _ (claims· : Claims) where
         lay11 = λ c. ((Path.refl, (MutSlice.fix-len (Row.get 2 (T53 .locals) (m36 (c .before) (After-conclude·gave c)) .ptr) (Row.get 2 (T53 .locals) (m36 (c .before) (After-conclude·gave c)) .name) (Row.get 2 (T53 .locals) (m36 (c .before) (After-conclude·gave c)) .now) (dens (c .before .before .before .before .before .before .before .before .before .before .before .before .before .before .before .before .before .κs) (c .before .before .before .before .before .before .before .before .before .before .before .before .before .before .before .before .before .args) .1 .0 .now) (same-length-2 record { before = c .before; conclude = c .conclude }), (MutSlice.fix-len (Row.get 3 (T53 .locals) (m36 (c .before) (After-conclude·gave c)) .ptr) (Row.get 3 (T53 .locals) (m36 (c .before) (After-conclude·gave c)) .name) (Row.get 3 (T53 .locals) (m36 (c .before) (After-conclude·gave c)) .now) (dens (c .before .before .before .before .before .before .before .before .before .before .before .before .before .before .before .before .before .κs) (c .before .before .before .before .before .before .before .before .before .before .before .before .before .before .before .before .before .args) .1 .1 .0 .now) (same-length-3 record { before = c .before; conclude = c .conclude }), tt))), returns-2 record { before = c .before; conclude = c .conclude })
 
         lay10 : (c : After-run-on) → at17 (W0 (c .before .before .before .before .before .before .before .before .before .before .before .before .before .before .κs) (c .before .before .before .before .before .before .before .before .before .before .before .before .before .before .args)) (m30 (c .before) (After-run-on·gave c))
-        lay10 = λ c. (Path.refl, λ g. (Path.refl, λ g'. (conclude-requires record { before = record { before = record { before = c .before; run-on = c .run-on }; log = record { given = g }; }; arcs3 = record { given = g' }; }, λ g''. lay11 record { before = record { before = record { before = record { before = c .before; run-on = c .run-on }; log = record { given = g }; }; arcs3 = record { given = g' }; }; conclude = Called.called ps·7 r·7 (claims· .15) T49 (record { pos = 16; st = L.[]; d = 0; at = λ x. x }, tt) (m33 record { before = record { before = c .before; run-on = c .run-on }; log = record { given = g }; } g') g''; })))
+        lay10 = λ c. (Path.refl, λ g. (Path.refl, λ g'. (conclude-requires record { before = record { before = record { before = c .before; run-on = c .run-on }; log = record { given = g } }; arcs3 = record { given = g' } }, λ g''. lay11 record { before = record { before = record { before = record { before = c .before; run-on = c .run-on }; log = record { given = g } }; arcs3 = record { given = g' } }; conclude = Called.called ps·7 r·7 (claims· .15) T49 (record { pos = 16; st = L.[]; d = 0; at = λ x. x }, tt) (m33 record { before = record { before = c .before; run-on = c .run-on }; log = record { given = g } } g') g'' })))
 
         lay9 : (c : After-read-beside) → at24 (W0 (c .before .before .before .before .before .before .before .before .before .before .before .κs) (c .before .before .before .before .before .before .before .before .before .before .before .args)) (m25 (c .before) (After-read-beside·gave c))
-        lay9 = λ c. λ g. (Path.refl, λ g'. (Path.refl, (run-on-requires record { before = record { before = record { before = c .before; read-beside = c .read-beside }; run-on-arg = record { given = g }; }; run-on-arg2 = record { given = g' }; }, λ g''. lay10 record { before = record { before = record { before = record { before = c .before; read-beside = c .read-beside }; run-on-arg = record { given = g }; }; run-on-arg2 = record { given = g' }; }; run-on = Called.called ps·6 r·6 (claims· .13) T42 (record { pos = 5; st = L.[]; d = 0; at = λ x. x }, (record { pos = 18; ty = Syntax.tyRef Syntax.erased Syntax.mut (Syntax.tyInt Syntax.w32); ref = λ x. x; }, (record { pos = 20; ty = Syntax.tyRef Syntax.erased Syntax.mut Rec.named; ref = λ x. x; }, tt))) (m29 record { before = record { before = c .before; read-beside = c .read-beside }; run-on-arg = record { given = g }; } g') g''; })))
+        lay9 = λ c. λ g. (Path.refl, λ g'. (Path.refl, (run-on-requires record { before = record { before = record { before = c .before; read-beside = c .read-beside }; run-on-arg = record { given = g } }; run-on-arg2 = record { given = g' } }, λ g''. lay10 record { before = record { before = record { before = record { before = c .before; read-beside = c .read-beside }; run-on-arg = record { given = g } }; run-on-arg2 = record { given = g' } }; run-on = Called.called ps·6 r·6 (claims· .13) T42 (record { pos = 5; st = L.[]; d = 0; at = λ x. x }, (record { pos = 18; ty = Syntax.tyRef Syntax.erased Syntax.mut (Syntax.tyInt Syntax.w32); ref = λ x. x }, (record { pos = 20; ty = Syntax.tyRef Syntax.erased Syntax.mut Rec.named; ref = λ x. x }, tt))) (m29 record { before = record { before = c .before; read-beside = c .read-beside }; run-on-arg = record { given = g } } g') g'' })))
 
         lay8 : (c : After-load) → at29 (W0 (c .before .before .before .before .before .before .before .before .before .κs) (c .before .before .before .before .before .before .before .before .before .args)) (m22 (c .before) (After-load·gave c))
-        lay8 = λ c. (Path.refl, λ g. (read-beside-requires record { before = record { before = c .before; load = c .load }; arcs2 = record { given = g }; }, λ g'. lay9 record { before = record { before = record { before = c .before; load = c .load }; arcs2 = record { given = g }; }; read-beside = Called.called ps·5 r·5 (claims· .11) T34 (record { pos = 1; ty = Syntax.tyRef (Syntax.named 0) Syntax.imm (Syntax.tyInt Syntax.w32); ref = λ x. x; }, tt) (m24 record { before = c .before; load = c .load } g) g'; }))
+        lay8 = λ c. (Path.refl, λ g. (read-beside-requires record { before = record { before = c .before; load = c .load }; arcs2 = record { given = g } }, λ g'. lay9 record { before = record { before = record { before = c .before; load = c .load }; arcs2 = record { given = g } }; read-beside = Called.called ps·5 r·5 (claims· .11) T34 (record { pos = 1; ty = Syntax.tyRef (Syntax.named 0) Syntax.imm (Syntax.tyInt Syntax.w32); ref = λ x. x }, tt) (m24 record { before = c .before; load = c .load } g) g' }))
 
         lay7 : (c : After-clear) → at37 (W0 (c .before .before .before .before .before .before .κs) (c .before .before .before .before .before .before .args)) (m17 (c .before) (After-clear·gave c))
-        lay7 = λ c. (Path.refl, λ g. λ g'. (Path.refl, (load-requires record { before = record { before = record { before = c .before; clear = c .clear }; arcs = record { given = g }; }; load-arg = record { given = g' }; }, λ g''. lay8 record { before = record { before = record { before = record { before = c .before; clear = c .clear }; arcs = record { given = g }; }; load-arg = record { given = g' }; }; load = Called.called ps·4 r·4 (claims· .9) T30 (record { pos = 15; ty = Syntax.tyRef Syntax.erased Syntax.mut Rec.named; ref = λ x. x; }, (record { pos = 1; ty = Syntax.tyRef (Syntax.named 0) Syntax.imm (Syntax.tyInt Syntax.w32); ref = λ x. x; }, tt)) (m21 record { before = record { before = c .before; clear = c .clear }; arcs = record { given = g }; } g') g''; })))
+        lay7 = λ c. (Path.refl, λ g. λ g'. (Path.refl, (load-requires record { before = record { before = record { before = c .before; clear = c .clear }; arcs = record { given = g } }; load-arg = record { given = g' } }, λ g''. lay8 record { before = record { before = record { before = record { before = c .before; clear = c .clear }; arcs = record { given = g } }; load-arg = record { given = g' } }; load = Called.called ps·4 r·4 (claims· .9) T30 (record { pos = 15; ty = Syntax.tyRef Syntax.erased Syntax.mut Rec.named; ref = λ x. x }, (record { pos = 1; ty = Syntax.tyRef (Syntax.named 0) Syntax.imm (Syntax.tyInt Syntax.w32); ref = λ x. x }, tt)) (m21 record { before = record { before = c .before; clear = c .clear }; arcs = record { given = g } } g') g'' })))
 
         lay6 : (c : Else1) → at41 (W0 (c .before .before .before .before .κs) (c .before .before .before .before .args)) (m14 (c .before))
-        lay6 = λ c. λ g. (Path.refl, (clear-requires record { before = record { before = c .before; if1 = c .if1 }; clear-arg = record { given = g }; }, λ g'. lay7 record { before = record { before = record { before = c .before; if1 = c .if1 }; clear-arg = record { given = g }; }; clear = Called.called ps·3 r·3 (claims· .7) T22 (record { pos = 13; ty = Syntax.tyRef Syntax.erased Syntax.mut Rec.named; ref = λ x. x; }, tt) (m16 record { before = c .before; if1 = c .if1 } g) g'; }))
+        lay6 = λ c. λ g. (Path.refl, (clear-requires record { before = record { before = c .before; if1 = c .if1 }; clear-arg = record { given = g } }, λ g'. lay7 record { before = record { before = record { before = c .before; if1 = c .if1 }; clear-arg = record { given = g } }; clear = Called.called ps·3 r·3 (claims· .7) T22 (record { pos = 13; ty = Syntax.tyRef Syntax.erased Syntax.mut Rec.named; ref = λ x. x }, tt) (m16 record { before = c .before; if1 = c .if1 } g) g' }))
 
         lay5 : (c : Else1) → at5 (W1 (c .before .before) (After-question·gave (c .before))) (m10 (c .before .before) (After-question·gave (c .before)))
         lay5 = λ c. lay6 record { before = c .before; if1 = c .if1 }
@@ -1660,20 +1660,20 @@ module _ (claims· : Claims) where
         lay4 = λ c. ((Path.refl, (Path.refl, (MutSlice.fix-len (Row.get 3 (T18 .locals) (m13 (c .before) (After-refuse·gave c)) .ptr) (Row.get 3 (T18 .locals) (m13 (c .before) (After-refuse·gave c)) .name) (Row.get 3 (T18 .locals) (m13 (c .before) (After-refuse·gave c)) .now) (dens (c .before .before .before .before .before .κs) (c .before .before .before .before .before .args) .1 .1 .0 .now) (same-length record { before = c .before; refuse = c .refuse }), tt))), returns record { before = c .before; refuse = c .refuse })
 
         lay3 : (c : Then1) → at3 (W1 (c .before .before) (After-question·gave (c .before))) (m10 (c .before .before) (After-question·gave (c .before)))
-        lay3 = λ c. (refuse-requires record { before = c .before; if1 = c .if1 }, λ g. lay4 record { before = record { before = c .before; if1 = c .if1 }; refuse = Called.called ps·2 r·2 (claims· .5) T16 (Num.vAt 4 λ x. x, tt) (m11 (c .before)) g; })
+        lay3 = λ c. (refuse-requires record { before = c .before; if1 = c .if1 }, λ g. lay4 record { before = record { before = c .before; if1 = c .if1 }; refuse = Called.called ps·2 r·2 (claims· .5) T16 (Num.vAt 4 λ x. x, tt) (m11 (c .before)) g })
 
         lay2 : (c : After-question) → at45 (W0 (c .before .before .before .κs) (c .before .before .before .args)) (m7 (c .before) (After-question·gave c))
-        lay2 = λ c. (tt, (λ taken. lay3 record { before = record { before = c .before; question = c .question }; if1 = record { taken = Tests.leb-true 1 (Row.get 4 (T13 .locals) (m9 (c .before) (After-question·gave c))) taken; }; }, λ left. lay5 record { before = record { before = c .before; question = c .question }; if1 = record { left = Tests.leb-false 1 (Row.get 4 (T13 .locals) (m9 (c .before) (After-question·gave c))) left; }; }))
+        lay2 = λ c. (tt, (λ taken. lay3 record { before = record { before = c .before; question = c .question }; if1 = record { taken = Tests.leb-true 1 (Row.get 4 (T13 .locals) (m9 (c .before) (After-question·gave c))) taken } }, λ left. lay5 record { before = record { before = c .before; question = c .question }; if1 = record { left = Tests.leb-false 1 (Row.get 4 (T13 .locals) (m9 (c .before) (After-question·gave c))) left } }))
 
         lay1 : (c : After-count) → at50 (W0 (c .before .before .κs) (c .before .before .args)) (m4 (c .before) (After-count·gave c))
-        lay1 = λ c. (question-requires record { before = c .before; count = c .count }, λ g. lay2 record { before = record { before = c .before; count = c .count }; question = Called.called ps·1 r·1 (claims· .3) T9 (record { pos = 1; ty = Syntax.tyRef (Syntax.named 0) Syntax.imm (Syntax.tyInt Syntax.w32); ref = λ x. x; }, (Num.vAt 6 λ x. x, (Num.vAt 7 λ x. x, tt))) (m6 (c .before) (After-count·gave c)) g; })
+        lay1 = λ c. (question-requires record { before = c .before; count = c .count }, λ g. lay2 record { before = record { before = c .before; count = c .count }; question = Called.called ps·1 r·1 (claims· .3) T9 (record { pos = 1; ty = Syntax.tyRef (Syntax.named 0) Syntax.imm (Syntax.tyInt Syntax.w32); ref = λ x. x }, (Num.vAt 6 λ x. x, (Num.vAt 7 λ x. x, tt))) (m6 (c .before) (After-count·gave c)) g })
 
         pub laid : (c : Start) → at55 (W0 (c .κs) (c .args)) (m0 (c .κs) (c .args))
-        laid = λ c. λ g. (Path.refl, (count-requires record { before = c; count-arg = record { given = g } }, λ g'. lay1 record { before = record { before = c; count-arg = record { given = g } }; count = Called.called ps·0 r·0 (claims· .1) T5 (record { pos = 9; ty = Syntax.tyRef Syntax.erased Syntax.imm Rec.named; ref = λ x. x; }, tt) (m3 c g) g'; }))
+        laid = λ c. λ g. (Path.refl, (count-requires record { before = c; count-arg = record { given = g } }, λ g'. lay1 record { before = record { before = c; count-arg = record { given = g } }; count = Called.called ps·0 r·0 (claims· .1) T5 (record { pos = 9; ty = Syntax.tyRef Syntax.erased Syntax.imm Rec.named; ref = λ x. x }, tt) (m3 c g) g' }))
 
         module _ (κs : Lifetimes.Lfts 3) (qs : Lifetimes.Shares 3) where
           pub asked : (a : FnKinds.Dens κs ps) → (good : FnKinds.GoodsP κs ps a) → (pre : Pre· κs a) → (bs : L.List Nat.ℕ) → Φ (Any.wantQ 3 ps r xs m κs qs a (Post· κs a)) (Function.init 3 ps r xs m κs qs a)
-          asked = λ a good pre bs. laid record { κs = κs; args = record { network = a .0; log = a .1 .0; arcs = a .1 .1 .0 }; good = good; pre = pre; }
+          asked = λ a good pre bs. laid record { κs = κs; args = record { network = a .0; log = a .1 .0; arcs = a .1 .1 .0 }; good = good; pre = pre }
 
         module _ {M : Type 1} (𝓤 : URA.URA M) (H : Wp.Heap 𝓤) (A : Atoms.Atoms 𝓤) (W : Kit.Given 𝓤 H A) (𝓣 : Wp.Tables 𝓤 H) (known0 : Plain.Known 𝓤 H A W 𝓣 1 ps·0 r·0 (claims· .0) (claims· .1) "network::list::count") (known1 : Plain.Known 𝓤 H A W 𝓣 1 ps·1 r·1 (claims· .2) (claims· .3) "search::question") (known2 : Plain.Known 𝓤 H A W 𝓣 0 ps·2 r·2 (claims· .4) (claims· .5) "search::refuse") (known3 : Plain.Known 𝓤 H A W 𝓣 1 ps·3 r·3 (claims· .6) (claims· .7) "network::list::clear") (known4 : Plain.Known 𝓤 H A W 𝓣 2 ps·4 r·4 (claims· .8) (claims· .9) "records::net::load") (known5 : Plain.Known 𝓤 H A W 𝓣 1 ps·5 r·5 (claims· .10) (claims· .11) "records::net::read_beside") (known6 : Plain.Known 𝓤 H A W 𝓣 2 ps·6 r·6 (claims· .12) (claims· .13) "search::run_on") (known7 : Plain.Known 𝓤 H A W 𝓣 0 ps·7 r·7 (claims· .14) (claims· .15) "search::conclude") where
           pub spec : Statement.Triple 𝓤 (Wp.WpFn 𝓤 H (𝓣 .C) (𝓣 .Λ) (Function.fnOf 3 ps r xs m hs body)) (Function.plainOf 𝓤 H A 3 ps r Pre· Post·)

@@ -114,10 +114,10 @@ abbrev pub q0 : Row.Entry
 q0 = (1, Rows.any-gone q1)
 
 abbrev pub ps : L.List (FnKinds.PK 2)
-ps = L._∷_ (Value.pVal record { ty = Declared.row network-proofs-Nodes·.the-type; one = Path.refl; val = StructLaws.val network-proofs-Nodes·.the-type network-proofs-Nodes-Laws·.the-laws; tells = StructLaws.tells network-proofs-Nodes·.the-type network-proofs-Nodes-Laws·.the-laws; still = StructLaws.still network-proofs-Nodes·.the-type network-proofs-Nodes-Laws·.the-copy Exit.yes; row = Rows.whole (Declared.row network-proofs-Nodes·.the-type); rd = λ x. x; mk = λ x. x; } λ M 𝓤 H A W. record { copies = StructLaws.copy network-proofs-Nodes·.the-type network-proofs-Nodes-Laws·.the-copy 𝓤 H A W; lawful = StructLaws.lawful network-proofs-Nodes·.the-type network-proofs-Nodes-Laws·.the-laws 𝓤 H A W; makes = StructLaws.makes network-proofs-Nodes·.the-type network-proofs-Nodes-Laws·.the-plain 𝓤 H A; in-mem = Local.mem-whole 𝓤 H A W (Declared.row network-proofs-Nodes·.the-type); of-mem = Local.whole-mem 𝓤 H A W (Declared.row network-proofs-Nodes·.the-type); }) (L._∷_ (MutSlice.pMutS (Signed.SInt Syntax.w32) 0 tt) (L._∷_ (MutSlice.pMutS Rec.row 1 tt) L.[]))
+ps = L._∷_ (Value.pVal record { ty = Declared.row network-proofs-Nodes·.the-type; one = Path.refl; val = StructLaws.val network-proofs-Nodes·.the-type network-proofs-Nodes-Laws·.the-laws; tells = StructLaws.tells network-proofs-Nodes·.the-type network-proofs-Nodes-Laws·.the-laws; still = StructLaws.still network-proofs-Nodes·.the-type network-proofs-Nodes-Laws·.the-copy Exit.yes; row = Rows.whole (Declared.row network-proofs-Nodes·.the-type); rd = λ x. x; mk = λ x. x } λ M 𝓤 H A W. record { copies = StructLaws.copy network-proofs-Nodes·.the-type network-proofs-Nodes-Laws·.the-copy 𝓤 H A W; lawful = StructLaws.lawful network-proofs-Nodes·.the-type network-proofs-Nodes-Laws·.the-laws 𝓤 H A W; makes = StructLaws.makes network-proofs-Nodes·.the-type network-proofs-Nodes-Laws·.the-plain 𝓤 H A; in-mem = Local.mem-whole 𝓤 H A W (Declared.row network-proofs-Nodes·.the-type); of-mem = Local.whole-mem 𝓤 H A W (Declared.row network-proofs-Nodes·.the-type) }) (L._∷_ (MutSlice.pMutS (Signed.SInt Syntax.w32) 0 tt) (L._∷_ (MutSlice.pMutS Rec.row 1 tt) L.[]))
 
 abbrev pub r : FnKinds.RK 2
-r = Value.rVal record { ty = Declared.row Progress·.the-type; one = Path.refl; val = StructLaws.val Progress·.the-type Progress-Laws·.the-laws; tells = StructLaws.tells Progress·.the-type Progress-Laws·.the-laws; still = StructLaws.still Progress·.the-type Progress-Laws·.the-copy Exit.yes; row = Rows.whole (Declared.row Progress·.the-type); rd = λ x. x; mk = λ x. x; } λ M 𝓤 H A W. record { copies = StructLaws.copy Progress·.the-type Progress-Laws·.the-copy 𝓤 H A W; lawful = StructLaws.lawful Progress·.the-type Progress-Laws·.the-laws 𝓤 H A W; makes = StructLaws.makes Progress·.the-type Progress-Laws·.the-plain 𝓤 H A; in-mem = Local.mem-whole 𝓤 H A W (Declared.row Progress·.the-type); of-mem = Local.whole-mem 𝓤 H A W (Declared.row Progress·.the-type); }
+r = Value.rVal record { ty = Declared.row Progress·.the-type; one = Path.refl; val = StructLaws.val Progress·.the-type Progress-Laws·.the-laws; tells = StructLaws.tells Progress·.the-type Progress-Laws·.the-laws; still = StructLaws.still Progress·.the-type Progress-Laws·.the-copy Exit.yes; row = Rows.whole (Declared.row Progress·.the-type); rd = λ x. x; mk = λ x. x } λ M 𝓤 H A W. record { copies = StructLaws.copy Progress·.the-type Progress-Laws·.the-copy 𝓤 H A W; lawful = StructLaws.lawful Progress·.the-type Progress-Laws·.the-laws 𝓤 H A W; makes = StructLaws.makes Progress·.the-type Progress-Laws·.the-plain 𝓤 H A; in-mem = Local.mem-whole 𝓤 H A W (Declared.row Progress·.the-type); of-mem = Local.whole-mem 𝓤 H A W (Declared.row Progress·.the-type) }
 
 abbrev pub xs : L.List Syntax.Ty
 xs = L._∷_ (Syntax.tyStruct (L._∷_ 115 (L._∷_ 101 (L._∷_ 97 (L._∷_ 114 (L._∷_ 99 (L._∷_ 104 (L._∷_ 58 (L._∷_ 58 (L._∷_ 80 (L._∷_ 114 (L._∷_ 111 (L._∷_ 103 (L._∷_ 114 (L._∷_ 101 (L._∷_ 115 (L._∷_ 115 L.[])))))))))))))))) (Syntax.tcons q1 (Syntax.tcons (Syntax.tyInt Syntax.w64) (Syntax.tcons q2 (Syntax.tcons Syntax.tyBool (Syntax.tcons Syntax.tyBool (Syntax.tcons (Syntax.tyInt Syntax.w64) (Syntax.tcons (Syntax.tyInt Syntax.w64) Syntax.tnil)))))))) (L._∷_ Syntax.tyBool (L._∷_ q16 (L._∷_ q5 (L._∷_ q18 (L._∷_ q6 L.[])))))
@@ -126,16 +126,16 @@ abbrev pub m : Nat.ℕ
 m = 2
 
 abbrev pub ps·0 : L.List (FnKinds.PK 0)
-ps·0 = L._∷_ (Value.pVal record { ty = Declared.row network-proofs-Nodes·.the-type; one = Path.refl; val = StructLaws.val network-proofs-Nodes·.the-type network-proofs-Nodes-Laws·.the-laws; tells = StructLaws.tells network-proofs-Nodes·.the-type network-proofs-Nodes-Laws·.the-laws; still = StructLaws.still network-proofs-Nodes·.the-type network-proofs-Nodes-Laws·.the-copy Exit.yes; row = Rows.whole (Declared.row network-proofs-Nodes·.the-type); rd = λ x. x; mk = λ x. x; } λ M 𝓤 H A W. record { copies = StructLaws.copy network-proofs-Nodes·.the-type network-proofs-Nodes-Laws·.the-copy 𝓤 H A W; lawful = StructLaws.lawful network-proofs-Nodes·.the-type network-proofs-Nodes-Laws·.the-laws 𝓤 H A W; makes = StructLaws.makes network-proofs-Nodes·.the-type network-proofs-Nodes-Laws·.the-plain 𝓤 H A; in-mem = Local.mem-whole 𝓤 H A W (Declared.row network-proofs-Nodes·.the-type); of-mem = Local.whole-mem 𝓤 H A W (Declared.row network-proofs-Nodes·.the-type); }) L.[]
+ps·0 = L._∷_ (Value.pVal record { ty = Declared.row network-proofs-Nodes·.the-type; one = Path.refl; val = StructLaws.val network-proofs-Nodes·.the-type network-proofs-Nodes-Laws·.the-laws; tells = StructLaws.tells network-proofs-Nodes·.the-type network-proofs-Nodes-Laws·.the-laws; still = StructLaws.still network-proofs-Nodes·.the-type network-proofs-Nodes-Laws·.the-copy Exit.yes; row = Rows.whole (Declared.row network-proofs-Nodes·.the-type); rd = λ x. x; mk = λ x. x } λ M 𝓤 H A W. record { copies = StructLaws.copy network-proofs-Nodes·.the-type network-proofs-Nodes-Laws·.the-copy 𝓤 H A W; lawful = StructLaws.lawful network-proofs-Nodes·.the-type network-proofs-Nodes-Laws·.the-laws 𝓤 H A W; makes = StructLaws.makes network-proofs-Nodes·.the-type network-proofs-Nodes-Laws·.the-plain 𝓤 H A; in-mem = Local.mem-whole 𝓤 H A W (Declared.row network-proofs-Nodes·.the-type); of-mem = Local.whole-mem 𝓤 H A W (Declared.row network-proofs-Nodes·.the-type) }) L.[]
 
 abbrev pub r·0 : FnKinds.RK 0
-r·0 = Value.rVal record { ty = Declared.row Progress·.the-type; one = Path.refl; val = StructLaws.val Progress·.the-type Progress-Laws·.the-laws; tells = StructLaws.tells Progress·.the-type Progress-Laws·.the-laws; still = StructLaws.still Progress·.the-type Progress-Laws·.the-copy Exit.yes; row = Rows.whole (Declared.row Progress·.the-type); rd = λ x. x; mk = λ x. x; } λ M 𝓤 H A W. record { copies = StructLaws.copy Progress·.the-type Progress-Laws·.the-copy 𝓤 H A W; lawful = StructLaws.lawful Progress·.the-type Progress-Laws·.the-laws 𝓤 H A W; makes = StructLaws.makes Progress·.the-type Progress-Laws·.the-plain 𝓤 H A; in-mem = Local.mem-whole 𝓤 H A W (Declared.row Progress·.the-type); of-mem = Local.whole-mem 𝓤 H A W (Declared.row Progress·.the-type); }
+r·0 = Value.rVal record { ty = Declared.row Progress·.the-type; one = Path.refl; val = StructLaws.val Progress·.the-type Progress-Laws·.the-laws; tells = StructLaws.tells Progress·.the-type Progress-Laws·.the-laws; still = StructLaws.still Progress·.the-type Progress-Laws·.the-copy Exit.yes; row = Rows.whole (Declared.row Progress·.the-type); rd = λ x. x; mk = λ x. x } λ M 𝓤 H A W. record { copies = StructLaws.copy Progress·.the-type Progress-Laws·.the-copy 𝓤 H A W; lawful = StructLaws.lawful Progress·.the-type Progress-Laws·.the-laws 𝓤 H A W; makes = StructLaws.makes Progress·.the-type Progress-Laws·.the-plain 𝓤 H A; in-mem = Local.mem-whole 𝓤 H A W (Declared.row Progress·.the-type); of-mem = Local.whole-mem 𝓤 H A W (Declared.row Progress·.the-type) }
 
 abbrev pub ps·1 : L.List (FnKinds.PK 2)
-ps·1 = L._∷_ (Value.pVal record { ty = Declared.row Progress·.the-type; one = Path.refl; val = StructLaws.val Progress·.the-type Progress-Laws·.the-laws; tells = StructLaws.tells Progress·.the-type Progress-Laws·.the-laws; still = StructLaws.still Progress·.the-type Progress-Laws·.the-copy Exit.yes; row = Rows.whole (Declared.row Progress·.the-type); rd = λ x. x; mk = λ x. x; } λ M 𝓤 H A W. record { copies = StructLaws.copy Progress·.the-type Progress-Laws·.the-copy 𝓤 H A W; lawful = StructLaws.lawful Progress·.the-type Progress-Laws·.the-laws 𝓤 H A W; makes = StructLaws.makes Progress·.the-type Progress-Laws·.the-plain 𝓤 H A; in-mem = Local.mem-whole 𝓤 H A W (Declared.row Progress·.the-type); of-mem = Local.whole-mem 𝓤 H A W (Declared.row Progress·.the-type); }) (L._∷_ (MutSlice.pMutS (Signed.SInt Syntax.w32) 0 tt) (L._∷_ (MutSlice.pMutS Rec.row 1 tt) L.[]))
+ps·1 = L._∷_ (Value.pVal record { ty = Declared.row Progress·.the-type; one = Path.refl; val = StructLaws.val Progress·.the-type Progress-Laws·.the-laws; tells = StructLaws.tells Progress·.the-type Progress-Laws·.the-laws; still = StructLaws.still Progress·.the-type Progress-Laws·.the-copy Exit.yes; row = Rows.whole (Declared.row Progress·.the-type); rd = λ x. x; mk = λ x. x } λ M 𝓤 H A W. record { copies = StructLaws.copy Progress·.the-type Progress-Laws·.the-copy 𝓤 H A W; lawful = StructLaws.lawful Progress·.the-type Progress-Laws·.the-laws 𝓤 H A W; makes = StructLaws.makes Progress·.the-type Progress-Laws·.the-plain 𝓤 H A; in-mem = Local.mem-whole 𝓤 H A W (Declared.row Progress·.the-type); of-mem = Local.whole-mem 𝓤 H A W (Declared.row Progress·.the-type) }) (L._∷_ (MutSlice.pMutS (Signed.SInt Syntax.w32) 0 tt) (L._∷_ (MutSlice.pMutS Rec.row 1 tt) L.[]))
 
 abbrev pub r·1 : FnKinds.RK 2
-r·1 = Value.rVal record { ty = Declared.row Progress·.the-type; one = Path.refl; val = StructLaws.val Progress·.the-type Progress-Laws·.the-laws; tells = StructLaws.tells Progress·.the-type Progress-Laws·.the-laws; still = StructLaws.still Progress·.the-type Progress-Laws·.the-copy Exit.yes; row = Rows.whole (Declared.row Progress·.the-type); rd = λ x. x; mk = λ x. x; } λ M 𝓤 H A W. record { copies = StructLaws.copy Progress·.the-type Progress-Laws·.the-copy 𝓤 H A W; lawful = StructLaws.lawful Progress·.the-type Progress-Laws·.the-laws 𝓤 H A W; makes = StructLaws.makes Progress·.the-type Progress-Laws·.the-plain 𝓤 H A; in-mem = Local.mem-whole 𝓤 H A W (Declared.row Progress·.the-type); of-mem = Local.whole-mem 𝓤 H A W (Declared.row Progress·.the-type); }
+r·1 = Value.rVal record { ty = Declared.row Progress·.the-type; one = Path.refl; val = StructLaws.val Progress·.the-type Progress-Laws·.the-laws; tells = StructLaws.tells Progress·.the-type Progress-Laws·.the-laws; still = StructLaws.still Progress·.the-type Progress-Laws·.the-copy Exit.yes; row = Rows.whole (Declared.row Progress·.the-type); rd = λ x. x; mk = λ x. x } λ M 𝓤 H A W. record { copies = StructLaws.copy Progress·.the-type Progress-Laws·.the-copy 𝓤 H A W; lawful = StructLaws.lawful Progress·.the-type Progress-Laws·.the-laws 𝓤 H A W; makes = StructLaws.makes Progress·.the-type Progress-Laws·.the-plain 𝓤 H A; in-mem = Local.mem-whole 𝓤 H A W (Declared.row Progress·.the-type); of-mem = Local.whole-mem 𝓤 H A W (Declared.row Progress·.the-type) }
 
 abbrev pub hs : L.List Syntax.Home
 hs = L._∷_ Syntax.valueLocal (L._∷_ Syntax.valueLocal (L._∷_ Syntax.valueLocal (L._∷_ Syntax.valueLocal (L._∷_ Syntax.valueLocal (L._∷_ Syntax.valueLocal (L._∷_ Syntax.valueLocal (L._∷_ Syntax.valueLocal (L._∷_ Syntax.valueLocal (L._∷_ Syntax.valueLocal L.[])))))))))
@@ -355,7 +355,7 @@ module _ (claims· : Claims) where
   s10 = Relend.k-sl-aggregate Rec.row (Relend.asMut Rec.row) T13 8 9 3 q18 q18 (λ x. x) (Scalar.oFld 3 (L._∷_ (Syntax.field 1) L.[]) (Syntax.tyInt Syntax.w64) 8 λ v. Shared.lenV (v .0))
 
   abbrev s11 : Typed.Both T14 T15
-  s11 = Call.callB ps·1 r·1 (claims· .2) (claims· .3) T14 (record { pos = 4; st = L.[]; d = 0; at = λ x. x }, (record { pos = 7; ty = Syntax.tyRef Syntax.erased Syntax.mut (Syntax.tyInt Syntax.w32); ref = λ x. x; }, (record { pos = 9; ty = Syntax.tyRef Syntax.erased Syntax.mut Rec.named; ref = λ x. x; }, tt))) 4 (L._∷_ 2 (L._∷_ 3 L.[])) (Syntax.tyStruct (L._∷_ 115 (L._∷_ 101 (L._∷_ 97 (L._∷_ 114 (L._∷_ 99 (L._∷_ 104 (L._∷_ 58 (L._∷_ 58 (L._∷_ 80 (L._∷_ 114 (L._∷_ 111 (L._∷_ 103 (L._∷_ 114 (L._∷_ 101 (L._∷_ 115 (L._∷_ 115 L.[])))))))))))))))) (Syntax.tcons q1 (Syntax.tcons (Syntax.tyInt Syntax.w64) (Syntax.tcons q2 (Syntax.tcons Syntax.tyBool (Syntax.tcons Syntax.tyBool (Syntax.tcons (Syntax.tyInt Syntax.w64) (Syntax.tcons (Syntax.tyInt Syntax.w64) Syntax.tnil))))))))
+  s11 = Call.callB ps·1 r·1 (claims· .2) (claims· .3) T14 (record { pos = 4; st = L.[]; d = 0; at = λ x. x }, (record { pos = 7; ty = Syntax.tyRef Syntax.erased Syntax.mut (Syntax.tyInt Syntax.w32); ref = λ x. x }, (record { pos = 9; ty = Syntax.tyRef Syntax.erased Syntax.mut Rec.named; ref = λ x. x }, tt))) 4 (L._∷_ 2 (L._∷_ 3 L.[])) (Syntax.tyStruct (L._∷_ 115 (L._∷_ 101 (L._∷_ 97 (L._∷_ 114 (L._∷_ 99 (L._∷_ 104 (L._∷_ 58 (L._∷_ 58 (L._∷_ 80 (L._∷_ 114 (L._∷_ 111 (L._∷_ 103 (L._∷_ 114 (L._∷_ 101 (L._∷_ 115 (L._∷_ 115 L.[])))))))))))))))) (Syntax.tcons q1 (Syntax.tcons (Syntax.tyInt Syntax.w64) (Syntax.tcons q2 (Syntax.tcons Syntax.tyBool (Syntax.tcons Syntax.tyBool (Syntax.tcons (Syntax.tyInt Syntax.w64) (Syntax.tcons (Syntax.tyInt Syntax.w64) Syntax.tnil))))))))
 
   abbrev s13 : Typed.Both T15 T17
   s13 = Relend.k-back-sl (Signed.SInt Syntax.w32) T15 7 2 0 2 q14 q16 Row.off (λ x. x) λ x. x
@@ -370,7 +370,7 @@ module _ (claims· : Claims) where
   s19 = Scalar.n-room T22 4 (Syntax.tyStruct (L._∷_ 115 (L._∷_ 101 (L._∷_ 97 (L._∷_ 114 (L._∷_ 99 (L._∷_ 104 (L._∷_ 58 (L._∷_ 58 (L._∷_ 80 (L._∷_ 114 (L._∷_ 111 (L._∷_ 103 (L._∷_ 114 (L._∷_ 101 (L._∷_ 115 (L._∷_ 115 L.[])))))))))))))))) (Syntax.tcons q1 (Syntax.tcons (Syntax.tyInt Syntax.w64) (Syntax.tcons q2 (Syntax.tcons Syntax.tyBool (Syntax.tcons Syntax.tyBool (Syntax.tcons (Syntax.tyInt Syntax.w64) (Syntax.tcons (Syntax.tyInt Syntax.w64) Syntax.tnil))))))))
 
   abbrev put0 : L.List (Signed.SInt Syntax.w32 .Denot) × L.List (Rec.row .Denot) × Rows.whole (Declared.row Progress·.the-type) .Mod → Typed.Mo T4 → Typed.Mo T4
-  put0 = λ vs u. Row.set 4 q19 (vs .2) (T4 .locals) (Row.set 3 q12 record { ptr = Row.get 3 (T4 .locals) u .ptr; name = Row.get 3 (T4 .locals) u .name; now = vs .1; } (T4 .locals) (Row.set 2 q8 record { ptr = Row.get 2 (T4 .locals) u .ptr; name = Row.get 2 (T4 .locals) u .name; now = vs .0; } (T4 .locals) u))
+  put0 = λ vs u. Row.set 4 q19 (vs .2) (T4 .locals) (Row.set 3 q12 record { ptr = Row.get 3 (T4 .locals) u .ptr; name = Row.get 3 (T4 .locals) u .name; now = vs .1 } (T4 .locals) (Row.set 2 q8 record { ptr = Row.get 2 (T4 .locals) u .ptr; name = Row.get 2 (T4 .locals) u .name; now = vs .0 } (T4 .locals) u))
 
   module _ (Pre· : (κs : Lifetimes.Lfts 2) → FnKinds.Dens κs ps → Type 0) (Post· : (κs : Lifetimes.Lfts 2) → (a : FnKinds.Dens κs ps) → FnKinds.Plain 2 ps r κs) where
     module _ (M : Type 1) where
@@ -471,76 +471,76 @@ module _ (claims· : Claims) where
         g10 = L._∷_ (0, Rows.any-gone (Syntax.tyStruct (L._∷_ 115 (L._∷_ 101 (L._∷_ 97 (L._∷_ 114 (L._∷_ 99 (L._∷_ 104 (L._∷_ 58 (L._∷_ 58 (L._∷_ 80 (L._∷_ 114 (L._∷_ 111 (L._∷_ 103 (L._∷_ 114 (L._∷_ 101 (L._∷_ 115 (L._∷_ 115 L.[])))))))))))))))) (Syntax.tcons q1 (Syntax.tcons (Syntax.tyInt Syntax.w64) (Syntax.tcons q2 (Syntax.tcons Syntax.tyBool (Syntax.tcons Syntax.tyBool (Syntax.tcons (Syntax.tyInt Syntax.w64) (Syntax.tcons (Syntax.tyInt Syntax.w64) Syntax.tnil))))))))) (L._∷_ q0 (L._∷_ q8 (L._∷_ (3, Relend.mslice-owed Rec.row q17 1 3 (Row.lease (κs .1 .0) (qs .1 .0))) (L._∷_ q19 (L._∷_ q21 (L._∷_ q11 (L._∷_ q3 (L._∷_ q15 (L._∷_ q13 L.[])))))))))
 
         abbrev G0 : Row.Cx
-        G0 = record { locals = t0; slots = L._∷_ (Row.lease (κs .0) (qs .0)) (L._∷_ (Row.lease (κs .1 .0) (qs .1 .0)) (L._∷_ Row.off (L._∷_ Row.off L.[]))); }
+        G0 = record { locals = t0; slots = L._∷_ (Row.lease (κs .0) (qs .0)) (L._∷_ (Row.lease (κs .1 .0) (qs .1 .0)) (L._∷_ Row.off (L._∷_ Row.off L.[]))) }
 
         abbrev G1 : Row.Cx
-        G1 = record { locals = t1; slots = L._∷_ (Row.lease (κs .0) (qs .0)) (L._∷_ (Row.lease (κs .1 .0) (qs .1 .0)) (L._∷_ Row.off (L._∷_ Row.off L.[]))); }
+        G1 = record { locals = t1; slots = L._∷_ (Row.lease (κs .0) (qs .0)) (L._∷_ (Row.lease (κs .1 .0) (qs .1 .0)) (L._∷_ Row.off (L._∷_ Row.off L.[]))) }
 
         abbrev G2 : Row.Cx
-        G2 = record { locals = t2; slots = L._∷_ (Row.lease (κs .0) (qs .0)) (L._∷_ (Row.lease (κs .1 .0) (qs .1 .0)) (L._∷_ Row.off (L._∷_ Row.off L.[]))); }
+        G2 = record { locals = t2; slots = L._∷_ (Row.lease (κs .0) (qs .0)) (L._∷_ (Row.lease (κs .1 .0) (qs .1 .0)) (L._∷_ Row.off (L._∷_ Row.off L.[]))) }
 
         abbrev G3 : Row.Cx
-        G3 = record { locals = t3; slots = L._∷_ (Row.lease (κs .0) (qs .0)) (L._∷_ (Row.lease (κs .1 .0) (qs .1 .0)) (L._∷_ Row.off (L._∷_ Row.off L.[]))); }
+        G3 = record { locals = t3; slots = L._∷_ (Row.lease (κs .0) (qs .0)) (L._∷_ (Row.lease (κs .1 .0) (qs .1 .0)) (L._∷_ Row.off (L._∷_ Row.off L.[]))) }
 
         abbrev G4 : Row.Cx
-        G4 = record { locals = t3; slots = L._∷_ (Row.lease (κs .0) (qs .0)) (L._∷_ (Row.lease (κs .1 .0) (qs .1 .0)) (L._∷_ Row.off (L._∷_ Row.off L.[]))); }
+        G4 = record { locals = t3; slots = L._∷_ (Row.lease (κs .0) (qs .0)) (L._∷_ (Row.lease (κs .1 .0) (qs .1 .0)) (L._∷_ Row.off (L._∷_ Row.off L.[]))) }
 
         abbrev G5 : Row.Cx
-        G5 = record { locals = t4; slots = L._∷_ (Row.lease (κs .0) (qs .0)) (L._∷_ (Row.lease (κs .1 .0) (qs .1 .0)) (L._∷_ Row.off (L._∷_ Row.off L.[]))); }
+        G5 = record { locals = t4; slots = L._∷_ (Row.lease (κs .0) (qs .0)) (L._∷_ (Row.lease (κs .1 .0) (qs .1 .0)) (L._∷_ Row.off (L._∷_ Row.off L.[]))) }
 
         abbrev G6 : Row.Cx
-        G6 = record { locals = t3; slots = L._∷_ (Row.lease (κs .0) (qs .0)) (L._∷_ (Row.lease (κs .1 .0) (qs .1 .0)) (L._∷_ Row.off (L._∷_ Row.off L.[]))); }
+        G6 = record { locals = t3; slots = L._∷_ (Row.lease (κs .0) (qs .0)) (L._∷_ (Row.lease (κs .1 .0) (qs .1 .0)) (L._∷_ Row.off (L._∷_ Row.off L.[]))) }
 
         abbrev G7 : Row.Cx
-        G7 = record { locals = t3; slots = L._∷_ (Row.lease (κs .0) (qs .0)) (L._∷_ (Row.lease (κs .1 .0) (qs .1 .0)) (L._∷_ Row.off (L._∷_ Row.off L.[]))); }
+        G7 = record { locals = t3; slots = L._∷_ (Row.lease (κs .0) (qs .0)) (L._∷_ (Row.lease (κs .1 .0) (qs .1 .0)) (L._∷_ Row.off (L._∷_ Row.off L.[]))) }
 
         abbrev G8 : Row.Cx
-        G8 = record { locals = t3; slots = L._∷_ (Row.lease (κs .0) (qs .0)) (L._∷_ (Row.lease (κs .1 .0) (qs .1 .0)) (L._∷_ Row.off (L._∷_ Row.off L.[]))); }
+        G8 = record { locals = t3; slots = L._∷_ (Row.lease (κs .0) (qs .0)) (L._∷_ (Row.lease (κs .1 .0) (qs .1 .0)) (L._∷_ Row.off (L._∷_ Row.off L.[]))) }
 
         abbrev G9 : Row.Cx
-        G9 = record { locals = t3; slots = L._∷_ (Row.lease (κs .0) (qs .0)) (L._∷_ (Row.lease (κs .1 .0) (qs .1 .0)) (L._∷_ Row.alive (L._∷_ Row.off L.[]))); }
+        G9 = record { locals = t3; slots = L._∷_ (Row.lease (κs .0) (qs .0)) (L._∷_ (Row.lease (κs .1 .0) (qs .1 .0)) (L._∷_ Row.alive (L._∷_ Row.off L.[]))) }
 
         abbrev G10 : Row.Cx
-        G10 = record { locals = g5; slots = L._∷_ Row.off (L._∷_ (Row.lease (κs .1 .0) (qs .1 .0)) (L._∷_ Row.alive (L._∷_ Row.off L.[]))); }
+        G10 = record { locals = g5; slots = L._∷_ Row.off (L._∷_ (Row.lease (κs .1 .0) (qs .1 .0)) (L._∷_ Row.alive (L._∷_ Row.off L.[]))) }
 
         abbrev G11 : Row.Cx
-        G11 = record { locals = g6; slots = L._∷_ Row.off (L._∷_ (Row.lease (κs .1 .0) (qs .1 .0)) (L._∷_ Row.alive (L._∷_ Row.off L.[]))); }
+        G11 = record { locals = g6; slots = L._∷_ Row.off (L._∷_ (Row.lease (κs .1 .0) (qs .1 .0)) (L._∷_ Row.alive (L._∷_ Row.off L.[]))) }
 
         abbrev G12 : Row.Cx
-        G12 = record { locals = g6; slots = L._∷_ Row.off (L._∷_ (Row.lease (κs .1 .0) (qs .1 .0)) (L._∷_ Row.alive (L._∷_ Row.alive L.[]))); }
+        G12 = record { locals = g6; slots = L._∷_ Row.off (L._∷_ (Row.lease (κs .1 .0) (qs .1 .0)) (L._∷_ Row.alive (L._∷_ Row.alive L.[]))) }
 
         abbrev G13 : Row.Cx
-        G13 = record { locals = g7; slots = L._∷_ Row.off (L._∷_ Row.off (L._∷_ Row.alive (L._∷_ Row.alive L.[]))); }
+        G13 = record { locals = g7; slots = L._∷_ Row.off (L._∷_ Row.off (L._∷_ Row.alive (L._∷_ Row.alive L.[]))) }
 
         abbrev G14 : Row.Cx
-        G14 = record { locals = g8; slots = L._∷_ Row.off (L._∷_ Row.off (L._∷_ Row.alive (L._∷_ Row.alive L.[]))); }
+        G14 = record { locals = g8; slots = L._∷_ Row.off (L._∷_ Row.off (L._∷_ Row.alive (L._∷_ Row.alive L.[]))) }
 
         abbrev G15 : Row.Cx
-        G15 = record { locals = g9; slots = L._∷_ Row.off (L._∷_ Row.off (L._∷_ Row.alive (L._∷_ Row.alive L.[]))); }
+        G15 = record { locals = g9; slots = L._∷_ Row.off (L._∷_ Row.off (L._∷_ Row.alive (L._∷_ Row.alive L.[]))) }
 
         abbrev G16 : Row.Cx
-        G16 = record { locals = g9; slots = L._∷_ Row.off (L._∷_ Row.off (L._∷_ Row.dead (L._∷_ Row.alive L.[]))); }
+        G16 = record { locals = g9; slots = L._∷_ Row.off (L._∷_ Row.off (L._∷_ Row.dead (L._∷_ Row.alive L.[]))) }
 
         abbrev G17 : Row.Cx
-        G17 = record { locals = g10; slots = L._∷_ (Row.lease (κs .0) (qs .0)) (L._∷_ Row.off (L._∷_ Row.dead (L._∷_ Row.alive L.[]))); }
+        G17 = record { locals = g10; slots = L._∷_ (Row.lease (κs .0) (qs .0)) (L._∷_ Row.off (L._∷_ Row.dead (L._∷_ Row.alive L.[]))) }
 
         abbrev G18 : Row.Cx
-        G18 = record { locals = g10; slots = L._∷_ (Row.lease (κs .0) (qs .0)) (L._∷_ Row.off (L._∷_ Row.off (L._∷_ Row.alive L.[]))); }
+        G18 = record { locals = g10; slots = L._∷_ (Row.lease (κs .0) (qs .0)) (L._∷_ Row.off (L._∷_ Row.off (L._∷_ Row.alive L.[]))) }
 
         abbrev G19 : Row.Cx
-        G19 = record { locals = g10; slots = L._∷_ (Row.lease (κs .0) (qs .0)) (L._∷_ Row.off (L._∷_ Row.off (L._∷_ Row.dead L.[]))); }
+        G19 = record { locals = g10; slots = L._∷_ (Row.lease (κs .0) (qs .0)) (L._∷_ Row.off (L._∷_ Row.off (L._∷_ Row.dead L.[]))) }
 
         abbrev G20 : Row.Cx
-        G20 = record { locals = t3; slots = L._∷_ (Row.lease (κs .0) (qs .0)) (L._∷_ (Row.lease (κs .1 .0) (qs .1 .0)) (L._∷_ Row.off (L._∷_ Row.dead L.[]))); }
+        G20 = record { locals = t3; slots = L._∷_ (Row.lease (κs .0) (qs .0)) (L._∷_ (Row.lease (κs .1 .0) (qs .1 .0)) (L._∷_ Row.off (L._∷_ Row.dead L.[]))) }
 
         abbrev G21 : Row.Cx
-        G21 = record { locals = t3; slots = L._∷_ (Row.lease (κs .0) (qs .0)) (L._∷_ (Row.lease (κs .1 .0) (qs .1 .0)) (L._∷_ Row.off (L._∷_ Row.off L.[]))); }
+        G21 = record { locals = t3; slots = L._∷_ (Row.lease (κs .0) (qs .0)) (L._∷_ (Row.lease (κs .1 .0) (qs .1 .0)) (L._∷_ Row.off (L._∷_ Row.off L.[]))) }
 
         abbrev G22 : Row.Cx
-        G22 = record { locals = t11; slots = L._∷_ (Row.lease (κs .0) (qs .0)) (L._∷_ (Row.lease (κs .1 .0) (qs .1 .0)) (L._∷_ Row.off (L._∷_ Row.off L.[]))); }
+        G22 = record { locals = t11; slots = L._∷_ (Row.lease (κs .0) (qs .0)) (L._∷_ (Row.lease (κs .1 .0) (qs .1 .0)) (L._∷_ Row.off (L._∷_ Row.off L.[]))) }
 
         abbrev G23 : Row.Cx
-        G23 = record { locals = t1; slots = L._∷_ (Row.lease (κs .0) (qs .0)) (L._∷_ (Row.lease (κs .1 .0) (qs .1 .0)) (L._∷_ Row.off (L._∷_ Row.off L.[]))); }
+        G23 = record { locals = t1; slots = L._∷_ (Row.lease (κs .0) (qs .0)) (L._∷_ (Row.lease (κs .1 .0) (qs .1 .0)) (L._∷_ Row.off (L._∷_ Row.off L.[]))) }
 
         abbrev Δ0 : Typed.Outs
         Δ0 = record { next = Option.none; exits = L.[]; returns = Option.some G1 }
@@ -577,7 +577,7 @@ module _ (claims· : Claims) where
           d4 = Scalar.t-cond 𝓤 H A W E 𝓣 G5 5 (λ x. x) b2 b3 Δ4 at1 at3 (Scalar.reads-sc 𝓤 H A W Row.sBool) Path.refl d1 d3
 
           d5 : Typed.Typed 𝓤 H A 𝓣 E G14 b9 Δ3 at5
-          d5 = Typed.s-typed 𝓤 H A W 𝓣 E G14 b9 Δ3 (λ Ψ. Typed.both s11 (Typed.both s13 (Typed.both s16 Ψ))) tt (Typed.g-post 𝓤 H A W 𝓣 E G14 G20 G21 b9 (λ Ψ. Typed.both s11 (Typed.both s13 (Typed.both s16 Ψ))) (λ Ψ. Ψ) (Typed.g-post 𝓤 H A W 𝓣 E G14 G19 G20 b9 (λ Ψ. Typed.both s11 (Typed.both s13 Ψ)) (Typed.both s16) (Typed.g-post 𝓤 H A W 𝓣 E G14 G18 G19 b9 (λ Ψ. Typed.both s11 (Typed.both s13 Ψ)) (λ Ψ. Ψ) (Typed.g-post 𝓤 H A W 𝓣 E G14 G17 G18 b9 (λ Ψ. Typed.both s11 (Typed.both s13 Ψ)) (λ Ψ. Ψ) (Typed.g-post 𝓤 H A W 𝓣 E G14 G16 G17 b9 (λ Ψ. Typed.both s11 Ψ) (Typed.both s13) (Typed.g-post 𝓤 H A W 𝓣 E G14 G15 G16 b9 (Typed.both s11) (λ Ψ. Ψ) (Plain.t-call-plain 𝓤 H A W 𝓣 2 ps·1 r·1 (claims· .2) (claims· .3) "search::turn" (known .1) E (λ pos β. β) G14 (record { pos = 4; st = L.[]; d = 0; at = λ x. x }, (record { pos = 7; ty = Syntax.tyRef Syntax.erased Syntax.mut (Syntax.tyInt Syntax.w32); ref = λ x. x; }, (record { pos = 9; ty = Syntax.tyRef Syntax.erased Syntax.mut Rec.named; ref = λ x. x; }, tt))) 4 (L._∷_ 2 (L._∷_ 3 L.[])) (Call.sub-id 𝓤 H A W (G14 .slots)) ((Yields.yields-copy 𝓤 H A W (λ ρ. Unit) (Declared.row Progress·.the-type) Path.refl (Copies.cStruct Progress·.the-type Progress-Laws·.the-laws Progress-Laws·.the-copy .copy 𝓤 H A W) q20 (λ x. x) (λ x. x) (λ ρ told. Local.mem-whole 𝓤 H A W (Declared.row Progress·.the-type) ρ) λ ρ told. Local.whole-mem 𝓤 H A W (Declared.row Progress·.the-type) ρ, Path.refl), (TReads.as-is 𝓤 H A (Mut.mslice (Signed.SInt Syntax.w32) q16 2), Mut.reads-mslice 𝓤 H A W (Signed.SInt Syntax.w32) q16 2, Path.refl, (TReads.as-is 𝓤 H A (Mut.mslice Rec.row q18 3), Mut.reads-mslice 𝓤 H A W Rec.row q18 3, Path.refl, tt))) (Local.room-whole 𝓤 H A W (Declared.row Progress·.the-type) (Syntax.tyStruct (L._∷_ 115 (L._∷_ 101 (L._∷_ 97 (L._∷_ 114 (L._∷_ 99 (L._∷_ 104 (L._∷_ 58 (L._∷_ 58 (L._∷_ 80 (L._∷_ 114 (L._∷_ 111 (L._∷_ 103 (L._∷_ 114 (L._∷_ 101 (L._∷_ 115 (L._∷_ 115 L.[])))))))))))))))) (Syntax.tcons q1 (Syntax.tcons (Syntax.tyInt Syntax.w64) (Syntax.tcons q2 (Syntax.tcons Syntax.tyBool (Syntax.tcons Syntax.tyBool (Syntax.tcons (Syntax.tyInt Syntax.w64) (Syntax.tcons (Syntax.tyInt Syntax.w64) Syntax.tnil)))))))) Path.refl) (tt, (tt, tt)) Path.refl) (Lifetime.g-end 𝓤 H A W E G15 2 Path.refl)) (Relend.g-back-sl 𝓤 H A W E (Signed.SInt Syntax.w32) G16 7 2 0 2 q14 q16 (Row.lease (κs .0) (qs .0)) (λ x. x) (λ x. x) (TReads.as-is 𝓤 H A (Mut.msleft (Signed.SInt Syntax.w32) q16)) (TReads.as-is 𝓤 H A (Relend.mslice-owed (Signed.SInt Syntax.w32) q14 0 2 (Row.lease (κs .0) (qs .0)))) Path.refl Path.refl)) (Lifetime.g-forget 𝓤 H A W E G17 2 Row.dead Path.refl)) (Lifetime.g-end 𝓤 H A W E G18 3 Path.refl)) (Relend.g-back-sl 𝓤 H A W E Rec.row G19 9 3 1 3 q17 q18 (Row.lease (κs .1 .0) (qs .1 .0)) (λ x. x) (λ x. x) (TReads.as-is 𝓤 H A (Mut.msleft Rec.row q18)) (TReads.as-is 𝓤 H A (Relend.mslice-owed Rec.row q17 1 3 (Row.lease (κs .1 .0) (qs .1 .0)))) Path.refl Path.refl)) (Lifetime.g-forget 𝓤 H A W E G20 3 Row.dead Path.refl))
+          d5 = Typed.s-typed 𝓤 H A W 𝓣 E G14 b9 Δ3 (λ Ψ. Typed.both s11 (Typed.both s13 (Typed.both s16 Ψ))) tt (Typed.g-post 𝓤 H A W 𝓣 E G14 G20 G21 b9 (λ Ψ. Typed.both s11 (Typed.both s13 (Typed.both s16 Ψ))) (λ Ψ. Ψ) (Typed.g-post 𝓤 H A W 𝓣 E G14 G19 G20 b9 (λ Ψ. Typed.both s11 (Typed.both s13 Ψ)) (Typed.both s16) (Typed.g-post 𝓤 H A W 𝓣 E G14 G18 G19 b9 (λ Ψ. Typed.both s11 (Typed.both s13 Ψ)) (λ Ψ. Ψ) (Typed.g-post 𝓤 H A W 𝓣 E G14 G17 G18 b9 (λ Ψ. Typed.both s11 (Typed.both s13 Ψ)) (λ Ψ. Ψ) (Typed.g-post 𝓤 H A W 𝓣 E G14 G16 G17 b9 (λ Ψ. Typed.both s11 Ψ) (Typed.both s13) (Typed.g-post 𝓤 H A W 𝓣 E G14 G15 G16 b9 (Typed.both s11) (λ Ψ. Ψ) (Plain.t-call-plain 𝓤 H A W 𝓣 2 ps·1 r·1 (claims· .2) (claims· .3) "search::turn" (known .1) E (λ pos β. β) G14 (record { pos = 4; st = L.[]; d = 0; at = λ x. x }, (record { pos = 7; ty = Syntax.tyRef Syntax.erased Syntax.mut (Syntax.tyInt Syntax.w32); ref = λ x. x }, (record { pos = 9; ty = Syntax.tyRef Syntax.erased Syntax.mut Rec.named; ref = λ x. x }, tt))) 4 (L._∷_ 2 (L._∷_ 3 L.[])) (Call.sub-id 𝓤 H A W (G14 .slots)) ((Yields.yields-copy 𝓤 H A W (λ ρ. Unit) (Declared.row Progress·.the-type) Path.refl (Copies.cStruct Progress·.the-type Progress-Laws·.the-laws Progress-Laws·.the-copy .copy 𝓤 H A W) q20 (λ x. x) (λ x. x) (λ ρ told. Local.mem-whole 𝓤 H A W (Declared.row Progress·.the-type) ρ) λ ρ told. Local.whole-mem 𝓤 H A W (Declared.row Progress·.the-type) ρ, Path.refl), (TReads.as-is 𝓤 H A (Mut.mslice (Signed.SInt Syntax.w32) q16 2), Mut.reads-mslice 𝓤 H A W (Signed.SInt Syntax.w32) q16 2, Path.refl, (TReads.as-is 𝓤 H A (Mut.mslice Rec.row q18 3), Mut.reads-mslice 𝓤 H A W Rec.row q18 3, Path.refl, tt))) (Local.room-whole 𝓤 H A W (Declared.row Progress·.the-type) (Syntax.tyStruct (L._∷_ 115 (L._∷_ 101 (L._∷_ 97 (L._∷_ 114 (L._∷_ 99 (L._∷_ 104 (L._∷_ 58 (L._∷_ 58 (L._∷_ 80 (L._∷_ 114 (L._∷_ 111 (L._∷_ 103 (L._∷_ 114 (L._∷_ 101 (L._∷_ 115 (L._∷_ 115 L.[])))))))))))))))) (Syntax.tcons q1 (Syntax.tcons (Syntax.tyInt Syntax.w64) (Syntax.tcons q2 (Syntax.tcons Syntax.tyBool (Syntax.tcons Syntax.tyBool (Syntax.tcons (Syntax.tyInt Syntax.w64) (Syntax.tcons (Syntax.tyInt Syntax.w64) Syntax.tnil)))))))) Path.refl) (tt, (tt, tt)) Path.refl) (Lifetime.g-end 𝓤 H A W E G15 2 Path.refl)) (Relend.g-back-sl 𝓤 H A W E (Signed.SInt Syntax.w32) G16 7 2 0 2 q14 q16 (Row.lease (κs .0) (qs .0)) (λ x. x) (λ x. x) (TReads.as-is 𝓤 H A (Mut.msleft (Signed.SInt Syntax.w32) q16)) (TReads.as-is 𝓤 H A (Relend.mslice-owed (Signed.SInt Syntax.w32) q14 0 2 (Row.lease (κs .0) (qs .0)))) Path.refl Path.refl)) (Lifetime.g-forget 𝓤 H A W E G17 2 Row.dead Path.refl)) (Lifetime.g-end 𝓤 H A W E G18 3 Path.refl)) (Relend.g-back-sl 𝓤 H A W E Rec.row G19 9 3 1 3 q17 q18 (Row.lease (κs .1 .0) (qs .1 .0)) (λ x. x) (λ x. x) (TReads.as-is 𝓤 H A (Mut.msleft Rec.row q18)) (TReads.as-is 𝓤 H A (Relend.mslice-owed Rec.row q17 1 3 (Row.lease (κs .1 .0) (qs .1 .0)))) Path.refl Path.refl)) (Lifetime.g-forget 𝓤 H A W E G20 3 Row.dead Path.refl))
 
           d6 : Typed.Typed 𝓤 H A 𝓣 E G13 b10 Δ3 at6
           d6 = Typed.s-seq 𝓤 H A W 𝓣 E G13 G14 b8 b9 Δ3 (Typed.ask s10) at5 (Relend.t-sl-aggregate 𝓤 H A W E Rec.row 𝓣 (Relend.asMut Rec.row) G13 8 9 3 q18 q18 (λ x. x) (Scalar.oFld 3 (L._∷_ (Syntax.field 1) L.[]) (Syntax.tyInt Syntax.w64) 8 λ v. Shared.lenV (v .0)) (TReads.as-is 𝓤 H A (Relend.msptr Rec.row q18 3)) (TReads.room-gone 𝓤 H A q6) (Relend.reads-owed-len 𝓤 H A W Rec.row q17 1 3 (Row.lease (κs .1 .0) (qs .1 .0)) 8 Path.refl, Path.refl) Path.refl Path.refl λ b o k. tt) d5
@@ -632,7 +632,7 @@ module _ (claims· : Claims) where
 
       module _ (κs : Lifetimes.Lfts 2) where
         pub record Args : Type 0 where
-          pub nodes : FnKinds.Den {n = 2} κs (Value.pVal record { ty = Declared.row network-proofs-Nodes·.the-type; one = Path.refl; val = StructLaws.val network-proofs-Nodes·.the-type network-proofs-Nodes-Laws·.the-laws; tells = StructLaws.tells network-proofs-Nodes·.the-type network-proofs-Nodes-Laws·.the-laws; still = StructLaws.still network-proofs-Nodes·.the-type network-proofs-Nodes-Laws·.the-copy Exit.yes; row = Rows.whole (Declared.row network-proofs-Nodes·.the-type); rd = λ x. x; mk = λ x. x; } λ M 𝓤 H A W. record { copies = StructLaws.copy network-proofs-Nodes·.the-type network-proofs-Nodes-Laws·.the-copy 𝓤 H A W; lawful = StructLaws.lawful network-proofs-Nodes·.the-type network-proofs-Nodes-Laws·.the-laws 𝓤 H A W; makes = StructLaws.makes network-proofs-Nodes·.the-type network-proofs-Nodes-Laws·.the-plain 𝓤 H A; in-mem = Local.mem-whole 𝓤 H A W (Declared.row network-proofs-Nodes·.the-type); of-mem = Local.whole-mem 𝓤 H A W (Declared.row network-proofs-Nodes·.the-type); })
+          pub nodes : FnKinds.Den {n = 2} κs (Value.pVal record { ty = Declared.row network-proofs-Nodes·.the-type; one = Path.refl; val = StructLaws.val network-proofs-Nodes·.the-type network-proofs-Nodes-Laws·.the-laws; tells = StructLaws.tells network-proofs-Nodes·.the-type network-proofs-Nodes-Laws·.the-laws; still = StructLaws.still network-proofs-Nodes·.the-type network-proofs-Nodes-Laws·.the-copy Exit.yes; row = Rows.whole (Declared.row network-proofs-Nodes·.the-type); rd = λ x. x; mk = λ x. x } λ M 𝓤 H A W. record { copies = StructLaws.copy network-proofs-Nodes·.the-type network-proofs-Nodes-Laws·.the-copy 𝓤 H A W; lawful = StructLaws.lawful network-proofs-Nodes·.the-type network-proofs-Nodes-Laws·.the-laws 𝓤 H A W; makes = StructLaws.makes network-proofs-Nodes·.the-type network-proofs-Nodes-Laws·.the-plain 𝓤 H A; in-mem = Local.mem-whole 𝓤 H A W (Declared.row network-proofs-Nodes·.the-type); of-mem = Local.whole-mem 𝓤 H A W (Declared.row network-proofs-Nodes·.the-type) })
           pub log : FnKinds.Den {n = 2} κs (MutSlice.pMutS (Signed.SInt Syntax.w32) 0 tt)
           pub arcs : FnKinds.Den {n = 2} κs (MutSlice.pMutS Rec.row 1 tt)
 
@@ -681,7 +681,7 @@ module _ (claims· : Claims) where
       Need-loop-holds = (c : After-start) → Inv·0 (Row.get 2 (T4 .locals) (m2 (c .before) (After-start·gave c)) .now) (Row.get 3 (T4 .locals) (m2 (c .before) (After-start·gave c)) .now) (Row.get 4 (T4 .locals) (m2 (c .before) (After-start·gave c))) (Row.get 2 (T4 .locals) (m2 (c .before) (After-start·gave c)) .now) (Row.get 3 (T4 .locals) (m2 (c .before) (After-start·gave c)) .now) (Row.get 4 (T4 .locals) (m2 (c .before) (After-start·gave c)))
 
       abbrev pub m3 : (before : After-start) → (log : L.List (Signed.SInt Syntax.w32 .Denot)) → (arcs : L.List (Rec.row .Denot)) → (at : Rows.whole (Declared.row Progress·.the-type) .Mod) → Typed.Mo T4
-      m3 = λ before log arcs at. Row.set 4 q19 at (Row.setRow 3 q12 (Row.setRow 2 q8 (T4 .locals))) (Row.set 3 q12 record { ptr = Row.get 3 (T4 .locals) (m2 (before .before) (After-start·gave before)) .ptr; name = Row.get 3 (T4 .locals) (m2 (before .before) (After-start·gave before)) .name; now = arcs; } (Row.setRow 2 q8 (T4 .locals)) (Row.set 2 q8 record { ptr = Row.get 2 (T4 .locals) (m2 (before .before) (After-start·gave before)) .ptr; name = Row.get 2 (T4 .locals) (m2 (before .before) (After-start·gave before)) .name; now = log; } (T4 .locals) (m2 (before .before) (After-start·gave before))))
+      m3 = λ before log arcs at. Row.set 4 q19 at (Row.setRow 3 q12 (Row.setRow 2 q8 (T4 .locals))) (Row.set 3 q12 record { ptr = Row.get 3 (T4 .locals) (m2 (before .before) (After-start·gave before)) .ptr; name = Row.get 3 (T4 .locals) (m2 (before .before) (After-start·gave before)) .name; now = arcs } (Row.setRow 2 q8 (T4 .locals)) (Row.set 2 q8 record { ptr = Row.get 2 (T4 .locals) (m2 (before .before) (After-start·gave before)) .ptr; name = Row.get 2 (T4 .locals) (m2 (before .before) (After-start·gave before)) .name; now = log } (T4 .locals) (m2 (before .before) (After-start·gave before))))
 
       abbrev W3 : (before : After-start) → (log : L.List (Signed.SInt Syntax.w32 .Denot)) → (arcs : L.List (Rec.row .Denot)) → (at : Rows.whole (Declared.row Progress·.the-type) .Mod) → Typed.Want O3
       W3 = λ before log arcs at. Typed.inLoop T4 O2 (Typed.Round T4 O2 put0 (λ u vs. Inv·0 (Row.get 2 (T4 .locals) u .now) (Row.get 3 (T4 .locals) u .now) (Row.get 4 (T4 .locals) u) (vs .0) (vs .1) (vs .2)) (λ u vs. μ·0 (Row.get 2 (T4 .locals) u .now) (Row.get 3 (T4 .locals) u .now) (Row.get 4 (T4 .locals) u) (vs .0) (vs .1) (vs .2)) at13 (m2 (before .before) (After-start·gave before)) (log, arcs, at)) (W2 (before .before) (After-start·gave before))
@@ -761,14 +761,14 @@ module _ (claims· : Claims) where
 
       module _ (before· : After-turn-arg2) where
         abbrev pub After-turn·own : Type 0
-        After-turn·own = Called.Called ps·1 r·1 (claims· .3) T14 (record { pos = 4; st = L.[]; d = 0; at = λ x. x }, (record { pos = 7; ty = Syntax.tyRef Syntax.erased Syntax.mut (Syntax.tyInt Syntax.w32); ref = λ x. x; }, (record { pos = 9; ty = Syntax.tyRef Syntax.erased Syntax.mut Rec.named; ref = λ x. x; }, tt))) (m10 (before· .before) (before· .turn-arg2 .given))
+        After-turn·own = Called.Called ps·1 r·1 (claims· .3) T14 (record { pos = 4; st = L.[]; d = 0; at = λ x. x }, (record { pos = 7; ty = Syntax.tyRef Syntax.erased Syntax.mut (Syntax.tyInt Syntax.w32); ref = λ x. x }, (record { pos = 9; ty = Syntax.tyRef Syntax.erased Syntax.mut Rec.named; ref = λ x. x }, tt))) (m10 (before· .before) (before· .turn-arg2 .given))
 
       pub record After-turn : Type 0 where
         pub before : After-turn-arg2
         pub turn : After-turn·own before
 
       abbrev pub After-turn·gave : (c : After-turn) → s11 .gives (m10 (c .before .before) (c .before .turn-arg2 .given))
-      After-turn·gave = λ c. Called.given ps·1 r·1 (claims· .3) T14 (record { pos = 4; st = L.[]; d = 0; at = λ x. x }, (record { pos = 7; ty = Syntax.tyRef Syntax.erased Syntax.mut (Syntax.tyInt Syntax.w32); ref = λ x. x; }, (record { pos = 9; ty = Syntax.tyRef Syntax.erased Syntax.mut Rec.named; ref = λ x. x; }, tt))) (m10 (c .before .before) (c .before .turn-arg2 .given)) (c .turn)
+      After-turn·gave = λ c. Called.given ps·1 r·1 (claims· .3) T14 (record { pos = 4; st = L.[]; d = 0; at = λ x. x }, (record { pos = 7; ty = Syntax.tyRef Syntax.erased Syntax.mut (Syntax.tyInt Syntax.w32); ref = λ x. x }, (record { pos = 9; ty = Syntax.tyRef Syntax.erased Syntax.mut Rec.named; ref = λ x. x }, tt))) (m10 (c .before .before) (c .before .turn-arg2 .given)) (c .turn)
 
       abbrev pub m12 : (before : After-turn) → (given : s13 .gives (m11 (before .before) (After-turn·gave before))) → Typed.Mo T17
       m12 = λ before given. s13 .next (m11 (before .before) (After-turn·gave before)) given
@@ -818,17 +818,17 @@ module _ (claims· : Claims) where
         lay3 = λ c. ((tt, (MutSlice.fix-len (Row.get 2 (T23 .locals) (m15 (c .before)) .ptr) (Row.get 2 (T23 .locals) (m15 (c .before)) .name) (Row.get 2 (T23 .locals) (m15 (c .before)) .now) (dens (c .before .before .before .κs) (c .before .before .before .args) .1 .0 .now) (same-length record { before = c .before; loop-test = c .loop-test }), (MutSlice.fix-len (Row.get 3 (T23 .locals) (m15 (c .before)) .ptr) (Row.get 3 (T23 .locals) (m15 (c .before)) .name) (Row.get 3 (T23 .locals) (m15 (c .before)) .now) (dens (c .before .before .before .κs) (c .before .before .before .args) .1 .1 .0 .now) (same-length-2 record { before = c .before; loop-test = c .loop-test }), tt))), returns record { before = c .before; loop-test = c .loop-test })
 
         lay2 : (c : In-loop) → at11 (W3 (c .before .before) (c .before .loop .log) (c .before .loop .arcs) (c .before .loop .at)) (m5 (c .before))
-        lay2 = λ c. λ g. (Path.refl, λ g'. (Path.refl, (turn-requires record { before = record { before = record { before = c .before; loop-test = c .loop-test }; turn-arg = record { given = g }; }; turn-arg2 = record { given = g' }; }, λ g''. (Path.refl, λ g'3. (Path.refl, λ g'4. (μ·0 (Row.get 2 (T4 .locals) (m2 (c .before .before .before) (After-start·gave (c .before .before))) .now) (Row.get 3 (T4 .locals) (m2 (c .before .before .before) (After-start·gave (c .before .before))) .now) (Row.get 4 (T4 .locals) (m2 (c .before .before .before) (After-start·gave (c .before .before)))) (Row.get 2 (T4 .locals) (m13 record { before = record { before = record { before = record { before = record { before = c .before; loop-test = c .loop-test }; turn-arg = record { given = g }; }; turn-arg2 = record { given = g' }; }; turn = Called.called ps·1 r·1 (claims· .3) T14 (record { pos = 4; st = L.[]; d = 0; at = λ x. x }, (record { pos = 7; ty = Syntax.tyRef Syntax.erased Syntax.mut (Syntax.tyInt Syntax.w32); ref = λ x. x; }, (record { pos = 9; ty = Syntax.tyRef Syntax.erased Syntax.mut Rec.named; ref = λ x. x; }, tt))) (m10 record { before = record { before = c .before; loop-test = c .loop-test }; turn-arg = record { given = g }; } g') g''; }; log = record { given = g'3 }; } g'4) .now) (Row.get 3 (T4 .locals) (m13 record { before = record { before = record { before = record { before = record { before = c .before; loop-test = c .loop-test }; turn-arg = record { given = g }; }; turn-arg2 = record { given = g' }; }; turn = Called.called ps·1 r·1 (claims· .3) T14 (record { pos = 4; st = L.[]; d = 0; at = λ x. x }, (record { pos = 7; ty = Syntax.tyRef Syntax.erased Syntax.mut (Syntax.tyInt Syntax.w32); ref = λ x. x; }, (record { pos = 9; ty = Syntax.tyRef Syntax.erased Syntax.mut Rec.named; ref = λ x. x; }, tt))) (m10 record { before = record { before = c .before; loop-test = c .loop-test }; turn-arg = record { given = g }; } g') g''; }; log = record { given = g'3 }; } g'4) .now) (Row.get 4 (T4 .locals) (m13 record { before = record { before = record { before = record { before = record { before = c .before; loop-test = c .loop-test }; turn-arg = record { given = g }; }; turn-arg2 = record { given = g' }; }; turn = Called.called ps·1 r·1 (claims· .3) T14 (record { pos = 4; st = L.[]; d = 0; at = λ x. x }, (record { pos = 7; ty = Syntax.tyRef Syntax.erased Syntax.mut (Syntax.tyInt Syntax.w32); ref = λ x. x; }, (record { pos = 9; ty = Syntax.tyRef Syntax.erased Syntax.mut Rec.named; ref = λ x. x; }, tt))) (m10 record { before = record { before = c .before; loop-test = c .loop-test }; turn-arg = record { given = g }; } g') g''; }; log = record { given = g'3 }; } g'4)), loop-less record { before = record { before = record { before = record { before = record { before = record { before = c .before; loop-test = c .loop-test }; turn-arg = record { given = g }; }; turn-arg2 = record { given = g' }; }; turn = Called.called ps·1 r·1 (claims· .3) T14 (record { pos = 4; st = L.[]; d = 0; at = λ x. x }, (record { pos = 7; ty = Syntax.tyRef Syntax.erased Syntax.mut (Syntax.tyInt Syntax.w32); ref = λ x. x; }, (record { pos = 9; ty = Syntax.tyRef Syntax.erased Syntax.mut Rec.named; ref = λ x. x; }, tt))) (m10 record { before = record { before = c .before; loop-test = c .loop-test }; turn-arg = record { given = g }; } g') g''; }; log = record { given = g'3 }; }; arcs = record { given = g'4 }; }, ((Row.get 2 (T4 .locals) (m13 record { before = record { before = record { before = record { before = record { before = c .before; loop-test = c .loop-test }; turn-arg = record { given = g }; }; turn-arg2 = record { given = g' }; }; turn = Called.called ps·1 r·1 (claims· .3) T14 (record { pos = 4; st = L.[]; d = 0; at = λ x. x }, (record { pos = 7; ty = Syntax.tyRef Syntax.erased Syntax.mut (Syntax.tyInt Syntax.w32); ref = λ x. x; }, (record { pos = 9; ty = Syntax.tyRef Syntax.erased Syntax.mut Rec.named; ref = λ x. x; }, tt))) (m10 record { before = record { before = c .before; loop-test = c .loop-test }; turn-arg = record { given = g }; } g') g''; }; log = record { given = g'3 }; } g'4) .now, Row.get 3 (T4 .locals) (m13 record { before = record { before = record { before = record { before = record { before = c .before; loop-test = c .loop-test }; turn-arg = record { given = g }; }; turn-arg2 = record { given = g' }; }; turn = Called.called ps·1 r·1 (claims· .3) T14 (record { pos = 4; st = L.[]; d = 0; at = λ x. x }, (record { pos = 7; ty = Syntax.tyRef Syntax.erased Syntax.mut (Syntax.tyInt Syntax.w32); ref = λ x. x; }, (record { pos = 9; ty = Syntax.tyRef Syntax.erased Syntax.mut Rec.named; ref = λ x. x; }, tt))) (m10 record { before = record { before = c .before; loop-test = c .loop-test }; turn-arg = record { given = g }; } g') g''; }; log = record { given = g'3 }; } g'4) .now, Row.get 4 (T4 .locals) (m13 record { before = record { before = record { before = record { before = record { before = c .before; loop-test = c .loop-test }; turn-arg = record { given = g }; }; turn-arg2 = record { given = g' }; }; turn = Called.called ps·1 r·1 (claims· .3) T14 (record { pos = 4; st = L.[]; d = 0; at = λ x. x }, (record { pos = 7; ty = Syntax.tyRef Syntax.erased Syntax.mut (Syntax.tyInt Syntax.w32); ref = λ x. x; }, (record { pos = 9; ty = Syntax.tyRef Syntax.erased Syntax.mut Rec.named; ref = λ x. x; }, tt))) (m10 record { before = record { before = c .before; loop-test = c .loop-test }; turn-arg = record { given = g }; } g') g''; }; log = record { given = g'3 }; } g'4)), Path.refl {a = m13 record { before = record { before = record { before = record { before = record { before = c .before; loop-test = c .loop-test }; turn-arg = record { given = g }; }; turn-arg2 = record { given = g' }; }; turn = Called.called ps·1 r·1 (claims· .3) T14 (record { pos = 4; st = L.[]; d = 0; at = λ x. x }, (record { pos = 7; ty = Syntax.tyRef Syntax.erased Syntax.mut (Syntax.tyInt Syntax.w32); ref = λ x. x; }, (record { pos = 9; ty = Syntax.tyRef Syntax.erased Syntax.mut Rec.named; ref = λ x. x; }, tt))) (m10 record { before = record { before = c .before; loop-test = c .loop-test }; turn-arg = record { given = g }; } g') g''; }; log = record { given = g'3 }; } g'4}, loop-again record { before = record { before = record { before = record { before = record { before = record { before = c .before; loop-test = c .loop-test }; turn-arg = record { given = g }; }; turn-arg2 = record { given = g' }; }; turn = Called.called ps·1 r·1 (claims· .3) T14 (record { pos = 4; st = L.[]; d = 0; at = λ x. x }, (record { pos = 7; ty = Syntax.tyRef Syntax.erased Syntax.mut (Syntax.tyInt Syntax.w32); ref = λ x. x; }, (record { pos = 9; ty = Syntax.tyRef Syntax.erased Syntax.mut Rec.named; ref = λ x. x; }, tt))) (m10 record { before = record { before = c .before; loop-test = c .loop-test }; turn-arg = record { given = g }; } g') g''; }; log = record { given = g'3 }; }; arcs = record { given = g'4 }; }, Path.refl {a = μ·0 (Row.get 2 (T4 .locals) (m2 (c .before .before .before) (After-start·gave (c .before .before))) .now) (Row.get 3 (T4 .locals) (m2 (c .before .before .before) (After-start·gave (c .before .before))) .now) (Row.get 4 (T4 .locals) (m2 (c .before .before .before) (After-start·gave (c .before .before)))) (Row.get 2 (T4 .locals) (m13 record { before = record { before = record { before = record { before = record { before = c .before; loop-test = c .loop-test; }; turn-arg = record { given = g }; }; turn-arg2 = record { given = g' }; }; turn = Called.called ps·1 r·1 (claims· .3) T14 (record { pos = 4; st = L.[]; d = 0; at = λ x. x }, (record { pos = 7; ty = Syntax.tyRef Syntax.erased Syntax.mut (Syntax.tyInt Syntax.w32); ref = λ x. x; }, (record { pos = 9; ty = Syntax.tyRef Syntax.erased Syntax.mut Rec.named; ref = λ x. x; }, tt))) (m10 record { before = record { before = c .before; loop-test = c .loop-test }; turn-arg = record { given = g }; } g') g''; }; log = record { given = g'3 }; } g'4) .now) (Row.get 3 (T4 .locals) (m13 record { before = record { before = record { before = record { before = record { before = c .before; loop-test = c .loop-test; }; turn-arg = record { given = g }; }; turn-arg2 = record { given = g' }; }; turn = Called.called ps·1 r·1 (claims· .3) T14 (record { pos = 4; st = L.[]; d = 0; at = λ x. x }, (record { pos = 7; ty = Syntax.tyRef Syntax.erased Syntax.mut (Syntax.tyInt Syntax.w32); ref = λ x. x; }, (record { pos = 9; ty = Syntax.tyRef Syntax.erased Syntax.mut Rec.named; ref = λ x. x; }, tt))) (m10 record { before = record { before = c .before; loop-test = c .loop-test }; turn-arg = record { given = g }; } g') g''; }; log = record { given = g'3 }; } g'4) .now) (Row.get 4 (T4 .locals) (m13 record { before = record { before = record { before = record { before = record { before = c .before; loop-test = c .loop-test; }; turn-arg = record { given = g }; }; turn-arg2 = record { given = g' }; }; turn = Called.called ps·1 r·1 (claims· .3) T14 (record { pos = 4; st = L.[]; d = 0; at = λ x. x }, (record { pos = 7; ty = Syntax.tyRef Syntax.erased Syntax.mut (Syntax.tyInt Syntax.w32); ref = λ x. x; }, (record { pos = 9; ty = Syntax.tyRef Syntax.erased Syntax.mut Rec.named; ref = λ x. x; }, tt))) (m10 record { before = record { before = c .before; loop-test = c .loop-test }; turn-arg = record { given = g }; } g') g''; }; log = record { given = g'3 }; } g'4))})))))))
+        lay2 = λ c. λ g. (Path.refl, λ g'. (Path.refl, (turn-requires record { before = record { before = record { before = c .before; loop-test = c .loop-test }; turn-arg = record { given = g } }; turn-arg2 = record { given = g' } }, λ g''. (Path.refl, λ g'3. (Path.refl, λ g'4. (μ·0 (Row.get 2 (T4 .locals) (m2 (c .before .before .before) (After-start·gave (c .before .before))) .now) (Row.get 3 (T4 .locals) (m2 (c .before .before .before) (After-start·gave (c .before .before))) .now) (Row.get 4 (T4 .locals) (m2 (c .before .before .before) (After-start·gave (c .before .before)))) (Row.get 2 (T4 .locals) (m13 record { before = record { before = record { before = record { before = record { before = c .before; loop-test = c .loop-test }; turn-arg = record { given = g } }; turn-arg2 = record { given = g' } }; turn = Called.called ps·1 r·1 (claims· .3) T14 (record { pos = 4; st = L.[]; d = 0; at = λ x. x }, (record { pos = 7; ty = Syntax.tyRef Syntax.erased Syntax.mut (Syntax.tyInt Syntax.w32); ref = λ x. x }, (record { pos = 9; ty = Syntax.tyRef Syntax.erased Syntax.mut Rec.named; ref = λ x. x }, tt))) (m10 record { before = record { before = c .before; loop-test = c .loop-test }; turn-arg = record { given = g } } g') g'' }; log = record { given = g'3 } } g'4) .now) (Row.get 3 (T4 .locals) (m13 record { before = record { before = record { before = record { before = record { before = c .before; loop-test = c .loop-test }; turn-arg = record { given = g } }; turn-arg2 = record { given = g' } }; turn = Called.called ps·1 r·1 (claims· .3) T14 (record { pos = 4; st = L.[]; d = 0; at = λ x. x }, (record { pos = 7; ty = Syntax.tyRef Syntax.erased Syntax.mut (Syntax.tyInt Syntax.w32); ref = λ x. x }, (record { pos = 9; ty = Syntax.tyRef Syntax.erased Syntax.mut Rec.named; ref = λ x. x }, tt))) (m10 record { before = record { before = c .before; loop-test = c .loop-test }; turn-arg = record { given = g } } g') g'' }; log = record { given = g'3 } } g'4) .now) (Row.get 4 (T4 .locals) (m13 record { before = record { before = record { before = record { before = record { before = c .before; loop-test = c .loop-test }; turn-arg = record { given = g } }; turn-arg2 = record { given = g' } }; turn = Called.called ps·1 r·1 (claims· .3) T14 (record { pos = 4; st = L.[]; d = 0; at = λ x. x }, (record { pos = 7; ty = Syntax.tyRef Syntax.erased Syntax.mut (Syntax.tyInt Syntax.w32); ref = λ x. x }, (record { pos = 9; ty = Syntax.tyRef Syntax.erased Syntax.mut Rec.named; ref = λ x. x }, tt))) (m10 record { before = record { before = c .before; loop-test = c .loop-test }; turn-arg = record { given = g } } g') g'' }; log = record { given = g'3 } } g'4)), loop-less record { before = record { before = record { before = record { before = record { before = record { before = c .before; loop-test = c .loop-test }; turn-arg = record { given = g } }; turn-arg2 = record { given = g' } }; turn = Called.called ps·1 r·1 (claims· .3) T14 (record { pos = 4; st = L.[]; d = 0; at = λ x. x }, (record { pos = 7; ty = Syntax.tyRef Syntax.erased Syntax.mut (Syntax.tyInt Syntax.w32); ref = λ x. x }, (record { pos = 9; ty = Syntax.tyRef Syntax.erased Syntax.mut Rec.named; ref = λ x. x }, tt))) (m10 record { before = record { before = c .before; loop-test = c .loop-test }; turn-arg = record { given = g } } g') g'' }; log = record { given = g'3 } }; arcs = record { given = g'4 } }, ((Row.get 2 (T4 .locals) (m13 record { before = record { before = record { before = record { before = record { before = c .before; loop-test = c .loop-test }; turn-arg = record { given = g } }; turn-arg2 = record { given = g' } }; turn = Called.called ps·1 r·1 (claims· .3) T14 (record { pos = 4; st = L.[]; d = 0; at = λ x. x }, (record { pos = 7; ty = Syntax.tyRef Syntax.erased Syntax.mut (Syntax.tyInt Syntax.w32); ref = λ x. x }, (record { pos = 9; ty = Syntax.tyRef Syntax.erased Syntax.mut Rec.named; ref = λ x. x }, tt))) (m10 record { before = record { before = c .before; loop-test = c .loop-test }; turn-arg = record { given = g } } g') g'' }; log = record { given = g'3 } } g'4) .now, Row.get 3 (T4 .locals) (m13 record { before = record { before = record { before = record { before = record { before = c .before; loop-test = c .loop-test }; turn-arg = record { given = g } }; turn-arg2 = record { given = g' } }; turn = Called.called ps·1 r·1 (claims· .3) T14 (record { pos = 4; st = L.[]; d = 0; at = λ x. x }, (record { pos = 7; ty = Syntax.tyRef Syntax.erased Syntax.mut (Syntax.tyInt Syntax.w32); ref = λ x. x }, (record { pos = 9; ty = Syntax.tyRef Syntax.erased Syntax.mut Rec.named; ref = λ x. x }, tt))) (m10 record { before = record { before = c .before; loop-test = c .loop-test }; turn-arg = record { given = g } } g') g'' }; log = record { given = g'3 } } g'4) .now, Row.get 4 (T4 .locals) (m13 record { before = record { before = record { before = record { before = record { before = c .before; loop-test = c .loop-test }; turn-arg = record { given = g } }; turn-arg2 = record { given = g' } }; turn = Called.called ps·1 r·1 (claims· .3) T14 (record { pos = 4; st = L.[]; d = 0; at = λ x. x }, (record { pos = 7; ty = Syntax.tyRef Syntax.erased Syntax.mut (Syntax.tyInt Syntax.w32); ref = λ x. x }, (record { pos = 9; ty = Syntax.tyRef Syntax.erased Syntax.mut Rec.named; ref = λ x. x }, tt))) (m10 record { before = record { before = c .before; loop-test = c .loop-test }; turn-arg = record { given = g } } g') g'' }; log = record { given = g'3 } } g'4)), Path.refl {a = m13 record { before = record { before = record { before = record { before = record { before = c .before; loop-test = c .loop-test }; turn-arg = record { given = g } }; turn-arg2 = record { given = g' } }; turn = Called.called ps·1 r·1 (claims· .3) T14 (record { pos = 4; st = L.[]; d = 0; at = λ x. x }, (record { pos = 7; ty = Syntax.tyRef Syntax.erased Syntax.mut (Syntax.tyInt Syntax.w32); ref = λ x. x }, (record { pos = 9; ty = Syntax.tyRef Syntax.erased Syntax.mut Rec.named; ref = λ x. x }, tt))) (m10 record { before = record { before = c .before; loop-test = c .loop-test }; turn-arg = record { given = g } } g') g'' }; log = record { given = g'3 } } g'4}, loop-again record { before = record { before = record { before = record { before = record { before = record { before = c .before; loop-test = c .loop-test }; turn-arg = record { given = g } }; turn-arg2 = record { given = g' } }; turn = Called.called ps·1 r·1 (claims· .3) T14 (record { pos = 4; st = L.[]; d = 0; at = λ x. x }, (record { pos = 7; ty = Syntax.tyRef Syntax.erased Syntax.mut (Syntax.tyInt Syntax.w32); ref = λ x. x }, (record { pos = 9; ty = Syntax.tyRef Syntax.erased Syntax.mut Rec.named; ref = λ x. x }, tt))) (m10 record { before = record { before = c .before; loop-test = c .loop-test }; turn-arg = record { given = g } } g') g'' }; log = record { given = g'3 } }; arcs = record { given = g'4 } }, Path.refl {a = μ·0 (Row.get 2 (T4 .locals) (m2 (c .before .before .before) (After-start·gave (c .before .before))) .now) (Row.get 3 (T4 .locals) (m2 (c .before .before .before) (After-start·gave (c .before .before))) .now) (Row.get 4 (T4 .locals) (m2 (c .before .before .before) (After-start·gave (c .before .before)))) (Row.get 2 (T4 .locals) (m13 record { before = record { before = record { before = record { before = record { before = c .before; loop-test = c .loop-test }; turn-arg = record { given = g } }; turn-arg2 = record { given = g' } }; turn = Called.called ps·1 r·1 (claims· .3) T14 (record { pos = 4; st = L.[]; d = 0; at = λ x. x }, (record { pos = 7; ty = Syntax.tyRef Syntax.erased Syntax.mut (Syntax.tyInt Syntax.w32); ref = λ x. x }, (record { pos = 9; ty = Syntax.tyRef Syntax.erased Syntax.mut Rec.named; ref = λ x. x }, tt))) (m10 record { before = record { before = c .before; loop-test = c .loop-test }; turn-arg = record { given = g } } g') g'' }; log = record { given = g'3 } } g'4) .now) (Row.get 3 (T4 .locals) (m13 record { before = record { before = record { before = record { before = record { before = c .before; loop-test = c .loop-test }; turn-arg = record { given = g } }; turn-arg2 = record { given = g' } }; turn = Called.called ps·1 r·1 (claims· .3) T14 (record { pos = 4; st = L.[]; d = 0; at = λ x. x }, (record { pos = 7; ty = Syntax.tyRef Syntax.erased Syntax.mut (Syntax.tyInt Syntax.w32); ref = λ x. x }, (record { pos = 9; ty = Syntax.tyRef Syntax.erased Syntax.mut Rec.named; ref = λ x. x }, tt))) (m10 record { before = record { before = c .before; loop-test = c .loop-test }; turn-arg = record { given = g } } g') g'' }; log = record { given = g'3 } } g'4) .now) (Row.get 4 (T4 .locals) (m13 record { before = record { before = record { before = record { before = record { before = c .before; loop-test = c .loop-test }; turn-arg = record { given = g } }; turn-arg2 = record { given = g' } }; turn = Called.called ps·1 r·1 (claims· .3) T14 (record { pos = 4; st = L.[]; d = 0; at = λ x. x }, (record { pos = 7; ty = Syntax.tyRef Syntax.erased Syntax.mut (Syntax.tyInt Syntax.w32); ref = λ x. x }, (record { pos = 9; ty = Syntax.tyRef Syntax.erased Syntax.mut Rec.named; ref = λ x. x }, tt))) (m10 record { before = record { before = c .before; loop-test = c .loop-test }; turn-arg = record { given = g } } g') g'' }; log = record { given = g'3 } } g'4))})))))))
 
         lay1 : (c : After-start) → at20 (W0 (c .before .κs) (c .before .args)) (m1 (c .before) (After-start·gave c))
-        lay1 = λ c. (((Row.get 2 (T4 .locals) (m2 (c .before) (After-start·gave c)) .now, Row.get 3 (T4 .locals) (m2 (c .before) (After-start·gave c)) .now, Row.get 4 (T4 .locals) (m2 (c .before) (After-start·gave c))), Path.refl {a = m2 (c .before) (After-start·gave c)}, loop-holds record { before = c .before; start = c .start }), λ vs inv. (λ taken. lay2 record { before = record { before = record { before = c .before; start = c .start }; loop = record { log = vs .0; arcs = vs .1; at = vs .2; inv = inv }; }; loop-test = record { taken = taken }; }, λ left. lay3 record { before = record { before = record { before = c .before; start = c .start }; loop = record { log = vs .0; arcs = vs .1; at = vs .2; inv = inv }; }; loop-test = record { left = left }; }))
+        lay1 = λ c. (((Row.get 2 (T4 .locals) (m2 (c .before) (After-start·gave c)) .now, Row.get 3 (T4 .locals) (m2 (c .before) (After-start·gave c)) .now, Row.get 4 (T4 .locals) (m2 (c .before) (After-start·gave c))), Path.refl {a = m2 (c .before) (After-start·gave c)}, loop-holds record { before = c .before; start = c .start }), λ vs inv. (λ taken. lay2 record { before = record { before = record { before = c .before; start = c .start }; loop = record { log = vs .0; arcs = vs .1; at = vs .2; inv = inv } }; loop-test = record { taken = taken } }, λ left. lay3 record { before = record { before = record { before = c .before; start = c .start }; loop = record { log = vs .0; arcs = vs .1; at = vs .2; inv = inv } }; loop-test = record { left = left } }))
 
         pub laid : (c : Start) → at21 (W0 (c .κs) (c .args)) (m0 (c .κs) (c .args))
-        laid = λ c. (start-requires c, λ g. lay1 record { before = c; start = Called.called ps·0 r·0 (claims· .1) T0 (record { pos = 1; st = L.[]; d = 0; at = λ x. x }, tt) (m0 (c .κs) (c .args)) g; })
+        laid = λ c. (start-requires c, λ g. lay1 record { before = c; start = Called.called ps·0 r·0 (claims· .1) T0 (record { pos = 1; st = L.[]; d = 0; at = λ x. x }, tt) (m0 (c .κs) (c .args)) g })
 
         module _ (κs : Lifetimes.Lfts 2) (qs : Lifetimes.Shares 2) where
           pub asked : (a : FnKinds.Dens κs ps) → (good : FnKinds.GoodsP κs ps a) → (pre : Pre· κs a) → (bs : L.List Nat.ℕ) → Φ (Any.wantQ 2 ps r xs m κs qs a (Post· κs a)) (Function.init 2 ps r xs m κs qs a)
-          asked = λ a good pre bs. laid record { κs = κs; args = record { nodes = a .0; log = a .1 .0; arcs = a .1 .1 .0 }; good = good; pre = pre; }
+          asked = λ a good pre bs. laid record { κs = κs; args = record { nodes = a .0; log = a .1 .0; arcs = a .1 .1 .0 }; good = good; pre = pre }
 
         module _ {M : Type 1} (𝓤 : URA.URA M) (H : Wp.Heap 𝓤) (A : Atoms.Atoms 𝓤) (W : Kit.Given 𝓤 H A) (𝓣 : Wp.Tables 𝓤 H) (known0 : Plain.Known 𝓤 H A W 𝓣 0 ps·0 r·0 (claims· .0) (claims· .1) "search::start") (known1 : Plain.Known 𝓤 H A W 𝓣 2 ps·1 r·1 (claims· .2) (claims· .3) "search::turn") where
           pub spec : Statement.Triple 𝓤 (Wp.WpFn 𝓤 H (𝓣 .C) (𝓣 .Λ) (Function.fnOf 2 ps r xs m hs body)) (Function.plainOf 𝓤 H A 2 ps r Pre· Post·)

@@ -18,4 +18,4 @@ abbrev pub ps : L.List (FnKinds.PK 1)
 ps = L._∷_ (ShrSlice.pShrS Rec.row 0 tt) (L._∷_ (FnKinds.pNum Syntax.w64) (L._∷_ (FnKinds.pNum Syntax.w64) L.[]))
 
 abbrev pub r : FnKinds.RK 1
-r = Value.rVal record { ty = Declared.row network-proofs-ArcUpdate·.the-type; one = Path.refl; val = StructLaws.val network-proofs-ArcUpdate·.the-type network-proofs-ArcUpdate-Laws·.the-laws; tells = StructLaws.tells network-proofs-ArcUpdate·.the-type network-proofs-ArcUpdate-Laws·.the-laws; still = StructLaws.still network-proofs-ArcUpdate·.the-type network-proofs-ArcUpdate-Laws·.the-copy Exit.yes; row = Rows.whole (Declared.row network-proofs-ArcUpdate·.the-type); rd = λ x. x; mk = λ x. x; } λ M 𝓤 H A W. record { copies = StructLaws.copy network-proofs-ArcUpdate·.the-type network-proofs-ArcUpdate-Laws·.the-copy 𝓤 H A W; lawful = StructLaws.lawful network-proofs-ArcUpdate·.the-type network-proofs-ArcUpdate-Laws·.the-laws 𝓤 H A W; makes = StructLaws.makes network-proofs-ArcUpdate·.the-type network-proofs-ArcUpdate-Laws·.the-plain 𝓤 H A; in-mem = Local.mem-whole 𝓤 H A W (Declared.row network-proofs-ArcUpdate·.the-type); of-mem = Local.whole-mem 𝓤 H A W (Declared.row network-proofs-ArcUpdate·.the-type); }
+r = Value.rVal record { ty = Declared.row network-proofs-ArcUpdate·.the-type; one = Path.refl; val = StructLaws.val network-proofs-ArcUpdate·.the-type network-proofs-ArcUpdate-Laws·.the-laws; tells = StructLaws.tells network-proofs-ArcUpdate·.the-type network-proofs-ArcUpdate-Laws·.the-laws; still = StructLaws.still network-proofs-ArcUpdate·.the-type network-proofs-ArcUpdate-Laws·.the-copy Exit.yes; row = Rows.whole (Declared.row network-proofs-ArcUpdate·.the-type); rd = λ x. x; mk = λ x. x } λ M 𝓤 H A W. record { copies = StructLaws.copy network-proofs-ArcUpdate·.the-type network-proofs-ArcUpdate-Laws·.the-copy 𝓤 H A W; lawful = StructLaws.lawful network-proofs-ArcUpdate·.the-type network-proofs-ArcUpdate-Laws·.the-laws 𝓤 H A W; makes = StructLaws.makes network-proofs-ArcUpdate·.the-type network-proofs-ArcUpdate-Laws·.the-plain 𝓤 H A; in-mem = Local.mem-whole 𝓤 H A W (Declared.row network-proofs-ArcUpdate·.the-type); of-mem = Local.whole-mem 𝓤 H A W (Declared.row network-proofs-ArcUpdate·.the-type) }

@@ -65,7 +65,7 @@ abbrev pub ps : L.List (FnKinds.PK 1)
 ps = L._∷_ (ShrSlice.pShrS Rec.row 0 tt) (L._∷_ (Num.pNum Syntax.w64) (L._∷_ (Num.pNum Syntax.w64) L.[]))
 
 abbrev pub r : FnKinds.RK 1
-r = Value.rVal record { ty = Declared.row network-proofs-ArcUpdate·.the-type; one = Path.refl; val = StructLaws.val network-proofs-ArcUpdate·.the-type network-proofs-ArcUpdate-Laws·.the-laws; tells = StructLaws.tells network-proofs-ArcUpdate·.the-type network-proofs-ArcUpdate-Laws·.the-laws; still = StructLaws.still network-proofs-ArcUpdate·.the-type network-proofs-ArcUpdate-Laws·.the-copy Exit.yes; row = Rows.whole (Declared.row network-proofs-ArcUpdate·.the-type); rd = λ x. x; mk = λ x. x; } λ M 𝓤 H A W. record { copies = StructLaws.copy network-proofs-ArcUpdate·.the-type network-proofs-ArcUpdate-Laws·.the-copy 𝓤 H A W; lawful = StructLaws.lawful network-proofs-ArcUpdate·.the-type network-proofs-ArcUpdate-Laws·.the-laws 𝓤 H A W; makes = StructLaws.makes network-proofs-ArcUpdate·.the-type network-proofs-ArcUpdate-Laws·.the-plain 𝓤 H A; in-mem = Local.mem-whole 𝓤 H A W (Declared.row network-proofs-ArcUpdate·.the-type); of-mem = Local.whole-mem 𝓤 H A W (Declared.row network-proofs-ArcUpdate·.the-type); }
+r = Value.rVal record { ty = Declared.row network-proofs-ArcUpdate·.the-type; one = Path.refl; val = StructLaws.val network-proofs-ArcUpdate·.the-type network-proofs-ArcUpdate-Laws·.the-laws; tells = StructLaws.tells network-proofs-ArcUpdate·.the-type network-proofs-ArcUpdate-Laws·.the-laws; still = StructLaws.still network-proofs-ArcUpdate·.the-type network-proofs-ArcUpdate-Laws·.the-copy Exit.yes; row = Rows.whole (Declared.row network-proofs-ArcUpdate·.the-type); rd = λ x. x; mk = λ x. x } λ M 𝓤 H A W. record { copies = StructLaws.copy network-proofs-ArcUpdate·.the-type network-proofs-ArcUpdate-Laws·.the-copy 𝓤 H A W; lawful = StructLaws.lawful network-proofs-ArcUpdate·.the-type network-proofs-ArcUpdate-Laws·.the-laws 𝓤 H A W; makes = StructLaws.makes network-proofs-ArcUpdate·.the-type network-proofs-ArcUpdate-Laws·.the-plain 𝓤 H A; in-mem = Local.mem-whole 𝓤 H A W (Declared.row network-proofs-ArcUpdate·.the-type); of-mem = Local.whole-mem 𝓤 H A W (Declared.row network-proofs-ArcUpdate·.the-type) }
 
 abbrev pub xs : L.List Syntax.Ty
 xs = L._∷_ (Syntax.tyInt Syntax.w64) (L._∷_ Rec.by-value L.[])
@@ -89,7 +89,7 @@ abbrev pub ps·2 : L.List (FnKinds.PK 0)
 ps·2 = L._∷_ (Num.pNum Syntax.w64) (L._∷_ Rec.param L.[])
 
 abbrev pub r·2 : FnKinds.RK 0
-r·2 = Value.rVal record { ty = Declared.row network-proofs-ArcUpdate·.the-type; one = Path.refl; val = StructLaws.val network-proofs-ArcUpdate·.the-type network-proofs-ArcUpdate-Laws·.the-laws; tells = StructLaws.tells network-proofs-ArcUpdate·.the-type network-proofs-ArcUpdate-Laws·.the-laws; still = StructLaws.still network-proofs-ArcUpdate·.the-type network-proofs-ArcUpdate-Laws·.the-copy Exit.yes; row = Rows.whole (Declared.row network-proofs-ArcUpdate·.the-type); rd = λ x. x; mk = λ x. x; } λ M 𝓤 H A W. record { copies = StructLaws.copy network-proofs-ArcUpdate·.the-type network-proofs-ArcUpdate-Laws·.the-copy 𝓤 H A W; lawful = StructLaws.lawful network-proofs-ArcUpdate·.the-type network-proofs-ArcUpdate-Laws·.the-laws 𝓤 H A W; makes = StructLaws.makes network-proofs-ArcUpdate·.the-type network-proofs-ArcUpdate-Laws·.the-plain 𝓤 H A; in-mem = Local.mem-whole 𝓤 H A W (Declared.row network-proofs-ArcUpdate·.the-type); of-mem = Local.whole-mem 𝓤 H A W (Declared.row network-proofs-ArcUpdate·.the-type); }
+r·2 = Value.rVal record { ty = Declared.row network-proofs-ArcUpdate·.the-type; one = Path.refl; val = StructLaws.val network-proofs-ArcUpdate·.the-type network-proofs-ArcUpdate-Laws·.the-laws; tells = StructLaws.tells network-proofs-ArcUpdate·.the-type network-proofs-ArcUpdate-Laws·.the-laws; still = StructLaws.still network-proofs-ArcUpdate·.the-type network-proofs-ArcUpdate-Laws·.the-copy Exit.yes; row = Rows.whole (Declared.row network-proofs-ArcUpdate·.the-type); rd = λ x. x; mk = λ x. x } λ M 𝓤 H A W. record { copies = StructLaws.copy network-proofs-ArcUpdate·.the-type network-proofs-ArcUpdate-Laws·.the-copy 𝓤 H A W; lawful = StructLaws.lawful network-proofs-ArcUpdate·.the-type network-proofs-ArcUpdate-Laws·.the-laws 𝓤 H A W; makes = StructLaws.makes network-proofs-ArcUpdate·.the-type network-proofs-ArcUpdate-Laws·.the-plain 𝓤 H A; in-mem = Local.mem-whole 𝓤 H A W (Declared.row network-proofs-ArcUpdate·.the-type); of-mem = Local.whole-mem 𝓤 H A W (Declared.row network-proofs-ArcUpdate·.the-type) }
 
 abbrev pub hs : L.List Syntax.Home
 hs = L._∷_ Syntax.valueLocal (L._∷_ Syntax.valueLocal (L._∷_ Syntax.valueLocal (L._∷_ Syntax.valueLocal (L._∷_ Syntax.valueLocal (L._∷_ Syntax.valueLocal L.[])))))
@@ -177,10 +177,10 @@ O0 = record { next = Option.none; exits = L.[]; returns = Option.some T1 }
 
 module _ (claims· : Claims) where
   abbrev s0 : Typed.Both T0 T2
-  s0 = Call.callB ps·0 r·0 (claims· .0) (claims· .1) T0 (record { pos = 1; ty = Syntax.tyRef (Syntax.named 0) Syntax.imm Rec.named; ref = λ x. x; }, (Num.vAt 2 λ x. x, (Num.vAt 3 λ x. x, tt))) 4 (L._∷_ 0 L.[]) (Syntax.tyInt Syntax.w64)
+  s0 = Call.callB ps·0 r·0 (claims· .0) (claims· .1) T0 (record { pos = 1; ty = Syntax.tyRef (Syntax.named 0) Syntax.imm Rec.named; ref = λ x. x }, (Num.vAt 2 λ x. x, (Num.vAt 3 λ x. x, tt))) 4 (L._∷_ 0 L.[]) (Syntax.tyInt Syntax.w64)
 
   abbrev s1 : Typed.Both T2 T3
-  s1 = Call.callB ps·1 r·1 (claims· .2) (claims· .3) T2 (record { pos = 1; ty = Syntax.tyRef (Syntax.named 0) Syntax.imm Rec.named; ref = λ x. x; }, (Num.vAt 4 λ x. x, tt)) 5 (L._∷_ 0 L.[]) Rec.by-value
+  s1 = Call.callB ps·1 r·1 (claims· .2) (claims· .3) T2 (record { pos = 1; ty = Syntax.tyRef (Syntax.named 0) Syntax.imm Rec.named; ref = λ x. x }, (Num.vAt 4 λ x. x, tt)) 5 (L._∷_ 0 L.[]) Rec.by-value
 
   abbrev s2 : Typed.Both T3 T4
   s2 = Call.callB ps·2 r·2 (claims· .4) (claims· .5) T3 (Num.vAt 4 λ x. x, (record { pos = 5; st = L.[]; d = 0; at = λ x. x }, tt)) 0 L.[] q0
@@ -288,10 +288,10 @@ module _ (claims· : Claims) where
           d5 = Typed.s-seq 𝓤 H A W 𝓣 E G3 G4 b2 b3 Δ0 (Typed.both s2) at4 (Plain.t-call-plain 𝓤 H A W 𝓣 0 ps·2 r·2 (claims· .4) (claims· .5) "step::numbered" (known .2) E (λ pos β. β) G3 (Num.vAt 4 λ x. x, (record { pos = 5; st = L.[]; d = 0; at = λ x. x }, tt)) 0 L.[] (Call.sub-id 𝓤 H A W (G3 .slots)) ((Scalar.reads-sc 𝓤 H A W (Row.sInt Syntax.w64), Path.refl), ((Rec.yields 𝓤 H A W, Path.refl), tt)) (TReads.room-gone 𝓤 H A q0) tt Path.refl) d4
 
           d6 : Typed.Typed 𝓤 H A 𝓣 E G2 b5 Δ0 at6
-          d6 = Typed.s-seq 𝓤 H A W 𝓣 E G2 G3 b1 b4 Δ0 (Typed.both s1) at5 (Plain.t-call-plain 𝓤 H A W 𝓣 1 ps·1 r·1 (claims· .2) (claims· .3) "network::list::read" (known .1) E (λ pos β. β) G2 (record { pos = 1; ty = Syntax.tyRef (Syntax.named 0) Syntax.imm Rec.named; ref = λ x. x; }, (Num.vAt 4 λ x. x, tt)) 5 (L._∷_ 0 L.[]) (Call.sub-id 𝓤 H A W (G2 .slots)) (ShrSlice.spares-sslice 𝓤 H A W Rec.row q3 0, Shared.reads-sslice 𝓤 H A W Rec.row q3 0, Path.refl, ((Scalar.reads-sc 𝓤 H A W (Row.sInt Syntax.w64), Path.refl), tt)) (TReads.room-gone 𝓤 H A Rec.by-value) (tt, tt) Path.refl) d5
+          d6 = Typed.s-seq 𝓤 H A W 𝓣 E G2 G3 b1 b4 Δ0 (Typed.both s1) at5 (Plain.t-call-plain 𝓤 H A W 𝓣 1 ps·1 r·1 (claims· .2) (claims· .3) "network::list::read" (known .1) E (λ pos β. β) G2 (record { pos = 1; ty = Syntax.tyRef (Syntax.named 0) Syntax.imm Rec.named; ref = λ x. x }, (Num.vAt 4 λ x. x, tt)) 5 (L._∷_ 0 L.[]) (Call.sub-id 𝓤 H A W (G2 .slots)) (ShrSlice.spares-sslice 𝓤 H A W Rec.row q3 0, Shared.reads-sslice 𝓤 H A W Rec.row q3 0, Path.refl, ((Scalar.reads-sc 𝓤 H A W (Row.sInt Syntax.w64), Path.refl), tt)) (TReads.room-gone 𝓤 H A Rec.by-value) (tt, tt) Path.refl) d5
 
           d7 : Typed.Typed 𝓤 H A 𝓣 E G0 b6 Δ0 at7
-          d7 = Typed.s-seq 𝓤 H A W 𝓣 E G0 G2 b0 b5 Δ0 (Typed.both s0) at6 (Plain.t-call-plain 𝓤 H A W 𝓣 1 ps·0 r·0 (claims· .0) (claims· .1) "network::list::touching" (known .0) E (λ pos β. β) G0 (record { pos = 1; ty = Syntax.tyRef (Syntax.named 0) Syntax.imm Rec.named; ref = λ x. x; }, (Num.vAt 2 λ x. x, (Num.vAt 3 λ x. x, tt))) 4 (L._∷_ 0 L.[]) (Call.sub-id 𝓤 H A W (G0 .slots)) (ShrSlice.spares-sslice 𝓤 H A W Rec.row q3 0, Shared.reads-sslice 𝓤 H A W Rec.row q3 0, Path.refl, ((Scalar.reads-sc 𝓤 H A W (Row.sInt Syntax.w64), Path.refl), ((Scalar.reads-sc 𝓤 H A W (Row.sInt Syntax.w64), Path.refl), tt))) (TReads.room-gone 𝓤 H A (Syntax.tyInt Syntax.w64)) (tt, tt) Path.refl) d6
+          d7 = Typed.s-seq 𝓤 H A W 𝓣 E G0 G2 b0 b5 Δ0 (Typed.both s0) at6 (Plain.t-call-plain 𝓤 H A W 𝓣 1 ps·0 r·0 (claims· .0) (claims· .1) "network::list::touching" (known .0) E (λ pos β. β) G0 (record { pos = 1; ty = Syntax.tyRef (Syntax.named 0) Syntax.imm Rec.named; ref = λ x. x }, (Num.vAt 2 λ x. x, (Num.vAt 3 λ x. x, tt))) 4 (L._∷_ 0 L.[]) (Call.sub-id 𝓤 H A W (G0 .slots)) (ShrSlice.spares-sslice 𝓤 H A W Rec.row q3 0, Shared.reads-sslice 𝓤 H A W Rec.row q3 0, Path.refl, ((Scalar.reads-sc 𝓤 H A W (Row.sInt Syntax.w64), Path.refl), ((Scalar.reads-sc 𝓤 H A W (Row.sInt Syntax.w64), Path.refl), tt))) (TReads.room-gone 𝓤 H A (Syntax.tyInt Syntax.w64)) (tt, tt) Path.refl) d6
 
           pub typed : Typed.Typed 𝓤 H A 𝓣 E (Function.Γin 1 ps r xs m κs qs) b6 (Function.Δret 1 ps r xs m κs qs) Φ
           typed = d7
@@ -331,14 +331,14 @@ module _ (claims· : Claims) where
 
       module _ (before· : Start) where
         abbrev pub After-touching·own : Type 0
-        After-touching·own = Called.Called ps·0 r·0 (claims· .1) T0 (record { pos = 1; ty = Syntax.tyRef (Syntax.named 0) Syntax.imm Rec.named; ref = λ x. x; }, (Num.vAt 2 λ x. x, (Num.vAt 3 λ x. x, tt))) (m0 (before· .κs) (before· .args))
+        After-touching·own = Called.Called ps·0 r·0 (claims· .1) T0 (record { pos = 1; ty = Syntax.tyRef (Syntax.named 0) Syntax.imm Rec.named; ref = λ x. x }, (Num.vAt 2 λ x. x, (Num.vAt 3 λ x. x, tt))) (m0 (before· .κs) (before· .args))
 
       pub record After-touching : Type 0 where
         pub before : Start
         pub touching : After-touching·own before
 
       abbrev pub After-touching·gave : (c : After-touching) → s0 .gives (m0 (c .before .κs) (c .before .args))
-      After-touching·gave = λ c. Called.given ps·0 r·0 (claims· .1) T0 (record { pos = 1; ty = Syntax.tyRef (Syntax.named 0) Syntax.imm Rec.named; ref = λ x. x; }, (Num.vAt 2 λ x. x, (Num.vAt 3 λ x. x, tt))) (m0 (c .before .κs) (c .before .args)) (c .touching)
+      After-touching·gave = λ c. Called.given ps·0 r·0 (claims· .1) T0 (record { pos = 1; ty = Syntax.tyRef (Syntax.named 0) Syntax.imm Rec.named; ref = λ x. x }, (Num.vAt 2 λ x. x, (Num.vAt 3 λ x. x, tt))) (m0 (c .before .κs) (c .before .args)) (c .touching)
 
       abbrev pub Need-read-requires : Type 0
       Need-read-requires = (c : After-touching) → s1 .asks (m1 (c .before) (After-touching·gave c))
@@ -348,14 +348,14 @@ module _ (claims· : Claims) where
 
       module _ (before· : After-touching) where
         abbrev pub After-read·own : Type 0
-        After-read·own = Called.Called ps·1 r·1 (claims· .3) T2 (record { pos = 1; ty = Syntax.tyRef (Syntax.named 0) Syntax.imm Rec.named; ref = λ x. x; }, (Num.vAt 4 λ x. x, tt)) (m1 (before· .before) (After-touching·gave before·))
+        After-read·own = Called.Called ps·1 r·1 (claims· .3) T2 (record { pos = 1; ty = Syntax.tyRef (Syntax.named 0) Syntax.imm Rec.named; ref = λ x. x }, (Num.vAt 4 λ x. x, tt)) (m1 (before· .before) (After-touching·gave before·))
 
       pub record After-read : Type 0 where
         pub before : After-touching
         pub read : After-read·own before
 
       abbrev pub After-read·gave : (c : After-read) → s1 .gives (m1 (c .before .before) (After-touching·gave (c .before)))
-      After-read·gave = λ c. Called.given ps·1 r·1 (claims· .3) T2 (record { pos = 1; ty = Syntax.tyRef (Syntax.named 0) Syntax.imm Rec.named; ref = λ x. x; }, (Num.vAt 4 λ x. x, tt)) (m1 (c .before .before) (After-touching·gave (c .before))) (c .read)
+      After-read·gave = λ c. Called.given ps·1 r·1 (claims· .3) T2 (record { pos = 1; ty = Syntax.tyRef (Syntax.named 0) Syntax.imm Rec.named; ref = λ x. x }, (Num.vAt 4 λ x. x, tt)) (m1 (c .before .before) (After-touching·gave (c .before))) (c .read)
 
       abbrev pub Need-numbered-requires : Type 0
       Need-numbered-requires = (c : After-read) → s2 .asks (m2 (c .before) (After-read·gave c))
@@ -394,17 +394,17 @@ module _ (claims· : Claims) where
         lay3 = λ c. ((Path.refl, (tt, (tt, tt))), returns record { before = c .before; numbered = c .numbered })
 
         lay2 : (c : After-read) → at5 (W0 (c .before .before .κs) (c .before .before .args)) (m2 (c .before) (After-read·gave c))
-        lay2 = λ c. (numbered-requires record { before = c .before; read = c .read }, λ g. lay3 record { before = record { before = c .before; read = c .read }; numbered = Called.called ps·2 r·2 (claims· .5) T3 (Num.vAt 4 λ x. x, (record { pos = 5; st = L.[]; d = 0; at = λ x. x }, tt)) (m2 (c .before) (After-read·gave c)) g; })
+        lay2 = λ c. (numbered-requires record { before = c .before; read = c .read }, λ g. lay3 record { before = record { before = c .before; read = c .read }; numbered = Called.called ps·2 r·2 (claims· .5) T3 (Num.vAt 4 λ x. x, (record { pos = 5; st = L.[]; d = 0; at = λ x. x }, tt)) (m2 (c .before) (After-read·gave c)) g })
 
         lay1 : (c : After-touching) → at6 (W0 (c .before .κs) (c .before .args)) (m1 (c .before) (After-touching·gave c))
-        lay1 = λ c. (read-requires record { before = c .before; touching = c .touching }, λ g. lay2 record { before = record { before = c .before; touching = c .touching }; read = Called.called ps·1 r·1 (claims· .3) T2 (record { pos = 1; ty = Syntax.tyRef (Syntax.named 0) Syntax.imm Rec.named; ref = λ x. x; }, (Num.vAt 4 λ x. x, tt)) (m1 (c .before) (After-touching·gave c)) g; })
+        lay1 = λ c. (read-requires record { before = c .before; touching = c .touching }, λ g. lay2 record { before = record { before = c .before; touching = c .touching }; read = Called.called ps·1 r·1 (claims· .3) T2 (record { pos = 1; ty = Syntax.tyRef (Syntax.named 0) Syntax.imm Rec.named; ref = λ x. x }, (Num.vAt 4 λ x. x, tt)) (m1 (c .before) (After-touching·gave c)) g })
 
         pub laid : (c : Start) → at7 (W0 (c .κs) (c .args)) (m0 (c .κs) (c .args))
-        laid = λ c. (touching-requires c, λ g. lay1 record { before = c; touching = Called.called ps·0 r·0 (claims· .1) T0 (record { pos = 1; ty = Syntax.tyRef (Syntax.named 0) Syntax.imm Rec.named; ref = λ x. x; }, (Num.vAt 2 λ x. x, (Num.vAt 3 λ x. x, tt))) (m0 (c .κs) (c .args)) g; })
+        laid = λ c. (touching-requires c, λ g. lay1 record { before = c; touching = Called.called ps·0 r·0 (claims· .1) T0 (record { pos = 1; ty = Syntax.tyRef (Syntax.named 0) Syntax.imm Rec.named; ref = λ x. x }, (Num.vAt 2 λ x. x, (Num.vAt 3 λ x. x, tt))) (m0 (c .κs) (c .args)) g })
 
         module _ (κs : Lifetimes.Lfts 1) (qs : Lifetimes.Shares 1) where
           pub asked : (a : FnKinds.Dens κs ps) → (good : FnKinds.GoodsP κs ps a) → (pre : Pre· κs a) → (bs : L.List Nat.ℕ) → Φ (Any.wantQ 1 ps r xs m κs qs a (Post· κs a)) (Function.init 1 ps r xs m κs qs a)
-          asked = λ a good pre bs. laid record { κs = κs; args = record { arcs = a .0; i = a .1 .0; k = a .1 .1 .0 }; good = good; fits = record { i = record { fits = good .1 .0 .1 }; k = record { fits = good .1 .1 .0 .1 }; }; pre = pre; }
+          asked = λ a good pre bs. laid record { κs = κs; args = record { arcs = a .0; i = a .1 .0; k = a .1 .1 .0 }; good = good; fits = record { i = record { fits = good .1 .0 .1 }; k = record { fits = good .1 .1 .0 .1 } }; pre = pre }
 
         module _ {M : Type 1} (𝓤 : URA.URA M) (H : Wp.Heap 𝓤) (A : Atoms.Atoms 𝓤) (W : Kit.Given 𝓤 H A) (𝓣 : Wp.Tables 𝓤 H) (known0 : Plain.Known 𝓤 H A W 𝓣 1 ps·0 r·0 (claims· .0) (claims· .1) "network::list::touching") (known1 : Plain.Known 𝓤 H A W 𝓣 1 ps·1 r·1 (claims· .2) (claims· .3) "network::list::read") (known2 : Plain.Known 𝓤 H A W 𝓣 0 ps·2 r·2 (claims· .4) (claims· .5) "step::numbered") where
           pub spec : Statement.Triple 𝓤 (Wp.WpFn 𝓤 H (𝓣 .C) (𝓣 .Λ) (Function.fnOf 1 ps r xs m hs body)) (Function.plainOf 𝓤 H A 1 ps r Pre· Post·)

@@ -105,7 +105,7 @@ abbrev pub ps : L.List (FnKinds.PK 1)
 ps = L._∷_ (ShrSlice.pShrS Rec.row 0 tt) (L._∷_ (Num.pNum Syntax.w64) (L._∷_ (Num.pNum Syntax.w64) L.[]))
 
 abbrev pub r : FnKinds.RK 1
-r = Value.rVal record { ty = Declared.row step-proofs-Around·.the-type; one = Path.refl; val = StructLaws.val step-proofs-Around·.the-type step-proofs-Around-Laws·.the-laws; tells = StructLaws.tells step-proofs-Around·.the-type step-proofs-Around-Laws·.the-laws; still = StructLaws.still step-proofs-Around·.the-type step-proofs-Around-Laws·.the-copy Exit.yes; row = Rows.whole (Declared.row step-proofs-Around·.the-type); rd = λ x. x; mk = λ x. x; } λ M 𝓤 H A W. record { copies = StructLaws.copy step-proofs-Around·.the-type step-proofs-Around-Laws·.the-copy 𝓤 H A W; lawful = StructLaws.lawful step-proofs-Around·.the-type step-proofs-Around-Laws·.the-laws 𝓤 H A W; makes = StructLaws.makes step-proofs-Around·.the-type step-proofs-Around-Laws·.the-plain 𝓤 H A; in-mem = Local.mem-whole 𝓤 H A W (Declared.row step-proofs-Around·.the-type); of-mem = Local.whole-mem 𝓤 H A W (Declared.row step-proofs-Around·.the-type); }
+r = Value.rVal record { ty = Declared.row step-proofs-Around·.the-type; one = Path.refl; val = StructLaws.val step-proofs-Around·.the-type step-proofs-Around-Laws·.the-laws; tells = StructLaws.tells step-proofs-Around·.the-type step-proofs-Around-Laws·.the-laws; still = StructLaws.still step-proofs-Around·.the-type step-proofs-Around-Laws·.the-copy Exit.yes; row = Rows.whole (Declared.row step-proofs-Around·.the-type); rd = λ x. x; mk = λ x. x } λ M 𝓤 H A W. record { copies = StructLaws.copy step-proofs-Around·.the-type step-proofs-Around-Laws·.the-copy 𝓤 H A W; lawful = StructLaws.lawful step-proofs-Around·.the-type step-proofs-Around-Laws·.the-laws 𝓤 H A W; makes = StructLaws.makes step-proofs-Around·.the-type step-proofs-Around-Laws·.the-plain 𝓤 H A; in-mem = Local.mem-whole 𝓤 H A W (Declared.row step-proofs-Around·.the-type); of-mem = Local.whole-mem 𝓤 H A W (Declared.row step-proofs-Around·.the-type) }
 
 abbrev pub xs : L.List Syntax.Ty
 xs = L._∷_ q5 (L._∷_ q5 (L._∷_ q5 (L._∷_ q5 (L._∷_ q5 (L._∷_ Syntax.tyBool L.[])))))
@@ -117,13 +117,13 @@ abbrev pub ps·0 : L.List (FnKinds.PK 0)
 ps·0 = L.[]
 
 abbrev pub r·0 : FnKinds.RK 0
-r·0 = Value.rVal record { ty = Declared.row network-proofs-ArcUpdate·.the-type; one = Path.refl; val = StructLaws.val network-proofs-ArcUpdate·.the-type network-proofs-ArcUpdate-Laws·.the-laws; tells = StructLaws.tells network-proofs-ArcUpdate·.the-type network-proofs-ArcUpdate-Laws·.the-laws; still = StructLaws.still network-proofs-ArcUpdate·.the-type network-proofs-ArcUpdate-Laws·.the-copy Exit.yes; row = Rows.whole (Declared.row network-proofs-ArcUpdate·.the-type); rd = λ x. x; mk = λ x. x; } λ M 𝓤 H A W. record { copies = StructLaws.copy network-proofs-ArcUpdate·.the-type network-proofs-ArcUpdate-Laws·.the-copy 𝓤 H A W; lawful = StructLaws.lawful network-proofs-ArcUpdate·.the-type network-proofs-ArcUpdate-Laws·.the-laws 𝓤 H A W; makes = StructLaws.makes network-proofs-ArcUpdate·.the-type network-proofs-ArcUpdate-Laws·.the-plain 𝓤 H A; in-mem = Local.mem-whole 𝓤 H A W (Declared.row network-proofs-ArcUpdate·.the-type); of-mem = Local.whole-mem 𝓤 H A W (Declared.row network-proofs-ArcUpdate·.the-type); }
+r·0 = Value.rVal record { ty = Declared.row network-proofs-ArcUpdate·.the-type; one = Path.refl; val = StructLaws.val network-proofs-ArcUpdate·.the-type network-proofs-ArcUpdate-Laws·.the-laws; tells = StructLaws.tells network-proofs-ArcUpdate·.the-type network-proofs-ArcUpdate-Laws·.the-laws; still = StructLaws.still network-proofs-ArcUpdate·.the-type network-proofs-ArcUpdate-Laws·.the-copy Exit.yes; row = Rows.whole (Declared.row network-proofs-ArcUpdate·.the-type); rd = λ x. x; mk = λ x. x } λ M 𝓤 H A W. record { copies = StructLaws.copy network-proofs-ArcUpdate·.the-type network-proofs-ArcUpdate-Laws·.the-copy 𝓤 H A W; lawful = StructLaws.lawful network-proofs-ArcUpdate·.the-type network-proofs-ArcUpdate-Laws·.the-laws 𝓤 H A W; makes = StructLaws.makes network-proofs-ArcUpdate·.the-type network-proofs-ArcUpdate-Laws·.the-plain 𝓤 H A; in-mem = Local.mem-whole 𝓤 H A W (Declared.row network-proofs-ArcUpdate·.the-type); of-mem = Local.whole-mem 𝓤 H A W (Declared.row network-proofs-ArcUpdate·.the-type) }
 
 abbrev pub ps·1 : L.List (FnKinds.PK 1)
 ps·1 = L._∷_ (ShrSlice.pShrS Rec.row 0 tt) (L._∷_ (Num.pNum Syntax.w64) (L._∷_ (Num.pNum Syntax.w64) L.[]))
 
 abbrev pub r·1 : FnKinds.RK 1
-r·1 = Value.rVal record { ty = Declared.row network-proofs-ArcUpdate·.the-type; one = Path.refl; val = StructLaws.val network-proofs-ArcUpdate·.the-type network-proofs-ArcUpdate-Laws·.the-laws; tells = StructLaws.tells network-proofs-ArcUpdate·.the-type network-proofs-ArcUpdate-Laws·.the-laws; still = StructLaws.still network-proofs-ArcUpdate·.the-type network-proofs-ArcUpdate-Laws·.the-copy Exit.yes; row = Rows.whole (Declared.row network-proofs-ArcUpdate·.the-type); rd = λ x. x; mk = λ x. x; } λ M 𝓤 H A W. record { copies = StructLaws.copy network-proofs-ArcUpdate·.the-type network-proofs-ArcUpdate-Laws·.the-copy 𝓤 H A W; lawful = StructLaws.lawful network-proofs-ArcUpdate·.the-type network-proofs-ArcUpdate-Laws·.the-laws 𝓤 H A W; makes = StructLaws.makes network-proofs-ArcUpdate·.the-type network-proofs-ArcUpdate-Laws·.the-plain 𝓤 H A; in-mem = Local.mem-whole 𝓤 H A W (Declared.row network-proofs-ArcUpdate·.the-type); of-mem = Local.whole-mem 𝓤 H A W (Declared.row network-proofs-ArcUpdate·.the-type); }
+r·1 = Value.rVal record { ty = Declared.row network-proofs-ArcUpdate·.the-type; one = Path.refl; val = StructLaws.val network-proofs-ArcUpdate·.the-type network-proofs-ArcUpdate-Laws·.the-laws; tells = StructLaws.tells network-proofs-ArcUpdate·.the-type network-proofs-ArcUpdate-Laws·.the-laws; still = StructLaws.still network-proofs-ArcUpdate·.the-type network-proofs-ArcUpdate-Laws·.the-copy Exit.yes; row = Rows.whole (Declared.row network-proofs-ArcUpdate·.the-type); rd = λ x. x; mk = λ x. x } λ M 𝓤 H A W. record { copies = StructLaws.copy network-proofs-ArcUpdate·.the-type network-proofs-ArcUpdate-Laws·.the-copy 𝓤 H A W; lawful = StructLaws.lawful network-proofs-ArcUpdate·.the-type network-proofs-ArcUpdate-Laws·.the-laws 𝓤 H A W; makes = StructLaws.makes network-proofs-ArcUpdate·.the-type network-proofs-ArcUpdate-Laws·.the-plain 𝓤 H A; in-mem = Local.mem-whole 𝓤 H A W (Declared.row network-proofs-ArcUpdate·.the-type); of-mem = Local.whole-mem 𝓤 H A W (Declared.row network-proofs-ArcUpdate·.the-type) }
 
 abbrev pub hs : L.List Syntax.Home
 hs = L._∷_ Syntax.valueLocal (L._∷_ Syntax.valueLocal (L._∷_ Syntax.valueLocal (L._∷_ Syntax.valueLocal (L._∷_ Syntax.valueLocal (L._∷_ Syntax.valueLocal (L._∷_ Syntax.valueLocal (L._∷_ Syntax.valueLocal (L._∷_ Syntax.valueLocal (L._∷_ Syntax.valueLocal L.[])))))))))
@@ -577,7 +577,7 @@ module _ (claims· : Claims) where
   s8 = Scalar.n-room T3 9 Syntax.tyBool
 
   abbrev s9 : Typed.Both T4 T12
-  s9 = Call.callB ps·1 r·1 (claims· .2) (claims· .3) T4 (record { pos = 1; ty = Syntax.tyRef (Syntax.named 0) Syntax.imm Rec.named; ref = λ x. x; }, (Num.vAt 2 λ x. x, (Num.vLit 0, tt))) 5 (L._∷_ 0 L.[]) q5
+  s9 = Call.callB ps·1 r·1 (claims· .2) (claims· .3) T4 (record { pos = 1; ty = Syntax.tyRef (Syntax.named 0) Syntax.imm Rec.named; ref = λ x. x }, (Num.vAt 2 λ x. x, (Num.vLit 0, tt))) 5 (L._∷_ 0 L.[]) q5
 
   abbrev s10 : Typed.Asks T12 T13
   s10 = Scalar.k-op2 T12 (Syntax.lt Syntax.unsigned) (Scalar.oAt 3 (Syntax.tyInt Syntax.w64) (Row.valS (Row.sInt Syntax.w64))) (Scalar.oInt Syntax.w64 2) 9 (Rows.sc-here Row.sBool) (Row.sBool .of)
@@ -607,7 +607,7 @@ module _ (claims· : Claims) where
   s18 = Scalar.n-room T13 9 Syntax.tyBool
 
   abbrev s19 : Typed.Both T14 T23
-  s19 = Call.callB ps·1 r·1 (claims· .2) (claims· .3) T14 (record { pos = 1; ty = Syntax.tyRef (Syntax.named 0) Syntax.imm Rec.named; ref = λ x. x; }, (Num.vAt 2 λ x. x, (Num.vFld 5 (L._∷_ (Syntax.field 0) L.[]) 0 λ x. network-proofs-ArcUpdate·.struct .as-values x .0, tt))) 6 (L._∷_ 0 L.[]) q5
+  s19 = Call.callB ps·1 r·1 (claims· .2) (claims· .3) T14 (record { pos = 1; ty = Syntax.tyRef (Syntax.named 0) Syntax.imm Rec.named; ref = λ x. x }, (Num.vAt 2 λ x. x, (Num.vFld 5 (L._∷_ (Syntax.field 0) L.[]) 0 λ x. network-proofs-ArcUpdate·.struct .as-values x .0, tt))) 6 (L._∷_ 0 L.[]) q5
 
   abbrev s20 : Typed.Asks T23 T24
   s20 = Scalar.k-op2 T23 (Syntax.lt Syntax.unsigned) (Scalar.oAt 3 (Syntax.tyInt Syntax.w64) (Row.valS (Row.sInt Syntax.w64))) (Scalar.oInt Syntax.w64 3) 9 (Rows.sc-here Row.sBool) (Row.sBool .of)
@@ -640,7 +640,7 @@ module _ (claims· : Claims) where
   s29 = Scalar.n-room T24 9 Syntax.tyBool
 
   abbrev s30 : Typed.Both T25 T35
-  s30 = Call.callB ps·1 r·1 (claims· .2) (claims· .3) T25 (record { pos = 1; ty = Syntax.tyRef (Syntax.named 0) Syntax.imm Rec.named; ref = λ x. x; }, (Num.vAt 2 λ x. x, (Num.vFld 6 (L._∷_ (Syntax.field 0) L.[]) 0 λ x. network-proofs-ArcUpdate·.struct .as-values x .0, tt))) 7 (L._∷_ 0 L.[]) q5
+  s30 = Call.callB ps·1 r·1 (claims· .2) (claims· .3) T25 (record { pos = 1; ty = Syntax.tyRef (Syntax.named 0) Syntax.imm Rec.named; ref = λ x. x }, (Num.vAt 2 λ x. x, (Num.vFld 6 (L._∷_ (Syntax.field 0) L.[]) 0 λ x. network-proofs-ArcUpdate·.struct .as-values x .0, tt))) 7 (L._∷_ 0 L.[]) q5
 
   abbrev s31 : Typed.Asks T35 T36
   s31 = Scalar.k-op2 T35 (Syntax.lt Syntax.unsigned) (Scalar.oAt 3 (Syntax.tyInt Syntax.w64) (Row.valS (Row.sInt Syntax.w64))) (Scalar.oInt Syntax.w64 4) 9 (Rows.sc-here Row.sBool) (Row.sBool .of)
@@ -679,7 +679,7 @@ module _ (claims· : Claims) where
   s42 = Scalar.n-room T47 9 Syntax.tyBool
 
   abbrev s43 : Typed.Both T37 T49
-  s43 = Call.callB ps·1 r·1 (claims· .2) (claims· .3) T37 (record { pos = 1; ty = Syntax.tyRef (Syntax.named 0) Syntax.imm Rec.named; ref = λ x. x; }, (Num.vAt 2 λ x. x, (Num.vFld 7 (L._∷_ (Syntax.field 0) L.[]) 0 λ x. network-proofs-ArcUpdate·.struct .as-values x .0, tt))) 8 (L._∷_ 0 L.[]) q5
+  s43 = Call.callB ps·1 r·1 (claims· .2) (claims· .3) T37 (record { pos = 1; ty = Syntax.tyRef (Syntax.named 0) Syntax.imm Rec.named; ref = λ x. x }, (Num.vAt 2 λ x. x, (Num.vFld 7 (L._∷_ (Syntax.field 0) L.[]) 0 λ x. network-proofs-ArcUpdate·.struct .as-values x .0, tt))) 8 (L._∷_ 0 L.[]) q5
 
   abbrev s44 : Typed.Mo T49 → Typed.Mo T50
   s44 = Make.n-make (Declared.row (Apart.apartT step-proofs-Around·.the-type)) T49 0 λ m. (m .1 .1 .1 .1 .1 .0, (m .1 .1 .1 .1 .1 .1 .0, (m .1 .1 .1 .1 .1 .1 .1 .0, (m .1 .1 .1 .1 .1 .1 .1 .1 .0, tt))))
@@ -1288,7 +1288,7 @@ module _ (claims· : Claims) where
           d55 = Typed.s-seq 𝓤 H A W 𝓣 E G49 G50 b29 b30 Δ0 (Typed.pass T49 T50 s44) at54 (Make.t-make-told 𝓤 H A W E 𝓣 (Declared.row (Apart.apartT step-proofs-Around·.the-type)) Path.refl (StructLaws.val (Apart.apartT step-proofs-Around·.the-type) step-proofs-Around-Laws·.the-laws) (StructLaws.lawful (Apart.apartT step-proofs-Around·.the-type) step-proofs-Around-Laws·.the-laws 𝓤 H A W) (StructLaws.makes (Apart.apartT step-proofs-Around·.the-type) step-proofs-Around-Laws·.the-plain 𝓤 H A) G49 0 (L._∷_ (Scalar.oAt 5 q5 (StructLaws.val network-proofs-ArcUpdate·.the-type network-proofs-ArcUpdate-Laws·.the-laws)) (L._∷_ (Scalar.oAt 6 q5 (StructLaws.val network-proofs-ArcUpdate·.the-type network-proofs-ArcUpdate-Laws·.the-laws)) (L._∷_ (Scalar.oAt 7 q5 (StructLaws.val network-proofs-ArcUpdate·.the-type network-proofs-ArcUpdate-Laws·.the-laws)) (L._∷_ (Scalar.oAt 8 q5 (StructLaws.val network-proofs-ArcUpdate·.the-type network-proofs-ArcUpdate-Laws·.the-laws)) L.[])))) (λ m. (m .1 .1 .1 .1 .1 .0, (m .1 .1 .1 .1 .1 .1 .0, (m .1 .1 .1 .1 .1 .1 .1 .0, (m .1 .1 .1 .1 .1 .1 .1 .1 .0, tt))))) (λ m. denoteLaws.Is (Declared.row network-proofs-ArcUpdate·.the-type) (m .1 .1 .1 .1 .1 .0) (StructLaws.vals network-proofs-ArcUpdate·.the-type network-proofs-ArcUpdate-Laws·.the-laws (m .1 .1 .1 .1 .1 .0)) × (denoteLaws.Is (Declared.row network-proofs-ArcUpdate·.the-type) (m .1 .1 .1 .1 .1 .1 .0) (StructLaws.vals network-proofs-ArcUpdate·.the-type network-proofs-ArcUpdate-Laws·.the-laws (m .1 .1 .1 .1 .1 .1 .0)) × (denoteLaws.Is (Declared.row network-proofs-ArcUpdate·.the-type) (m .1 .1 .1 .1 .1 .1 .1 .0) (StructLaws.vals network-proofs-ArcUpdate·.the-type network-proofs-ArcUpdate-Laws·.the-laws (m .1 .1 .1 .1 .1 .1 .1 .0)) × denoteLaws.Is (Declared.row network-proofs-ArcUpdate·.the-type) (m .1 .1 .1 .1 .1 .1 .1 .1 .0) (StructLaws.vals network-proofs-ArcUpdate·.the-type network-proofs-ArcUpdate-Laws·.the-laws (m .1 .1 .1 .1 .1 .1 .1 .1 .0))))) (TReads.room-gone 𝓤 H A (Syntax.tyStruct (L._∷_ 115 (L._∷_ 116 (L._∷_ 101 (L._∷_ 112 (L._∷_ 58 (L._∷_ 58 (L._∷_ 65 (L._∷_ 114 (L._∷_ 111 (L._∷_ 117 (L._∷_ 110 (L._∷_ 100 L.[])))))))))))) (Syntax.tcons q5 (Syntax.tcons q5 (Syntax.tcons q5 (Syntax.tcons q5 Syntax.tnil)))))) ((Reads.reads-struct 𝓤 H A W network-proofs-ArcUpdate·.the-type network-proofs-ArcUpdate-Laws·.the-laws, Path.refl), ((Reads.reads-struct 𝓤 H A W network-proofs-ArcUpdate·.the-type network-proofs-ArcUpdate-Laws·.the-laws, Path.refl), ((Reads.reads-struct 𝓤 H A W network-proofs-ArcUpdate·.the-type network-proofs-ArcUpdate-Laws·.the-laws, Path.refl), ((Reads.reads-struct 𝓤 H A W network-proofs-ArcUpdate·.the-type network-proofs-ArcUpdate-Laws·.the-laws, Path.refl), tt)))) Path.refl (λ ρ m. Make.tells-both 𝓤 H A W E ρ (Row.out 0 (G49 .locals)) m (denoteLaws.Is (Declared.row network-proofs-ArcUpdate·.the-type) (m .1 .1 .1 .1 .1 .0) (StructLaws.vals network-proofs-ArcUpdate·.the-type network-proofs-ArcUpdate-Laws·.the-laws (m .1 .1 .1 .1 .1 .0))) (denoteLaws.Is (Declared.row network-proofs-ArcUpdate·.the-type) (m .1 .1 .1 .1 .1 .1 .0) (StructLaws.vals network-proofs-ArcUpdate·.the-type network-proofs-ArcUpdate-Laws·.the-laws (m .1 .1 .1 .1 .1 .1 .0)) × (denoteLaws.Is (Declared.row network-proofs-ArcUpdate·.the-type) (m .1 .1 .1 .1 .1 .1 .1 .0) (StructLaws.vals network-proofs-ArcUpdate·.the-type network-proofs-ArcUpdate-Laws·.the-laws (m .1 .1 .1 .1 .1 .1 .1 .0)) × denoteLaws.Is (Declared.row network-proofs-ArcUpdate·.the-type) (m .1 .1 .1 .1 .1 .1 .1 .1 .0) (StructLaws.vals network-proofs-ArcUpdate·.the-type network-proofs-ArcUpdate-Laws·.the-laws (m .1 .1 .1 .1 .1 .1 .1 .1 .0)))) (Make.tells-row 𝓤 H A W E ρ (Row.out 0 (G49 .locals)) m 5 (denoteLaws.Is (Declared.row network-proofs-ArcUpdate·.the-type) (m .1 .1 .1 .1 .1 .0) (StructLaws.vals network-proofs-ArcUpdate·.the-type network-proofs-ArcUpdate-Laws·.the-laws (m .1 .1 .1 .1 .1 .0))) (Make.whole-is 𝓤 H A W E (Declared.row network-proofs-ArcUpdate·.the-type) Path.refl (StructLaws.val network-proofs-ArcUpdate·.the-type network-proofs-ArcUpdate-Laws·.the-laws) (StructLaws.tells network-proofs-ArcUpdate·.the-type network-proofs-ArcUpdate-Laws·.the-laws) ρ 5 (m .1 .1 .1 .1 .1 .0))) (Make.tells-both 𝓤 H A W E ρ (Row.out 0 (G49 .locals)) m (denoteLaws.Is (Declared.row network-proofs-ArcUpdate·.the-type) (m .1 .1 .1 .1 .1 .1 .0) (StructLaws.vals network-proofs-ArcUpdate·.the-type network-proofs-ArcUpdate-Laws·.the-laws (m .1 .1 .1 .1 .1 .1 .0))) (denoteLaws.Is (Declared.row network-proofs-ArcUpdate·.the-type) (m .1 .1 .1 .1 .1 .1 .1 .0) (StructLaws.vals network-proofs-ArcUpdate·.the-type network-proofs-ArcUpdate-Laws·.the-laws (m .1 .1 .1 .1 .1 .1 .1 .0)) × denoteLaws.Is (Declared.row network-proofs-ArcUpdate·.the-type) (m .1 .1 .1 .1 .1 .1 .1 .1 .0) (StructLaws.vals network-proofs-ArcUpdate·.the-type network-proofs-ArcUpdate-Laws·.the-laws (m .1 .1 .1 .1 .1 .1 .1 .1 .0))) (Make.tells-row 𝓤 H A W E ρ (Row.out 0 (G49 .locals)) m 6 (denoteLaws.Is (Declared.row network-proofs-ArcUpdate·.the-type) (m .1 .1 .1 .1 .1 .1 .0) (StructLaws.vals network-proofs-ArcUpdate·.the-type network-proofs-ArcUpdate-Laws·.the-laws (m .1 .1 .1 .1 .1 .1 .0))) (Make.whole-is 𝓤 H A W E (Declared.row network-proofs-ArcUpdate·.the-type) Path.refl (StructLaws.val network-proofs-ArcUpdate·.the-type network-proofs-ArcUpdate-Laws·.the-laws) (StructLaws.tells network-proofs-ArcUpdate·.the-type network-proofs-ArcUpdate-Laws·.the-laws) ρ 6 (m .1 .1 .1 .1 .1 .1 .0))) (Make.tells-both 𝓤 H A W E ρ (Row.out 0 (G49 .locals)) m (denoteLaws.Is (Declared.row network-proofs-ArcUpdate·.the-type) (m .1 .1 .1 .1 .1 .1 .1 .0) (StructLaws.vals network-proofs-ArcUpdate·.the-type network-proofs-ArcUpdate-Laws·.the-laws (m .1 .1 .1 .1 .1 .1 .1 .0))) (denoteLaws.Is (Declared.row network-proofs-ArcUpdate·.the-type) (m .1 .1 .1 .1 .1 .1 .1 .1 .0) (StructLaws.vals network-proofs-ArcUpdate·.the-type network-proofs-ArcUpdate-Laws·.the-laws (m .1 .1 .1 .1 .1 .1 .1 .1 .0))) (Make.tells-row 𝓤 H A W E ρ (Row.out 0 (G49 .locals)) m 7 (denoteLaws.Is (Declared.row network-proofs-ArcUpdate·.the-type) (m .1 .1 .1 .1 .1 .1 .1 .0) (StructLaws.vals network-proofs-ArcUpdate·.the-type network-proofs-ArcUpdate-Laws·.the-laws (m .1 .1 .1 .1 .1 .1 .1 .0))) (Make.whole-is 𝓤 H A W E (Declared.row network-proofs-ArcUpdate·.the-type) Path.refl (StructLaws.val network-proofs-ArcUpdate·.the-type network-proofs-ArcUpdate-Laws·.the-laws) (StructLaws.tells network-proofs-ArcUpdate·.the-type network-proofs-ArcUpdate-Laws·.the-laws) ρ 7 (m .1 .1 .1 .1 .1 .1 .1 .0))) (Make.tells-row 𝓤 H A W E ρ (Row.out 0 (G49 .locals)) m 8 (denoteLaws.Is (Declared.row network-proofs-ArcUpdate·.the-type) (m .1 .1 .1 .1 .1 .1 .1 .1 .0) (StructLaws.vals network-proofs-ArcUpdate·.the-type network-proofs-ArcUpdate-Laws·.the-laws (m .1 .1 .1 .1 .1 .1 .1 .1 .0))) (Make.whole-is 𝓤 H A W E (Declared.row network-proofs-ArcUpdate·.the-type) Path.refl (StructLaws.val network-proofs-ArcUpdate·.the-type network-proofs-ArcUpdate-Laws·.the-laws) (StructLaws.tells network-proofs-ArcUpdate·.the-type network-proofs-ArcUpdate-Laws·.the-laws) ρ 8 (m .1 .1 .1 .1 .1 .1 .1 .1 .0)))))) (λ m q. StructSigned.made-val (Apart.apartT step-proofs-Around·.the-type) step-proofs-Around-Laws·.the-laws (L._∷_ (StructLaws.val network-proofs-ArcUpdate·.the-type network-proofs-ArcUpdate-Laws·.the-laws (m .1 .1 .1 .1 .1 .0)) (L._∷_ (StructLaws.val network-proofs-ArcUpdate·.the-type network-proofs-ArcUpdate-Laws·.the-laws (m .1 .1 .1 .1 .1 .1 .0)) (L._∷_ (StructLaws.val network-proofs-ArcUpdate·.the-type network-proofs-ArcUpdate-Laws·.the-laws (m .1 .1 .1 .1 .1 .1 .1 .0)) (L._∷_ (StructLaws.val network-proofs-ArcUpdate·.the-type network-proofs-ArcUpdate-Laws·.the-laws (m .1 .1 .1 .1 .1 .1 .1 .1 .0)) L.[])))) (m .1 .1 .1 .1 .1 .0, (m .1 .1 .1 .1 .1 .1 .0, (m .1 .1 .1 .1 .1 .1 .1 .0, (m .1 .1 .1 .1 .1 .1 .1 .1 .0, tt)))) (StructSigned.made-struct network-proofs-ArcUpdate·.the-type network-proofs-ArcUpdate-Laws·.the-laws network-proofs-ArcUpdate-Laws·.lowers (m .1 .1 .1 .1 .1 .0) (q .0), (StructSigned.made-struct network-proofs-ArcUpdate·.the-type network-proofs-ArcUpdate-Laws·.the-laws network-proofs-ArcUpdate-Laws·.lowers (m .1 .1 .1 .1 .1 .1 .0) (q .1 .0), (StructSigned.made-struct network-proofs-ArcUpdate·.the-type network-proofs-ArcUpdate-Laws·.the-laws network-proofs-ArcUpdate-Laws·.lowers (m .1 .1 .1 .1 .1 .1 .1 .0) (q .1 .1 .0), (StructSigned.made-struct network-proofs-ArcUpdate·.the-type network-proofs-ArcUpdate-Laws·.the-laws network-proofs-ArcUpdate-Laws·.lowers (m .1 .1 .1 .1 .1 .1 .1 .1 .0) (q .1 .1 .1), tt))))) λ m q. StructSigned.made-is (Apart.apartT step-proofs-Around·.the-type) step-proofs-Around-Laws·.the-laws (L._∷_ (StructLaws.val network-proofs-ArcUpdate·.the-type network-proofs-ArcUpdate-Laws·.the-laws (m .1 .1 .1 .1 .1 .0)) (L._∷_ (StructLaws.val network-proofs-ArcUpdate·.the-type network-proofs-ArcUpdate-Laws·.the-laws (m .1 .1 .1 .1 .1 .1 .0)) (L._∷_ (StructLaws.val network-proofs-ArcUpdate·.the-type network-proofs-ArcUpdate-Laws·.the-laws (m .1 .1 .1 .1 .1 .1 .1 .0)) (L._∷_ (StructLaws.val network-proofs-ArcUpdate·.the-type network-proofs-ArcUpdate-Laws·.the-laws (m .1 .1 .1 .1 .1 .1 .1 .1 .0)) L.[])))) (m .1 .1 .1 .1 .1 .0, (m .1 .1 .1 .1 .1 .1 .0, (m .1 .1 .1 .1 .1 .1 .1 .0, (m .1 .1 .1 .1 .1 .1 .1 .1 .0, tt)))) (StructSigned.made-struct network-proofs-ArcUpdate·.the-type network-proofs-ArcUpdate-Laws·.the-laws network-proofs-ArcUpdate-Laws·.lowers (m .1 .1 .1 .1 .1 .0) (q .0), (StructSigned.made-struct network-proofs-ArcUpdate·.the-type network-proofs-ArcUpdate-Laws·.the-laws network-proofs-ArcUpdate-Laws·.lowers (m .1 .1 .1 .1 .1 .1 .0) (q .1 .0), (StructSigned.made-struct network-proofs-ArcUpdate·.the-type network-proofs-ArcUpdate-Laws·.the-laws network-proofs-ArcUpdate-Laws·.lowers (m .1 .1 .1 .1 .1 .1 .1 .0) (q .1 .1 .0), (StructSigned.made-struct network-proofs-ArcUpdate·.the-type network-proofs-ArcUpdate-Laws·.the-laws network-proofs-ArcUpdate-Laws·.lowers (m .1 .1 .1 .1 .1 .1 .1 .1 .0) (q .1 .1 .1), tt))))) d54
 
           d56 : Typed.Typed 𝓤 H A 𝓣 E G37 b32 Δ0 at56
-          d56 = Typed.s-seq 𝓤 H A W 𝓣 E G37 G49 b28 b31 Δ0 (Typed.both s43) at55 (Plain.t-call-plain 𝓤 H A W 𝓣 1 ps·1 r·1 (claims· .2) (claims· .3) "search::scan::arc_after" (known .1) E (λ pos β. β) G37 (record { pos = 1; ty = Syntax.tyRef (Syntax.named 0) Syntax.imm Rec.named; ref = λ x. x; }, (Num.vAt 2 λ x. x, (Num.vFld 7 (L._∷_ (Syntax.field 0) L.[]) 0 λ x. network-proofs-ArcUpdate·.struct .as-values x .0, tt))) 8 (L._∷_ 0 L.[]) (Call.sub-id 𝓤 H A W (G37 .slots)) (ShrSlice.spares-sslice 𝓤 H A W Rec.row q14 0, Shared.reads-sslice 𝓤 H A W Rec.row q14 0, Path.refl, ((Scalar.reads-sc 𝓤 H A W (Row.sInt Syntax.w64), Path.refl), ((Reads.reads-field 𝓤 H A W network-proofs-ArcUpdate·.the-type network-proofs-ArcUpdate-Laws·.the-laws 0 (Syntax.tyInt Syntax.w64) 0 Path.refl, Path.refl), tt))) (TReads.room-gone 𝓤 H A q5) (tt, tt) Path.refl) d55
+          d56 = Typed.s-seq 𝓤 H A W 𝓣 E G37 G49 b28 b31 Δ0 (Typed.both s43) at55 (Plain.t-call-plain 𝓤 H A W 𝓣 1 ps·1 r·1 (claims· .2) (claims· .3) "search::scan::arc_after" (known .1) E (λ pos β. β) G37 (record { pos = 1; ty = Syntax.tyRef (Syntax.named 0) Syntax.imm Rec.named; ref = λ x. x }, (Num.vAt 2 λ x. x, (Num.vFld 7 (L._∷_ (Syntax.field 0) L.[]) 0 λ x. network-proofs-ArcUpdate·.struct .as-values x .0, tt))) 8 (L._∷_ 0 L.[]) (Call.sub-id 𝓤 H A W (G37 .slots)) (ShrSlice.spares-sslice 𝓤 H A W Rec.row q14 0, Shared.reads-sslice 𝓤 H A W Rec.row q14 0, Path.refl, ((Scalar.reads-sc 𝓤 H A W (Row.sInt Syntax.w64), Path.refl), ((Reads.reads-field 𝓤 H A W network-proofs-ArcUpdate·.the-type network-proofs-ArcUpdate-Laws·.the-laws 0 (Syntax.tyInt Syntax.w64) 0 Path.refl, Path.refl), tt))) (TReads.room-gone 𝓤 H A q5) (tt, tt) Path.refl) d55
 
           d57 : Typed.Typed 𝓤 H A 𝓣 E G36 b33 Δ0 at57
           d57 = Typed.t-seq 𝓤 H A W 𝓣 E G36 G37 b27 b32 Δ0 at46 at56 d46 d56
@@ -1297,7 +1297,7 @@ module _ (claims· : Claims) where
           d58 = Typed.s-seq 𝓤 H A W 𝓣 E G35 G36 b22 b33 Δ0 (Typed.ask s31) at57 (Scalar.t-op2 𝓤 H A W E 𝓣 G35 (Syntax.lt Syntax.unsigned) (Scalar.oAt 3 (Syntax.tyInt Syntax.w64) (Row.valS (Row.sInt Syntax.w64))) (Scalar.oInt Syntax.w64 4) 9 (Rows.sc-here Row.sBool) Syntax.tyBool (Row.valS Row.sBool) (Row.sBool .of) (Scalar.reads-sc 𝓤 H A W (Row.sInt Syntax.w64), Path.refl) tt (TReads.room-gone 𝓤 H A Syntax.tyBool) (Scalar.holds-sc 𝓤 H A W Row.sBool) Path.refl (λ u. Path.refl) λ u. tt) d57
 
           d59 : Typed.Typed 𝓤 H A 𝓣 E G25 b35 Δ0 at59
-          d59 = Typed.s-seq 𝓤 H A W 𝓣 E G25 G35 b21 b34 Δ0 (Typed.both s30) at58 (Plain.t-call-plain 𝓤 H A W 𝓣 1 ps·1 r·1 (claims· .2) (claims· .3) "search::scan::arc_after" (known .1) E (λ pos β. β) G25 (record { pos = 1; ty = Syntax.tyRef (Syntax.named 0) Syntax.imm Rec.named; ref = λ x. x; }, (Num.vAt 2 λ x. x, (Num.vFld 6 (L._∷_ (Syntax.field 0) L.[]) 0 λ x. network-proofs-ArcUpdate·.struct .as-values x .0, tt))) 7 (L._∷_ 0 L.[]) (Call.sub-id 𝓤 H A W (G25 .slots)) (ShrSlice.spares-sslice 𝓤 H A W Rec.row q14 0, Shared.reads-sslice 𝓤 H A W Rec.row q14 0, Path.refl, ((Scalar.reads-sc 𝓤 H A W (Row.sInt Syntax.w64), Path.refl), ((Reads.reads-field 𝓤 H A W network-proofs-ArcUpdate·.the-type network-proofs-ArcUpdate-Laws·.the-laws 0 (Syntax.tyInt Syntax.w64) 0 Path.refl, Path.refl), tt))) (TReads.room-gone 𝓤 H A q5) (tt, tt) Path.refl) d58
+          d59 = Typed.s-seq 𝓤 H A W 𝓣 E G25 G35 b21 b34 Δ0 (Typed.both s30) at58 (Plain.t-call-plain 𝓤 H A W 𝓣 1 ps·1 r·1 (claims· .2) (claims· .3) "search::scan::arc_after" (known .1) E (λ pos β. β) G25 (record { pos = 1; ty = Syntax.tyRef (Syntax.named 0) Syntax.imm Rec.named; ref = λ x. x }, (Num.vAt 2 λ x. x, (Num.vFld 6 (L._∷_ (Syntax.field 0) L.[]) 0 λ x. network-proofs-ArcUpdate·.struct .as-values x .0, tt))) 7 (L._∷_ 0 L.[]) (Call.sub-id 𝓤 H A W (G25 .slots)) (ShrSlice.spares-sslice 𝓤 H A W Rec.row q14 0, Shared.reads-sslice 𝓤 H A W Rec.row q14 0, Path.refl, ((Scalar.reads-sc 𝓤 H A W (Row.sInt Syntax.w64), Path.refl), ((Reads.reads-field 𝓤 H A W network-proofs-ArcUpdate·.the-type network-proofs-ArcUpdate-Laws·.the-laws 0 (Syntax.tyInt Syntax.w64) 0 Path.refl, Path.refl), tt))) (TReads.room-gone 𝓤 H A q5) (tt, tt) Path.refl) d58
 
           d60 : Typed.Typed 𝓤 H A 𝓣 E G24 b36 Δ0 at60
           d60 = Typed.t-seq 𝓤 H A W 𝓣 E G24 G25 b20 b35 Δ0 at32 at59 d32 d59
@@ -1306,7 +1306,7 @@ module _ (claims· : Claims) where
           d61 = Typed.s-seq 𝓤 H A W 𝓣 E G23 G24 b15 b36 Δ0 (Typed.ask s20) at60 (Scalar.t-op2 𝓤 H A W E 𝓣 G23 (Syntax.lt Syntax.unsigned) (Scalar.oAt 3 (Syntax.tyInt Syntax.w64) (Row.valS (Row.sInt Syntax.w64))) (Scalar.oInt Syntax.w64 3) 9 (Rows.sc-here Row.sBool) Syntax.tyBool (Row.valS Row.sBool) (Row.sBool .of) (Scalar.reads-sc 𝓤 H A W (Row.sInt Syntax.w64), Path.refl) tt (TReads.room-gone 𝓤 H A Syntax.tyBool) (Scalar.holds-sc 𝓤 H A W Row.sBool) Path.refl (λ u. Path.refl) λ u. tt) d60
 
           d62 : Typed.Typed 𝓤 H A 𝓣 E G14 b38 Δ0 at62
-          d62 = Typed.s-seq 𝓤 H A W 𝓣 E G14 G23 b14 b37 Δ0 (Typed.both s19) at61 (Plain.t-call-plain 𝓤 H A W 𝓣 1 ps·1 r·1 (claims· .2) (claims· .3) "search::scan::arc_after" (known .1) E (λ pos β. β) G14 (record { pos = 1; ty = Syntax.tyRef (Syntax.named 0) Syntax.imm Rec.named; ref = λ x. x; }, (Num.vAt 2 λ x. x, (Num.vFld 5 (L._∷_ (Syntax.field 0) L.[]) 0 λ x. network-proofs-ArcUpdate·.struct .as-values x .0, tt))) 6 (L._∷_ 0 L.[]) (Call.sub-id 𝓤 H A W (G14 .slots)) (ShrSlice.spares-sslice 𝓤 H A W Rec.row q14 0, Shared.reads-sslice 𝓤 H A W Rec.row q14 0, Path.refl, ((Scalar.reads-sc 𝓤 H A W (Row.sInt Syntax.w64), Path.refl), ((Reads.reads-field 𝓤 H A W network-proofs-ArcUpdate·.the-type network-proofs-ArcUpdate-Laws·.the-laws 0 (Syntax.tyInt Syntax.w64) 0 Path.refl, Path.refl), tt))) (TReads.room-gone 𝓤 H A q5) (tt, tt) Path.refl) d61
+          d62 = Typed.s-seq 𝓤 H A W 𝓣 E G14 G23 b14 b37 Δ0 (Typed.both s19) at61 (Plain.t-call-plain 𝓤 H A W 𝓣 1 ps·1 r·1 (claims· .2) (claims· .3) "search::scan::arc_after" (known .1) E (λ pos β. β) G14 (record { pos = 1; ty = Syntax.tyRef (Syntax.named 0) Syntax.imm Rec.named; ref = λ x. x }, (Num.vAt 2 λ x. x, (Num.vFld 5 (L._∷_ (Syntax.field 0) L.[]) 0 λ x. network-proofs-ArcUpdate·.struct .as-values x .0, tt))) 6 (L._∷_ 0 L.[]) (Call.sub-id 𝓤 H A W (G14 .slots)) (ShrSlice.spares-sslice 𝓤 H A W Rec.row q14 0, Shared.reads-sslice 𝓤 H A W Rec.row q14 0, Path.refl, ((Scalar.reads-sc 𝓤 H A W (Row.sInt Syntax.w64), Path.refl), ((Reads.reads-field 𝓤 H A W network-proofs-ArcUpdate·.the-type network-proofs-ArcUpdate-Laws·.the-laws 0 (Syntax.tyInt Syntax.w64) 0 Path.refl, Path.refl), tt))) (TReads.room-gone 𝓤 H A q5) (tt, tt) Path.refl) d61
 
           d63 : Typed.Typed 𝓤 H A 𝓣 E G13 b39 Δ0 at63
           d63 = Typed.t-seq 𝓤 H A W 𝓣 E G13 G14 b13 b38 Δ0 at20 at62 d20 d62
@@ -1315,7 +1315,7 @@ module _ (claims· : Claims) where
           d64 = Typed.s-seq 𝓤 H A W 𝓣 E G12 G13 b8 b39 Δ0 (Typed.ask s10) at63 (Scalar.t-op2 𝓤 H A W E 𝓣 G12 (Syntax.lt Syntax.unsigned) (Scalar.oAt 3 (Syntax.tyInt Syntax.w64) (Row.valS (Row.sInt Syntax.w64))) (Scalar.oInt Syntax.w64 2) 9 (Rows.sc-here Row.sBool) Syntax.tyBool (Row.valS Row.sBool) (Row.sBool .of) (Scalar.reads-sc 𝓤 H A W (Row.sInt Syntax.w64), Path.refl) tt (TReads.room-gone 𝓤 H A Syntax.tyBool) (Scalar.holds-sc 𝓤 H A W Row.sBool) Path.refl (λ u. Path.refl) λ u. tt) d63
 
           d65 : Typed.Typed 𝓤 H A 𝓣 E G4 b41 Δ0 at65
-          d65 = Typed.s-seq 𝓤 H A W 𝓣 E G4 G12 b7 b40 Δ0 (Typed.both s9) at64 (Plain.t-call-plain 𝓤 H A W 𝓣 1 ps·1 r·1 (claims· .2) (claims· .3) "search::scan::arc_after" (known .1) E (λ pos β. β) G4 (record { pos = 1; ty = Syntax.tyRef (Syntax.named 0) Syntax.imm Rec.named; ref = λ x. x; }, (Num.vAt 2 λ x. x, (Num.vLit 0, tt))) 5 (L._∷_ 0 L.[]) (Call.sub-id 𝓤 H A W (G4 .slots)) (ShrSlice.spares-sslice 𝓤 H A W Rec.row q14 0, Shared.reads-sslice 𝓤 H A W Rec.row q14 0, Path.refl, ((Scalar.reads-sc 𝓤 H A W (Row.sInt Syntax.w64), Path.refl), (tt, tt))) (TReads.room-gone 𝓤 H A q5) (tt, tt) Path.refl) d64
+          d65 = Typed.s-seq 𝓤 H A W 𝓣 E G4 G12 b7 b40 Δ0 (Typed.both s9) at64 (Plain.t-call-plain 𝓤 H A W 𝓣 1 ps·1 r·1 (claims· .2) (claims· .3) "search::scan::arc_after" (known .1) E (λ pos β. β) G4 (record { pos = 1; ty = Syntax.tyRef (Syntax.named 0) Syntax.imm Rec.named; ref = λ x. x }, (Num.vAt 2 λ x. x, (Num.vLit 0, tt))) 5 (L._∷_ 0 L.[]) (Call.sub-id 𝓤 H A W (G4 .slots)) (ShrSlice.spares-sslice 𝓤 H A W Rec.row q14 0, Shared.reads-sslice 𝓤 H A W Rec.row q14 0, Path.refl, ((Scalar.reads-sc 𝓤 H A W (Row.sInt Syntax.w64), Path.refl), (tt, tt))) (TReads.room-gone 𝓤 H A q5) (tt, tt) Path.refl) d64
 
           d66 : Typed.Typed 𝓤 H A 𝓣 E G3 b42 Δ0 at66
           d66 = Typed.t-seq 𝓤 H A W 𝓣 E G3 G4 b6 b41 Δ0 at9 at65 d9 d65
@@ -1427,14 +1427,14 @@ module _ (claims· : Claims) where
 
       module _ (before· : Else1) where
         abbrev pub After-arc-after·own : Type 0
-        After-arc-after·own = Called.Called ps·1 r·1 (claims· .3) T4 (record { pos = 1; ty = Syntax.tyRef (Syntax.named 0) Syntax.imm Rec.named; ref = λ x. x; }, (Num.vAt 2 λ x. x, (Num.vLit 0, tt))) (m9 (before· .before))
+        After-arc-after·own = Called.Called ps·1 r·1 (claims· .3) T4 (record { pos = 1; ty = Syntax.tyRef (Syntax.named 0) Syntax.imm Rec.named; ref = λ x. x }, (Num.vAt 2 λ x. x, (Num.vLit 0, tt))) (m9 (before· .before))
 
       pub record After-arc-after : Type 0 where
         pub before : Else1
         pub arc-after : After-arc-after·own before
 
       abbrev pub After-arc-after·gave : (c : After-arc-after) → s9 .gives (m9 (c .before .before))
-      After-arc-after·gave = λ c. Called.given ps·1 r·1 (claims· .3) T4 (record { pos = 1; ty = Syntax.tyRef (Syntax.named 0) Syntax.imm Rec.named; ref = λ x. x; }, (Num.vAt 2 λ x. x, (Num.vLit 0, tt))) (m9 (c .before .before)) (c .arc-after)
+      After-arc-after·gave = λ c. Called.given ps·1 r·1 (claims· .3) T4 (record { pos = 1; ty = Syntax.tyRef (Syntax.named 0) Syntax.imm Rec.named; ref = λ x. x }, (Num.vAt 2 λ x. x, (Num.vLit 0, tt))) (m9 (c .before .before)) (c .arc-after)
 
       abbrev pub m11 : (before : Else1) → (given : s9 .gives (m9 (before .before))) → Typed.Mo T13
       m11 = λ before given. s10 .next (m10 before given)
@@ -1493,14 +1493,14 @@ module _ (claims· : Claims) where
 
       module _ (before· : Else2) where
         abbrev pub After-arc-after2·own : Type 0
-        After-arc-after2·own = Called.Called ps·1 r·1 (claims· .3) T14 (record { pos = 1; ty = Syntax.tyRef (Syntax.named 0) Syntax.imm Rec.named; ref = λ x. x; }, (Num.vAt 2 λ x. x, (Num.vFld 5 (L._∷_ (Syntax.field 0) L.[]) 0 λ x. network-proofs-ArcUpdate·.struct .as-values x .0, tt))) (m19 (before· .before))
+        After-arc-after2·own = Called.Called ps·1 r·1 (claims· .3) T14 (record { pos = 1; ty = Syntax.tyRef (Syntax.named 0) Syntax.imm Rec.named; ref = λ x. x }, (Num.vAt 2 λ x. x, (Num.vFld 5 (L._∷_ (Syntax.field 0) L.[]) 0 λ x. network-proofs-ArcUpdate·.struct .as-values x .0, tt))) (m19 (before· .before))
 
       pub record After-arc-after2 : Type 0 where
         pub before : Else2
         pub arc-after2 : After-arc-after2·own before
 
       abbrev pub After-arc-after2·gave : (c : After-arc-after2) → s19 .gives (m19 (c .before .before))
-      After-arc-after2·gave = λ c. Called.given ps·1 r·1 (claims· .3) T14 (record { pos = 1; ty = Syntax.tyRef (Syntax.named 0) Syntax.imm Rec.named; ref = λ x. x; }, (Num.vAt 2 λ x. x, (Num.vFld 5 (L._∷_ (Syntax.field 0) L.[]) 0 λ x. network-proofs-ArcUpdate·.struct .as-values x .0, tt))) (m19 (c .before .before)) (c .arc-after2)
+      After-arc-after2·gave = λ c. Called.given ps·1 r·1 (claims· .3) T14 (record { pos = 1; ty = Syntax.tyRef (Syntax.named 0) Syntax.imm Rec.named; ref = λ x. x }, (Num.vAt 2 λ x. x, (Num.vFld 5 (L._∷_ (Syntax.field 0) L.[]) 0 λ x. network-proofs-ArcUpdate·.struct .as-values x .0, tt))) (m19 (c .before .before)) (c .arc-after2)
 
       abbrev pub m21 : (before : Else2) → (given : s19 .gives (m19 (before .before))) → Typed.Mo T24
       m21 = λ before given. s20 .next (m20 before given)
@@ -1562,14 +1562,14 @@ module _ (claims· : Claims) where
 
       module _ (before· : Else3) where
         abbrev pub After-arc-after3·own : Type 0
-        After-arc-after3·own = Called.Called ps·1 r·1 (claims· .3) T25 (record { pos = 1; ty = Syntax.tyRef (Syntax.named 0) Syntax.imm Rec.named; ref = λ x. x; }, (Num.vAt 2 λ x. x, (Num.vFld 6 (L._∷_ (Syntax.field 0) L.[]) 0 λ x. network-proofs-ArcUpdate·.struct .as-values x .0, tt))) (m30 (before· .before))
+        After-arc-after3·own = Called.Called ps·1 r·1 (claims· .3) T25 (record { pos = 1; ty = Syntax.tyRef (Syntax.named 0) Syntax.imm Rec.named; ref = λ x. x }, (Num.vAt 2 λ x. x, (Num.vFld 6 (L._∷_ (Syntax.field 0) L.[]) 0 λ x. network-proofs-ArcUpdate·.struct .as-values x .0, tt))) (m30 (before· .before))
 
       pub record After-arc-after3 : Type 0 where
         pub before : Else3
         pub arc-after3 : After-arc-after3·own before
 
       abbrev pub After-arc-after3·gave : (c : After-arc-after3) → s30 .gives (m30 (c .before .before))
-      After-arc-after3·gave = λ c. Called.given ps·1 r·1 (claims· .3) T25 (record { pos = 1; ty = Syntax.tyRef (Syntax.named 0) Syntax.imm Rec.named; ref = λ x. x; }, (Num.vAt 2 λ x. x, (Num.vFld 6 (L._∷_ (Syntax.field 0) L.[]) 0 λ x. network-proofs-ArcUpdate·.struct .as-values x .0, tt))) (m30 (c .before .before)) (c .arc-after3)
+      After-arc-after3·gave = λ c. Called.given ps·1 r·1 (claims· .3) T25 (record { pos = 1; ty = Syntax.tyRef (Syntax.named 0) Syntax.imm Rec.named; ref = λ x. x }, (Num.vAt 2 λ x. x, (Num.vFld 6 (L._∷_ (Syntax.field 0) L.[]) 0 λ x. network-proofs-ArcUpdate·.struct .as-values x .0, tt))) (m30 (c .before .before)) (c .arc-after3)
 
       abbrev pub m32 : (before : Else3) → (given : s30 .gives (m30 (before .before))) → Typed.Mo T36
       m32 = λ before given. s31 .next (m31 before given)
@@ -1637,14 +1637,14 @@ module _ (claims· : Claims) where
 
       module _ (before· : Else4) where
         abbrev pub After-arc-after4·own : Type 0
-        After-arc-after4·own = Called.Called ps·1 r·1 (claims· .3) T37 (record { pos = 1; ty = Syntax.tyRef (Syntax.named 0) Syntax.imm Rec.named; ref = λ x. x; }, (Num.vAt 2 λ x. x, (Num.vFld 7 (L._∷_ (Syntax.field 0) L.[]) 0 λ x. network-proofs-ArcUpdate·.struct .as-values x .0, tt))) (m43 (before· .before))
+        After-arc-after4·own = Called.Called ps·1 r·1 (claims· .3) T37 (record { pos = 1; ty = Syntax.tyRef (Syntax.named 0) Syntax.imm Rec.named; ref = λ x. x }, (Num.vAt 2 λ x. x, (Num.vFld 7 (L._∷_ (Syntax.field 0) L.[]) 0 λ x. network-proofs-ArcUpdate·.struct .as-values x .0, tt))) (m43 (before· .before))
 
       pub record After-arc-after4 : Type 0 where
         pub before : Else4
         pub arc-after4 : After-arc-after4·own before
 
       abbrev pub After-arc-after4·gave : (c : After-arc-after4) → s43 .gives (m43 (c .before .before))
-      After-arc-after4·gave = λ c. Called.given ps·1 r·1 (claims· .3) T37 (record { pos = 1; ty = Syntax.tyRef (Syntax.named 0) Syntax.imm Rec.named; ref = λ x. x; }, (Num.vAt 2 λ x. x, (Num.vFld 7 (L._∷_ (Syntax.field 0) L.[]) 0 λ x. network-proofs-ArcUpdate·.struct .as-values x .0, tt))) (m43 (c .before .before)) (c .arc-after4)
+      After-arc-after4·gave = λ c. Called.given ps·1 r·1 (claims· .3) T37 (record { pos = 1; ty = Syntax.tyRef (Syntax.named 0) Syntax.imm Rec.named; ref = λ x. x }, (Num.vAt 2 λ x. x, (Num.vFld 7 (L._∷_ (Syntax.field 0) L.[]) 0 λ x. network-proofs-ArcUpdate·.struct .as-values x .0, tt))) (m43 (c .before .before)) (c .arc-after4)
 
       abbrev pub m45 : (before : Else4) → (given : s43 .gives (m43 (before .before))) → Typed.Mo T50
       m45 = λ before given. s44 (m44 before given)
@@ -1678,7 +1678,7 @@ module _ (claims· : Claims) where
         lay17 = λ c. ((Path.refl, (tt, (tt, tt))), returns-5 record { before = c .before; arc-after4 = c .arc-after4 })
 
         lay16 : (c : Else4) → at56 (W0 (c .before .before .before .before .before .before .before .before .κs) (c .before .before .before .before .before .before .before .before .args)) (m43 (c .before))
-        lay16 = λ c. (arc-after-requires-4 record { before = c .before; if4 = c .if4 }, λ g. lay17 record { before = record { before = c .before; if4 = c .if4 }; arc-after4 = Called.called ps·1 r·1 (claims· .3) T37 (record { pos = 1; ty = Syntax.tyRef (Syntax.named 0) Syntax.imm Rec.named; ref = λ x. x; }, (Num.vAt 2 λ x. x, (Num.vFld 7 (L._∷_ (Syntax.field 0) L.[]) 0 λ x. network-proofs-ArcUpdate·.struct .as-values x .0, tt))) (m43 (c .before)) g; })
+        lay16 = λ c. (arc-after-requires-4 record { before = c .before; if4 = c .if4 }, λ g. lay17 record { before = record { before = c .before; if4 = c .if4 }; arc-after4 = Called.called ps·1 r·1 (claims· .3) T37 (record { pos = 1; ty = Syntax.tyRef (Syntax.named 0) Syntax.imm Rec.named; ref = λ x. x }, (Num.vAt 2 λ x. x, (Num.vFld 7 (L._∷_ (Syntax.field 0) L.[]) 0 λ x. network-proofs-ArcUpdate·.struct .as-values x .0, tt))) (m43 (c .before)) g })
 
         lay15 : (c : Else4) → at45 (W4 (c .before .before) (After-arc-after3·gave (c .before))) (m32 (c .before .before) (After-arc-after3·gave (c .before)))
         lay15 = λ c. lay16 record { before = c .before; if4 = c .if4 }
@@ -1687,10 +1687,10 @@ module _ (claims· : Claims) where
         lay14 = λ c. ((Path.refl, (tt, (tt, tt))), returns-4 record { before = c .before; if4 = c .if4 })
 
         lay13 : (c : After-arc-after3) → at58 (W0 (c .before .before .before .before .before .before .before .κs) (c .before .before .before .before .before .before .before .args)) (m31 (c .before) (After-arc-after3·gave c))
-        lay13 = λ c. (tt, (λ taken. lay14 record { before = record { before = c .before; arc-after3 = c .arc-after3 }; if4 = record { taken = Tests.ltb-true (Row.get 3 (T35 .locals) (m31 (c .before) (After-arc-after3·gave c))) 4 taken; }; }, λ left. lay15 record { before = record { before = c .before; arc-after3 = c .arc-after3 }; if4 = record { left = Tests.ltb-false (Row.get 3 (T35 .locals) (m31 (c .before) (After-arc-after3·gave c))) 4 left; }; }))
+        lay13 = λ c. (tt, (λ taken. lay14 record { before = record { before = c .before; arc-after3 = c .arc-after3 }; if4 = record { taken = Tests.ltb-true (Row.get 3 (T35 .locals) (m31 (c .before) (After-arc-after3·gave c))) 4 taken } }, λ left. lay15 record { before = record { before = c .before; arc-after3 = c .arc-after3 }; if4 = record { left = Tests.ltb-false (Row.get 3 (T35 .locals) (m31 (c .before) (After-arc-after3·gave c))) 4 left } }))
 
         lay12 : (c : Else3) → at59 (W0 (c .before .before .before .before .before .before .κs) (c .before .before .before .before .before .before .args)) (m30 (c .before))
-        lay12 = λ c. (arc-after-requires-3 record { before = c .before; if3 = c .if3 }, λ g. lay13 record { before = record { before = c .before; if3 = c .if3 }; arc-after3 = Called.called ps·1 r·1 (claims· .3) T25 (record { pos = 1; ty = Syntax.tyRef (Syntax.named 0) Syntax.imm Rec.named; ref = λ x. x; }, (Num.vAt 2 λ x. x, (Num.vFld 6 (L._∷_ (Syntax.field 0) L.[]) 0 λ x. network-proofs-ArcUpdate·.struct .as-values x .0, tt))) (m30 (c .before)) g; })
+        lay12 = λ c. (arc-after-requires-3 record { before = c .before; if3 = c .if3 }, λ g. lay13 record { before = record { before = c .before; if3 = c .if3 }; arc-after3 = Called.called ps·1 r·1 (claims· .3) T25 (record { pos = 1; ty = Syntax.tyRef (Syntax.named 0) Syntax.imm Rec.named; ref = λ x. x }, (Num.vAt 2 λ x. x, (Num.vFld 6 (L._∷_ (Syntax.field 0) L.[]) 0 λ x. network-proofs-ArcUpdate·.struct .as-values x .0, tt))) (m30 (c .before)) g })
 
         lay11 : (c : Else3) → at31 (W3 (c .before .before) (After-arc-after2·gave (c .before))) (m21 (c .before .before) (After-arc-after2·gave (c .before)))
         lay11 = λ c. lay12 record { before = c .before; if3 = c .if3 }
@@ -1699,10 +1699,10 @@ module _ (claims· : Claims) where
         lay10 = λ c. ((Path.refl, (tt, (tt, tt))), returns-3 record { before = c .before; if3 = c .if3 })
 
         lay9 : (c : After-arc-after2) → at61 (W0 (c .before .before .before .before .before .κs) (c .before .before .before .before .before .args)) (m20 (c .before) (After-arc-after2·gave c))
-        lay9 = λ c. (tt, (λ taken. lay10 record { before = record { before = c .before; arc-after2 = c .arc-after2 }; if3 = record { taken = Tests.ltb-true (Row.get 3 (T23 .locals) (m20 (c .before) (After-arc-after2·gave c))) 3 taken; }; }, λ left. lay11 record { before = record { before = c .before; arc-after2 = c .arc-after2 }; if3 = record { left = Tests.ltb-false (Row.get 3 (T23 .locals) (m20 (c .before) (After-arc-after2·gave c))) 3 left; }; }))
+        lay9 = λ c. (tt, (λ taken. lay10 record { before = record { before = c .before; arc-after2 = c .arc-after2 }; if3 = record { taken = Tests.ltb-true (Row.get 3 (T23 .locals) (m20 (c .before) (After-arc-after2·gave c))) 3 taken } }, λ left. lay11 record { before = record { before = c .before; arc-after2 = c .arc-after2 }; if3 = record { left = Tests.ltb-false (Row.get 3 (T23 .locals) (m20 (c .before) (After-arc-after2·gave c))) 3 left } }))
 
         lay8 : (c : Else2) → at62 (W0 (c .before .before .before .before .κs) (c .before .before .before .before .args)) (m19 (c .before))
-        lay8 = λ c. (arc-after-requires-2 record { before = c .before; if2 = c .if2 }, λ g. lay9 record { before = record { before = c .before; if2 = c .if2 }; arc-after2 = Called.called ps·1 r·1 (claims· .3) T14 (record { pos = 1; ty = Syntax.tyRef (Syntax.named 0) Syntax.imm Rec.named; ref = λ x. x; }, (Num.vAt 2 λ x. x, (Num.vFld 5 (L._∷_ (Syntax.field 0) L.[]) 0 λ x. network-proofs-ArcUpdate·.struct .as-values x .0, tt))) (m19 (c .before)) g; })
+        lay8 = λ c. (arc-after-requires-2 record { before = c .before; if2 = c .if2 }, λ g. lay9 record { before = record { before = c .before; if2 = c .if2 }; arc-after2 = Called.called ps·1 r·1 (claims· .3) T14 (record { pos = 1; ty = Syntax.tyRef (Syntax.named 0) Syntax.imm Rec.named; ref = λ x. x }, (Num.vAt 2 λ x. x, (Num.vFld 5 (L._∷_ (Syntax.field 0) L.[]) 0 λ x. network-proofs-ArcUpdate·.struct .as-values x .0, tt))) (m19 (c .before)) g })
 
         lay7 : (c : Else2) → at19 (W2 (c .before .before) (After-arc-after·gave (c .before))) (m11 (c .before .before) (After-arc-after·gave (c .before)))
         lay7 = λ c. lay8 record { before = c .before; if2 = c .if2 }
@@ -1711,10 +1711,10 @@ module _ (claims· : Claims) where
         lay6 = λ c. ((Path.refl, (tt, (tt, tt))), returns-2 record { before = c .before; if2 = c .if2 })
 
         lay5 : (c : After-arc-after) → at64 (W0 (c .before .before .before .κs) (c .before .before .before .args)) (m10 (c .before) (After-arc-after·gave c))
-        lay5 = λ c. (tt, (λ taken. lay6 record { before = record { before = c .before; arc-after = c .arc-after }; if2 = record { taken = Tests.ltb-true (Row.get 3 (T12 .locals) (m10 (c .before) (After-arc-after·gave c))) 2 taken; }; }, λ left. lay7 record { before = record { before = c .before; arc-after = c .arc-after }; if2 = record { left = Tests.ltb-false (Row.get 3 (T12 .locals) (m10 (c .before) (After-arc-after·gave c))) 2 left; }; }))
+        lay5 = λ c. (tt, (λ taken. lay6 record { before = record { before = c .before; arc-after = c .arc-after }; if2 = record { taken = Tests.ltb-true (Row.get 3 (T12 .locals) (m10 (c .before) (After-arc-after·gave c))) 2 taken } }, λ left. lay7 record { before = record { before = c .before; arc-after = c .arc-after }; if2 = record { left = Tests.ltb-false (Row.get 3 (T12 .locals) (m10 (c .before) (After-arc-after·gave c))) 2 left } }))
 
         lay4 : (c : Else1) → at65 (W0 (c .before .before .κs) (c .before .before .args)) (m9 (c .before))
-        lay4 = λ c. (arc-after-requires record { before = c .before; if1 = c .if1 }, λ g. lay5 record { before = record { before = c .before; if1 = c .if1 }; arc-after = Called.called ps·1 r·1 (claims· .3) T4 (record { pos = 1; ty = Syntax.tyRef (Syntax.named 0) Syntax.imm Rec.named; ref = λ x. x; }, (Num.vAt 2 λ x. x, (Num.vLit 0, tt))) (m9 (c .before)) g; })
+        lay4 = λ c. (arc-after-requires record { before = c .before; if1 = c .if1 }, λ g. lay5 record { before = record { before = c .before; if1 = c .if1 }; arc-after = Called.called ps·1 r·1 (claims· .3) T4 (record { pos = 1; ty = Syntax.tyRef (Syntax.named 0) Syntax.imm Rec.named; ref = λ x. x }, (Num.vAt 2 λ x. x, (Num.vLit 0, tt))) (m9 (c .before)) g })
 
         lay3 : (c : Else1) → at8 (W1 (c .before .before) (After-no-update·gave (c .before))) (m2 (c .before .before) (After-no-update·gave (c .before)))
         lay3 = λ c. lay4 record { before = c .before; if1 = c .if1 }
@@ -1723,14 +1723,14 @@ module _ (claims· : Claims) where
         lay2 = λ c. ((Path.refl, (tt, (tt, tt))), returns record { before = c .before; if1 = c .if1 })
 
         lay1 : (c : After-no-update) → at67 (W0 (c .before .κs) (c .before .args)) (m1 (c .before) (After-no-update·gave c))
-        lay1 = λ c. (tt, (λ taken. lay2 record { before = record { before = c .before; no-update = c .no-update }; if1 = record { taken = Tests.ltb-true (Row.get 3 (T2 .locals) (m1 (c .before) (After-no-update·gave c))) 1 taken; }; }, λ left. lay3 record { before = record { before = c .before; no-update = c .no-update }; if1 = record { left = Tests.ltb-false (Row.get 3 (T2 .locals) (m1 (c .before) (After-no-update·gave c))) 1 left; }; }))
+        lay1 = λ c. (tt, (λ taken. lay2 record { before = record { before = c .before; no-update = c .no-update }; if1 = record { taken = Tests.ltb-true (Row.get 3 (T2 .locals) (m1 (c .before) (After-no-update·gave c))) 1 taken } }, λ left. lay3 record { before = record { before = c .before; no-update = c .no-update }; if1 = record { left = Tests.ltb-false (Row.get 3 (T2 .locals) (m1 (c .before) (After-no-update·gave c))) 1 left } }))
 
         pub laid : (c : Start) → at68 (W0 (c .κs) (c .args)) (m0 (c .κs) (c .args))
-        laid = λ c. (no-update-requires c, λ g. lay1 record { before = c; no-update = Called.called ps·0 r·0 (claims· .1) T0 tt (m0 (c .κs) (c .args)) g; })
+        laid = λ c. (no-update-requires c, λ g. lay1 record { before = c; no-update = Called.called ps·0 r·0 (claims· .1) T0 tt (m0 (c .κs) (c .args)) g })
 
         module _ (κs : Lifetimes.Lfts 1) (qs : Lifetimes.Shares 1) where
           pub asked : (a : FnKinds.Dens κs ps) → (good : FnKinds.GoodsP κs ps a) → (pre : Pre· κs a) → (bs : L.List Nat.ℕ) → Φ (Any.wantQ 1 ps r xs m κs qs a (Post· κs a)) (Function.init 1 ps r xs m κs qs a)
-          asked = λ a good pre bs. laid record { κs = κs; args = record { arcs = a .0; i = a .1 .0; d = a .1 .1 .0 }; good = good; fits = record { i = record { fits = good .1 .0 .1 }; d = record { fits = good .1 .1 .0 .1 }; }; pre = pre; }
+          asked = λ a good pre bs. laid record { κs = κs; args = record { arcs = a .0; i = a .1 .0; d = a .1 .1 .0 }; good = good; fits = record { i = record { fits = good .1 .0 .1 }; d = record { fits = good .1 .1 .0 .1 } }; pre = pre }
 
         module _ {M : Type 1} (𝓤 : URA.URA M) (H : Wp.Heap 𝓤) (A : Atoms.Atoms 𝓤) (W : Kit.Given 𝓤 H A) (𝓣 : Wp.Tables 𝓤 H) (known0 : Plain.Known 𝓤 H A W 𝓣 0 ps·0 r·0 (claims· .0) (claims· .1) "network::no_update") (known1 : Plain.Known 𝓤 H A W 𝓣 1 ps·1 r·1 (claims· .2) (claims· .3) "search::scan::arc_after") where
           pub spec : Statement.Triple 𝓤 (Wp.WpFn 𝓤 H (𝓣 .C) (𝓣 .Λ) (Function.fnOf 1 ps r xs m hs body)) (Function.plainOf 𝓤 H A 1 ps r Pre· Post·)

@@ -123,10 +123,10 @@ abbrev pub q0 : Row.Entry
 q0 = (1, Rows.any-gone q1)
 
 abbrev pub ps : L.List (FnKinds.PK 1)
-ps = L._∷_ (Value.pVal record { ty = Declared.row network-proofs-Nodes·.the-type; one = Path.refl; val = StructLaws.val network-proofs-Nodes·.the-type network-proofs-Nodes-Laws·.the-laws; tells = StructLaws.tells network-proofs-Nodes·.the-type network-proofs-Nodes-Laws·.the-laws; still = StructLaws.still network-proofs-Nodes·.the-type network-proofs-Nodes-Laws·.the-copy Exit.yes; row = Rows.whole (Declared.row network-proofs-Nodes·.the-type); rd = λ x. x; mk = λ x. x; } λ M 𝓤 H A W. record { copies = StructLaws.copy network-proofs-Nodes·.the-type network-proofs-Nodes-Laws·.the-copy 𝓤 H A W; lawful = StructLaws.lawful network-proofs-Nodes·.the-type network-proofs-Nodes-Laws·.the-laws 𝓤 H A W; makes = StructLaws.makes network-proofs-Nodes·.the-type network-proofs-Nodes-Laws·.the-plain 𝓤 H A; in-mem = Local.mem-whole 𝓤 H A W (Declared.row network-proofs-Nodes·.the-type); of-mem = Local.whole-mem 𝓤 H A W (Declared.row network-proofs-Nodes·.the-type); }) (L._∷_ (ShrSlice.pShrS Rec.row 0 tt) L.[])
+ps = L._∷_ (Value.pVal record { ty = Declared.row network-proofs-Nodes·.the-type; one = Path.refl; val = StructLaws.val network-proofs-Nodes·.the-type network-proofs-Nodes-Laws·.the-laws; tells = StructLaws.tells network-proofs-Nodes·.the-type network-proofs-Nodes-Laws·.the-laws; still = StructLaws.still network-proofs-Nodes·.the-type network-proofs-Nodes-Laws·.the-copy Exit.yes; row = Rows.whole (Declared.row network-proofs-Nodes·.the-type); rd = λ x. x; mk = λ x. x } λ M 𝓤 H A W. record { copies = StructLaws.copy network-proofs-Nodes·.the-type network-proofs-Nodes-Laws·.the-copy 𝓤 H A W; lawful = StructLaws.lawful network-proofs-Nodes·.the-type network-proofs-Nodes-Laws·.the-laws 𝓤 H A W; makes = StructLaws.makes network-proofs-Nodes·.the-type network-proofs-Nodes-Laws·.the-plain 𝓤 H A; in-mem = Local.mem-whole 𝓤 H A W (Declared.row network-proofs-Nodes·.the-type); of-mem = Local.whole-mem 𝓤 H A W (Declared.row network-proofs-Nodes·.the-type) }) (L._∷_ (ShrSlice.pShrS Rec.row 0 tt) L.[])
 
 abbrev pub r : FnKinds.RK 1
-r = Value.rVal record { ty = Declared.row rules-proofs-found-Found·.the-type; one = Path.refl; val = StructLaws.val rules-proofs-found-Found·.the-type rules-proofs-found-Found-Laws·.the-laws; tells = StructLaws.tells rules-proofs-found-Found·.the-type rules-proofs-found-Found-Laws·.the-laws; still = StructLaws.still rules-proofs-found-Found·.the-type rules-proofs-found-Found-Laws·.the-copy Exit.yes; row = Rows.whole (Declared.row rules-proofs-found-Found·.the-type); rd = λ x. x; mk = λ x. x; } λ M 𝓤 H A W. record { copies = StructLaws.copy rules-proofs-found-Found·.the-type rules-proofs-found-Found-Laws·.the-copy 𝓤 H A W; lawful = StructLaws.lawful rules-proofs-found-Found·.the-type rules-proofs-found-Found-Laws·.the-laws 𝓤 H A W; makes = StructLaws.makes rules-proofs-found-Found·.the-type rules-proofs-found-Found-Laws·.the-plain 𝓤 H A; in-mem = Local.mem-whole 𝓤 H A W (Declared.row rules-proofs-found-Found·.the-type); of-mem = Local.whole-mem 𝓤 H A W (Declared.row rules-proofs-found-Found·.the-type); }
+r = Value.rVal record { ty = Declared.row rules-proofs-found-Found·.the-type; one = Path.refl; val = StructLaws.val rules-proofs-found-Found·.the-type rules-proofs-found-Found-Laws·.the-laws; tells = StructLaws.tells rules-proofs-found-Found·.the-type rules-proofs-found-Found-Laws·.the-laws; still = StructLaws.still rules-proofs-found-Found·.the-type rules-proofs-found-Found-Laws·.the-copy Exit.yes; row = Rows.whole (Declared.row rules-proofs-found-Found·.the-type); rd = λ x. x; mk = λ x. x } λ M 𝓤 H A W. record { copies = StructLaws.copy rules-proofs-found-Found·.the-type rules-proofs-found-Found-Laws·.the-copy 𝓤 H A W; lawful = StructLaws.lawful rules-proofs-found-Found·.the-type rules-proofs-found-Found-Laws·.the-laws 𝓤 H A W; makes = StructLaws.makes rules-proofs-found-Found·.the-type rules-proofs-found-Found-Laws·.the-plain 𝓤 H A; in-mem = Local.mem-whole 𝓤 H A W (Declared.row rules-proofs-found-Found·.the-type); of-mem = Local.whole-mem 𝓤 H A W (Declared.row rules-proofs-found-Found·.the-type) }
 
 abbrev pub xs : L.List Syntax.Ty
 xs = L._∷_ q5 (L._∷_ (Syntax.tyInt Syntax.w64) (L._∷_ Rec.by-value (L._∷_ (Syntax.tyStruct (L._∷_ 114 (L._∷_ 117 (L._∷_ 108 (L._∷_ 101 (L._∷_ 115 (L._∷_ 58 (L._∷_ 58 (L._∷_ 102 (L._∷_ 111 (L._∷_ 117 (L._∷_ 110 (L._∷_ 100 (L._∷_ 58 (L._∷_ 58 (L._∷_ 70 (L._∷_ 111 (L._∷_ 117 (L._∷_ 110 (L._∷_ 100 L.[]))))))))))))))))))) (Syntax.tcons Syntax.tyBool (Syntax.tcons Syntax.tyBool (Syntax.tcons (Syntax.tyStruct (L._∷_ 115 (L._∷_ 116 (L._∷_ 101 (L._∷_ 112 (L._∷_ 58 (L._∷_ 58 (L._∷_ 83 (L._∷_ 116 (L._∷_ 101 (L._∷_ 112 L.[])))))))))) (Syntax.tcons (Syntax.tyInt Syntax.w64) (Syntax.tcons (Syntax.tyInt Syntax.w64) (Syntax.tcons (Syntax.tyStruct (L._∷_ 115 (L._∷_ 116 (L._∷_ 101 (L._∷_ 112 (L._∷_ 58 (L._∷_ 58 (L._∷_ 67 (L._∷_ 104 (L._∷_ 97 (L._∷_ 110 (L._∷_ 103 (L._∷_ 101 L.[])))))))))))) (Syntax.tcons (Syntax.tyStruct (L._∷_ 110 (L._∷_ 101 (L._∷_ 116 (L._∷_ 119 (L._∷_ 111 (L._∷_ 114 (L._∷_ 107 (L._∷_ 58 (L._∷_ 58 (L._∷_ 69 (L._∷_ 100 (L._∷_ 105 (L._∷_ 116 L.[]))))))))))))) (Syntax.tcons q7 (Syntax.tcons q7 (Syntax.tcons q7 (Syntax.tcons q7 (Syntax.tcons q2 (Syntax.tcons q2 (Syntax.tcons (Syntax.tyInt Syntax.w64) Syntax.tnil)))))))) (Syntax.tcons (Syntax.tyStruct (L._∷_ 115 (L._∷_ 116 (L._∷_ 101 (L._∷_ 112 (L._∷_ 58 (L._∷_ 58 (L._∷_ 79 (L._∷_ 108 (L._∷_ 100 L.[]))))))))) (Syntax.tcons (Syntax.tyInt Syntax.w64) (Syntax.tcons q6 (Syntax.tcons q7 (Syntax.tcons q7 (Syntax.tcons q7 (Syntax.tcons q7 (Syntax.tcons q4 Syntax.tnil)))))))) Syntax.tnil))) Syntax.tnil)))) Syntax.tnil)))) (L._∷_ Syntax.tyBool (L._∷_ Syntax.tyBool (L._∷_ Syntax.tyBool L.[]))))))
@@ -150,13 +150,13 @@ abbrev pub ps·2 : L.List (FnKinds.PK 0)
 ps·2 = L._∷_ (KArray.pArr (KArray.eStruct fraction-proofs-Fraction·.the-type fraction-proofs-Fraction-Laws·.the-laws fraction-proofs-Fraction-Laws·.the-copy) (KArray.eStruct-laws fraction-proofs-Fraction·.the-type fraction-proofs-Fraction-Laws·.the-laws fraction-proofs-Fraction-Laws·.the-copy fraction-proofs-Fraction-Laws·.the-plain) 33) (L._∷_ (Num.pNum Syntax.w64) (L._∷_ Rec.param L.[]))
 
 abbrev pub r·2 : FnKinds.RK 0
-r·2 = Value.rVal record { ty = Declared.row rules-proofs-found-Found·.the-type; one = Path.refl; val = StructLaws.val rules-proofs-found-Found·.the-type rules-proofs-found-Found-Laws·.the-laws; tells = StructLaws.tells rules-proofs-found-Found·.the-type rules-proofs-found-Found-Laws·.the-laws; still = StructLaws.still rules-proofs-found-Found·.the-type rules-proofs-found-Found-Laws·.the-copy Exit.yes; row = Rows.whole (Declared.row rules-proofs-found-Found·.the-type); rd = λ x. x; mk = λ x. x; } λ M 𝓤 H A W. record { copies = StructLaws.copy rules-proofs-found-Found·.the-type rules-proofs-found-Found-Laws·.the-copy 𝓤 H A W; lawful = StructLaws.lawful rules-proofs-found-Found·.the-type rules-proofs-found-Found-Laws·.the-laws 𝓤 H A W; makes = StructLaws.makes rules-proofs-found-Found·.the-type rules-proofs-found-Found-Laws·.the-plain 𝓤 H A; in-mem = Local.mem-whole 𝓤 H A W (Declared.row rules-proofs-found-Found·.the-type); of-mem = Local.whole-mem 𝓤 H A W (Declared.row rules-proofs-found-Found·.the-type); }
+r·2 = Value.rVal record { ty = Declared.row rules-proofs-found-Found·.the-type; one = Path.refl; val = StructLaws.val rules-proofs-found-Found·.the-type rules-proofs-found-Found-Laws·.the-laws; tells = StructLaws.tells rules-proofs-found-Found·.the-type rules-proofs-found-Found-Laws·.the-laws; still = StructLaws.still rules-proofs-found-Found·.the-type rules-proofs-found-Found-Laws·.the-copy Exit.yes; row = Rows.whole (Declared.row rules-proofs-found-Found·.the-type); rd = λ x. x; mk = λ x. x } λ M 𝓤 H A W. record { copies = StructLaws.copy rules-proofs-found-Found·.the-type rules-proofs-found-Found-Laws·.the-copy 𝓤 H A W; lawful = StructLaws.lawful rules-proofs-found-Found·.the-type rules-proofs-found-Found-Laws·.the-laws 𝓤 H A W; makes = StructLaws.makes rules-proofs-found-Found·.the-type rules-proofs-found-Found-Laws·.the-plain 𝓤 H A; in-mem = Local.mem-whole 𝓤 H A W (Declared.row rules-proofs-found-Found·.the-type); of-mem = Local.whole-mem 𝓤 H A W (Declared.row rules-proofs-found-Found·.the-type) }
 
 abbrev pub ps·3 : L.List (FnKinds.PK 0)
 ps·3 = L.[]
 
 abbrev pub r·3 : FnKinds.RK 0
-r·3 = Value.rVal record { ty = Declared.row rules-proofs-found-Found·.the-type; one = Path.refl; val = StructLaws.val rules-proofs-found-Found·.the-type rules-proofs-found-Found-Laws·.the-laws; tells = StructLaws.tells rules-proofs-found-Found·.the-type rules-proofs-found-Found-Laws·.the-laws; still = StructLaws.still rules-proofs-found-Found·.the-type rules-proofs-found-Found-Laws·.the-copy Exit.yes; row = Rows.whole (Declared.row rules-proofs-found-Found·.the-type); rd = λ x. x; mk = λ x. x; } λ M 𝓤 H A W. record { copies = StructLaws.copy rules-proofs-found-Found·.the-type rules-proofs-found-Found-Laws·.the-copy 𝓤 H A W; lawful = StructLaws.lawful rules-proofs-found-Found·.the-type rules-proofs-found-Found-Laws·.the-laws 𝓤 H A W; makes = StructLaws.makes rules-proofs-found-Found·.the-type rules-proofs-found-Found-Laws·.the-plain 𝓤 H A; in-mem = Local.mem-whole 𝓤 H A W (Declared.row rules-proofs-found-Found·.the-type); of-mem = Local.whole-mem 𝓤 H A W (Declared.row rules-proofs-found-Found·.the-type); }
+r·3 = Value.rVal record { ty = Declared.row rules-proofs-found-Found·.the-type; one = Path.refl; val = StructLaws.val rules-proofs-found-Found·.the-type rules-proofs-found-Found-Laws·.the-laws; tells = StructLaws.tells rules-proofs-found-Found·.the-type rules-proofs-found-Found-Laws·.the-laws; still = StructLaws.still rules-proofs-found-Found·.the-type rules-proofs-found-Found-Laws·.the-copy Exit.yes; row = Rows.whole (Declared.row rules-proofs-found-Found·.the-type); rd = λ x. x; mk = λ x. x } λ M 𝓤 H A W. record { copies = StructLaws.copy rules-proofs-found-Found·.the-type rules-proofs-found-Found-Laws·.the-copy 𝓤 H A W; lawful = StructLaws.lawful rules-proofs-found-Found·.the-type rules-proofs-found-Found-Laws·.the-laws 𝓤 H A W; makes = StructLaws.makes rules-proofs-found-Found·.the-type rules-proofs-found-Found-Laws·.the-plain 𝓤 H A; in-mem = Local.mem-whole 𝓤 H A W (Declared.row rules-proofs-found-Found·.the-type); of-mem = Local.whole-mem 𝓤 H A W (Declared.row rules-proofs-found-Found·.the-type) }
 
 abbrev pub hs : L.List Syntax.Home
 hs = L._∷_ Syntax.valueLocal (L._∷_ Syntax.valueLocal (L._∷_ Syntax.valueLocal (L._∷_ Syntax.valueLocal (L._∷_ Syntax.valueLocal (L._∷_ Syntax.valueLocal (L._∷_ Syntax.valueLocal (L._∷_ Syntax.valueLocal (L._∷_ Syntax.valueLocal (L._∷_ Syntax.valueLocal L.[])))))))))
@@ -448,7 +448,7 @@ MeasureT-loop = Rows.whole (Declared.row network-proofs-Nodes·.the-type) .Mod �
 
 module _ (claims· : Claims) where
   abbrev s0 : (bs : L.List Nat.ℕ) → Typed.Both T0 T2
-  s0 = λ bs. WayStmt.k-way-copy-out T0 (Row.out 1 (T0 .locals)) (λ u. Row.drop 1 (T0 .locals) u) 3 (ARows.arrF (Declared.row fraction-proofs-Fraction·.the-type) 33 0) (λ u. At.getAt (network-proofs-Nodes·.the-type .parts) 3 (network-proofs-Nodes·.struct .as-values (u .1 .0))) (λ T′. record { locals = Row.setRow 1 q12 T′; slots = L.[]; }) (λ u T′ m′. Row.set 1 q12 (u .1 .0) T′ m′) (λ u. Unit) λ u. Unit
+  s0 = λ bs. WayStmt.k-way-copy-out T0 (Row.out 1 (T0 .locals)) (λ u. Row.drop 1 (T0 .locals) u) 3 (ARows.arrF (Declared.row fraction-proofs-Fraction·.the-type) 33 0) (λ u. At.getAt (network-proofs-Nodes·.the-type .parts) 3 (network-proofs-Nodes·.struct .as-values (u .1 .0))) (λ T′. record { locals = Row.setRow 1 q12 T′; slots = L.[] }) (λ u T′ m′. Row.set 1 q12 (u .1 .0) T′ m′) (λ u. Unit) λ u. Unit
 
   abbrev s1 : (bs : L.List Nat.ℕ) → Typed.Mo T2 → Typed.Mo T3
   s1 = λ bs. Scalar.n-use T2 (Scalar.oInt Syntax.w64 1) 4 q15 (Row.sInt Syntax.w64 .of)
@@ -472,7 +472,7 @@ module _ (claims· : Claims) where
   s7 = λ bs. Scalar.n-room T10 7 Syntax.tyBool
 
   abbrev s8 : (bs : L.List Nat.ℕ) → Typed.Both T7 T12
-  s8 = λ bs. Call.callB ps·0 r·0 (claims· .0) (claims· .1) T7 (record { pos = 2; ty = Syntax.tyRef (Syntax.named 0) Syntax.imm Rec.named; ref = λ x. x; }, (Num.vAt 4 λ x. x, tt)) 5 (L._∷_ 0 L.[]) Rec.by-value
+  s8 = λ bs. Call.callB ps·0 r·0 (claims· .0) (claims· .1) T7 (record { pos = 2; ty = Syntax.tyRef (Syntax.named 0) Syntax.imm Rec.named; ref = λ x. x }, (Num.vAt 4 λ x. x, tt)) 5 (L._∷_ 0 L.[]) Rec.by-value
 
   abbrev s9 : (bs : L.List Nat.ℕ) → Typed.Both T12 T13
   s9 = λ bs. Call.callB ps·1 r·1 (claims· .2) (claims· .3) T12 (record { pos = 5; st = L.[]; d = 0; at = λ x. x }, tt) 8 L.[] Syntax.tyBool
@@ -875,7 +875,7 @@ module _ (claims· : Claims) where
           d28 = Typed.s-seq 𝓤 H A W 𝓣 E G12 G13 b7 b20 Δ3 (Typed.both (s9 bs)) (at27 bs) (Plain.t-call-plain 𝓤 H A W 𝓣 0 ps·1 r·1 (claims· .2) (claims· .3) "rules::tried::is_closed" (known .1) E (λ pos β. β) G12 (record { pos = 5; st = L.[]; d = 0; at = λ x. x }, tt) 8 L.[] (Call.sub-id 𝓤 H A W (G12 .slots)) ((Rec.yields 𝓤 H A W, Path.refl), tt) (TReads.room-gone 𝓤 H A Syntax.tyBool) tt Path.refl) d27
 
           d29 : Typed.Typed 𝓤 H A 𝓣 E G7 b22 Δ3 (at29 bs)
-          d29 = Typed.s-seq 𝓤 H A W 𝓣 E G7 G12 b6 b21 Δ3 (Typed.both (s8 bs)) (at28 bs) (Plain.t-call-plain 𝓤 H A W 𝓣 1 ps·0 r·0 (claims· .0) (claims· .1) "network::list::read" (known .0) E (λ pos β. β) G7 (record { pos = 2; ty = Syntax.tyRef (Syntax.named 0) Syntax.imm Rec.named; ref = λ x. x; }, (Num.vAt 4 λ x. x, tt)) 5 (L._∷_ 0 L.[]) (Call.sub-id 𝓤 H A W (G7 .slots)) (ShrSlice.spares-sslice 𝓤 H A W Rec.row q13 0, Shared.reads-sslice 𝓤 H A W Rec.row q13 0, Path.refl, ((Scalar.reads-sc 𝓤 H A W (Row.sInt Syntax.w64), Path.refl), tt)) (TReads.room-gone 𝓤 H A Rec.by-value) (tt, tt) Path.refl) d28
+          d29 = Typed.s-seq 𝓤 H A W 𝓣 E G7 G12 b6 b21 Δ3 (Typed.both (s8 bs)) (at28 bs) (Plain.t-call-plain 𝓤 H A W 𝓣 1 ps·0 r·0 (claims· .0) (claims· .1) "network::list::read" (known .0) E (λ pos β. β) G7 (record { pos = 2; ty = Syntax.tyRef (Syntax.named 0) Syntax.imm Rec.named; ref = λ x. x }, (Num.vAt 4 λ x. x, tt)) 5 (L._∷_ 0 L.[]) (Call.sub-id 𝓤 H A W (G7 .slots)) (ShrSlice.spares-sslice 𝓤 H A W Rec.row q13 0, Shared.reads-sslice 𝓤 H A W Rec.row q13 0, Path.refl, ((Scalar.reads-sc 𝓤 H A W (Row.sInt Syntax.w64), Path.refl), tt)) (TReads.room-gone 𝓤 H A Rec.by-value) (tt, tt) Path.refl) d28
 
           d30 : Typed.Typed 𝓤 H A 𝓣 E G6 b23 Δ3 (at30 bs)
           d30 = Typed.t-seq 𝓤 H A W 𝓣 E G6 G7 b5 b22 Δ3 (at6 bs) (at29 bs) d6 d29
@@ -908,14 +908,14 @@ module _ (claims· : Claims) where
           d39 = Typed.s-seq 𝓤 H A W 𝓣 E G2 G3 b1 b30 Δ0 (Typed.pass T2 T3 (s1 bs)) (at38 bs) (Scalar.t-use 𝓤 H A W E 𝓣 G2 (Scalar.oInt Syntax.w64 1) 4 q15 (Syntax.tyInt Syntax.w64) (Row.valS (Row.sInt Syntax.w64)) (Row.sInt Syntax.w64 .of) tt (TReads.room-gone 𝓤 H A (Syntax.tyInt Syntax.w64)) (Scalar.holds-sc 𝓤 H A W (Row.sInt Syntax.w64)) Path.refl (λ u. Path.refl) λ u. tt) d38
 
           d40 : Typed.Typed 𝓤 H A 𝓣 E G0 b32 Δ0 (at40 bs)
-          d40 = Typed.s-seq 𝓤 H A W 𝓣 E G0 G2 b0 b31 Δ0 (Typed.both (s0 bs)) (at39 bs) (WayStmt.t-way-copy-out 𝓤 H A W E 𝓣 (DArray.Array (Declared.row fraction-proofs-Fraction·.the-type) 33) Path.refl (Copies.cArr (Declared.row fraction-proofs-Fraction·.the-type) (Copies.cStruct fraction-proofs-Fraction·.the-type fraction-proofs-Fraction-Laws·.the-laws fraction-proofs-Fraction-Laws·.the-copy) 33 .copy 𝓤 H A W) (λ ρ. Unit) G0 (Row.out 1 (G0 .locals)) (λ u. Row.drop 1 (G0 .locals) u) (G0 .slots) 1 (λ t. L._∷_ (Syntax.field 3) t) q5 q5 3 (ARows.arrF (Declared.row fraction-proofs-Fraction·.the-type) 33 0) (λ x. x) (λ u. At.getAt (network-proofs-Nodes·.the-type .parts) 3 (network-proofs-Nodes·.struct .as-values (u .1 .0))) (λ u. (Row.hd 0 (Row.tl bs), Nat._+_ 0 52)) (λ T′. record { locals = Row.setRow 1 q12 T′; slots = G0 .slots; }) (λ u T′ m′. Row.set 1 q12 (u .1 .0) T′ m′) (λ u. Unit) (λ x. Unit) (Own.told-none 𝓤 H A (G0 .slots)) (DerefMove.learns-nothing 𝓤 H A (DArray.Array (Declared.row fraction-proofs-Fraction·.the-type) 33)) (λ ρ told u asked. StructWay.w-partˢ 𝓤 H A W E (Declared.row network-proofs-Nodes·.the-type) (DArray.Array (Declared.row fraction-proofs-Fraction·.the-type) 33) q1 q5 3 52 (u .1 .0) (At.getAt (network-proofs-Nodes·.the-type .parts) 3 (network-proofs-Nodes·.struct .as-values (u .1 .0))) (Row.hd 0 (Row.tl bs), 0) (RuleWay.w-look 𝓤 H A W E (RuleWay.w-local 𝓤 H A W E G0 ρ u (G0 .slots) 1 (Declared.row network-proofs-Nodes·.the-type) (Rows.whole (Declared.row network-proofs-Nodes·.the-type)) (λ x. x) (λ x. x) (u .1 .0) (Local.mem-whole 𝓤 H A W (Declared.row network-proofs-Nodes·.the-type) ρ (u .1 .0) (Row.hd 0 (Row.tl bs))) (Local.whole-mem 𝓤 H A W (Declared.row network-proofs-Nodes·.the-type) ρ (u .1 .0) (Row.hd 0 (Row.tl bs))))) Path.refl λ q. Items.cut-records 𝓤 H A q (Declared.row network-proofs-Nodes·.the-type) fraction-proofs-Fraction·.the-type 33 52 (u .1 .0) (u .1 .0) (At.getAt (network-proofs-Nodes·.the-type .parts) 3 (network-proofs-Nodes·.struct .as-values (u .1 .0))) (At.getAt (network-proofs-Nodes·.the-type .parts) 3 (network-proofs-Nodes·.struct .as-values (u .1 .0))) (Row.hd 0 (Row.tl bs), 0) (Behind.look-at 𝓤 H A W q network-proofs-Nodes·.the-type network-proofs-Nodes-Laws·.the-laws 3 52 Path.refl Path.refl (Row.hd 0 (Row.tl bs), 0) (u .1 .0) (network-proofs-Nodes·.struct .as-values (u .1 .0)) Path.refl)) (TReads.room-gone 𝓤 H A q5) (Yields.makes-mem 𝓤 H A W (λ ρ. Unit) (DArray.Array (Declared.row fraction-proofs-Fraction·.the-type) 33) Path.refl (ARows.arrF (Declared.row fraction-proofs-Fraction·.the-type) 33 0) (λ x. x) λ ρ told. Whole.arr-mem 𝓤 H A W (Declared.row fraction-proofs-Fraction·.the-type) 33 tt ρ) Path.refl Path.refl Path.refl) d39
+          d40 = Typed.s-seq 𝓤 H A W 𝓣 E G0 G2 b0 b31 Δ0 (Typed.both (s0 bs)) (at39 bs) (WayStmt.t-way-copy-out 𝓤 H A W E 𝓣 (DArray.Array (Declared.row fraction-proofs-Fraction·.the-type) 33) Path.refl (Copies.cArr (Declared.row fraction-proofs-Fraction·.the-type) (Copies.cStruct fraction-proofs-Fraction·.the-type fraction-proofs-Fraction-Laws·.the-laws fraction-proofs-Fraction-Laws·.the-copy) 33 .copy 𝓤 H A W) (λ ρ. Unit) G0 (Row.out 1 (G0 .locals)) (λ u. Row.drop 1 (G0 .locals) u) (G0 .slots) 1 (λ t. L._∷_ (Syntax.field 3) t) q5 q5 3 (ARows.arrF (Declared.row fraction-proofs-Fraction·.the-type) 33 0) (λ x. x) (λ u. At.getAt (network-proofs-Nodes·.the-type .parts) 3 (network-proofs-Nodes·.struct .as-values (u .1 .0))) (λ u. (Row.hd 0 (Row.tl bs), Nat._+_ 0 52)) (λ T′. record { locals = Row.setRow 1 q12 T′; slots = G0 .slots }) (λ u T′ m′. Row.set 1 q12 (u .1 .0) T′ m′) (λ u. Unit) (λ x. Unit) (Own.told-none 𝓤 H A (G0 .slots)) (DerefMove.learns-nothing 𝓤 H A (DArray.Array (Declared.row fraction-proofs-Fraction·.the-type) 33)) (λ ρ told u asked. StructWay.w-partˢ 𝓤 H A W E (Declared.row network-proofs-Nodes·.the-type) (DArray.Array (Declared.row fraction-proofs-Fraction·.the-type) 33) q1 q5 3 52 (u .1 .0) (At.getAt (network-proofs-Nodes·.the-type .parts) 3 (network-proofs-Nodes·.struct .as-values (u .1 .0))) (Row.hd 0 (Row.tl bs), 0) (RuleWay.w-look 𝓤 H A W E (RuleWay.w-local 𝓤 H A W E G0 ρ u (G0 .slots) 1 (Declared.row network-proofs-Nodes·.the-type) (Rows.whole (Declared.row network-proofs-Nodes·.the-type)) (λ x. x) (λ x. x) (u .1 .0) (Local.mem-whole 𝓤 H A W (Declared.row network-proofs-Nodes·.the-type) ρ (u .1 .0) (Row.hd 0 (Row.tl bs))) (Local.whole-mem 𝓤 H A W (Declared.row network-proofs-Nodes·.the-type) ρ (u .1 .0) (Row.hd 0 (Row.tl bs))))) Path.refl λ q. Items.cut-records 𝓤 H A q (Declared.row network-proofs-Nodes·.the-type) fraction-proofs-Fraction·.the-type 33 52 (u .1 .0) (u .1 .0) (At.getAt (network-proofs-Nodes·.the-type .parts) 3 (network-proofs-Nodes·.struct .as-values (u .1 .0))) (At.getAt (network-proofs-Nodes·.the-type .parts) 3 (network-proofs-Nodes·.struct .as-values (u .1 .0))) (Row.hd 0 (Row.tl bs), 0) (Behind.look-at 𝓤 H A W q network-proofs-Nodes·.the-type network-proofs-Nodes-Laws·.the-laws 3 52 Path.refl Path.refl (Row.hd 0 (Row.tl bs), 0) (u .1 .0) (network-proofs-Nodes·.struct .as-values (u .1 .0)) Path.refl)) (TReads.room-gone 𝓤 H A q5) (Yields.makes-mem 𝓤 H A W (λ ρ. Unit) (DArray.Array (Declared.row fraction-proofs-Fraction·.the-type) 33) Path.refl (ARows.arrF (Declared.row fraction-proofs-Fraction·.the-type) 33 0) (λ x. x) λ ρ told. Whole.arr-mem 𝓤 H A W (Declared.row fraction-proofs-Fraction·.the-type) 33 tt ρ) Path.refl Path.refl Path.refl) d39
 
           pub typed : Typed.Typed 𝓤 H A 𝓣 E (Function.Γin 1 ps r xs m κs qs) b32 (Function.Δret 1 ps r xs m κs qs) (Φ bs)
           typed = d40
 
       module _ (κs : Lifetimes.Lfts 1) where
         pub record Args : Type 0 where
-          pub nodes : FnKinds.Den {n = 1} κs (Value.pVal record { ty = Declared.row network-proofs-Nodes·.the-type; one = Path.refl; val = StructLaws.val network-proofs-Nodes·.the-type network-proofs-Nodes-Laws·.the-laws; tells = StructLaws.tells network-proofs-Nodes·.the-type network-proofs-Nodes-Laws·.the-laws; still = StructLaws.still network-proofs-Nodes·.the-type network-proofs-Nodes-Laws·.the-copy Exit.yes; row = Rows.whole (Declared.row network-proofs-Nodes·.the-type); rd = λ x. x; mk = λ x. x; } λ M 𝓤 H A W. record { copies = StructLaws.copy network-proofs-Nodes·.the-type network-proofs-Nodes-Laws·.the-copy 𝓤 H A W; lawful = StructLaws.lawful network-proofs-Nodes·.the-type network-proofs-Nodes-Laws·.the-laws 𝓤 H A W; makes = StructLaws.makes network-proofs-Nodes·.the-type network-proofs-Nodes-Laws·.the-plain 𝓤 H A; in-mem = Local.mem-whole 𝓤 H A W (Declared.row network-proofs-Nodes·.the-type); of-mem = Local.whole-mem 𝓤 H A W (Declared.row network-proofs-Nodes·.the-type); })
+          pub nodes : FnKinds.Den {n = 1} κs (Value.pVal record { ty = Declared.row network-proofs-Nodes·.the-type; one = Path.refl; val = StructLaws.val network-proofs-Nodes·.the-type network-proofs-Nodes-Laws·.the-laws; tells = StructLaws.tells network-proofs-Nodes·.the-type network-proofs-Nodes-Laws·.the-laws; still = StructLaws.still network-proofs-Nodes·.the-type network-proofs-Nodes-Laws·.the-copy Exit.yes; row = Rows.whole (Declared.row network-proofs-Nodes·.the-type); rd = λ x. x; mk = λ x. x } λ M 𝓤 H A W. record { copies = StructLaws.copy network-proofs-Nodes·.the-type network-proofs-Nodes-Laws·.the-copy 𝓤 H A W; lawful = StructLaws.lawful network-proofs-Nodes·.the-type network-proofs-Nodes-Laws·.the-laws 𝓤 H A W; makes = StructLaws.makes network-proofs-Nodes·.the-type network-proofs-Nodes-Laws·.the-plain 𝓤 H A; in-mem = Local.mem-whole 𝓤 H A W (Declared.row network-proofs-Nodes·.the-type); of-mem = Local.whole-mem 𝓤 H A W (Declared.row network-proofs-Nodes·.the-type) })
           pub arcs : FnKinds.Den {n = 1} κs (ShrSlice.pShrS Rec.row 0 tt)
 
         abbrev pub dens : (a : Args) → FnKinds.Dens κs ps
@@ -1025,14 +1025,14 @@ module _ (claims· : Claims) where
 
       module _ (before· : Then1) where
         abbrev pub After-read·own : Type 0
-        After-read·own = Called.Called ps·0 r·0 (claims· .1) T7 (record { pos = 2; ty = Syntax.tyRef (Syntax.named 0) Syntax.imm Rec.named; ref = λ x. x; }, (Num.vAt 4 λ x. x, tt)) (m6 (before· .before))
+        After-read·own = Called.Called ps·0 r·0 (claims· .1) T7 (record { pos = 2; ty = Syntax.tyRef (Syntax.named 0) Syntax.imm Rec.named; ref = λ x. x }, (Num.vAt 4 λ x. x, tt)) (m6 (before· .before))
 
       pub record After-read : Type 0 where
         pub before : Then1
         pub read : After-read·own before
 
       abbrev pub After-read·gave : (c : After-read) → s8 (c .before .before .before .before .before .blocks) .gives (m6 (c .before .before))
-      After-read·gave = λ c. Called.given ps·0 r·0 (claims· .1) T7 (record { pos = 2; ty = Syntax.tyRef (Syntax.named 0) Syntax.imm Rec.named; ref = λ x. x; }, (Num.vAt 4 λ x. x, tt)) (m6 (c .before .before)) (c .read)
+      After-read·gave = λ c. Called.given ps·0 r·0 (claims· .1) T7 (record { pos = 2; ty = Syntax.tyRef (Syntax.named 0) Syntax.imm Rec.named; ref = λ x. x }, (Num.vAt 4 λ x. x, tt)) (m6 (c .before .before)) (c .read)
 
       abbrev pub Need-is-closed-requires : Type 0
       Need-is-closed-requires = (c : After-read) → s9 (c .before .before .before .before .before .blocks) .asks (m10 (c .before) (After-read·gave c))
@@ -1150,7 +1150,7 @@ module _ (claims· : Claims) where
 
       module _ (before· : After-is-closed) where
         pub record Joined2·own : Type 0 where
-          pub came : Logic._⊎_ ((if2 : Then2·own before·) × (at-arc : After-at-arc·own record { before = before·; if2 = if2; }) × Else3·own record { before = record { before = before·; if2 = if2 }; at-arc = at-arc; }) (Else2·own before·)
+          pub came : Logic._⊎_ ((if2 : Then2·own before·) × (at-arc : After-at-arc·own record { before = before·; if2 = if2 }) × Else3·own record { before = record { before = before·; if2 = if2 }; at-arc = at-arc }) (Else2·own before·)
 
       pub record Joined2 : Type 0 where
         pub before : After-is-closed
@@ -1196,23 +1196,23 @@ module _ (claims· : Claims) where
         lay9 = λ c. ((tt, (Path.refl, tt)), returns-2 record { before = c .before; nothing = c .nothing })
 
         lay8 : (c : Else1) → at37 (c .before .before .before .before .blocks) (W0 (c .before .before .before .before .κs) (c .before .before .before .before .args) (c .before .before .before .before .blocks)) (m9 (c .before))
-        lay8 = λ c. (nothing-requires record { before = c .before; if1 = c .if1 }, λ g. lay9 record { before = record { before = c .before; if1 = c .if1 }; nothing = Called.called ps·3 r·3 (claims· .7) T4 tt (m9 (c .before)) g; })
+        lay8 = λ c. (nothing-requires record { before = c .before; if1 = c .if1 }, λ g. lay9 record { before = record { before = c .before; if1 = c .if1 }; nothing = Called.called ps·3 r·3 (claims· .7) T4 tt (m9 (c .before)) g })
 
         lay7 : (c : Joined2) → at26 (c .before .before .before .before .before .before .before .blocks) (W3 (c .before .before .before .before .before .before) (c .before .before .before .before .before .loop .j)) (m26 (c .before))
         unfolding at26
         lay7 = λ c. (add-j record { before = c .before; if2 = c .if2 }, (μ·0 (Row.get 1 (T3 .locals) (m2 (c .before .before .before .before .before .before .before) (c .before .before .before .before .before .before .supply .given))) (Row.get 2 (T3 .locals) (m2 (c .before .before .before .before .before .before .before) (c .before .before .before .before .before .before .supply .given)) .now) (Row.get 3 (T3 .locals) (m2 (c .before .before .before .before .before .before .before) (c .before .before .before .before .before .before .supply .given))) (Row.get 4 (T3 .locals) (m2 (c .before .before .before .before .before .before .before) (c .before .before .before .before .before .before .supply .given))) (Row.get 4 (T3 .locals) (m27 (c .before))), loop-less record { before = c .before; if2 = c .if2 }, (Row.get 4 (T3 .locals) (m27 (c .before)), Path.refl {a = m27 (c .before)}, loop-again record { before = c .before; if2 = c .if2 }, Path.refl {a = μ·0 (Row.get 1 (T3 .locals) (m2 (c .before .before .before .before .before .before .before) (c .before .before .before .before .before .before .supply .given))) (Row.get 2 (T3 .locals) (m2 (c .before .before .before .before .before .before .before) (c .before .before .before .before .before .before .supply .given)) .now) (Row.get 3 (T3 .locals) (m2 (c .before .before .before .before .before .before .before) (c .before .before .before .before .before .before .supply .given))) (Row.get 4 (T3 .locals) (m2 (c .before .before .before .before .before .before .before) (c .before .before .before .before .before .before .supply .given))) (Row.get 4 (T3 .locals) (m27 (c .before)))})))
 
         lay6 : (c : After-at-arc) → at19 (c .before .before .before .before .before .before .before .before .blocks) (W5 (c .before .before .before) (After-is-closed·gave (c .before .before))) (m13 (c .before) (After-at-arc·gave c))
-        lay6 = λ c. (λ taken. ((tt, (Path.refl, tt)), returns record { before = record { before = c .before; at-arc = c .at-arc }; if3 = record { taken = taken }; }), λ left. lay7 record { before = record { before = c .before .before .before; is-closed = c .before .before .is-closed; }; if2 = record { came = Logic.inl (c .before .if2, c .at-arc, record { left = left }); }; })
+        lay6 = λ c. (λ taken. ((tt, (Path.refl, tt)), returns record { before = record { before = c .before; at-arc = c .at-arc }; if3 = record { taken = taken } }), λ left. lay7 record { before = record { before = c .before .before .before; is-closed = c .before .before .is-closed }; if2 = record { came = Logic.inl (c .before .if2, c .at-arc, record { left = left }) } })
 
         lay5 : (c : After-is-closed) → at27 (c .before .before .before .before .before .before .blocks) (W3 (c .before .before .before .before .before) (c .before .before .before .before .loop .j)) (m11 (c .before) (After-is-closed·gave c))
-        lay5 = λ c. (λ taken. (at-arc-requires record { before = record { before = c .before; is-closed = c .is-closed }; if2 = record { taken = taken }; }, λ g. lay6 record { before = record { before = record { before = c .before; is-closed = c .is-closed }; if2 = record { taken = taken }; }; at-arc = Called.called ps·2 r·2 (claims· .5) T15 (record { pos = 3; st = L.[]; d = 0; at = λ x. x }, (Num.vAt 4 λ x. x, (record { pos = 5; st = L.[]; d = 0; at = λ x. x }, tt))) (m12 record { before = c .before; is-closed = c .is-closed }) g; }), λ left. lay7 record { before = record { before = c .before; is-closed = c .is-closed }; if2 = record { came = Logic.inr record { left = left } }; })
+        lay5 = λ c. (λ taken. (at-arc-requires record { before = record { before = c .before; is-closed = c .is-closed }; if2 = record { taken = taken } }, λ g. lay6 record { before = record { before = record { before = c .before; is-closed = c .is-closed }; if2 = record { taken = taken } }; at-arc = Called.called ps·2 r·2 (claims· .5) T15 (record { pos = 3; st = L.[]; d = 0; at = λ x. x }, (Num.vAt 4 λ x. x, (record { pos = 5; st = L.[]; d = 0; at = λ x. x }, tt))) (m12 record { before = c .before; is-closed = c .is-closed }) g }), λ left. lay7 record { before = record { before = c .before; is-closed = c .is-closed }; if2 = record { came = Logic.inr record { left = left } } })
 
         lay4 : (c : After-read) → at28 (c .before .before .before .before .before .blocks) (W3 (c .before .before .before .before) (c .before .before .before .loop .j)) (m10 (c .before) (After-read·gave c))
-        lay4 = λ c. (is-closed-requires record { before = c .before; read = c .read }, λ g. lay5 record { before = record { before = c .before; read = c .read }; is-closed = Called.called ps·1 r·1 (claims· .3) T12 (record { pos = 5; st = L.[]; d = 0; at = λ x. x }, tt) (m10 (c .before) (After-read·gave c)) g; })
+        lay4 = λ c. (is-closed-requires record { before = c .before; read = c .read }, λ g. lay5 record { before = record { before = c .before; read = c .read }; is-closed = Called.called ps·1 r·1 (claims· .3) T12 (record { pos = 5; st = L.[]; d = 0; at = λ x. x }, tt) (m10 (c .before) (After-read·gave c)) g })
 
         lay3 : (c : Then1) → at29 (c .before .before .before .before .blocks) (W3 (c .before .before .before) (c .before .before .loop .j)) (m6 (c .before))
-        lay3 = λ c. (read-requires record { before = c .before; if1 = c .if1 }, λ g. lay4 record { before = record { before = c .before; if1 = c .if1 }; read = Called.called ps·0 r·0 (claims· .1) T7 (record { pos = 2; ty = Syntax.tyRef (Syntax.named 0) Syntax.imm Rec.named; ref = λ x. x; }, (Num.vAt 4 λ x. x, tt)) (m6 (c .before)) g; })
+        lay3 = λ c. (read-requires record { before = c .before; if1 = c .if1 }, λ g. lay4 record { before = record { before = c .before; if1 = c .if1 }; read = Called.called ps·0 r·0 (claims· .1) T7 (record { pos = 2; ty = Syntax.tyRef (Syntax.named 0) Syntax.imm Rec.named; ref = λ x. x }, (Num.vAt 4 λ x. x, tt)) (m6 (c .before)) g })
 
         lay2 : (c : Else1) → at5 (c .before .before .before .before .blocks) (W4 (c .before .before) (c .before .struct-known .given)) (m5 (c .before .before) (c .before .struct-known .given))
         lay2 = λ c. lay8 record { before = c .before; if1 = c .if1 }
@@ -1221,11 +1221,11 @@ module _ (claims· : Claims) where
         lay1 = λ c. lay3 record { before = c .before; if1 = c .if1 }
 
         pub laid : (c : Start) → at40 (c .blocks) (W0 (c .κs) (c .args) (c .blocks)) (m0 (c .κs) (c .args) (c .blocks))
-        laid = λ c. (tt, λ g. ((Row.get 4 (T3 .locals) (m2 c g), Path.refl {a = m2 c g}, loop-holds record { before = c; supply = record { given = g } }), λ vs inv. λ g'. (tt, (λ taken. lay1 record { before = record { before = record { before = record { before = c; supply = record { given = g } }; loop = record { j = vs; inv = inv }; }; struct-known = record { given = g' }; }; if1 = record { taken = Tests.leb-true (Row.get 4 (T5 .locals) (m4 record { before = record { before = c; supply = record { given = g } }; loop = record { j = vs; inv = inv }; } g')) (network-proofs-Nodes·.struct .as-values (Row.get 1 (T5 .locals) (m4 record { before = record { before = c; supply = record { given = g } }; loop = record { j = vs; inv = inv }; } g')) .1 .0) taken; }; }, λ left. lay2 record { before = record { before = record { before = record { before = c; supply = record { given = g } }; loop = record { j = vs; inv = inv }; }; struct-known = record { given = g' }; }; if1 = record { left = Tests.leb-false (Row.get 4 (T5 .locals) (m4 record { before = record { before = c; supply = record { given = g } }; loop = record { j = vs; inv = inv }; } g')) (network-proofs-Nodes·.struct .as-values (Row.get 1 (T5 .locals) (m4 record { before = record { before = c; supply = record { given = g } }; loop = record { j = vs; inv = inv }; } g')) .1 .0) left; }; }))))
+        laid = λ c. (tt, λ g. ((Row.get 4 (T3 .locals) (m2 c g), Path.refl {a = m2 c g}, loop-holds record { before = c; supply = record { given = g } }), λ vs inv. λ g'. (tt, (λ taken. lay1 record { before = record { before = record { before = record { before = c; supply = record { given = g } }; loop = record { j = vs; inv = inv } }; struct-known = record { given = g' } }; if1 = record { taken = Tests.leb-true (Row.get 4 (T5 .locals) (m4 record { before = record { before = c; supply = record { given = g } }; loop = record { j = vs; inv = inv } } g')) (network-proofs-Nodes·.struct .as-values (Row.get 1 (T5 .locals) (m4 record { before = record { before = c; supply = record { given = g } }; loop = record { j = vs; inv = inv } } g')) .1 .0) taken } }, λ left. lay2 record { before = record { before = record { before = record { before = c; supply = record { given = g } }; loop = record { j = vs; inv = inv } }; struct-known = record { given = g' } }; if1 = record { left = Tests.leb-false (Row.get 4 (T5 .locals) (m4 record { before = record { before = c; supply = record { given = g } }; loop = record { j = vs; inv = inv } } g')) (network-proofs-Nodes·.struct .as-values (Row.get 1 (T5 .locals) (m4 record { before = record { before = c; supply = record { given = g } }; loop = record { j = vs; inv = inv } } g')) .1 .0) left } }))))
 
         module _ (κs : Lifetimes.Lfts 1) (qs : Lifetimes.Shares 1) where
           pub asked : (a : FnKinds.Dens κs ps) → (good : FnKinds.GoodsP κs ps a) → (pre : Pre· κs a) → (bs : L.List Nat.ℕ) → Φ bs (Any.wantQ 1 ps r xs m κs qs a (Post· κs a)) (Function.init 1 ps r xs m κs qs a)
-          asked = λ a good pre bs. laid record { κs = κs; args = record { nodes = a .0; arcs = a .1 .0 }; blocks = bs; good = good; pre = pre; }
+          asked = λ a good pre bs. laid record { κs = κs; args = record { nodes = a .0; arcs = a .1 .0 }; blocks = bs; good = good; pre = pre }
 
         module _ {M : Type 1} (𝓤 : URA.URA M) (H : Wp.Heap 𝓤) (A : Atoms.Atoms 𝓤) (W : Kit.Given 𝓤 H A) (𝓣 : Wp.Tables 𝓤 H) (known0 : Plain.Known 𝓤 H A W 𝓣 1 ps·0 r·0 (claims· .0) (claims· .1) "network::list::read") (known1 : Plain.Known 𝓤 H A W 𝓣 0 ps·1 r·1 (claims· .2) (claims· .3) "rules::tried::is_closed") (known2 : Plain.Known 𝓤 H A W 𝓣 0 ps·2 r·2 (claims· .4) (claims· .5) "rules::tried::at_arc") (known3 : Plain.Known 𝓤 H A W 𝓣 0 ps·3 r·3 (claims· .6) (claims· .7) "rules::found::nothing") where
           pub spec : Statement.Triple 𝓤 (Wp.WpFn 𝓤 H (𝓣 .C) (𝓣 .Λ) (Function.fnOf 1 ps r xs m hs body)) (Function.plainOf 𝓤 H A 1 ps r Pre· Post·)

@@ -132,10 +132,10 @@ abbrev pub q0 : Row.Entry
 q0 = (1, Rows.any-gone q1)
 
 abbrev pub ps : L.List (FnKinds.PK 1)
-ps = L._∷_ (Value.pVal record { ty = Declared.row network-proofs-Nodes·.the-type; one = Path.refl; val = StructLaws.val network-proofs-Nodes·.the-type network-proofs-Nodes-Laws·.the-laws; tells = StructLaws.tells network-proofs-Nodes·.the-type network-proofs-Nodes-Laws·.the-laws; still = StructLaws.still network-proofs-Nodes·.the-type network-proofs-Nodes-Laws·.the-copy Exit.yes; row = Rows.whole (Declared.row network-proofs-Nodes·.the-type); rd = λ x. x; mk = λ x. x; } λ M 𝓤 H A W. record { copies = StructLaws.copy network-proofs-Nodes·.the-type network-proofs-Nodes-Laws·.the-copy 𝓤 H A W; lawful = StructLaws.lawful network-proofs-Nodes·.the-type network-proofs-Nodes-Laws·.the-laws 𝓤 H A W; makes = StructLaws.makes network-proofs-Nodes·.the-type network-proofs-Nodes-Laws·.the-plain 𝓤 H A; in-mem = Local.mem-whole 𝓤 H A W (Declared.row network-proofs-Nodes·.the-type); of-mem = Local.whole-mem 𝓤 H A W (Declared.row network-proofs-Nodes·.the-type); }) (L._∷_ (ShrSlice.pShrS Rec.row 0 tt) (L._∷_ (Value.pVal record { ty = Declared.row costly-arc-proofs-Seen·.the-type; one = Path.refl; val = StructLaws.val costly-arc-proofs-Seen·.the-type costly-arc-proofs-Seen-Laws·.the-laws; tells = StructLaws.tells costly-arc-proofs-Seen·.the-type costly-arc-proofs-Seen-Laws·.the-laws; still = StructLaws.still costly-arc-proofs-Seen·.the-type costly-arc-proofs-Seen-Laws·.the-copy Exit.yes; row = Rows.whole (Declared.row costly-arc-proofs-Seen·.the-type); rd = λ x. x; mk = λ x. x; } λ M 𝓤 H A W. record { copies = StructLaws.copy costly-arc-proofs-Seen·.the-type costly-arc-proofs-Seen-Laws·.the-copy 𝓤 H A W; lawful = StructLaws.lawful costly-arc-proofs-Seen·.the-type costly-arc-proofs-Seen-Laws·.the-laws 𝓤 H A W; makes = StructLaws.makes costly-arc-proofs-Seen·.the-type costly-arc-proofs-Seen-Laws·.the-plain 𝓤 H A; in-mem = Local.mem-whole 𝓤 H A W (Declared.row costly-arc-proofs-Seen·.the-type); of-mem = Local.whole-mem 𝓤 H A W (Declared.row costly-arc-proofs-Seen·.the-type); }) (L._∷_ (Num.pNum Syntax.w8) L.[])))
+ps = L._∷_ (Value.pVal record { ty = Declared.row network-proofs-Nodes·.the-type; one = Path.refl; val = StructLaws.val network-proofs-Nodes·.the-type network-proofs-Nodes-Laws·.the-laws; tells = StructLaws.tells network-proofs-Nodes·.the-type network-proofs-Nodes-Laws·.the-laws; still = StructLaws.still network-proofs-Nodes·.the-type network-proofs-Nodes-Laws·.the-copy Exit.yes; row = Rows.whole (Declared.row network-proofs-Nodes·.the-type); rd = λ x. x; mk = λ x. x } λ M 𝓤 H A W. record { copies = StructLaws.copy network-proofs-Nodes·.the-type network-proofs-Nodes-Laws·.the-copy 𝓤 H A W; lawful = StructLaws.lawful network-proofs-Nodes·.the-type network-proofs-Nodes-Laws·.the-laws 𝓤 H A W; makes = StructLaws.makes network-proofs-Nodes·.the-type network-proofs-Nodes-Laws·.the-plain 𝓤 H A; in-mem = Local.mem-whole 𝓤 H A W (Declared.row network-proofs-Nodes·.the-type); of-mem = Local.whole-mem 𝓤 H A W (Declared.row network-proofs-Nodes·.the-type) }) (L._∷_ (ShrSlice.pShrS Rec.row 0 tt) (L._∷_ (Value.pVal record { ty = Declared.row costly-arc-proofs-Seen·.the-type; one = Path.refl; val = StructLaws.val costly-arc-proofs-Seen·.the-type costly-arc-proofs-Seen-Laws·.the-laws; tells = StructLaws.tells costly-arc-proofs-Seen·.the-type costly-arc-proofs-Seen-Laws·.the-laws; still = StructLaws.still costly-arc-proofs-Seen·.the-type costly-arc-proofs-Seen-Laws·.the-copy Exit.yes; row = Rows.whole (Declared.row costly-arc-proofs-Seen·.the-type); rd = λ x. x; mk = λ x. x } λ M 𝓤 H A W. record { copies = StructLaws.copy costly-arc-proofs-Seen·.the-type costly-arc-proofs-Seen-Laws·.the-copy 𝓤 H A W; lawful = StructLaws.lawful costly-arc-proofs-Seen·.the-type costly-arc-proofs-Seen-Laws·.the-laws 𝓤 H A W; makes = StructLaws.makes costly-arc-proofs-Seen·.the-type costly-arc-proofs-Seen-Laws·.the-plain 𝓤 H A; in-mem = Local.mem-whole 𝓤 H A W (Declared.row costly-arc-proofs-Seen·.the-type); of-mem = Local.whole-mem 𝓤 H A W (Declared.row costly-arc-proofs-Seen·.the-type) }) (L._∷_ (Num.pNum Syntax.w8) L.[])))
 
 abbrev pub r : FnKinds.RK 1
-r = Value.rVal record { ty = Declared.row rules-proofs-tried-Looked·.the-type; one = Path.refl; val = StructLaws.val rules-proofs-tried-Looked·.the-type rules-proofs-tried-Looked-Laws·.the-laws; tells = StructLaws.tells rules-proofs-tried-Looked·.the-type rules-proofs-tried-Looked-Laws·.the-laws; still = StructLaws.still rules-proofs-tried-Looked·.the-type rules-proofs-tried-Looked-Laws·.the-copy Exit.yes; row = Rows.whole (Declared.row rules-proofs-tried-Looked·.the-type); rd = λ x. x; mk = λ x. x; } λ M 𝓤 H A W. record { copies = StructLaws.copy rules-proofs-tried-Looked·.the-type rules-proofs-tried-Looked-Laws·.the-copy 𝓤 H A W; lawful = StructLaws.lawful rules-proofs-tried-Looked·.the-type rules-proofs-tried-Looked-Laws·.the-laws 𝓤 H A W; makes = StructLaws.makes rules-proofs-tried-Looked·.the-type rules-proofs-tried-Looked-Laws·.the-plain 𝓤 H A; in-mem = Local.mem-whole 𝓤 H A W (Declared.row rules-proofs-tried-Looked·.the-type); of-mem = Local.whole-mem 𝓤 H A W (Declared.row rules-proofs-tried-Looked·.the-type); }
+r = Value.rVal record { ty = Declared.row rules-proofs-tried-Looked·.the-type; one = Path.refl; val = StructLaws.val rules-proofs-tried-Looked·.the-type rules-proofs-tried-Looked-Laws·.the-laws; tells = StructLaws.tells rules-proofs-tried-Looked·.the-type rules-proofs-tried-Looked-Laws·.the-laws; still = StructLaws.still rules-proofs-tried-Looked·.the-type rules-proofs-tried-Looked-Laws·.the-copy Exit.yes; row = Rows.whole (Declared.row rules-proofs-tried-Looked·.the-type); rd = λ x. x; mk = λ x. x } λ M 𝓤 H A W. record { copies = StructLaws.copy rules-proofs-tried-Looked·.the-type rules-proofs-tried-Looked-Laws·.the-copy 𝓤 H A W; lawful = StructLaws.lawful rules-proofs-tried-Looked·.the-type rules-proofs-tried-Looked-Laws·.the-laws 𝓤 H A W; makes = StructLaws.makes rules-proofs-tried-Looked·.the-type rules-proofs-tried-Looked-Laws·.the-plain 𝓤 H A; in-mem = Local.mem-whole 𝓤 H A W (Declared.row rules-proofs-tried-Looked·.the-type); of-mem = Local.whole-mem 𝓤 H A W (Declared.row rules-proofs-tried-Looked·.the-type) }
 
 abbrev pub xs : L.List Syntax.Ty
 xs = L._∷_ (Syntax.tyInt Syntax.w64) (L._∷_ Rec.by-value (L._∷_ q21 (L._∷_ (Syntax.tyStruct (L._∷_ 114 (L._∷_ 117 (L._∷_ 108 (L._∷_ 101 (L._∷_ 115 (L._∷_ 58 (L._∷_ 58 (L._∷_ 102 (L._∷_ 111 (L._∷_ 117 (L._∷_ 110 (L._∷_ 100 (L._∷_ 58 (L._∷_ 58 (L._∷_ 70 (L._∷_ 111 (L._∷_ 117 (L._∷_ 110 (L._∷_ 100 L.[]))))))))))))))))))) (Syntax.tcons Syntax.tyBool (Syntax.tcons Syntax.tyBool (Syntax.tcons (Syntax.tyStruct (L._∷_ 115 (L._∷_ 116 (L._∷_ 101 (L._∷_ 112 (L._∷_ 58 (L._∷_ 58 (L._∷_ 83 (L._∷_ 116 (L._∷_ 101 (L._∷_ 112 L.[])))))))))) (Syntax.tcons (Syntax.tyInt Syntax.w64) (Syntax.tcons (Syntax.tyInt Syntax.w64) (Syntax.tcons (Syntax.tyStruct (L._∷_ 115 (L._∷_ 116 (L._∷_ 101 (L._∷_ 112 (L._∷_ 58 (L._∷_ 58 (L._∷_ 67 (L._∷_ 104 (L._∷_ 97 (L._∷_ 110 (L._∷_ 103 (L._∷_ 101 L.[])))))))))))) (Syntax.tcons (Syntax.tyStruct (L._∷_ 110 (L._∷_ 101 (L._∷_ 116 (L._∷_ 119 (L._∷_ 111 (L._∷_ 114 (L._∷_ 107 (L._∷_ 58 (L._∷_ 58 (L._∷_ 69 (L._∷_ 100 (L._∷_ 105 (L._∷_ 116 L.[]))))))))))))) (Syntax.tcons q7 (Syntax.tcons q7 (Syntax.tcons q7 (Syntax.tcons q7 (Syntax.tcons q2 (Syntax.tcons q2 (Syntax.tcons (Syntax.tyInt Syntax.w64) Syntax.tnil)))))))) (Syntax.tcons (Syntax.tyStruct (L._∷_ 115 (L._∷_ 116 (L._∷_ 101 (L._∷_ 112 (L._∷_ 58 (L._∷_ 58 (L._∷_ 79 (L._∷_ 108 (L._∷_ 100 L.[]))))))))) (Syntax.tcons (Syntax.tyInt Syntax.w64) (Syntax.tcons q6 (Syntax.tcons q7 (Syntax.tcons q7 (Syntax.tcons q7 (Syntax.tcons q7 (Syntax.tcons q4 Syntax.tnil)))))))) Syntax.tnil))) Syntax.tnil)))) Syntax.tnil)))) (L._∷_ Syntax.tyBool (L._∷_ Syntax.tyBool L.[])))))
@@ -162,16 +162,16 @@ abbrev pub r·2 : FnKinds.RK 1
 r·2 = KArray.rArr Rec.elem Rec.elem-laws 97
 
 abbrev pub ps·3 : L.List (FnKinds.PK 0)
-ps·3 = L._∷_ (Value.pVal record { ty = Declared.row network-proofs-Nodes·.the-type; one = Path.refl; val = StructLaws.val network-proofs-Nodes·.the-type network-proofs-Nodes-Laws·.the-laws; tells = StructLaws.tells network-proofs-Nodes·.the-type network-proofs-Nodes-Laws·.the-laws; still = StructLaws.still network-proofs-Nodes·.the-type network-proofs-Nodes-Laws·.the-copy Exit.yes; row = Rows.whole (Declared.row network-proofs-Nodes·.the-type); rd = λ x. x; mk = λ x. x; } λ M 𝓤 H A W. record { copies = StructLaws.copy network-proofs-Nodes·.the-type network-proofs-Nodes-Laws·.the-copy 𝓤 H A W; lawful = StructLaws.lawful network-proofs-Nodes·.the-type network-proofs-Nodes-Laws·.the-laws 𝓤 H A W; makes = StructLaws.makes network-proofs-Nodes·.the-type network-proofs-Nodes-Laws·.the-plain 𝓤 H A; in-mem = Local.mem-whole 𝓤 H A W (Declared.row network-proofs-Nodes·.the-type); of-mem = Local.whole-mem 𝓤 H A W (Declared.row network-proofs-Nodes·.the-type); }) (L._∷_ (KArray.pArr Rec.elem Rec.elem-laws 97) (L._∷_ (Value.pVal record { ty = Declared.row costly-arc-proofs-Seen·.the-type; one = Path.refl; val = StructLaws.val costly-arc-proofs-Seen·.the-type costly-arc-proofs-Seen-Laws·.the-laws; tells = StructLaws.tells costly-arc-proofs-Seen·.the-type costly-arc-proofs-Seen-Laws·.the-laws; still = StructLaws.still costly-arc-proofs-Seen·.the-type costly-arc-proofs-Seen-Laws·.the-copy Exit.yes; row = Rows.whole (Declared.row costly-arc-proofs-Seen·.the-type); rd = λ x. x; mk = λ x. x; } λ M 𝓤 H A W. record { copies = StructLaws.copy costly-arc-proofs-Seen·.the-type costly-arc-proofs-Seen-Laws·.the-copy 𝓤 H A W; lawful = StructLaws.lawful costly-arc-proofs-Seen·.the-type costly-arc-proofs-Seen-Laws·.the-laws 𝓤 H A W; makes = StructLaws.makes costly-arc-proofs-Seen·.the-type costly-arc-proofs-Seen-Laws·.the-plain 𝓤 H A; in-mem = Local.mem-whole 𝓤 H A W (Declared.row costly-arc-proofs-Seen·.the-type); of-mem = Local.whole-mem 𝓤 H A W (Declared.row costly-arc-proofs-Seen·.the-type); }) (L._∷_ (Num.pNum Syntax.w8) L.[])))
+ps·3 = L._∷_ (Value.pVal record { ty = Declared.row network-proofs-Nodes·.the-type; one = Path.refl; val = StructLaws.val network-proofs-Nodes·.the-type network-proofs-Nodes-Laws·.the-laws; tells = StructLaws.tells network-proofs-Nodes·.the-type network-proofs-Nodes-Laws·.the-laws; still = StructLaws.still network-proofs-Nodes·.the-type network-proofs-Nodes-Laws·.the-copy Exit.yes; row = Rows.whole (Declared.row network-proofs-Nodes·.the-type); rd = λ x. x; mk = λ x. x } λ M 𝓤 H A W. record { copies = StructLaws.copy network-proofs-Nodes·.the-type network-proofs-Nodes-Laws·.the-copy 𝓤 H A W; lawful = StructLaws.lawful network-proofs-Nodes·.the-type network-proofs-Nodes-Laws·.the-laws 𝓤 H A W; makes = StructLaws.makes network-proofs-Nodes·.the-type network-proofs-Nodes-Laws·.the-plain 𝓤 H A; in-mem = Local.mem-whole 𝓤 H A W (Declared.row network-proofs-Nodes·.the-type); of-mem = Local.whole-mem 𝓤 H A W (Declared.row network-proofs-Nodes·.the-type) }) (L._∷_ (KArray.pArr Rec.elem Rec.elem-laws 97) (L._∷_ (Value.pVal record { ty = Declared.row costly-arc-proofs-Seen·.the-type; one = Path.refl; val = StructLaws.val costly-arc-proofs-Seen·.the-type costly-arc-proofs-Seen-Laws·.the-laws; tells = StructLaws.tells costly-arc-proofs-Seen·.the-type costly-arc-proofs-Seen-Laws·.the-laws; still = StructLaws.still costly-arc-proofs-Seen·.the-type costly-arc-proofs-Seen-Laws·.the-copy Exit.yes; row = Rows.whole (Declared.row costly-arc-proofs-Seen·.the-type); rd = λ x. x; mk = λ x. x } λ M 𝓤 H A W. record { copies = StructLaws.copy costly-arc-proofs-Seen·.the-type costly-arc-proofs-Seen-Laws·.the-copy 𝓤 H A W; lawful = StructLaws.lawful costly-arc-proofs-Seen·.the-type costly-arc-proofs-Seen-Laws·.the-laws 𝓤 H A W; makes = StructLaws.makes costly-arc-proofs-Seen·.the-type costly-arc-proofs-Seen-Laws·.the-plain 𝓤 H A; in-mem = Local.mem-whole 𝓤 H A W (Declared.row costly-arc-proofs-Seen·.the-type); of-mem = Local.whole-mem 𝓤 H A W (Declared.row costly-arc-proofs-Seen·.the-type) }) (L._∷_ (Num.pNum Syntax.w8) L.[])))
 
 abbrev pub r·3 : FnKinds.RK 0
-r·3 = Value.rVal record { ty = Declared.row rules-proofs-tried-Looked·.the-type; one = Path.refl; val = StructLaws.val rules-proofs-tried-Looked·.the-type rules-proofs-tried-Looked-Laws·.the-laws; tells = StructLaws.tells rules-proofs-tried-Looked·.the-type rules-proofs-tried-Looked-Laws·.the-laws; still = StructLaws.still rules-proofs-tried-Looked·.the-type rules-proofs-tried-Looked-Laws·.the-copy Exit.yes; row = Rows.whole (Declared.row rules-proofs-tried-Looked·.the-type); rd = λ x. x; mk = λ x. x; } λ M 𝓤 H A W. record { copies = StructLaws.copy rules-proofs-tried-Looked·.the-type rules-proofs-tried-Looked-Laws·.the-copy 𝓤 H A W; lawful = StructLaws.lawful rules-proofs-tried-Looked·.the-type rules-proofs-tried-Looked-Laws·.the-laws 𝓤 H A W; makes = StructLaws.makes rules-proofs-tried-Looked·.the-type rules-proofs-tried-Looked-Laws·.the-plain 𝓤 H A; in-mem = Local.mem-whole 𝓤 H A W (Declared.row rules-proofs-tried-Looked·.the-type); of-mem = Local.whole-mem 𝓤 H A W (Declared.row rules-proofs-tried-Looked·.the-type); }
+r·3 = Value.rVal record { ty = Declared.row rules-proofs-tried-Looked·.the-type; one = Path.refl; val = StructLaws.val rules-proofs-tried-Looked·.the-type rules-proofs-tried-Looked-Laws·.the-laws; tells = StructLaws.tells rules-proofs-tried-Looked·.the-type rules-proofs-tried-Looked-Laws·.the-laws; still = StructLaws.still rules-proofs-tried-Looked·.the-type rules-proofs-tried-Looked-Laws·.the-copy Exit.yes; row = Rows.whole (Declared.row rules-proofs-tried-Looked·.the-type); rd = λ x. x; mk = λ x. x } λ M 𝓤 H A W. record { copies = StructLaws.copy rules-proofs-tried-Looked·.the-type rules-proofs-tried-Looked-Laws·.the-copy 𝓤 H A W; lawful = StructLaws.lawful rules-proofs-tried-Looked·.the-type rules-proofs-tried-Looked-Laws·.the-laws 𝓤 H A W; makes = StructLaws.makes rules-proofs-tried-Looked·.the-type rules-proofs-tried-Looked-Laws·.the-plain 𝓤 H A; in-mem = Local.mem-whole 𝓤 H A W (Declared.row rules-proofs-tried-Looked·.the-type); of-mem = Local.whole-mem 𝓤 H A W (Declared.row rules-proofs-tried-Looked·.the-type) }
 
 abbrev pub ps·4 : L.List (FnKinds.PK 0)
 ps·4 = L.[]
 
 abbrev pub r·4 : FnKinds.RK 0
-r·4 = Value.rVal record { ty = Declared.row rules-proofs-found-Found·.the-type; one = Path.refl; val = StructLaws.val rules-proofs-found-Found·.the-type rules-proofs-found-Found-Laws·.the-laws; tells = StructLaws.tells rules-proofs-found-Found·.the-type rules-proofs-found-Found-Laws·.the-laws; still = StructLaws.still rules-proofs-found-Found·.the-type rules-proofs-found-Found-Laws·.the-copy Exit.yes; row = Rows.whole (Declared.row rules-proofs-found-Found·.the-type); rd = λ x. x; mk = λ x. x; } λ M 𝓤 H A W. record { copies = StructLaws.copy rules-proofs-found-Found·.the-type rules-proofs-found-Found-Laws·.the-copy 𝓤 H A W; lawful = StructLaws.lawful rules-proofs-found-Found·.the-type rules-proofs-found-Found-Laws·.the-laws 𝓤 H A W; makes = StructLaws.makes rules-proofs-found-Found·.the-type rules-proofs-found-Found-Laws·.the-plain 𝓤 H A; in-mem = Local.mem-whole 𝓤 H A W (Declared.row rules-proofs-found-Found·.the-type); of-mem = Local.whole-mem 𝓤 H A W (Declared.row rules-proofs-found-Found·.the-type); }
+r·4 = Value.rVal record { ty = Declared.row rules-proofs-found-Found·.the-type; one = Path.refl; val = StructLaws.val rules-proofs-found-Found·.the-type rules-proofs-found-Found-Laws·.the-laws; tells = StructLaws.tells rules-proofs-found-Found·.the-type rules-proofs-found-Found-Laws·.the-laws; still = StructLaws.still rules-proofs-found-Found·.the-type rules-proofs-found-Found-Laws·.the-copy Exit.yes; row = Rows.whole (Declared.row rules-proofs-found-Found·.the-type); rd = λ x. x; mk = λ x. x } λ M 𝓤 H A W. record { copies = StructLaws.copy rules-proofs-found-Found·.the-type rules-proofs-found-Found-Laws·.the-copy 𝓤 H A W; lawful = StructLaws.lawful rules-proofs-found-Found·.the-type rules-proofs-found-Found-Laws·.the-laws 𝓤 H A W; makes = StructLaws.makes rules-proofs-found-Found·.the-type rules-proofs-found-Found-Laws·.the-plain 𝓤 H A; in-mem = Local.mem-whole 𝓤 H A W (Declared.row rules-proofs-found-Found·.the-type); of-mem = Local.whole-mem 𝓤 H A W (Declared.row rules-proofs-found-Found·.the-type) }
 
 abbrev pub hs : L.List Syntax.Home
 hs = L._∷_ Syntax.valueLocal (L._∷_ Syntax.valueLocal (L._∷_ Syntax.valueLocal (L._∷_ Syntax.valueLocal (L._∷_ Syntax.valueLocal (L._∷_ Syntax.valueLocal (L._∷_ Syntax.valueLocal (L._∷_ Syntax.valueLocal (L._∷_ Syntax.valueLocal (L._∷_ Syntax.valueLocal (L._∷_ Syntax.valueLocal L.[]))))))))))
@@ -469,7 +469,7 @@ module _ (claims· : Claims) where
   s5 = Scalar.n-room T8 9 Syntax.tyBool
 
   abbrev s6 : Typed.Both T6 T10
-  s6 = Call.callB ps·0 r·0 (claims· .0) (claims· .1) T6 (record { pos = 2; ty = Syntax.tyRef (Syntax.named 0) Syntax.imm Rec.named; ref = λ x. x; }, (Num.vAt 5 λ x. x, tt)) 6 (L._∷_ 0 L.[]) Rec.by-value
+  s6 = Call.callB ps·0 r·0 (claims· .0) (claims· .1) T6 (record { pos = 2; ty = Syntax.tyRef (Syntax.named 0) Syntax.imm Rec.named; ref = λ x. x }, (Num.vAt 5 λ x. x, tt)) 6 (L._∷_ 0 L.[]) Rec.by-value
 
   abbrev s7 : Typed.Both T10 T11
   s7 = Call.callB ps·1 r·1 (claims· .2) (claims· .3) T10 (record { pos = 6; st = L.[]; d = 0; at = λ x. x }, tt) 10 L.[] Syntax.tyBool
@@ -481,7 +481,7 @@ module _ (claims· : Claims) where
   s9 = Scalar.n-room T13 10 Syntax.tyBool
 
   abbrev s10 : Typed.Both T14 T15
-  s10 = Call.callB ps·2 r·2 (claims· .4) (claims· .5) T14 (record { pos = 2; ty = Syntax.tyRef (Syntax.named 0) Syntax.imm Rec.named; ref = λ x. x; }, tt) 7 (L._∷_ 0 L.[]) q21
+  s10 = Call.callB ps·2 r·2 (claims· .4) (claims· .5) T14 (record { pos = 2; ty = Syntax.tyRef (Syntax.named 0) Syntax.imm Rec.named; ref = λ x. x }, tt) 7 (L._∷_ 0 L.[]) q21
 
   abbrev s11 : Typed.Both T15 T16
   s11 = Call.callB ps·3 r·3 (claims· .6) (claims· .7) T15 (record { pos = 1; st = L.[]; d = 0; at = λ x. x }, (record { pos = 7; st = L.[]; d = 0; at = λ x. x }, (record { pos = 3; st = L.[]; d = 0; at = λ x. x }, (Num.vAt 4 λ x. x, tt)))) 0 L.[] (Syntax.tyStruct (L._∷_ 114 (L._∷_ 117 (L._∷_ 108 (L._∷_ 101 (L._∷_ 115 (L._∷_ 58 (L._∷_ 58 (L._∷_ 116 (L._∷_ 114 (L._∷_ 105 (L._∷_ 101 (L._∷_ 100 (L._∷_ 58 (L._∷_ 58 (L._∷_ 76 (L._∷_ 111 (L._∷_ 111 (L._∷_ 107 (L._∷_ 101 (L._∷_ 100 L.[])))))))))))))))))))) (Syntax.tcons (Syntax.tyStruct (L._∷_ 114 (L._∷_ 117 (L._∷_ 108 (L._∷_ 101 (L._∷_ 115 (L._∷_ 58 (L._∷_ 58 (L._∷_ 102 (L._∷_ 111 (L._∷_ 117 (L._∷_ 110 (L._∷_ 100 (L._∷_ 58 (L._∷_ 58 (L._∷_ 70 (L._∷_ 111 (L._∷_ 117 (L._∷_ 110 (L._∷_ 100 L.[]))))))))))))))))))) (Syntax.tcons Syntax.tyBool (Syntax.tcons Syntax.tyBool (Syntax.tcons (Syntax.tyStruct (L._∷_ 115 (L._∷_ 116 (L._∷_ 101 (L._∷_ 112 (L._∷_ 58 (L._∷_ 58 (L._∷_ 83 (L._∷_ 116 (L._∷_ 101 (L._∷_ 112 L.[])))))))))) (Syntax.tcons (Syntax.tyInt Syntax.w64) (Syntax.tcons (Syntax.tyInt Syntax.w64) (Syntax.tcons (Syntax.tyStruct (L._∷_ 115 (L._∷_ 116 (L._∷_ 101 (L._∷_ 112 (L._∷_ 58 (L._∷_ 58 (L._∷_ 67 (L._∷_ 104 (L._∷_ 97 (L._∷_ 110 (L._∷_ 103 (L._∷_ 101 L.[])))))))))))) (Syntax.tcons (Syntax.tyStruct (L._∷_ 110 (L._∷_ 101 (L._∷_ 116 (L._∷_ 119 (L._∷_ 111 (L._∷_ 114 (L._∷_ 107 (L._∷_ 58 (L._∷_ 58 (L._∷_ 69 (L._∷_ 100 (L._∷_ 105 (L._∷_ 116 L.[]))))))))))))) (Syntax.tcons q7 (Syntax.tcons q7 (Syntax.tcons q7 (Syntax.tcons q7 (Syntax.tcons q2 (Syntax.tcons q2 (Syntax.tcons (Syntax.tyInt Syntax.w64) Syntax.tnil)))))))) (Syntax.tcons (Syntax.tyStruct (L._∷_ 115 (L._∷_ 116 (L._∷_ 101 (L._∷_ 112 (L._∷_ 58 (L._∷_ 58 (L._∷_ 79 (L._∷_ 108 (L._∷_ 100 L.[]))))))))) (Syntax.tcons (Syntax.tyInt Syntax.w64) (Syntax.tcons q6 (Syntax.tcons q7 (Syntax.tcons q7 (Syntax.tcons q7 (Syntax.tcons q7 (Syntax.tcons q4 Syntax.tnil)))))))) Syntax.tnil))) Syntax.tnil)))) Syntax.tnil)))) (Syntax.tcons q5 Syntax.tnil)))
@@ -814,7 +814,7 @@ module _ (claims· : Claims) where
           d12 = Typed.s-seq 𝓤 H A W 𝓣 E G15 G16 b8 b9 Δ5 (Typed.both s11) at11 (Plain.t-call-plain 𝓤 H A W 𝓣 0 ps·3 r·3 (claims· .6) (claims· .7) "rules::tried::at_costly" (known .3) E (λ pos β. β) G15 (record { pos = 1; st = L.[]; d = 0; at = λ x. x }, (record { pos = 7; st = L.[]; d = 0; at = λ x. x }, (record { pos = 3; st = L.[]; d = 0; at = λ x. x }, (Num.vAt 4 λ x. x, tt)))) 0 L.[] (Call.sub-id 𝓤 H A W (G15 .slots)) ((Yields.yields-copy 𝓤 H A W (λ ρ. Unit) (Declared.row network-proofs-Nodes·.the-type) Path.refl (Copies.cStruct network-proofs-Nodes·.the-type network-proofs-Nodes-Laws·.the-laws network-proofs-Nodes-Laws·.the-copy .copy 𝓤 H A W) (Rows.whole (Declared.row network-proofs-Nodes·.the-type)) (λ x. x) (λ x. x) (λ ρ told. Local.mem-whole 𝓤 H A W (Declared.row network-proofs-Nodes·.the-type) ρ) λ ρ told. Local.whole-mem 𝓤 H A W (Declared.row network-proofs-Nodes·.the-type) ρ, Path.refl), ((KArray.arr-yields 𝓤 H A W Rec.elem Rec.elem-laws 97, Path.refl), ((Yields.yields-copy 𝓤 H A W (λ ρ. Unit) (Declared.row costly-arc-proofs-Seen·.the-type) Path.refl (Copies.cStruct costly-arc-proofs-Seen·.the-type costly-arc-proofs-Seen-Laws·.the-laws costly-arc-proofs-Seen-Laws·.the-copy .copy 𝓤 H A W) (Rows.whole (Declared.row costly-arc-proofs-Seen·.the-type)) (λ x. x) (λ x. x) (λ ρ told. Local.mem-whole 𝓤 H A W (Declared.row costly-arc-proofs-Seen·.the-type) ρ) λ ρ told. Local.whole-mem 𝓤 H A W (Declared.row costly-arc-proofs-Seen·.the-type) ρ, Path.refl), ((Scalar.reads-sc 𝓤 H A W (Row.sInt Syntax.w8), Path.refl), tt)))) (TReads.room-gone 𝓤 H A (Syntax.tyStruct (L._∷_ 114 (L._∷_ 117 (L._∷_ 108 (L._∷_ 101 (L._∷_ 115 (L._∷_ 58 (L._∷_ 58 (L._∷_ 116 (L._∷_ 114 (L._∷_ 105 (L._∷_ 101 (L._∷_ 100 (L._∷_ 58 (L._∷_ 58 (L._∷_ 76 (L._∷_ 111 (L._∷_ 111 (L._∷_ 107 (L._∷_ 101 (L._∷_ 100 L.[])))))))))))))))))))) (Syntax.tcons (Syntax.tyStruct (L._∷_ 114 (L._∷_ 117 (L._∷_ 108 (L._∷_ 101 (L._∷_ 115 (L._∷_ 58 (L._∷_ 58 (L._∷_ 102 (L._∷_ 111 (L._∷_ 117 (L._∷_ 110 (L._∷_ 100 (L._∷_ 58 (L._∷_ 58 (L._∷_ 70 (L._∷_ 111 (L._∷_ 117 (L._∷_ 110 (L._∷_ 100 L.[]))))))))))))))))))) (Syntax.tcons Syntax.tyBool (Syntax.tcons Syntax.tyBool (Syntax.tcons (Syntax.tyStruct (L._∷_ 115 (L._∷_ 116 (L._∷_ 101 (L._∷_ 112 (L._∷_ 58 (L._∷_ 58 (L._∷_ 83 (L._∷_ 116 (L._∷_ 101 (L._∷_ 112 L.[])))))))))) (Syntax.tcons (Syntax.tyInt Syntax.w64) (Syntax.tcons (Syntax.tyInt Syntax.w64) (Syntax.tcons (Syntax.tyStruct (L._∷_ 115 (L._∷_ 116 (L._∷_ 101 (L._∷_ 112 (L._∷_ 58 (L._∷_ 58 (L._∷_ 67 (L._∷_ 104 (L._∷_ 97 (L._∷_ 110 (L._∷_ 103 (L._∷_ 101 L.[])))))))))))) (Syntax.tcons (Syntax.tyStruct (L._∷_ 110 (L._∷_ 101 (L._∷_ 116 (L._∷_ 119 (L._∷_ 111 (L._∷_ 114 (L._∷_ 107 (L._∷_ 58 (L._∷_ 58 (L._∷_ 69 (L._∷_ 100 (L._∷_ 105 (L._∷_ 116 L.[]))))))))))))) (Syntax.tcons q7 (Syntax.tcons q7 (Syntax.tcons q7 (Syntax.tcons q7 (Syntax.tcons q2 (Syntax.tcons q2 (Syntax.tcons (Syntax.tyInt Syntax.w64) Syntax.tnil)))))))) (Syntax.tcons (Syntax.tyStruct (L._∷_ 115 (L._∷_ 116 (L._∷_ 101 (L._∷_ 112 (L._∷_ 58 (L._∷_ 58 (L._∷_ 79 (L._∷_ 108 (L._∷_ 100 L.[]))))))))) (Syntax.tcons (Syntax.tyInt Syntax.w64) (Syntax.tcons q6 (Syntax.tcons q7 (Syntax.tcons q7 (Syntax.tcons q7 (Syntax.tcons q7 (Syntax.tcons q4 Syntax.tnil)))))))) Syntax.tnil))) Syntax.tnil)))) Syntax.tnil)))) (Syntax.tcons q5 Syntax.tnil)))) tt Path.refl) d11
 
           d13 : Typed.Typed 𝓤 H A 𝓣 E G14 b11 Δ5 at13
-          d13 = Typed.s-seq 𝓤 H A W 𝓣 E G14 G15 b7 b10 Δ5 (Typed.both s10) at12 (Plain.t-call-plain 𝓤 H A W 𝓣 1 ps·2 r·2 (claims· .4) (claims· .5) "network::list::view" (known .2) E (λ pos β. β) G14 (record { pos = 2; ty = Syntax.tyRef (Syntax.named 0) Syntax.imm Rec.named; ref = λ x. x; }, tt) 7 (L._∷_ 0 L.[]) (Call.sub-id 𝓤 H A W (G14 .slots)) (ShrSlice.spares-sslice 𝓤 H A W Rec.row q14 0, Shared.reads-sslice 𝓤 H A W Rec.row q14 0, Path.refl, tt) (TReads.room-gone 𝓤 H A q21) (tt, tt) Path.refl) d12
+          d13 = Typed.s-seq 𝓤 H A W 𝓣 E G14 G15 b7 b10 Δ5 (Typed.both s10) at12 (Plain.t-call-plain 𝓤 H A W 𝓣 1 ps·2 r·2 (claims· .4) (claims· .5) "network::list::view" (known .2) E (λ pos β. β) G14 (record { pos = 2; ty = Syntax.tyRef (Syntax.named 0) Syntax.imm Rec.named; ref = λ x. x }, tt) 7 (L._∷_ 0 L.[]) (Call.sub-id 𝓤 H A W (G14 .slots)) (ShrSlice.spares-sslice 𝓤 H A W Rec.row q14 0, Shared.reads-sslice 𝓤 H A W Rec.row q14 0, Path.refl, tt) (TReads.room-gone 𝓤 H A q21) (tt, tt) Path.refl) d12
 
           d14 : Typed.Typed 𝓤 H A 𝓣 E G13 b11 Δ5 at14
           d14 = Typed.g-pre 𝓤 H A W 𝓣 E G13 G14 b11 Δ5 (Typed.pass T13 T14 s9) at13 (Scalar.g-room 𝓤 H A W E G13 10 Syntax.tyBool (Scalar.room-sc 𝓤 H A W Row.sBool)) d13
@@ -841,7 +841,7 @@ module _ (claims· : Claims) where
           d21 = Typed.s-seq 𝓤 H A W 𝓣 E G10 G11 b6 b15 Δ3 (Typed.both s7) at20 (Plain.t-call-plain 𝓤 H A W 𝓣 0 ps·1 r·1 (claims· .2) (claims· .3) "rules::tried::is_root" (known .1) E (λ pos β. β) G10 (record { pos = 6; st = L.[]; d = 0; at = λ x. x }, tt) 10 L.[] (Call.sub-id 𝓤 H A W (G10 .slots)) ((Rec.yields 𝓤 H A W, Path.refl), tt) (TReads.room-gone 𝓤 H A Syntax.tyBool) tt Path.refl) d20
 
           d22 : Typed.Typed 𝓤 H A 𝓣 E G6 b17 Δ3 at22
-          d22 = Typed.s-seq 𝓤 H A W 𝓣 E G6 G10 b5 b16 Δ3 (Typed.both s6) at21 (Plain.t-call-plain 𝓤 H A W 𝓣 1 ps·0 r·0 (claims· .0) (claims· .1) "network::list::read" (known .0) E (λ pos β. β) G6 (record { pos = 2; ty = Syntax.tyRef (Syntax.named 0) Syntax.imm Rec.named; ref = λ x. x; }, (Num.vAt 5 λ x. x, tt)) 6 (L._∷_ 0 L.[]) (Call.sub-id 𝓤 H A W (G6 .slots)) (ShrSlice.spares-sslice 𝓤 H A W Rec.row q14 0, Shared.reads-sslice 𝓤 H A W Rec.row q14 0, Path.refl, ((Scalar.reads-sc 𝓤 H A W (Row.sInt Syntax.w64), Path.refl), tt)) (TReads.room-gone 𝓤 H A Rec.by-value) (tt, tt) Path.refl) d21
+          d22 = Typed.s-seq 𝓤 H A W 𝓣 E G6 G10 b5 b16 Δ3 (Typed.both s6) at21 (Plain.t-call-plain 𝓤 H A W 𝓣 1 ps·0 r·0 (claims· .0) (claims· .1) "network::list::read" (known .0) E (λ pos β. β) G6 (record { pos = 2; ty = Syntax.tyRef (Syntax.named 0) Syntax.imm Rec.named; ref = λ x. x }, (Num.vAt 5 λ x. x, tt)) 6 (L._∷_ 0 L.[]) (Call.sub-id 𝓤 H A W (G6 .slots)) (ShrSlice.spares-sslice 𝓤 H A W Rec.row q14 0, Shared.reads-sslice 𝓤 H A W Rec.row q14 0, Path.refl, ((Scalar.reads-sc 𝓤 H A W (Row.sInt Syntax.w64), Path.refl), tt)) (TReads.room-gone 𝓤 H A Rec.by-value) (tt, tt) Path.refl) d21
 
           d23 : Typed.Typed 𝓤 H A 𝓣 E G5 b18 Δ3 at23
           d23 = Typed.t-seq 𝓤 H A W 𝓣 E G5 G6 b4 b17 Δ3 at5 at22 d5 d22
@@ -893,9 +893,9 @@ module _ (claims· : Claims) where
 
       module _ (κs : Lifetimes.Lfts 1) where
         pub record Args : Type 0 where
-          pub nodes : FnKinds.Den {n = 1} κs (Value.pVal record { ty = Declared.row network-proofs-Nodes·.the-type; one = Path.refl; val = StructLaws.val network-proofs-Nodes·.the-type network-proofs-Nodes-Laws·.the-laws; tells = StructLaws.tells network-proofs-Nodes·.the-type network-proofs-Nodes-Laws·.the-laws; still = StructLaws.still network-proofs-Nodes·.the-type network-proofs-Nodes-Laws·.the-copy Exit.yes; row = Rows.whole (Declared.row network-proofs-Nodes·.the-type); rd = λ x. x; mk = λ x. x; } λ M 𝓤 H A W. record { copies = StructLaws.copy network-proofs-Nodes·.the-type network-proofs-Nodes-Laws·.the-copy 𝓤 H A W; lawful = StructLaws.lawful network-proofs-Nodes·.the-type network-proofs-Nodes-Laws·.the-laws 𝓤 H A W; makes = StructLaws.makes network-proofs-Nodes·.the-type network-proofs-Nodes-Laws·.the-plain 𝓤 H A; in-mem = Local.mem-whole 𝓤 H A W (Declared.row network-proofs-Nodes·.the-type); of-mem = Local.whole-mem 𝓤 H A W (Declared.row network-proofs-Nodes·.the-type); })
+          pub nodes : FnKinds.Den {n = 1} κs (Value.pVal record { ty = Declared.row network-proofs-Nodes·.the-type; one = Path.refl; val = StructLaws.val network-proofs-Nodes·.the-type network-proofs-Nodes-Laws·.the-laws; tells = StructLaws.tells network-proofs-Nodes·.the-type network-proofs-Nodes-Laws·.the-laws; still = StructLaws.still network-proofs-Nodes·.the-type network-proofs-Nodes-Laws·.the-copy Exit.yes; row = Rows.whole (Declared.row network-proofs-Nodes·.the-type); rd = λ x. x; mk = λ x. x } λ M 𝓤 H A W. record { copies = StructLaws.copy network-proofs-Nodes·.the-type network-proofs-Nodes-Laws·.the-copy 𝓤 H A W; lawful = StructLaws.lawful network-proofs-Nodes·.the-type network-proofs-Nodes-Laws·.the-laws 𝓤 H A W; makes = StructLaws.makes network-proofs-Nodes·.the-type network-proofs-Nodes-Laws·.the-plain 𝓤 H A; in-mem = Local.mem-whole 𝓤 H A W (Declared.row network-proofs-Nodes·.the-type); of-mem = Local.whole-mem 𝓤 H A W (Declared.row network-proofs-Nodes·.the-type) })
           pub arcs : FnKinds.Den {n = 1} κs (ShrSlice.pShrS Rec.row 0 tt)
-          pub seen : FnKinds.Den {n = 1} κs (Value.pVal record { ty = Declared.row costly-arc-proofs-Seen·.the-type; one = Path.refl; val = StructLaws.val costly-arc-proofs-Seen·.the-type costly-arc-proofs-Seen-Laws·.the-laws; tells = StructLaws.tells costly-arc-proofs-Seen·.the-type costly-arc-proofs-Seen-Laws·.the-laws; still = StructLaws.still costly-arc-proofs-Seen·.the-type costly-arc-proofs-Seen-Laws·.the-copy Exit.yes; row = Rows.whole (Declared.row costly-arc-proofs-Seen·.the-type); rd = λ x. x; mk = λ x. x; } λ M 𝓤 H A W. record { copies = StructLaws.copy costly-arc-proofs-Seen·.the-type costly-arc-proofs-Seen-Laws·.the-copy 𝓤 H A W; lawful = StructLaws.lawful costly-arc-proofs-Seen·.the-type costly-arc-proofs-Seen-Laws·.the-laws 𝓤 H A W; makes = StructLaws.makes costly-arc-proofs-Seen·.the-type costly-arc-proofs-Seen-Laws·.the-plain 𝓤 H A; in-mem = Local.mem-whole 𝓤 H A W (Declared.row costly-arc-proofs-Seen·.the-type); of-mem = Local.whole-mem 𝓤 H A W (Declared.row costly-arc-proofs-Seen·.the-type); })
+          pub seen : FnKinds.Den {n = 1} κs (Value.pVal record { ty = Declared.row costly-arc-proofs-Seen·.the-type; one = Path.refl; val = StructLaws.val costly-arc-proofs-Seen·.the-type costly-arc-proofs-Seen-Laws·.the-laws; tells = StructLaws.tells costly-arc-proofs-Seen·.the-type costly-arc-proofs-Seen-Laws·.the-laws; still = StructLaws.still costly-arc-proofs-Seen·.the-type costly-arc-proofs-Seen-Laws·.the-copy Exit.yes; row = Rows.whole (Declared.row costly-arc-proofs-Seen·.the-type); rd = λ x. x; mk = λ x. x } λ M 𝓤 H A W. record { copies = StructLaws.copy costly-arc-proofs-Seen·.the-type costly-arc-proofs-Seen-Laws·.the-copy 𝓤 H A W; lawful = StructLaws.lawful costly-arc-proofs-Seen·.the-type costly-arc-proofs-Seen-Laws·.the-laws 𝓤 H A W; makes = StructLaws.makes costly-arc-proofs-Seen·.the-type costly-arc-proofs-Seen-Laws·.the-plain 𝓤 H A; in-mem = Local.mem-whole 𝓤 H A W (Declared.row costly-arc-proofs-Seen·.the-type); of-mem = Local.whole-mem 𝓤 H A W (Declared.row costly-arc-proofs-Seen·.the-type) })
           pub time : FnKinds.Den {n = 1} κs (Num.pNum Syntax.w8)
 
         abbrev pub dens : (a : Args) → FnKinds.Dens κs ps
@@ -995,14 +995,14 @@ module _ (claims· : Claims) where
 
       module _ (before· : Then1) where
         abbrev pub After-read·own : Type 0
-        After-read·own = Called.Called ps·0 r·0 (claims· .1) T6 (record { pos = 2; ty = Syntax.tyRef (Syntax.named 0) Syntax.imm Rec.named; ref = λ x. x; }, (Num.vAt 5 λ x. x, tt)) (m5 (before· .before))
+        After-read·own = Called.Called ps·0 r·0 (claims· .1) T6 (record { pos = 2; ty = Syntax.tyRef (Syntax.named 0) Syntax.imm Rec.named; ref = λ x. x }, (Num.vAt 5 λ x. x, tt)) (m5 (before· .before))
 
       pub record After-read : Type 0 where
         pub before : Then1
         pub read : After-read·own before
 
       abbrev pub After-read·gave : (c : After-read) → s6 .gives (m5 (c .before .before))
-      After-read·gave = λ c. Called.given ps·0 r·0 (claims· .1) T6 (record { pos = 2; ty = Syntax.tyRef (Syntax.named 0) Syntax.imm Rec.named; ref = λ x. x; }, (Num.vAt 5 λ x. x, tt)) (m5 (c .before .before)) (c .read)
+      After-read·gave = λ c. Called.given ps·0 r·0 (claims· .1) T6 (record { pos = 2; ty = Syntax.tyRef (Syntax.named 0) Syntax.imm Rec.named; ref = λ x. x }, (Num.vAt 5 λ x. x, tt)) (m5 (c .before .before)) (c .read)
 
       abbrev pub Need-is-root-requires : Type 0
       Need-is-root-requires = (c : After-read) → s7 .asks (m8 (c .before) (After-read·gave c))
@@ -1046,14 +1046,14 @@ module _ (claims· : Claims) where
 
       module _ (before· : Then2) where
         abbrev pub After-view·own : Type 0
-        After-view·own = Called.Called ps·2 r·2 (claims· .5) T14 (record { pos = 2; ty = Syntax.tyRef (Syntax.named 0) Syntax.imm Rec.named; ref = λ x. x; }, tt) (m11 (before· .before))
+        After-view·own = Called.Called ps·2 r·2 (claims· .5) T14 (record { pos = 2; ty = Syntax.tyRef (Syntax.named 0) Syntax.imm Rec.named; ref = λ x. x }, tt) (m11 (before· .before))
 
       pub record After-view : Type 0 where
         pub before : Then2
         pub view : After-view·own before
 
       abbrev pub After-view·gave : (c : After-view) → s10 .gives (m11 (c .before .before))
-      After-view·gave = λ c. Called.given ps·2 r·2 (claims· .5) T14 (record { pos = 2; ty = Syntax.tyRef (Syntax.named 0) Syntax.imm Rec.named; ref = λ x. x; }, tt) (m11 (c .before .before)) (c .view)
+      After-view·gave = λ c. Called.given ps·2 r·2 (claims· .5) T14 (record { pos = 2; ty = Syntax.tyRef (Syntax.named 0) Syntax.imm Rec.named; ref = λ x. x }, tt) (m11 (c .before .before)) (c .view)
 
       abbrev pub Need-at-costly-requires : Type 0
       Need-at-costly-requires = (c : After-view) → s11 .asks (m12 (c .before) (After-view·gave c))
@@ -1156,7 +1156,7 @@ module _ (claims· : Claims) where
         lay10 = λ c. ((tt, (Path.refl, (tt, (tt, tt)))), returns-2 record { before = c .before; nothing = c .nothing })
 
         lay9 : (c : Else1) → at35 (W0 (c .before .before .before .κs) (c .before .before .before .args)) (m7 (c .before))
-        lay9 = λ c. (nothing-requires record { before = c .before; if1 = c .if1 }, λ g. lay10 record { before = record { before = c .before; if1 = c .if1 }; nothing = Called.called ps·4 r·4 (claims· .9) T3 tt (m7 (c .before)) g; })
+        lay9 = λ c. (nothing-requires record { before = c .before; if1 = c .if1 }, λ g. lay10 record { before = record { before = c .before; if1 = c .if1 }; nothing = Called.called ps·4 r·4 (claims· .9) T3 tt (m7 (c .before)) g })
 
         lay8 : (c : Else2) → at19 (W3 (c .before .before .before .before .before .before) (c .before .before .before .before .before .loop .j)) (m19 (c .before))
         lay8 = λ c. (add-j record { before = c .before; if2 = c .if2 }, (μ·0 (Row.get 1 (T2 .locals) (m1 (c .before .before .before .before .before .before .κs) (c .before .before .before .before .before .before .args))) (Row.get 2 (T2 .locals) (m1 (c .before .before .before .before .before .before .κs) (c .before .before .before .before .before .before .args)) .now) (Row.get 3 (T2 .locals) (m1 (c .before .before .before .before .before .before .κs) (c .before .before .before .before .before .before .args))) (Row.get 4 (T2 .locals) (m1 (c .before .before .before .before .before .before .κs) (c .before .before .before .before .before .before .args))) (Row.get 5 (T2 .locals) (m1 (c .before .before .before .before .before .before .κs) (c .before .before .before .before .before .before .args))) (Row.get 5 (T2 .locals) (m20 (c .before))), loop-less record { before = c .before; if2 = c .if2 }, (Row.get 5 (T2 .locals) (m20 (c .before)), Path.refl {a = m20 (c .before)}, loop-again record { before = c .before; if2 = c .if2 }, Path.refl {a = μ·0 (Row.get 1 (T2 .locals) (m1 (c .before .before .before .before .before .before .κs) (c .before .before .before .before .before .before .args))) (Row.get 2 (T2 .locals) (m1 (c .before .before .before .before .before .before .κs) (c .before .before .before .before .before .before .args)) .now) (Row.get 3 (T2 .locals) (m1 (c .before .before .before .before .before .before .κs) (c .before .before .before .before .before .before .args))) (Row.get 4 (T2 .locals) (m1 (c .before .before .before .before .before .before .κs) (c .before .before .before .before .before .before .args))) (Row.get 5 (T2 .locals) (m1 (c .before .before .before .before .before .before .κs) (c .before .before .before .before .before .before .args))) (Row.get 5 (T2 .locals) (m20 (c .before)))})))
@@ -1165,16 +1165,16 @@ module _ (claims· : Claims) where
         lay7 = λ c. ((tt, (Path.refl, (tt, (tt, tt)))), returns record { before = c .before; at-costly = c .at-costly })
 
         lay6 : (c : After-view) → at12 (W5 (c .before .before .before) (After-is-root·gave (c .before .before))) (m12 (c .before) (After-view·gave c))
-        lay6 = λ c. (at-costly-requires record { before = c .before; view = c .view }, λ g. lay7 record { before = record { before = c .before; view = c .view }; at-costly = Called.called ps·3 r·3 (claims· .7) T15 (record { pos = 1; st = L.[]; d = 0; at = λ x. x }, (record { pos = 7; st = L.[]; d = 0; at = λ x. x }, (record { pos = 3; st = L.[]; d = 0; at = λ x. x }, (Num.vAt 4 λ x. x, tt)))) (m12 (c .before) (After-view·gave c)) g; })
+        lay6 = λ c. (at-costly-requires record { before = c .before; view = c .view }, λ g. lay7 record { before = record { before = c .before; view = c .view }; at-costly = Called.called ps·3 r·3 (claims· .7) T15 (record { pos = 1; st = L.[]; d = 0; at = λ x. x }, (record { pos = 7; st = L.[]; d = 0; at = λ x. x }, (record { pos = 3; st = L.[]; d = 0; at = λ x. x }, (Num.vAt 4 λ x. x, tt)))) (m12 (c .before) (After-view·gave c)) g })
 
         lay5 : (c : After-is-root) → at20 (W3 (c .before .before .before .before .before) (c .before .before .before .before .loop .j)) (m9 (c .before) (After-is-root·gave c))
-        lay5 = λ c. (λ taken. (view-requires record { before = record { before = c .before; is-root = c .is-root }; if2 = record { taken = taken }; }, λ g. lay6 record { before = record { before = record { before = c .before; is-root = c .is-root }; if2 = record { taken = taken }; }; view = Called.called ps·2 r·2 (claims· .5) T14 (record { pos = 2; ty = Syntax.tyRef (Syntax.named 0) Syntax.imm Rec.named; ref = λ x. x; }, tt) (m11 record { before = c .before; is-root = c .is-root }) g; }), λ left. lay8 record { before = record { before = c .before; is-root = c .is-root }; if2 = record { left = left }; })
+        lay5 = λ c. (λ taken. (view-requires record { before = record { before = c .before; is-root = c .is-root }; if2 = record { taken = taken } }, λ g. lay6 record { before = record { before = record { before = c .before; is-root = c .is-root }; if2 = record { taken = taken } }; view = Called.called ps·2 r·2 (claims· .5) T14 (record { pos = 2; ty = Syntax.tyRef (Syntax.named 0) Syntax.imm Rec.named; ref = λ x. x }, tt) (m11 record { before = c .before; is-root = c .is-root }) g }), λ left. lay8 record { before = record { before = c .before; is-root = c .is-root }; if2 = record { left = left } })
 
         lay4 : (c : After-read) → at21 (W3 (c .before .before .before .before) (c .before .before .before .loop .j)) (m8 (c .before) (After-read·gave c))
-        lay4 = λ c. (is-root-requires record { before = c .before; read = c .read }, λ g. lay5 record { before = record { before = c .before; read = c .read }; is-root = Called.called ps·1 r·1 (claims· .3) T10 (record { pos = 6; st = L.[]; d = 0; at = λ x. x }, tt) (m8 (c .before) (After-read·gave c)) g; })
+        lay4 = λ c. (is-root-requires record { before = c .before; read = c .read }, λ g. lay5 record { before = record { before = c .before; read = c .read }; is-root = Called.called ps·1 r·1 (claims· .3) T10 (record { pos = 6; st = L.[]; d = 0; at = λ x. x }, tt) (m8 (c .before) (After-read·gave c)) g })
 
         lay3 : (c : Then1) → at22 (W3 (c .before .before .before) (c .before .before .loop .j)) (m5 (c .before))
-        lay3 = λ c. (read-requires record { before = c .before; if1 = c .if1 }, λ g. lay4 record { before = record { before = c .before; if1 = c .if1 }; read = Called.called ps·0 r·0 (claims· .1) T6 (record { pos = 2; ty = Syntax.tyRef (Syntax.named 0) Syntax.imm Rec.named; ref = λ x. x; }, (Num.vAt 5 λ x. x, tt)) (m5 (c .before)) g; })
+        lay3 = λ c. (read-requires record { before = c .before; if1 = c .if1 }, λ g. lay4 record { before = record { before = c .before; if1 = c .if1 }; read = Called.called ps·0 r·0 (claims· .1) T6 (record { pos = 2; ty = Syntax.tyRef (Syntax.named 0) Syntax.imm Rec.named; ref = λ x. x }, (Num.vAt 5 λ x. x, tt)) (m5 (c .before)) g })
 
         lay2 : (c : Else1) → at4 (W4 (c .before .before) (c .before .struct-known .given)) (m4 (c .before .before) (c .before .struct-known .given))
         lay2 = λ c. lay9 record { before = c .before; if1 = c .if1 }
@@ -1183,11 +1183,11 @@ module _ (claims· : Claims) where
         lay1 = λ c. lay3 record { before = c .before; if1 = c .if1 }
 
         pub laid : (c : Start) → at37 (W0 (c .κs) (c .args)) (m0 (c .κs) (c .args))
-        laid = λ c. ((Row.get 5 (T2 .locals) (m1 (c .κs) (c .args)), Path.refl {a = m1 (c .κs) (c .args)}, loop-holds c), λ vs inv. λ g. (tt, (λ taken. lay1 record { before = record { before = record { before = c; loop = record { j = vs; inv = inv } }; struct-known = record { given = g }; }; if1 = record { taken = Tests.leb-true (Row.get 5 (T4 .locals) (m3 record { before = c; loop = record { j = vs; inv = inv }; } g)) (network-proofs-Nodes·.struct .as-values (Row.get 1 (T4 .locals) (m3 record { before = c; loop = record { j = vs; inv = inv }; } g)) .1 .0) taken; }; }, λ left. lay2 record { before = record { before = record { before = c; loop = record { j = vs; inv = inv } }; struct-known = record { given = g }; }; if1 = record { left = Tests.leb-false (Row.get 5 (T4 .locals) (m3 record { before = c; loop = record { j = vs; inv = inv }; } g)) (network-proofs-Nodes·.struct .as-values (Row.get 1 (T4 .locals) (m3 record { before = c; loop = record { j = vs; inv = inv }; } g)) .1 .0) left; }; })))
+        laid = λ c. ((Row.get 5 (T2 .locals) (m1 (c .κs) (c .args)), Path.refl {a = m1 (c .κs) (c .args)}, loop-holds c), λ vs inv. λ g. (tt, (λ taken. lay1 record { before = record { before = record { before = c; loop = record { j = vs; inv = inv } }; struct-known = record { given = g } }; if1 = record { taken = Tests.leb-true (Row.get 5 (T4 .locals) (m3 record { before = c; loop = record { j = vs; inv = inv } } g)) (network-proofs-Nodes·.struct .as-values (Row.get 1 (T4 .locals) (m3 record { before = c; loop = record { j = vs; inv = inv } } g)) .1 .0) taken } }, λ left. lay2 record { before = record { before = record { before = c; loop = record { j = vs; inv = inv } }; struct-known = record { given = g } }; if1 = record { left = Tests.leb-false (Row.get 5 (T4 .locals) (m3 record { before = c; loop = record { j = vs; inv = inv } } g)) (network-proofs-Nodes·.struct .as-values (Row.get 1 (T4 .locals) (m3 record { before = c; loop = record { j = vs; inv = inv } } g)) .1 .0) left } })))
 
         module _ (κs : Lifetimes.Lfts 1) (qs : Lifetimes.Shares 1) where
           pub asked : (a : FnKinds.Dens κs ps) → (good : FnKinds.GoodsP κs ps a) → (pre : Pre· κs a) → (bs : L.List Nat.ℕ) → Φ (Any.wantQ 1 ps r xs m κs qs a (Post· κs a)) (Function.init 1 ps r xs m κs qs a)
-          asked = λ a good pre bs. laid record { κs = κs; args = record { nodes = a .0; arcs = a .1 .0; seen = a .1 .1 .0; time = a .1 .1 .1 .0; }; good = good; fits = record { time = record { fits = good .1 .1 .1 .0 .1 } }; pre = pre; }
+          asked = λ a good pre bs. laid record { κs = κs; args = record { nodes = a .0; arcs = a .1 .0; seen = a .1 .1 .0; time = a .1 .1 .1 .0 }; good = good; fits = record { time = record { fits = good .1 .1 .1 .0 .1 } }; pre = pre }
 
         module _ {M : Type 1} (𝓤 : URA.URA M) (H : Wp.Heap 𝓤) (A : Atoms.Atoms 𝓤) (W : Kit.Given 𝓤 H A) (𝓣 : Wp.Tables 𝓤 H) (known0 : Plain.Known 𝓤 H A W 𝓣 1 ps·0 r·0 (claims· .0) (claims· .1) "network::list::read") (known1 : Plain.Known 𝓤 H A W 𝓣 0 ps·1 r·1 (claims· .2) (claims· .3) "rules::tried::is_root") (known2 : Plain.Known 𝓤 H A W 𝓣 1 ps·2 r·2 (claims· .4) (claims· .5) "network::list::view") (known3 : Plain.Known 𝓤 H A W 𝓣 0 ps·3 r·3 (claims· .6) (claims· .7) "rules::tried::at_costly") (known4 : Plain.Known 𝓤 H A W 𝓣 0 ps·4 r·4 (claims· .8) (claims· .9) "rules::found::nothing") where
           pub spec : Statement.Triple 𝓤 (Wp.WpFn 𝓤 H (𝓣 .C) (𝓣 .Λ) (Function.fnOf 1 ps r xs m hs body)) (Function.plainOf 𝓤 H A 1 ps r Pre· Post·)

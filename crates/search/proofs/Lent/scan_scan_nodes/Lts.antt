@@ -215,10 +215,10 @@ abbrev pub q0 : Row.Entry
 q0 = (5, Rows.any-gone q2)
 
 abbrev pub ps : L.List (FnKinds.PK 1)
-ps = L._∷_ (Value.pVal record { ty = Declared.row network-proofs-Nodes·.the-type; one = Path.refl; val = StructLaws.val network-proofs-Nodes·.the-type network-proofs-Nodes-Laws·.the-laws; tells = StructLaws.tells network-proofs-Nodes·.the-type network-proofs-Nodes-Laws·.the-laws; still = StructLaws.still network-proofs-Nodes·.the-type network-proofs-Nodes-Laws·.the-copy Exit.yes; row = Rows.whole (Declared.row network-proofs-Nodes·.the-type); rd = λ x. x; mk = λ x. x; } λ M 𝓤 H A W. record { copies = StructLaws.copy network-proofs-Nodes·.the-type network-proofs-Nodes-Laws·.the-copy 𝓤 H A W; lawful = StructLaws.lawful network-proofs-Nodes·.the-type network-proofs-Nodes-Laws·.the-laws 𝓤 H A W; makes = StructLaws.makes network-proofs-Nodes·.the-type network-proofs-Nodes-Laws·.the-plain 𝓤 H A; in-mem = Local.mem-whole 𝓤 H A W (Declared.row network-proofs-Nodes·.the-type); of-mem = Local.whole-mem 𝓤 H A W (Declared.row network-proofs-Nodes·.the-type); }) (L._∷_ (ShrSlice.pShrS Rec.row 0 tt) (L._∷_ (Value.pVal record { ty = Declared.row network-proofs-Degrees·.the-type; one = Path.refl; val = StructLaws.val network-proofs-Degrees·.the-type network-proofs-Degrees-Laws·.the-laws; tells = StructLaws.tells network-proofs-Degrees·.the-type network-proofs-Degrees-Laws·.the-laws; still = StructLaws.still network-proofs-Degrees·.the-type network-proofs-Degrees-Laws·.the-copy Exit.yes; row = Rows.whole (Declared.row network-proofs-Degrees·.the-type); rd = λ x. x; mk = λ x. x; } λ M 𝓤 H A W. record { copies = StructLaws.copy network-proofs-Degrees·.the-type network-proofs-Degrees-Laws·.the-copy 𝓤 H A W; lawful = StructLaws.lawful network-proofs-Degrees·.the-type network-proofs-Degrees-Laws·.the-laws 𝓤 H A W; makes = StructLaws.makes network-proofs-Degrees·.the-type network-proofs-Degrees-Laws·.the-plain 𝓤 H A; in-mem = Local.mem-whole 𝓤 H A W (Declared.row network-proofs-Degrees·.the-type); of-mem = Local.whole-mem 𝓤 H A W (Declared.row network-proofs-Degrees·.the-type); }) (L._∷_ (Num.pNum Syntax.w64) L.[])))
+ps = L._∷_ (Value.pVal record { ty = Declared.row network-proofs-Nodes·.the-type; one = Path.refl; val = StructLaws.val network-proofs-Nodes·.the-type network-proofs-Nodes-Laws·.the-laws; tells = StructLaws.tells network-proofs-Nodes·.the-type network-proofs-Nodes-Laws·.the-laws; still = StructLaws.still network-proofs-Nodes·.the-type network-proofs-Nodes-Laws·.the-copy Exit.yes; row = Rows.whole (Declared.row network-proofs-Nodes·.the-type); rd = λ x. x; mk = λ x. x } λ M 𝓤 H A W. record { copies = StructLaws.copy network-proofs-Nodes·.the-type network-proofs-Nodes-Laws·.the-copy 𝓤 H A W; lawful = StructLaws.lawful network-proofs-Nodes·.the-type network-proofs-Nodes-Laws·.the-laws 𝓤 H A W; makes = StructLaws.makes network-proofs-Nodes·.the-type network-proofs-Nodes-Laws·.the-plain 𝓤 H A; in-mem = Local.mem-whole 𝓤 H A W (Declared.row network-proofs-Nodes·.the-type); of-mem = Local.whole-mem 𝓤 H A W (Declared.row network-proofs-Nodes·.the-type) }) (L._∷_ (ShrSlice.pShrS Rec.row 0 tt) (L._∷_ (Value.pVal record { ty = Declared.row network-proofs-Degrees·.the-type; one = Path.refl; val = StructLaws.val network-proofs-Degrees·.the-type network-proofs-Degrees-Laws·.the-laws; tells = StructLaws.tells network-proofs-Degrees·.the-type network-proofs-Degrees-Laws·.the-laws; still = StructLaws.still network-proofs-Degrees·.the-type network-proofs-Degrees-Laws·.the-copy Exit.yes; row = Rows.whole (Declared.row network-proofs-Degrees·.the-type); rd = λ x. x; mk = λ x. x } λ M 𝓤 H A W. record { copies = StructLaws.copy network-proofs-Degrees·.the-type network-proofs-Degrees-Laws·.the-copy 𝓤 H A W; lawful = StructLaws.lawful network-proofs-Degrees·.the-type network-proofs-Degrees-Laws·.the-laws 𝓤 H A W; makes = StructLaws.makes network-proofs-Degrees·.the-type network-proofs-Degrees-Laws·.the-plain 𝓤 H A; in-mem = Local.mem-whole 𝓤 H A W (Declared.row network-proofs-Degrees·.the-type); of-mem = Local.whole-mem 𝓤 H A W (Declared.row network-proofs-Degrees·.the-type) }) (L._∷_ (Num.pNum Syntax.w64) L.[])))
 
 abbrev pub r : FnKinds.RK 1
-r = Value.rVal record { ty = Declared.row rules-proofs-found-Found·.the-type; one = Path.refl; val = StructLaws.val rules-proofs-found-Found·.the-type rules-proofs-found-Found-Laws·.the-laws; tells = StructLaws.tells rules-proofs-found-Found·.the-type rules-proofs-found-Found-Laws·.the-laws; still = StructLaws.still rules-proofs-found-Found·.the-type rules-proofs-found-Found-Laws·.the-copy Exit.yes; row = Rows.whole (Declared.row rules-proofs-found-Found·.the-type); rd = λ x. x; mk = λ x. x; } λ M 𝓤 H A W. record { copies = StructLaws.copy rules-proofs-found-Found·.the-type rules-proofs-found-Found-Laws·.the-copy 𝓤 H A W; lawful = StructLaws.lawful rules-proofs-found-Found·.the-type rules-proofs-found-Found-Laws·.the-laws 𝓤 H A W; makes = StructLaws.makes rules-proofs-found-Found·.the-type rules-proofs-found-Found-Laws·.the-plain 𝓤 H A; in-mem = Local.mem-whole 𝓤 H A W (Declared.row rules-proofs-found-Found·.the-type); of-mem = Local.whole-mem 𝓤 H A W (Declared.row rules-proofs-found-Found·.the-type); }
+r = Value.rVal record { ty = Declared.row rules-proofs-found-Found·.the-type; one = Path.refl; val = StructLaws.val rules-proofs-found-Found·.the-type rules-proofs-found-Found-Laws·.the-laws; tells = StructLaws.tells rules-proofs-found-Found·.the-type rules-proofs-found-Found-Laws·.the-laws; still = StructLaws.still rules-proofs-found-Found·.the-type rules-proofs-found-Found-Laws·.the-copy Exit.yes; row = Rows.whole (Declared.row rules-proofs-found-Found·.the-type); rd = λ x. x; mk = λ x. x } λ M 𝓤 H A W. record { copies = StructLaws.copy rules-proofs-found-Found·.the-type rules-proofs-found-Found-Laws·.the-copy 𝓤 H A W; lawful = StructLaws.lawful rules-proofs-found-Found·.the-type rules-proofs-found-Found-Laws·.the-laws 𝓤 H A W; makes = StructLaws.makes rules-proofs-found-Found·.the-type rules-proofs-found-Found-Laws·.the-plain 𝓤 H A; in-mem = Local.mem-whole 𝓤 H A W (Declared.row rules-proofs-found-Found·.the-type); of-mem = Local.whole-mem 𝓤 H A W (Declared.row rules-proofs-found-Found·.the-type) }
 
 abbrev pub xs : L.List Syntax.Ty
 xs = L._∷_ q2 (L._∷_ q12 (L._∷_ (Syntax.tyInt Syntax.w64) (L._∷_ (Syntax.tyInt Syntax.w64) (L._∷_ (Syntax.tyStruct (L._∷_ 115 (L._∷_ 116 (L._∷_ 101 (L._∷_ 112 (L._∷_ 58 (L._∷_ 58 (L._∷_ 65 (L._∷_ 114 (L._∷_ 111 (L._∷_ 117 (L._∷_ 110 (L._∷_ 100 L.[])))))))))))) (Syntax.tcons q9 (Syntax.tcons q9 (Syntax.tcons q9 (Syntax.tcons q9 Syntax.tnil))))) (L._∷_ (Syntax.tyStruct (L._∷_ 114 (L._∷_ 117 (L._∷_ 108 (L._∷_ 101 (L._∷_ 115 (L._∷_ 58 (L._∷_ 58 (L._∷_ 102 (L._∷_ 111 (L._∷_ 117 (L._∷_ 110 (L._∷_ 100 (L._∷_ 58 (L._∷_ 58 (L._∷_ 70 (L._∷_ 111 (L._∷_ 117 (L._∷_ 110 (L._∷_ 100 L.[]))))))))))))))))))) (Syntax.tcons Syntax.tyBool (Syntax.tcons Syntax.tyBool (Syntax.tcons (Syntax.tyStruct (L._∷_ 115 (L._∷_ 116 (L._∷_ 101 (L._∷_ 112 (L._∷_ 58 (L._∷_ 58 (L._∷_ 83 (L._∷_ 116 (L._∷_ 101 (L._∷_ 112 L.[])))))))))) (Syntax.tcons (Syntax.tyInt Syntax.w64) (Syntax.tcons (Syntax.tyInt Syntax.w64) (Syntax.tcons (Syntax.tyStruct (L._∷_ 115 (L._∷_ 116 (L._∷_ 101 (L._∷_ 112 (L._∷_ 58 (L._∷_ 58 (L._∷_ 67 (L._∷_ 104 (L._∷_ 97 (L._∷_ 110 (L._∷_ 103 (L._∷_ 101 L.[])))))))))))) (Syntax.tcons (Syntax.tyStruct (L._∷_ 110 (L._∷_ 101 (L._∷_ 116 (L._∷_ 119 (L._∷_ 111 (L._∷_ 114 (L._∷_ 107 (L._∷_ 58 (L._∷_ 58 (L._∷_ 69 (L._∷_ 100 (L._∷_ 105 (L._∷_ 116 L.[]))))))))))))) (Syntax.tcons q9 (Syntax.tcons q9 (Syntax.tcons q9 (Syntax.tcons q9 (Syntax.tcons q3 (Syntax.tcons q3 (Syntax.tcons (Syntax.tyInt Syntax.w64) Syntax.tnil)))))))) (Syntax.tcons (Syntax.tyStruct (L._∷_ 115 (L._∷_ 116 (L._∷_ 101 (L._∷_ 112 (L._∷_ 58 (L._∷_ 58 (L._∷_ 79 (L._∷_ 108 (L._∷_ 100 L.[]))))))))) (Syntax.tcons (Syntax.tyInt Syntax.w64) (Syntax.tcons q8 (Syntax.tcons q9 (Syntax.tcons q9 (Syntax.tcons q9 (Syntax.tcons q9 (Syntax.tcons q5 Syntax.tnil)))))))) Syntax.tnil))) Syntax.tnil)))) Syntax.tnil)))) (L._∷_ (Syntax.tyInt Syntax.w64) (L._∷_ Syntax.tyBool (L._∷_ Syntax.tyBool (L._∷_ Syntax.tyPtr (L._∷_ Syntax.tyPtr (L._∷_ Syntax.tyPtr (L._∷_ Syntax.tyPtr (L._∷_ (Syntax.tyInt Syntax.w64) (L._∷_ Syntax.tyBool (L._∷_ (Syntax.tyInt Syntax.w64) (L._∷_ Syntax.tyPtr (L._∷_ Syntax.tyPtr (L._∷_ q8 (L._∷_ q6 (L._∷_ Syntax.tyBool L.[]))))))))))))))))))))
@@ -239,7 +239,7 @@ abbrev pub r·1 : FnKinds.RK 0
 r·1 = KBool.rBool
 
 abbrev pub ps·2 : L.List (FnKinds.PK 0)
-ps·2 = L._∷_ (Num.pNum Syntax.w64) (L._∷_ (Value.pVal record { ty = Declared.row fraction-proofs-Fraction·.the-type; one = Path.refl; val = StructLaws.val fraction-proofs-Fraction·.the-type fraction-proofs-Fraction-Laws·.the-laws; tells = StructLaws.tells fraction-proofs-Fraction·.the-type fraction-proofs-Fraction-Laws·.the-laws; still = StructLaws.still fraction-proofs-Fraction·.the-type fraction-proofs-Fraction-Laws·.the-copy Exit.yes; row = Rows.whole (Declared.row fraction-proofs-Fraction·.the-type); rd = λ x. x; mk = λ x. x; } λ M 𝓤 H A W. record { copies = StructLaws.copy fraction-proofs-Fraction·.the-type fraction-proofs-Fraction-Laws·.the-copy 𝓤 H A W; lawful = StructLaws.lawful fraction-proofs-Fraction·.the-type fraction-proofs-Fraction-Laws·.the-laws 𝓤 H A W; makes = StructLaws.makes fraction-proofs-Fraction·.the-type fraction-proofs-Fraction-Laws·.the-plain 𝓤 H A; in-mem = Local.mem-whole 𝓤 H A W (Declared.row fraction-proofs-Fraction·.the-type); of-mem = Local.whole-mem 𝓤 H A W (Declared.row fraction-proofs-Fraction·.the-type); }) L.[])
+ps·2 = L._∷_ (Num.pNum Syntax.w64) (L._∷_ (Value.pVal record { ty = Declared.row fraction-proofs-Fraction·.the-type; one = Path.refl; val = StructLaws.val fraction-proofs-Fraction·.the-type fraction-proofs-Fraction-Laws·.the-laws; tells = StructLaws.tells fraction-proofs-Fraction·.the-type fraction-proofs-Fraction-Laws·.the-laws; still = StructLaws.still fraction-proofs-Fraction·.the-type fraction-proofs-Fraction-Laws·.the-copy Exit.yes; row = Rows.whole (Declared.row fraction-proofs-Fraction·.the-type); rd = λ x. x; mk = λ x. x } λ M 𝓤 H A W. record { copies = StructLaws.copy fraction-proofs-Fraction·.the-type fraction-proofs-Fraction-Laws·.the-copy 𝓤 H A W; lawful = StructLaws.lawful fraction-proofs-Fraction·.the-type fraction-proofs-Fraction-Laws·.the-laws 𝓤 H A W; makes = StructLaws.makes fraction-proofs-Fraction·.the-type fraction-proofs-Fraction-Laws·.the-plain 𝓤 H A; in-mem = Local.mem-whole 𝓤 H A W (Declared.row fraction-proofs-Fraction·.the-type); of-mem = Local.whole-mem 𝓤 H A W (Declared.row fraction-proofs-Fraction·.the-type) }) L.[])
 
 abbrev pub r·2 : FnKinds.RK 0
 r·2 = KBool.rBool
@@ -248,19 +248,19 @@ abbrev pub ps·3 : L.List (FnKinds.PK 1)
 ps·3 = L._∷_ (ShrSlice.pShrS Rec.row 0 tt) (L._∷_ (Num.pNum Syntax.w64) (L._∷_ (Num.pNum Syntax.w64) L.[]))
 
 abbrev pub r·3 : FnKinds.RK 1
-r·3 = Value.rVal record { ty = Declared.row step-proofs-Around·.the-type; one = Path.refl; val = StructLaws.val step-proofs-Around·.the-type step-proofs-Around-Laws·.the-laws; tells = StructLaws.tells step-proofs-Around·.the-type step-proofs-Around-Laws·.the-laws; still = StructLaws.still step-proofs-Around·.the-type step-proofs-Around-Laws·.the-copy Exit.yes; row = Rows.whole (Declared.row step-proofs-Around·.the-type); rd = λ x. x; mk = λ x. x; } λ M 𝓤 H A W. record { copies = StructLaws.copy step-proofs-Around·.the-type step-proofs-Around-Laws·.the-copy 𝓤 H A W; lawful = StructLaws.lawful step-proofs-Around·.the-type step-proofs-Around-Laws·.the-laws 𝓤 H A W; makes = StructLaws.makes step-proofs-Around·.the-type step-proofs-Around-Laws·.the-plain 𝓤 H A; in-mem = Local.mem-whole 𝓤 H A W (Declared.row step-proofs-Around·.the-type); of-mem = Local.whole-mem 𝓤 H A W (Declared.row step-proofs-Around·.the-type); }
+r·3 = Value.rVal record { ty = Declared.row step-proofs-Around·.the-type; one = Path.refl; val = StructLaws.val step-proofs-Around·.the-type step-proofs-Around-Laws·.the-laws; tells = StructLaws.tells step-proofs-Around·.the-type step-proofs-Around-Laws·.the-laws; still = StructLaws.still step-proofs-Around·.the-type step-proofs-Around-Laws·.the-copy Exit.yes; row = Rows.whole (Declared.row step-proofs-Around·.the-type); rd = λ x. x; mk = λ x. x } λ M 𝓤 H A W. record { copies = StructLaws.copy step-proofs-Around·.the-type step-proofs-Around-Laws·.the-copy 𝓤 H A W; lawful = StructLaws.lawful step-proofs-Around·.the-type step-proofs-Around-Laws·.the-laws 𝓤 H A W; makes = StructLaws.makes step-proofs-Around·.the-type step-proofs-Around-Laws·.the-plain 𝓤 H A; in-mem = Local.mem-whole 𝓤 H A W (Declared.row step-proofs-Around·.the-type); of-mem = Local.whole-mem 𝓤 H A W (Declared.row step-proofs-Around·.the-type) }
 
 abbrev pub ps·4 : L.List (FnKinds.PK 0)
-ps·4 = L._∷_ (KArray.pArr (KArray.eStruct fraction-proofs-Fraction·.the-type fraction-proofs-Fraction-Laws·.the-laws fraction-proofs-Fraction-Laws·.the-copy) (KArray.eStruct-laws fraction-proofs-Fraction·.the-type fraction-proofs-Fraction-Laws·.the-laws fraction-proofs-Fraction-Laws·.the-copy fraction-proofs-Fraction-Laws·.the-plain) 33) (L._∷_ (Num.pNum Syntax.w64) (L._∷_ (Num.pNum Syntax.w64) (L._∷_ (Num.pNum Syntax.w64) (L._∷_ (Value.pVal record { ty = Declared.row step-proofs-Around·.the-type; one = Path.refl; val = StructLaws.val step-proofs-Around·.the-type step-proofs-Around-Laws·.the-laws; tells = StructLaws.tells step-proofs-Around·.the-type step-proofs-Around-Laws·.the-laws; still = StructLaws.still step-proofs-Around·.the-type step-proofs-Around-Laws·.the-copy Exit.yes; row = Rows.whole (Declared.row step-proofs-Around·.the-type); rd = λ x. x; mk = λ x. x; } λ M 𝓤 H A W. record { copies = StructLaws.copy step-proofs-Around·.the-type step-proofs-Around-Laws·.the-copy 𝓤 H A W; lawful = StructLaws.lawful step-proofs-Around·.the-type step-proofs-Around-Laws·.the-laws 𝓤 H A W; makes = StructLaws.makes step-proofs-Around·.the-type step-proofs-Around-Laws·.the-plain 𝓤 H A; in-mem = Local.mem-whole 𝓤 H A W (Declared.row step-proofs-Around·.the-type); of-mem = Local.whole-mem 𝓤 H A W (Declared.row step-proofs-Around·.the-type); }) L.[]))))
+ps·4 = L._∷_ (KArray.pArr (KArray.eStruct fraction-proofs-Fraction·.the-type fraction-proofs-Fraction-Laws·.the-laws fraction-proofs-Fraction-Laws·.the-copy) (KArray.eStruct-laws fraction-proofs-Fraction·.the-type fraction-proofs-Fraction-Laws·.the-laws fraction-proofs-Fraction-Laws·.the-copy fraction-proofs-Fraction-Laws·.the-plain) 33) (L._∷_ (Num.pNum Syntax.w64) (L._∷_ (Num.pNum Syntax.w64) (L._∷_ (Num.pNum Syntax.w64) (L._∷_ (Value.pVal record { ty = Declared.row step-proofs-Around·.the-type; one = Path.refl; val = StructLaws.val step-proofs-Around·.the-type step-proofs-Around-Laws·.the-laws; tells = StructLaws.tells step-proofs-Around·.the-type step-proofs-Around-Laws·.the-laws; still = StructLaws.still step-proofs-Around·.the-type step-proofs-Around-Laws·.the-copy Exit.yes; row = Rows.whole (Declared.row step-proofs-Around·.the-type); rd = λ x. x; mk = λ x. x } λ M 𝓤 H A W. record { copies = StructLaws.copy step-proofs-Around·.the-type step-proofs-Around-Laws·.the-copy 𝓤 H A W; lawful = StructLaws.lawful step-proofs-Around·.the-type step-proofs-Around-Laws·.the-laws 𝓤 H A W; makes = StructLaws.makes step-proofs-Around·.the-type step-proofs-Around-Laws·.the-plain 𝓤 H A; in-mem = Local.mem-whole 𝓤 H A W (Declared.row step-proofs-Around·.the-type); of-mem = Local.whole-mem 𝓤 H A W (Declared.row step-proofs-Around·.the-type) }) L.[]))))
 
 abbrev pub r·4 : FnKinds.RK 0
-r·4 = Value.rVal record { ty = Declared.row rules-proofs-found-Found·.the-type; one = Path.refl; val = StructLaws.val rules-proofs-found-Found·.the-type rules-proofs-found-Found-Laws·.the-laws; tells = StructLaws.tells rules-proofs-found-Found·.the-type rules-proofs-found-Found-Laws·.the-laws; still = StructLaws.still rules-proofs-found-Found·.the-type rules-proofs-found-Found-Laws·.the-copy Exit.yes; row = Rows.whole (Declared.row rules-proofs-found-Found·.the-type); rd = λ x. x; mk = λ x. x; } λ M 𝓤 H A W. record { copies = StructLaws.copy rules-proofs-found-Found·.the-type rules-proofs-found-Found-Laws·.the-copy 𝓤 H A W; lawful = StructLaws.lawful rules-proofs-found-Found·.the-type rules-proofs-found-Found-Laws·.the-laws 𝓤 H A W; makes = StructLaws.makes rules-proofs-found-Found·.the-type rules-proofs-found-Found-Laws·.the-plain 𝓤 H A; in-mem = Local.mem-whole 𝓤 H A W (Declared.row rules-proofs-found-Found·.the-type); of-mem = Local.whole-mem 𝓤 H A W (Declared.row rules-proofs-found-Found·.the-type); }
+r·4 = Value.rVal record { ty = Declared.row rules-proofs-found-Found·.the-type; one = Path.refl; val = StructLaws.val rules-proofs-found-Found·.the-type rules-proofs-found-Found-Laws·.the-laws; tells = StructLaws.tells rules-proofs-found-Found·.the-type rules-proofs-found-Found-Laws·.the-laws; still = StructLaws.still rules-proofs-found-Found·.the-type rules-proofs-found-Found-Laws·.the-copy Exit.yes; row = Rows.whole (Declared.row rules-proofs-found-Found·.the-type); rd = λ x. x; mk = λ x. x } λ M 𝓤 H A W. record { copies = StructLaws.copy rules-proofs-found-Found·.the-type rules-proofs-found-Found-Laws·.the-copy 𝓤 H A W; lawful = StructLaws.lawful rules-proofs-found-Found·.the-type rules-proofs-found-Found-Laws·.the-laws 𝓤 H A W; makes = StructLaws.makes rules-proofs-found-Found·.the-type rules-proofs-found-Found-Laws·.the-plain 𝓤 H A; in-mem = Local.mem-whole 𝓤 H A W (Declared.row rules-proofs-found-Found·.the-type); of-mem = Local.whole-mem 𝓤 H A W (Declared.row rules-proofs-found-Found·.the-type) }
 
 abbrev pub ps·5 : L.List (FnKinds.PK 0)
 ps·5 = L.[]
 
 abbrev pub r·5 : FnKinds.RK 0
-r·5 = Value.rVal record { ty = Declared.row rules-proofs-found-Found·.the-type; one = Path.refl; val = StructLaws.val rules-proofs-found-Found·.the-type rules-proofs-found-Found-Laws·.the-laws; tells = StructLaws.tells rules-proofs-found-Found·.the-type rules-proofs-found-Found-Laws·.the-laws; still = StructLaws.still rules-proofs-found-Found·.the-type rules-proofs-found-Found-Laws·.the-copy Exit.yes; row = Rows.whole (Declared.row rules-proofs-found-Found·.the-type); rd = λ x. x; mk = λ x. x; } λ M 𝓤 H A W. record { copies = StructLaws.copy rules-proofs-found-Found·.the-type rules-proofs-found-Found-Laws·.the-copy 𝓤 H A W; lawful = StructLaws.lawful rules-proofs-found-Found·.the-type rules-proofs-found-Found-Laws·.the-laws 𝓤 H A W; makes = StructLaws.makes rules-proofs-found-Found·.the-type rules-proofs-found-Found-Laws·.the-plain 𝓤 H A; in-mem = Local.mem-whole 𝓤 H A W (Declared.row rules-proofs-found-Found·.the-type); of-mem = Local.whole-mem 𝓤 H A W (Declared.row rules-proofs-found-Found·.the-type); }
+r·5 = Value.rVal record { ty = Declared.row rules-proofs-found-Found·.the-type; one = Path.refl; val = StructLaws.val rules-proofs-found-Found·.the-type rules-proofs-found-Found-Laws·.the-laws; tells = StructLaws.tells rules-proofs-found-Found·.the-type rules-proofs-found-Found-Laws·.the-laws; still = StructLaws.still rules-proofs-found-Found·.the-type rules-proofs-found-Found-Laws·.the-copy Exit.yes; row = Rows.whole (Declared.row rules-proofs-found-Found·.the-type); rd = λ x. x; mk = λ x. x } λ M 𝓤 H A W. record { copies = StructLaws.copy rules-proofs-found-Found·.the-type rules-proofs-found-Found-Laws·.the-copy 𝓤 H A W; lawful = StructLaws.lawful rules-proofs-found-Found·.the-type rules-proofs-found-Found-Laws·.the-laws 𝓤 H A W; makes = StructLaws.makes rules-proofs-found-Found·.the-type rules-proofs-found-Found-Laws·.the-plain 𝓤 H A; in-mem = Local.mem-whole 𝓤 H A W (Declared.row rules-proofs-found-Found·.the-type); of-mem = Local.whole-mem 𝓤 H A W (Declared.row rules-proofs-found-Found·.the-type) }
 
 abbrev pub hs : L.List Syntax.Home
 hs = L._∷_ Syntax.valueLocal (L._∷_ Syntax.valueLocal (L._∷_ Syntax.valueLocal (L._∷_ Syntax.valueLocal (L._∷_ Syntax.valueLocal (L._∷_ Syntax.memorySlot (L._∷_ Syntax.memorySlot (L._∷_ Syntax.valueLocal (L._∷_ Syntax.valueLocal (L._∷_ Syntax.valueLocal (L._∷_ Syntax.valueLocal (L._∷_ Syntax.valueLocal (L._∷_ Syntax.valueLocal (L._∷_ Syntax.valueLocal (L._∷_ Syntax.valueLocal (L._∷_ Syntax.valueLocal (L._∷_ Syntax.valueLocal (L._∷_ Syntax.valueLocal (L._∷_ Syntax.valueLocal (L._∷_ Syntax.valueLocal (L._∷_ Syntax.valueLocal (L._∷_ Syntax.valueLocal (L._∷_ Syntax.valueLocal (L._∷_ Syntax.valueLocal (L._∷_ Syntax.valueLocal (L._∷_ Syntax.valueLocal L.[])))))))))))))))))))))))))
@@ -891,7 +891,7 @@ module _ (claims· : Claims) where
   s15 = λ bs. Scalar.n-room T18 14 Syntax.tyPtr
 
   abbrev s16 : (bs : L.List Nat.ℕ) → Typed.Both T19 T20
-  s16 = λ bs. WayStmt.k-way-copy-out T19 (Row.out 15 (Row.out 5 (T19 .locals))) (λ u. Row.drop 15 (Row.out 5 (T19 .locals)) (Row.drop 5 (T19 .locals) u)) 12 (Rows.sc-here Row.sBool) (λ u. ListN.getD (At.getAt (network-proofs-Nodes·.the-type .parts) 2 (network-proofs-Nodes·.struct .as-values (u .1 .1 .1 .1 .1 .0))) (u .1 .1 .1 .1 .1 .1 .1 .1 .0) Bool.false) (λ T′. record { locals = Row.setRow 5 q21 (Row.setRow 15 (15, Rows.sc-here Row.sPtr) T′); slots = L.[]; }) (λ u T′ m′. Row.set 5 q21 (u .1 .1 .1 .1 .1 .0) (Row.setRow 15 (15, Rows.sc-here Row.sPtr) T′) (Row.set 15 (15, Rows.sc-here Row.sPtr) (u .1 .1 .1 .1 .1 .1 .1 .1 .1 .1 .1 .1 .1 .1 .1 .0) T′ m′)) (λ u. Path._≡_ (u .1 .1 .1 .1 .1 .1 .1 .1 .1 .1 .1 .1 .1 .1 .1 .0 .0) (Row.hd 0 (Row.tl (Row.tl (Row.tl (Row.tl (Row.tl bs)))))) × Path._≡_ (u .1 .1 .1 .1 .1 .1 .1 .1 .1 .1 .1 .1 .1 .1 .1 .0 .1) (Shared.byByte (u .1 .1 .1 .1 .1 .1 .1 .1 .0) (Nat._+_ Nat.zero 16)) × Asked.InArray T19 (λ u. u .1 .1 .1 .1 .1 .1 .1 .1 .0) 33 u) λ u. Unit
+  s16 = λ bs. WayStmt.k-way-copy-out T19 (Row.out 15 (Row.out 5 (T19 .locals))) (λ u. Row.drop 15 (Row.out 5 (T19 .locals)) (Row.drop 5 (T19 .locals) u)) 12 (Rows.sc-here Row.sBool) (λ u. ListN.getD (At.getAt (network-proofs-Nodes·.the-type .parts) 2 (network-proofs-Nodes·.struct .as-values (u .1 .1 .1 .1 .1 .0))) (u .1 .1 .1 .1 .1 .1 .1 .1 .0) Bool.false) (λ T′. record { locals = Row.setRow 5 q21 (Row.setRow 15 (15, Rows.sc-here Row.sPtr) T′); slots = L.[] }) (λ u T′ m′. Row.set 5 q21 (u .1 .1 .1 .1 .1 .0) (Row.setRow 15 (15, Rows.sc-here Row.sPtr) T′) (Row.set 15 (15, Rows.sc-here Row.sPtr) (u .1 .1 .1 .1 .1 .1 .1 .1 .1 .1 .1 .1 .1 .1 .1 .0) T′ m′)) (λ u. Path._≡_ (u .1 .1 .1 .1 .1 .1 .1 .1 .1 .1 .1 .1 .1 .1 .1 .0 .0) (Row.hd 0 (Row.tl (Row.tl (Row.tl (Row.tl (Row.tl bs)))))) × Path._≡_ (u .1 .1 .1 .1 .1 .1 .1 .1 .1 .1 .1 .1 .1 .1 .1 .0 .1) (Shared.byByte (u .1 .1 .1 .1 .1 .1 .1 .1 .0) (Nat._+_ Nat.zero 16)) × Asked.InArray T19 (λ u. u .1 .1 .1 .1 .1 .1 .1 .1 .0) 33 u) λ u. Unit
 
   abbrev s17 : (bs : L.List Nat.ℕ) → Typed.Mo T20 → Typed.Mo T21
   s17 = λ bs. Scalar.n-room T20 15 Syntax.tyPtr
@@ -909,7 +909,7 @@ module _ (claims· : Claims) where
   s21 = λ bs. Scalar.n-room T24 16 Syntax.tyPtr
 
   abbrev s22 : (bs : L.List Nat.ℕ) → Typed.Both T25 T26
-  s22 = λ bs. WayStmt.k-way-copy-out T25 (Row.out 17 (Row.out 6 (T25 .locals))) (λ u. Row.drop 17 (Row.out 6 (T25 .locals)) (Row.drop 6 (T25 .locals) u)) 18 q35 (λ u. ListN.getD (At.getAt (network-proofs-Degrees·.the-type .parts) 0 (network-proofs-Degrees·.struct .as-values (u .1 .1 .1 .1 .1 .1 .0))) (u .1 .1 .1 .1 .1 .1 .1 .1 .0) 0) (λ T′. record { locals = Row.setRow 6 q18 (Row.setRow 17 (17, Rows.sc-here Row.sPtr) T′); slots = L.[]; }) (λ u T′ m′. Row.set 6 q18 (u .1 .1 .1 .1 .1 .1 .0) (Row.setRow 17 (17, Rows.sc-here Row.sPtr) T′) (Row.set 17 (17, Rows.sc-here Row.sPtr) (u .1 .1 .1 .1 .1 .1 .1 .1 .1 .1 .1 .1 .1 .1 .1 .1 .1 .0) T′ m′)) (λ u. Path._≡_ (u .1 .1 .1 .1 .1 .1 .1 .1 .1 .1 .1 .1 .1 .1 .1 .1 .1 .0 .0) (Row.hd 0 (Row.tl (Row.tl (Row.tl (Row.tl (Row.tl (Row.tl bs))))))) × Path._≡_ (u .1 .1 .1 .1 .1 .1 .1 .1 .1 .1 .1 .1 .1 .1 .1 .1 .1 .0 .1) (Shared.bySize 8 (u .1 .1 .1 .1 .1 .1 .1 .1 .0) (Nat._+_ Nat.zero 0)) × Asked.InArray T25 (λ u. u .1 .1 .1 .1 .1 .1 .1 .1 .0) 33 u) λ u. Unit
+  s22 = λ bs. WayStmt.k-way-copy-out T25 (Row.out 17 (Row.out 6 (T25 .locals))) (λ u. Row.drop 17 (Row.out 6 (T25 .locals)) (Row.drop 6 (T25 .locals) u)) 18 q35 (λ u. ListN.getD (At.getAt (network-proofs-Degrees·.the-type .parts) 0 (network-proofs-Degrees·.struct .as-values (u .1 .1 .1 .1 .1 .1 .0))) (u .1 .1 .1 .1 .1 .1 .1 .1 .0) 0) (λ T′. record { locals = Row.setRow 6 q18 (Row.setRow 17 (17, Rows.sc-here Row.sPtr) T′); slots = L.[] }) (λ u T′ m′. Row.set 6 q18 (u .1 .1 .1 .1 .1 .1 .0) (Row.setRow 17 (17, Rows.sc-here Row.sPtr) T′) (Row.set 17 (17, Rows.sc-here Row.sPtr) (u .1 .1 .1 .1 .1 .1 .1 .1 .1 .1 .1 .1 .1 .1 .1 .1 .1 .0) T′ m′)) (λ u. Path._≡_ (u .1 .1 .1 .1 .1 .1 .1 .1 .1 .1 .1 .1 .1 .1 .1 .1 .1 .0 .0) (Row.hd 0 (Row.tl (Row.tl (Row.tl (Row.tl (Row.tl (Row.tl bs))))))) × Path._≡_ (u .1 .1 .1 .1 .1 .1 .1 .1 .1 .1 .1 .1 .1 .1 .1 .1 .1 .0 .1) (Shared.bySize 8 (u .1 .1 .1 .1 .1 .1 .1 .1 .0) (Nat._+_ Nat.zero 0)) × Asked.InArray T25 (λ u. u .1 .1 .1 .1 .1 .1 .1 .1 .0) 33 u) λ u. Unit
 
   abbrev s23 : (bs : L.List Nat.ℕ) → Typed.Mo T26 → Typed.Mo T27
   s23 = λ bs. Scalar.n-room T26 11 (Syntax.tyInt Syntax.w64)
@@ -942,7 +942,7 @@ module _ (claims· : Claims) where
   s32 = λ bs. Scalar.n-room T36 21 Syntax.tyPtr
 
   abbrev s33 : (bs : L.List Nat.ℕ) → Typed.Both T37 T38
-  s33 = λ bs. WayStmt.k-way-copy-out T37 (Row.out 22 (Row.out 5 (T37 .locals))) (λ u. Row.drop 22 (Row.out 5 (T37 .locals)) (Row.drop 5 (T37 .locals) u)) 23 q19 (λ u. ListN.getD (At.getAt (network-proofs-Nodes·.the-type .parts) 3 (network-proofs-Nodes·.struct .as-values (u .1 .1 .1 .1 .1 .0))) (u .1 .1 .1 .1 .1 .1 .1 .1 .0) (fraction-proofs-Fraction·.struct .make (IntN.pos 0, (0, tt)) tt)) (λ T′. record { locals = Row.setRow 5 q21 (Row.setRow 22 (22, Rows.sc-here Row.sPtr) T′); slots = L.[]; }) (λ u T′ m′. Row.set 5 q21 (u .1 .1 .1 .1 .1 .0) (Row.setRow 22 (22, Rows.sc-here Row.sPtr) T′) (Row.set 22 (22, Rows.sc-here Row.sPtr) (u .1 .1 .1 .1 .1 .1 .1 .1 .1 .1 .1 .1 .1 .1 .1 .1 .1 .1 .1 .1 .1 .1 .0) T′ m′)) (λ u. Path._≡_ (u .1 .1 .1 .1 .1 .1 .1 .1 .1 .1 .1 .1 .1 .1 .1 .1 .1 .1 .1 .1 .1 .1 .0 .0) (Row.hd 0 (Row.tl (Row.tl (Row.tl (Row.tl (Row.tl bs)))))) × Path._≡_ (u .1 .1 .1 .1 .1 .1 .1 .1 .1 .1 .1 .1 .1 .1 .1 .1 .1 .1 .1 .1 .1 .1 .0 .1) (Shared.bySize 8 (u .1 .1 .1 .1 .1 .1 .1 .1 .0) (Nat._+_ Nat.zero 52)) × Asked.InArray T37 (λ u. u .1 .1 .1 .1 .1 .1 .1 .1 .0) 33 u) λ u. Unit
+  s33 = λ bs. WayStmt.k-way-copy-out T37 (Row.out 22 (Row.out 5 (T37 .locals))) (λ u. Row.drop 22 (Row.out 5 (T37 .locals)) (Row.drop 5 (T37 .locals) u)) 23 q19 (λ u. ListN.getD (At.getAt (network-proofs-Nodes·.the-type .parts) 3 (network-proofs-Nodes·.struct .as-values (u .1 .1 .1 .1 .1 .0))) (u .1 .1 .1 .1 .1 .1 .1 .1 .0) (fraction-proofs-Fraction·.struct .make (IntN.pos 0, (0, tt)) tt)) (λ T′. record { locals = Row.setRow 5 q21 (Row.setRow 22 (22, Rows.sc-here Row.sPtr) T′); slots = L.[] }) (λ u T′ m′. Row.set 5 q21 (u .1 .1 .1 .1 .1 .0) (Row.setRow 22 (22, Rows.sc-here Row.sPtr) T′) (Row.set 22 (22, Rows.sc-here Row.sPtr) (u .1 .1 .1 .1 .1 .1 .1 .1 .1 .1 .1 .1 .1 .1 .1 .1 .1 .1 .1 .1 .1 .1 .0) T′ m′)) (λ u. Path._≡_ (u .1 .1 .1 .1 .1 .1 .1 .1 .1 .1 .1 .1 .1 .1 .1 .1 .1 .1 .1 .1 .1 .1 .0 .0) (Row.hd 0 (Row.tl (Row.tl (Row.tl (Row.tl (Row.tl bs)))))) × Path._≡_ (u .1 .1 .1 .1 .1 .1 .1 .1 .1 .1 .1 .1 .1 .1 .1 .1 .1 .1 .1 .1 .1 .1 .0 .1) (Shared.bySize 8 (u .1 .1 .1 .1 .1 .1 .1 .1 .0) (Nat._+_ Nat.zero 52)) × Asked.InArray T37 (λ u. u .1 .1 .1 .1 .1 .1 .1 .1 .0) 33 u) λ u. Unit
 
   abbrev s34 : (bs : L.List Nat.ℕ) → Typed.Mo T38 → Typed.Mo T39
   s34 = λ bs. Scalar.n-room T38 20 (Syntax.tyInt Syntax.w64)
@@ -960,10 +960,10 @@ module _ (claims· : Claims) where
   s38 = λ bs. Scalar.n-room T42 19 Syntax.tyBool
 
   abbrev s39 : (bs : L.List Nat.ℕ) → Typed.Both T43 T44
-  s39 = λ bs. Call.callB ps·3 r·3 (claims· .6) (claims· .7) T43 (record { pos = 2; ty = Syntax.tyRef (Syntax.named 0) Syntax.imm Rec.named; ref = λ x. x; }, (Num.vAt 8 λ x. x, (Num.vAt 7 λ x. x, tt))) 9 (L._∷_ 0 L.[]) (Syntax.tyStruct (L._∷_ 115 (L._∷_ 116 (L._∷_ 101 (L._∷_ 112 (L._∷_ 58 (L._∷_ 58 (L._∷_ 65 (L._∷_ 114 (L._∷_ 111 (L._∷_ 117 (L._∷_ 110 (L._∷_ 100 L.[])))))))))))) (Syntax.tcons q9 (Syntax.tcons q9 (Syntax.tcons q9 (Syntax.tcons q9 Syntax.tnil)))))
+  s39 = λ bs. Call.callB ps·3 r·3 (claims· .6) (claims· .7) T43 (record { pos = 2; ty = Syntax.tyRef (Syntax.named 0) Syntax.imm Rec.named; ref = λ x. x }, (Num.vAt 8 λ x. x, (Num.vAt 7 λ x. x, tt))) 9 (L._∷_ 0 L.[]) (Syntax.tyStruct (L._∷_ 115 (L._∷_ 116 (L._∷_ 101 (L._∷_ 112 (L._∷_ 58 (L._∷_ 58 (L._∷_ 65 (L._∷_ 114 (L._∷_ 111 (L._∷_ 117 (L._∷_ 110 (L._∷_ 100 L.[])))))))))))) (Syntax.tcons q9 (Syntax.tcons q9 (Syntax.tcons q9 (Syntax.tcons q9 Syntax.tnil)))))
 
   abbrev s40 : (bs : L.List Nat.ℕ) → Typed.Both T44 T45
-  s40 = λ bs. WayStmt.k-way-copy-out T44 (Row.out 5 (T44 .locals)) (λ u. Row.drop 5 (T44 .locals) u) 24 (ARows.arrF (Declared.row fraction-proofs-Fraction·.the-type) 33 0) (λ u. At.getAt (network-proofs-Nodes·.the-type .parts) 3 (network-proofs-Nodes·.struct .as-values (u .1 .1 .1 .1 .1 .0))) (λ T′. record { locals = Row.setRow 5 q21 T′; slots = L.[]; }) (λ u T′ m′. Row.set 5 q21 (u .1 .1 .1 .1 .1 .0) T′ m′) (λ u. Unit) λ u. Unit
+  s40 = λ bs. WayStmt.k-way-copy-out T44 (Row.out 5 (T44 .locals)) (λ u. Row.drop 5 (T44 .locals) u) 24 (ARows.arrF (Declared.row fraction-proofs-Fraction·.the-type) 33 0) (λ u. At.getAt (network-proofs-Nodes·.the-type .parts) 3 (network-proofs-Nodes·.struct .as-values (u .1 .1 .1 .1 .1 .0))) (λ T′. record { locals = Row.setRow 5 q21 T′; slots = L.[] }) (λ u T′ m′. Row.set 5 q21 (u .1 .1 .1 .1 .1 .0) T′ m′) (λ u. Unit) λ u. Unit
 
   abbrev s41 : (bs : L.List Nat.ℕ) → Typed.Both T45 T46
   s41 = λ bs. Call.callB ps·4 r·4 (claims· .8) (claims· .9) T45 (record { pos = 24; st = L.[]; d = 0; at = λ x. x }, (Num.vAt 4 λ x. x, (Num.vAt 8 λ x. x, (Num.vAt 7 λ x. x, (record { pos = 9; st = L.[]; d = 0; at = λ x. x }, tt))))) 10 L.[] (Syntax.tyStruct (L._∷_ 114 (L._∷_ 117 (L._∷_ 108 (L._∷_ 101 (L._∷_ 115 (L._∷_ 58 (L._∷_ 58 (L._∷_ 102 (L._∷_ 111 (L._∷_ 117 (L._∷_ 110 (L._∷_ 100 (L._∷_ 58 (L._∷_ 58 (L._∷_ 70 (L._∷_ 111 (L._∷_ 117 (L._∷_ 110 (L._∷_ 100 L.[]))))))))))))))))))) (Syntax.tcons Syntax.tyBool (Syntax.tcons Syntax.tyBool (Syntax.tcons (Syntax.tyStruct (L._∷_ 115 (L._∷_ 116 (L._∷_ 101 (L._∷_ 112 (L._∷_ 58 (L._∷_ 58 (L._∷_ 83 (L._∷_ 116 (L._∷_ 101 (L._∷_ 112 L.[])))))))))) (Syntax.tcons (Syntax.tyInt Syntax.w64) (Syntax.tcons (Syntax.tyInt Syntax.w64) (Syntax.tcons (Syntax.tyStruct (L._∷_ 115 (L._∷_ 116 (L._∷_ 101 (L._∷_ 112 (L._∷_ 58 (L._∷_ 58 (L._∷_ 67 (L._∷_ 104 (L._∷_ 97 (L._∷_ 110 (L._∷_ 103 (L._∷_ 101 L.[])))))))))))) (Syntax.tcons (Syntax.tyStruct (L._∷_ 110 (L._∷_ 101 (L._∷_ 116 (L._∷_ 119 (L._∷_ 111 (L._∷_ 114 (L._∷_ 107 (L._∷_ 58 (L._∷_ 58 (L._∷_ 69 (L._∷_ 100 (L._∷_ 105 (L._∷_ 116 L.[]))))))))))))) (Syntax.tcons q9 (Syntax.tcons q9 (Syntax.tcons q9 (Syntax.tcons q9 (Syntax.tcons q3 (Syntax.tcons q3 (Syntax.tcons (Syntax.tyInt Syntax.w64) Syntax.tnil)))))))) (Syntax.tcons (Syntax.tyStruct (L._∷_ 115 (L._∷_ 116 (L._∷_ 101 (L._∷_ 112 (L._∷_ 58 (L._∷_ 58 (L._∷_ 79 (L._∷_ 108 (L._∷_ 100 L.[]))))))))) (Syntax.tcons (Syntax.tyInt Syntax.w64) (Syntax.tcons q8 (Syntax.tcons q9 (Syntax.tcons q9 (Syntax.tcons q9 (Syntax.tcons q9 (Syntax.tcons q5 Syntax.tnil)))))))) Syntax.tnil))) Syntax.tnil)))) Syntax.tnil))))
@@ -1280,205 +1280,205 @@ module _ (claims· : Claims) where
 
       module _ (κs : Lifetimes.Lfts 1) (qs : Lifetimes.Shares 1) where
         abbrev G0 : Row.Cx
-        G0 = record { locals = L._++_ t0 t1; slots = L._∷_ (Row.lease (κs .0) (qs .0)) L.[]; }
+        G0 = record { locals = L._++_ t0 t1; slots = L._∷_ (Row.lease (κs .0) (qs .0)) L.[] }
 
         abbrev G1 : Row.Cx
-        G1 = record { locals = L._++_ t2 t1; slots = L._∷_ (Row.lease (κs .0) (qs .0)) L.[]; }
+        G1 = record { locals = L._++_ t2 t1; slots = L._∷_ (Row.lease (κs .0) (qs .0)) L.[] }
 
         abbrev G2 : Row.Cx
-        G2 = record { locals = L._++_ t3 t1; slots = L._∷_ (Row.lease (κs .0) (qs .0)) L.[]; }
+        G2 = record { locals = L._++_ t3 t1; slots = L._∷_ (Row.lease (κs .0) (qs .0)) L.[] }
 
         abbrev G3 : Row.Cx
-        G3 = record { locals = L._++_ t4 t1; slots = L._∷_ (Row.lease (κs .0) (qs .0)) L.[]; }
+        G3 = record { locals = L._++_ t4 t1; slots = L._∷_ (Row.lease (κs .0) (qs .0)) L.[] }
 
         abbrev G4 : Row.Cx
-        G4 = record { locals = L._++_ t5 t1; slots = L._∷_ (Row.lease (κs .0) (qs .0)) L.[]; }
+        G4 = record { locals = L._++_ t5 t1; slots = L._∷_ (Row.lease (κs .0) (qs .0)) L.[] }
 
         abbrev G5 : Row.Cx
-        G5 = record { locals = L._++_ t6 t1; slots = L._∷_ (Row.lease (κs .0) (qs .0)) L.[]; }
+        G5 = record { locals = L._++_ t6 t1; slots = L._∷_ (Row.lease (κs .0) (qs .0)) L.[] }
 
         abbrev G6 : Row.Cx
-        G6 = record { locals = L._++_ t7 t1; slots = L._∷_ (Row.lease (κs .0) (qs .0)) L.[]; }
+        G6 = record { locals = L._++_ t7 t1; slots = L._∷_ (Row.lease (κs .0) (qs .0)) L.[] }
 
         abbrev G7 : Row.Cx
-        G7 = record { locals = L._++_ t8 t1; slots = L._∷_ (Row.lease (κs .0) (qs .0)) L.[]; }
+        G7 = record { locals = L._++_ t8 t1; slots = L._∷_ (Row.lease (κs .0) (qs .0)) L.[] }
 
         abbrev G8 : Row.Cx
-        G8 = record { locals = L._++_ t9 t1; slots = L._∷_ (Row.lease (κs .0) (qs .0)) L.[]; }
+        G8 = record { locals = L._++_ t9 t1; slots = L._∷_ (Row.lease (κs .0) (qs .0)) L.[] }
 
         abbrev G9 : Row.Cx
-        G9 = record { locals = L._++_ t10 t1; slots = L._∷_ (Row.lease (κs .0) (qs .0)) L.[]; }
+        G9 = record { locals = L._++_ t10 t1; slots = L._∷_ (Row.lease (κs .0) (qs .0)) L.[] }
 
         abbrev G10 : Row.Cx
-        G10 = record { locals = L._++_ t11 t1; slots = L._∷_ (Row.lease (κs .0) (qs .0)) L.[]; }
+        G10 = record { locals = L._++_ t11 t1; slots = L._∷_ (Row.lease (κs .0) (qs .0)) L.[] }
 
         abbrev G11 : Row.Cx
-        G11 = record { locals = L._++_ t8 t1; slots = L._∷_ (Row.lease (κs .0) (qs .0)) L.[]; }
+        G11 = record { locals = L._++_ t8 t1; slots = L._∷_ (Row.lease (κs .0) (qs .0)) L.[] }
 
         abbrev G12 : Row.Cx
-        G12 = record { locals = L._++_ t12 t1; slots = L._∷_ (Row.lease (κs .0) (qs .0)) L.[]; }
+        G12 = record { locals = L._++_ t12 t1; slots = L._∷_ (Row.lease (κs .0) (qs .0)) L.[] }
 
         abbrev G13 : Row.Cx
-        G13 = record { locals = L._++_ t8 t1; slots = L._∷_ (Row.lease (κs .0) (qs .0)) L.[]; }
+        G13 = record { locals = L._++_ t8 t1; slots = L._∷_ (Row.lease (κs .0) (qs .0)) L.[] }
 
         abbrev G14 : Row.Cx
-        G14 = record { locals = L._++_ t13 t1; slots = L._∷_ (Row.lease (κs .0) (qs .0)) L.[]; }
+        G14 = record { locals = L._++_ t13 t1; slots = L._∷_ (Row.lease (κs .0) (qs .0)) L.[] }
 
         abbrev G15 : Row.Cx
-        G15 = record { locals = L._++_ t14 t1; slots = L._∷_ (Row.lease (κs .0) (qs .0)) L.[]; }
+        G15 = record { locals = L._++_ t14 t1; slots = L._∷_ (Row.lease (κs .0) (qs .0)) L.[] }
 
         abbrev G16 : Row.Cx
-        G16 = record { locals = L._++_ t9 t1; slots = L._∷_ (Row.lease (κs .0) (qs .0)) L.[]; }
+        G16 = record { locals = L._++_ t9 t1; slots = L._∷_ (Row.lease (κs .0) (qs .0)) L.[] }
 
         abbrev G17 : Row.Cx
-        G17 = record { locals = L._++_ t15 t1; slots = L._∷_ (Row.lease (κs .0) (qs .0)) L.[]; }
+        G17 = record { locals = L._++_ t15 t1; slots = L._∷_ (Row.lease (κs .0) (qs .0)) L.[] }
 
         abbrev G18 : Row.Cx
-        G18 = record { locals = L._++_ t16 t1; slots = L._∷_ (Row.lease (κs .0) (qs .0)) L.[]; }
+        G18 = record { locals = L._++_ t16 t1; slots = L._∷_ (Row.lease (κs .0) (qs .0)) L.[] }
 
         abbrev G19 : Row.Cx
-        G19 = record { locals = L._++_ t17 t1; slots = L._∷_ (Row.lease (κs .0) (qs .0)) L.[]; }
+        G19 = record { locals = L._++_ t17 t1; slots = L._∷_ (Row.lease (κs .0) (qs .0)) L.[] }
 
         abbrev G20 : Row.Cx
-        G20 = record { locals = L._++_ t18 t1; slots = L._∷_ (Row.lease (κs .0) (qs .0)) L.[]; }
+        G20 = record { locals = L._++_ t18 t1; slots = L._∷_ (Row.lease (κs .0) (qs .0)) L.[] }
 
         abbrev G21 : Row.Cx
-        G21 = record { locals = L._++_ t12 t1; slots = L._∷_ (Row.lease (κs .0) (qs .0)) L.[]; }
+        G21 = record { locals = L._++_ t12 t1; slots = L._∷_ (Row.lease (κs .0) (qs .0)) L.[] }
 
         abbrev G22 : Row.Cx
-        G22 = record { locals = L._++_ t11 t1; slots = L._∷_ (Row.lease (κs .0) (qs .0)) L.[]; }
+        G22 = record { locals = L._++_ t11 t1; slots = L._∷_ (Row.lease (κs .0) (qs .0)) L.[] }
 
         abbrev G23 : Row.Cx
-        G23 = record { locals = L._++_ t11 t19; slots = L._∷_ (Row.lease (κs .0) (qs .0)) L.[]; }
+        G23 = record { locals = L._++_ t11 t19; slots = L._∷_ (Row.lease (κs .0) (qs .0)) L.[] }
 
         abbrev G24 : Row.Cx
-        G24 = record { locals = L._++_ t11 t20; slots = L._∷_ (Row.lease (κs .0) (qs .0)) L.[]; }
+        G24 = record { locals = L._++_ t11 t20; slots = L._∷_ (Row.lease (κs .0) (qs .0)) L.[] }
 
         abbrev G25 : Row.Cx
-        G25 = record { locals = L._++_ t11 t21; slots = L._∷_ (Row.lease (κs .0) (qs .0)) L.[]; }
+        G25 = record { locals = L._++_ t11 t21; slots = L._∷_ (Row.lease (κs .0) (qs .0)) L.[] }
 
         abbrev G26 : Row.Cx
-        G26 = record { locals = L._++_ t11 t22; slots = L._∷_ (Row.lease (κs .0) (qs .0)) L.[]; }
+        G26 = record { locals = L._++_ t11 t22; slots = L._∷_ (Row.lease (κs .0) (qs .0)) L.[] }
 
         abbrev G27 : Row.Cx
-        G27 = record { locals = L._++_ t12 t22; slots = L._∷_ (Row.lease (κs .0) (qs .0)) L.[]; }
+        G27 = record { locals = L._++_ t12 t22; slots = L._∷_ (Row.lease (κs .0) (qs .0)) L.[] }
 
         abbrev G28 : Row.Cx
-        G28 = record { locals = L._++_ t12 t23; slots = L._∷_ (Row.lease (κs .0) (qs .0)) L.[]; }
+        G28 = record { locals = L._++_ t12 t23; slots = L._∷_ (Row.lease (κs .0) (qs .0)) L.[] }
 
         abbrev G29 : Row.Cx
-        G29 = record { locals = L._++_ t24 t23; slots = L._∷_ (Row.lease (κs .0) (qs .0)) L.[]; }
+        G29 = record { locals = L._++_ t24 t23; slots = L._∷_ (Row.lease (κs .0) (qs .0)) L.[] }
 
         abbrev G30 : Row.Cx
-        G30 = record { locals = L._++_ t8 t1; slots = L._∷_ (Row.lease (κs .0) (qs .0)) L.[]; }
+        G30 = record { locals = L._++_ t8 t1; slots = L._∷_ (Row.lease (κs .0) (qs .0)) L.[] }
 
         abbrev G31 : Row.Cx
-        G31 = record { locals = L._++_ t25 t23; slots = L._∷_ (Row.lease (κs .0) (qs .0)) L.[]; }
+        G31 = record { locals = L._++_ t25 t23; slots = L._∷_ (Row.lease (κs .0) (qs .0)) L.[] }
 
         abbrev G32 : Row.Cx
-        G32 = record { locals = L._++_ t25 t1; slots = L._∷_ (Row.lease (κs .0) (qs .0)) L.[]; }
+        G32 = record { locals = L._++_ t25 t1; slots = L._∷_ (Row.lease (κs .0) (qs .0)) L.[] }
 
         abbrev G33 : Row.Cx
-        G33 = record { locals = L._++_ t8 t1; slots = L._∷_ (Row.lease (κs .0) (qs .0)) L.[]; }
+        G33 = record { locals = L._++_ t8 t1; slots = L._∷_ (Row.lease (κs .0) (qs .0)) L.[] }
 
         abbrev G34 : Row.Cx
-        G34 = record { locals = L._++_ t8 t26; slots = L._∷_ (Row.lease (κs .0) (qs .0)) L.[]; }
+        G34 = record { locals = L._++_ t8 t26; slots = L._∷_ (Row.lease (κs .0) (qs .0)) L.[] }
 
         abbrev G35 : Row.Cx
-        G35 = record { locals = L._++_ t8 t27; slots = L._∷_ (Row.lease (κs .0) (qs .0)) L.[]; }
+        G35 = record { locals = L._++_ t8 t27; slots = L._∷_ (Row.lease (κs .0) (qs .0)) L.[] }
 
         abbrev G36 : Row.Cx
-        G36 = record { locals = L._++_ t8 t28; slots = L._∷_ (Row.lease (κs .0) (qs .0)) L.[]; }
+        G36 = record { locals = L._++_ t8 t28; slots = L._∷_ (Row.lease (κs .0) (qs .0)) L.[] }
 
         abbrev G37 : Row.Cx
-        G37 = record { locals = L._++_ t8 t29; slots = L._∷_ (Row.lease (κs .0) (qs .0)) L.[]; }
+        G37 = record { locals = L._++_ t8 t29; slots = L._∷_ (Row.lease (κs .0) (qs .0)) L.[] }
 
         abbrev G38 : Row.Cx
-        G38 = record { locals = L._++_ t8 t30; slots = L._∷_ (Row.lease (κs .0) (qs .0)) L.[]; }
+        G38 = record { locals = L._++_ t8 t30; slots = L._∷_ (Row.lease (κs .0) (qs .0)) L.[] }
 
         abbrev G39 : Row.Cx
-        G39 = record { locals = L._++_ t8 t31; slots = L._∷_ (Row.lease (κs .0) (qs .0)) L.[]; }
+        G39 = record { locals = L._++_ t8 t31; slots = L._∷_ (Row.lease (κs .0) (qs .0)) L.[] }
 
         abbrev G40 : Row.Cx
-        G40 = record { locals = L._++_ t8 t32; slots = L._∷_ (Row.lease (κs .0) (qs .0)) L.[]; }
+        G40 = record { locals = L._++_ t8 t32; slots = L._∷_ (Row.lease (κs .0) (qs .0)) L.[] }
 
         abbrev G41 : Row.Cx
-        G41 = record { locals = L._++_ t8 t33; slots = L._∷_ (Row.lease (κs .0) (qs .0)) L.[]; }
+        G41 = record { locals = L._++_ t8 t33; slots = L._∷_ (Row.lease (κs .0) (qs .0)) L.[] }
 
         abbrev G42 : Row.Cx
-        G42 = record { locals = L._++_ t8 t34; slots = L._∷_ (Row.lease (κs .0) (qs .0)) L.[]; }
+        G42 = record { locals = L._++_ t8 t34; slots = L._∷_ (Row.lease (κs .0) (qs .0)) L.[] }
 
         abbrev G43 : Row.Cx
-        G43 = record { locals = L._++_ t8 t1; slots = L._∷_ (Row.lease (κs .0) (qs .0)) L.[]; }
+        G43 = record { locals = L._++_ t8 t1; slots = L._∷_ (Row.lease (κs .0) (qs .0)) L.[] }
 
         abbrev G44 : Row.Cx
-        G44 = record { locals = L._++_ t35 t1; slots = L._∷_ (Row.lease (κs .0) (qs .0)) L.[]; }
+        G44 = record { locals = L._++_ t35 t1; slots = L._∷_ (Row.lease (κs .0) (qs .0)) L.[] }
 
         abbrev G45 : Row.Cx
-        G45 = record { locals = L._++_ t35 t36; slots = L._∷_ (Row.lease (κs .0) (qs .0)) L.[]; }
+        G45 = record { locals = L._++_ t35 t36; slots = L._∷_ (Row.lease (κs .0) (qs .0)) L.[] }
 
         abbrev G46 : Row.Cx
-        G46 = record { locals = L._++_ t37 t36; slots = L._∷_ (Row.lease (κs .0) (qs .0)) L.[]; }
+        G46 = record { locals = L._++_ t37 t36; slots = L._∷_ (Row.lease (κs .0) (qs .0)) L.[] }
 
         abbrev G47 : Row.Cx
-        G47 = record { locals = L._++_ t38 t36; slots = L._∷_ (Row.lease (κs .0) (qs .0)) L.[]; }
+        G47 = record { locals = L._++_ t38 t36; slots = L._∷_ (Row.lease (κs .0) (qs .0)) L.[] }
 
         abbrev G48 : Row.Cx
-        G48 = record { locals = L._++_ t38 t1; slots = L._∷_ (Row.lease (κs .0) (qs .0)) L.[]; }
+        G48 = record { locals = L._++_ t38 t1; slots = L._∷_ (Row.lease (κs .0) (qs .0)) L.[] }
 
         abbrev G49 : Row.Cx
-        G49 = record { locals = L._++_ t38 t39; slots = L._∷_ (Row.lease (κs .0) (qs .0)) L.[]; }
+        G49 = record { locals = L._++_ t38 t39; slots = L._∷_ (Row.lease (κs .0) (qs .0)) L.[] }
 
         abbrev G50 : Row.Cx
-        G50 = record { locals = L._++_ t40 t39; slots = L._∷_ (Row.lease (κs .0) (qs .0)) L.[]; }
+        G50 = record { locals = L._++_ t40 t39; slots = L._∷_ (Row.lease (κs .0) (qs .0)) L.[] }
 
         abbrev G51 : Row.Cx
-        G51 = record { locals = L._++_ t41 t39; slots = L._∷_ (Row.lease (κs .0) (qs .0)) L.[]; }
+        G51 = record { locals = L._++_ t41 t39; slots = L._∷_ (Row.lease (κs .0) (qs .0)) L.[] }
 
         abbrev G52 : Row.Cx
-        G52 = record { locals = L._++_ t41 t1; slots = L._∷_ (Row.lease (κs .0) (qs .0)) L.[]; }
+        G52 = record { locals = L._++_ t41 t1; slots = L._∷_ (Row.lease (κs .0) (qs .0)) L.[] }
 
         abbrev G53 : Row.Cx
-        G53 = record { locals = L._++_ t42 t1; slots = L._∷_ (Row.lease (κs .0) (qs .0)) L.[]; }
+        G53 = record { locals = L._++_ t42 t1; slots = L._∷_ (Row.lease (κs .0) (qs .0)) L.[] }
 
         abbrev G54 : Row.Cx
-        G54 = record { locals = L._++_ t43 t1; slots = L._∷_ (Row.lease (κs .0) (qs .0)) L.[]; }
+        G54 = record { locals = L._++_ t43 t1; slots = L._∷_ (Row.lease (κs .0) (qs .0)) L.[] }
 
         abbrev G55 : Row.Cx
-        G55 = record { locals = L._++_ t44 t1; slots = L._∷_ (Row.lease (κs .0) (qs .0)) L.[]; }
+        G55 = record { locals = L._++_ t44 t1; slots = L._∷_ (Row.lease (κs .0) (qs .0)) L.[] }
 
         abbrev G56 : Row.Cx
-        G56 = record { locals = L._++_ t45 t1; slots = L._∷_ (Row.lease (κs .0) (qs .0)) L.[]; }
+        G56 = record { locals = L._++_ t45 t1; slots = L._∷_ (Row.lease (κs .0) (qs .0)) L.[] }
 
         abbrev G57 : Row.Cx
-        G57 = record { locals = L._++_ t2 t1; slots = L._∷_ (Row.lease (κs .0) (qs .0)) L.[]; }
+        G57 = record { locals = L._++_ t2 t1; slots = L._∷_ (Row.lease (κs .0) (qs .0)) L.[] }
 
         abbrev G58 : Row.Cx
-        G58 = record { locals = L._++_ t8 t39; slots = L._∷_ (Row.lease (κs .0) (qs .0)) L.[]; }
+        G58 = record { locals = L._++_ t8 t39; slots = L._∷_ (Row.lease (κs .0) (qs .0)) L.[] }
 
         abbrev G59 : Row.Cx
-        G59 = record { locals = L._++_ t8 t1; slots = L._∷_ (Row.lease (κs .0) (qs .0)) L.[]; }
+        G59 = record { locals = L._++_ t8 t1; slots = L._∷_ (Row.lease (κs .0) (qs .0)) L.[] }
 
         abbrev G60 : Row.Cx
-        G60 = record { locals = L._++_ t8 t1; slots = L._∷_ (Row.lease (κs .0) (qs .0)) L.[]; }
+        G60 = record { locals = L._++_ t8 t1; slots = L._∷_ (Row.lease (κs .0) (qs .0)) L.[] }
 
         abbrev G61 : Row.Cx
-        G61 = record { locals = L._++_ t8 t1; slots = L._∷_ (Row.lease (κs .0) (qs .0)) L.[]; }
+        G61 = record { locals = L._++_ t8 t1; slots = L._∷_ (Row.lease (κs .0) (qs .0)) L.[] }
 
         abbrev G62 : Row.Cx
-        G62 = record { locals = L._++_ t8 t1; slots = L._∷_ (Row.lease (κs .0) (qs .0)) L.[]; }
+        G62 = record { locals = L._++_ t8 t1; slots = L._∷_ (Row.lease (κs .0) (qs .0)) L.[] }
 
         abbrev G63 : Row.Cx
-        G63 = record { locals = L._++_ t43 t1; slots = L._∷_ (Row.lease (κs .0) (qs .0)) L.[]; }
+        G63 = record { locals = L._++_ t43 t1; slots = L._∷_ (Row.lease (κs .0) (qs .0)) L.[] }
 
         abbrev G64 : Row.Cx
-        G64 = record { locals = L._++_ t46 t1; slots = L._∷_ (Row.lease (κs .0) (qs .0)) L.[]; }
+        G64 = record { locals = L._++_ t46 t1; slots = L._∷_ (Row.lease (κs .0) (qs .0)) L.[] }
 
         abbrev G65 : Row.Cx
-        G65 = record { locals = L._++_ t47 t1; slots = L._∷_ (Row.lease (κs .0) (qs .0)) L.[]; }
+        G65 = record { locals = L._++_ t47 t1; slots = L._∷_ (Row.lease (κs .0) (qs .0)) L.[] }
 
         abbrev G66 : Row.Cx
-        G66 = record { locals = L._++_ t2 t1; slots = L._∷_ (Row.lease (κs .0) (qs .0)) L.[]; }
+        G66 = record { locals = L._++_ t2 t1; slots = L._∷_ (Row.lease (κs .0) (qs .0)) L.[] }
 
         abbrev Δ0 : Typed.Outs
         Δ0 = record { next = Option.none; exits = L.[]; returns = Option.some G1 }
@@ -1578,10 +1578,10 @@ module _ (claims· : Claims) where
           d24 = Typed.s-seq 𝓤 H A W 𝓣 E G45 G46 b24 b31 Δ5 (Typed.both (s41 bs)) (at23 bs) (Plain.t-call-plain 𝓤 H A W 𝓣 0 ps·4 r·4 (claims· .8) (claims· .9) "rules::tried::at_node" (known .4) E (λ pos β. β) G45 (record { pos = 24; st = L.[]; d = 0; at = λ x. x }, (Num.vAt 4 λ x. x, (Num.vAt 8 λ x. x, (Num.vAt 7 λ x. x, (record { pos = 9; st = L.[]; d = 0; at = λ x. x }, tt))))) 10 L.[] (Call.sub-id 𝓤 H A W (G45 .slots)) ((KArray.arr-yields 𝓤 H A W (KArray.eStruct fraction-proofs-Fraction·.the-type fraction-proofs-Fraction-Laws·.the-laws fraction-proofs-Fraction-Laws·.the-copy) (KArray.eStruct-laws fraction-proofs-Fraction·.the-type fraction-proofs-Fraction-Laws·.the-laws fraction-proofs-Fraction-Laws·.the-copy fraction-proofs-Fraction-Laws·.the-plain) 33, Path.refl), ((Scalar.reads-sc 𝓤 H A W (Row.sInt Syntax.w64), Path.refl), ((Scalar.reads-sc 𝓤 H A W (Row.sInt Syntax.w64), Path.refl), ((Scalar.reads-sc 𝓤 H A W (Row.sInt Syntax.w64), Path.refl), ((Yields.yields-copy 𝓤 H A W (λ ρ. Unit) (Declared.row step-proofs-Around·.the-type) Path.refl (Copies.cStruct step-proofs-Around·.the-type step-proofs-Around-Laws·.the-laws step-proofs-Around-Laws·.the-copy .copy 𝓤 H A W) (Rows.whole (Declared.row step-proofs-Around·.the-type)) (λ x. x) (λ x. x) (λ ρ told. Local.mem-whole 𝓤 H A W (Declared.row step-proofs-Around·.the-type) ρ) λ ρ told. Local.whole-mem 𝓤 H A W (Declared.row step-proofs-Around·.the-type) ρ, Path.refl), tt))))) (TReads.room-gone 𝓤 H A (Syntax.tyStruct (L._∷_ 114 (L._∷_ 117 (L._∷_ 108 (L._∷_ 101 (L._∷_ 115 (L._∷_ 58 (L._∷_ 58 (L._∷_ 102 (L._∷_ 111 (L._∷_ 117 (L._∷_ 110 (L._∷_ 100 (L._∷_ 58 (L._∷_ 58 (L._∷_ 70 (L._∷_ 111 (L._∷_ 117 (L._∷_ 110 (L._∷_ 100 L.[]))))))))))))))))))) (Syntax.tcons Syntax.tyBool (Syntax.tcons Syntax.tyBool (Syntax.tcons (Syntax.tyStruct (L._∷_ 115 (L._∷_ 116 (L._∷_ 101 (L._∷_ 112 (L._∷_ 58 (L._∷_ 58 (L._∷_ 83 (L._∷_ 116 (L._∷_ 101 (L._∷_ 112 L.[])))))))))) (Syntax.tcons (Syntax.tyInt Syntax.w64) (Syntax.tcons (Syntax.tyInt Syntax.w64) (Syntax.tcons (Syntax.tyStruct (L._∷_ 115 (L._∷_ 116 (L._∷_ 101 (L._∷_ 112 (L._∷_ 58 (L._∷_ 58 (L._∷_ 67 (L._∷_ 104 (L._∷_ 97 (L._∷_ 110 (L._∷_ 103 (L._∷_ 101 L.[])))))))))))) (Syntax.tcons (Syntax.tyStruct (L._∷_ 110 (L._∷_ 101 (L._∷_ 116 (L._∷_ 119 (L._∷_ 111 (L._∷_ 114 (L._∷_ 107 (L._∷_ 58 (L._∷_ 58 (L._∷_ 69 (L._∷_ 100 (L._∷_ 105 (L._∷_ 116 L.[]))))))))))))) (Syntax.tcons q9 (Syntax.tcons q9 (Syntax.tcons q9 (Syntax.tcons q9 (Syntax.tcons q3 (Syntax.tcons q3 (Syntax.tcons (Syntax.tyInt Syntax.w64) Syntax.tnil)))))))) (Syntax.tcons (Syntax.tyStruct (L._∷_ 115 (L._∷_ 116 (L._∷_ 101 (L._∷_ 112 (L._∷_ 58 (L._∷_ 58 (L._∷_ 79 (L._∷_ 108 (L._∷_ 100 L.[]))))))))) (Syntax.tcons (Syntax.tyInt Syntax.w64) (Syntax.tcons q8 (Syntax.tcons q9 (Syntax.tcons q9 (Syntax.tcons q9 (Syntax.tcons q9 (Syntax.tcons q5 Syntax.tnil)))))))) Syntax.tnil))) Syntax.tnil)))) Syntax.tnil))))) tt Path.refl) d23
 
           d25 : Typed.Typed 𝓤 H A 𝓣 E G44 b33 Δ5 (at25 bs)
-          d25 = Typed.s-seq 𝓤 H A W 𝓣 E G44 G45 b23 b32 Δ5 (Typed.both (s40 bs)) (at24 bs) (WayStmt.t-way-copy-out 𝓤 H A W E 𝓣 (DArray.Array (Declared.row fraction-proofs-Fraction·.the-type) 33) Path.refl (Copies.cArr (Declared.row fraction-proofs-Fraction·.the-type) (Copies.cStruct fraction-proofs-Fraction·.the-type fraction-proofs-Fraction-Laws·.the-laws fraction-proofs-Fraction-Laws·.the-copy) 33 .copy 𝓤 H A W) (λ ρ. Unit) G44 (Row.out 5 (G44 .locals)) (λ u. Row.drop 5 (G44 .locals) u) (G44 .slots) 5 (λ t. L._∷_ (Syntax.field 3) t) q6 q6 24 (ARows.arrF (Declared.row fraction-proofs-Fraction·.the-type) 33 0) (λ x. x) (λ u. At.getAt (network-proofs-Nodes·.the-type .parts) 3 (network-proofs-Nodes·.struct .as-values (u .1 .1 .1 .1 .1 .0))) (λ u. (Row.hd 0 (Row.tl (Row.tl (Row.tl (Row.tl (Row.tl bs))))), Nat._+_ 0 52)) (λ T′. record { locals = Row.setRow 5 q21 T′; slots = G44 .slots; }) (λ u T′ m′. Row.set 5 q21 (u .1 .1 .1 .1 .1 .0) T′ m′) (λ u. Unit) (λ x. Unit) (Own.told-none 𝓤 H A (G44 .slots)) (DerefMove.learns-nothing 𝓤 H A (DArray.Array (Declared.row fraction-proofs-Fraction·.the-type) 33)) (λ ρ told u asked. StructWay.w-partˢ 𝓤 H A W E (Declared.row network-proofs-Nodes·.the-type) (DArray.Array (Declared.row fraction-proofs-Fraction·.the-type) 33) q2 q6 3 52 (u .1 .1 .1 .1 .1 .0) (At.getAt (network-proofs-Nodes·.the-type .parts) 3 (network-proofs-Nodes·.struct .as-values (u .1 .1 .1 .1 .1 .0))) (Row.hd 0 (Row.tl (Row.tl (Row.tl (Row.tl (Row.tl bs))))), 0) (RuleWay.w-look 𝓤 H A W E (RuleWay.w-local 𝓤 H A W E G44 ρ u (G44 .slots) 5 (Declared.row network-proofs-Nodes·.the-type) q23 (λ x. x) (λ x. x) (u .1 .1 .1 .1 .1 .0) (Local.mem-whole 𝓤 H A W (Declared.row network-proofs-Nodes·.the-type) ρ (u .1 .1 .1 .1 .1 .0) (Row.hd 0 (Row.tl (Row.tl (Row.tl (Row.tl (Row.tl bs))))))) (Local.whole-mem 𝓤 H A W (Declared.row network-proofs-Nodes·.the-type) ρ (u .1 .1 .1 .1 .1 .0) (Row.hd 0 (Row.tl (Row.tl (Row.tl (Row.tl (Row.tl bs))))))))) Path.refl λ q. Items.cut-records 𝓤 H A q (Declared.row network-proofs-Nodes·.the-type) fraction-proofs-Fraction·.the-type 33 52 (u .1 .1 .1 .1 .1 .0) (u .1 .1 .1 .1 .1 .0) (At.getAt (network-proofs-Nodes·.the-type .parts) 3 (network-proofs-Nodes·.struct .as-values (u .1 .1 .1 .1 .1 .0))) (At.getAt (network-proofs-Nodes·.the-type .parts) 3 (network-proofs-Nodes·.struct .as-values (u .1 .1 .1 .1 .1 .0))) (Row.hd 0 (Row.tl (Row.tl (Row.tl (Row.tl (Row.tl bs))))), 0) (Behind.look-at 𝓤 H A W q network-proofs-Nodes·.the-type network-proofs-Nodes-Laws·.the-laws 3 52 Path.refl Path.refl (Row.hd 0 (Row.tl (Row.tl (Row.tl (Row.tl (Row.tl bs))))), 0) (u .1 .1 .1 .1 .1 .0) (network-proofs-Nodes·.struct .as-values (u .1 .1 .1 .1 .1 .0)) Path.refl)) (TReads.room-gone 𝓤 H A q6) (Yields.makes-mem 𝓤 H A W (λ ρ. Unit) (DArray.Array (Declared.row fraction-proofs-Fraction·.the-type) 33) Path.refl (ARows.arrF (Declared.row fraction-proofs-Fraction·.the-type) 33 0) (λ x. x) λ ρ told. Whole.arr-mem 𝓤 H A W (Declared.row fraction-proofs-Fraction·.the-type) 33 tt ρ) Path.refl Path.refl Path.refl) d24
+          d25 = Typed.s-seq 𝓤 H A W 𝓣 E G44 G45 b23 b32 Δ5 (Typed.both (s40 bs)) (at24 bs) (WayStmt.t-way-copy-out 𝓤 H A W E 𝓣 (DArray.Array (Declared.row fraction-proofs-Fraction·.the-type) 33) Path.refl (Copies.cArr (Declared.row fraction-proofs-Fraction·.the-type) (Copies.cStruct fraction-proofs-Fraction·.the-type fraction-proofs-Fraction-Laws·.the-laws fraction-proofs-Fraction-Laws·.the-copy) 33 .copy 𝓤 H A W) (λ ρ. Unit) G44 (Row.out 5 (G44 .locals)) (λ u. Row.drop 5 (G44 .locals) u) (G44 .slots) 5 (λ t. L._∷_ (Syntax.field 3) t) q6 q6 24 (ARows.arrF (Declared.row fraction-proofs-Fraction·.the-type) 33 0) (λ x. x) (λ u. At.getAt (network-proofs-Nodes·.the-type .parts) 3 (network-proofs-Nodes·.struct .as-values (u .1 .1 .1 .1 .1 .0))) (λ u. (Row.hd 0 (Row.tl (Row.tl (Row.tl (Row.tl (Row.tl bs))))), Nat._+_ 0 52)) (λ T′. record { locals = Row.setRow 5 q21 T′; slots = G44 .slots }) (λ u T′ m′. Row.set 5 q21 (u .1 .1 .1 .1 .1 .0) T′ m′) (λ u. Unit) (λ x. Unit) (Own.told-none 𝓤 H A (G44 .slots)) (DerefMove.learns-nothing 𝓤 H A (DArray.Array (Declared.row fraction-proofs-Fraction·.the-type) 33)) (λ ρ told u asked. StructWay.w-partˢ 𝓤 H A W E (Declared.row network-proofs-Nodes·.the-type) (DArray.Array (Declared.row fraction-proofs-Fraction·.the-type) 33) q2 q6 3 52 (u .1 .1 .1 .1 .1 .0) (At.getAt (network-proofs-Nodes·.the-type .parts) 3 (network-proofs-Nodes·.struct .as-values (u .1 .1 .1 .1 .1 .0))) (Row.hd 0 (Row.tl (Row.tl (Row.tl (Row.tl (Row.tl bs))))), 0) (RuleWay.w-look 𝓤 H A W E (RuleWay.w-local 𝓤 H A W E G44 ρ u (G44 .slots) 5 (Declared.row network-proofs-Nodes·.the-type) q23 (λ x. x) (λ x. x) (u .1 .1 .1 .1 .1 .0) (Local.mem-whole 𝓤 H A W (Declared.row network-proofs-Nodes·.the-type) ρ (u .1 .1 .1 .1 .1 .0) (Row.hd 0 (Row.tl (Row.tl (Row.tl (Row.tl (Row.tl bs))))))) (Local.whole-mem 𝓤 H A W (Declared.row network-proofs-Nodes·.the-type) ρ (u .1 .1 .1 .1 .1 .0) (Row.hd 0 (Row.tl (Row.tl (Row.tl (Row.tl (Row.tl bs))))))))) Path.refl λ q. Items.cut-records 𝓤 H A q (Declared.row network-proofs-Nodes·.the-type) fraction-proofs-Fraction·.the-type 33 52 (u .1 .1 .1 .1 .1 .0) (u .1 .1 .1 .1 .1 .0) (At.getAt (network-proofs-Nodes·.the-type .parts) 3 (network-proofs-Nodes·.struct .as-values (u .1 .1 .1 .1 .1 .0))) (At.getAt (network-proofs-Nodes·.the-type .parts) 3 (network-proofs-Nodes·.struct .as-values (u .1 .1 .1 .1 .1 .0))) (Row.hd 0 (Row.tl (Row.tl (Row.tl (Row.tl (Row.tl bs))))), 0) (Behind.look-at 𝓤 H A W q network-proofs-Nodes·.the-type network-proofs-Nodes-Laws·.the-laws 3 52 Path.refl Path.refl (Row.hd 0 (Row.tl (Row.tl (Row.tl (Row.tl (Row.tl bs))))), 0) (u .1 .1 .1 .1 .1 .0) (network-proofs-Nodes·.struct .as-values (u .1 .1 .1 .1 .1 .0)) Path.refl)) (TReads.room-gone 𝓤 H A q6) (Yields.makes-mem 𝓤 H A W (λ ρ. Unit) (DArray.Array (Declared.row fraction-proofs-Fraction·.the-type) 33) Path.refl (ARows.arrF (Declared.row fraction-proofs-Fraction·.the-type) 33 0) (λ x. x) λ ρ told. Whole.arr-mem 𝓤 H A W (Declared.row fraction-proofs-Fraction·.the-type) 33 tt ρ) Path.refl Path.refl Path.refl) d24
 
           d26 : Typed.Typed 𝓤 H A 𝓣 E G43 b34 Δ5 (at26 bs)
-          d26 = Typed.s-seq 𝓤 H A W 𝓣 E G43 G44 b22 b33 Δ5 (Typed.both (s39 bs)) (at25 bs) (Plain.t-call-plain 𝓤 H A W 𝓣 1 ps·3 r·3 (claims· .6) (claims· .7) "search::scan::gather" (known .3) E (λ pos β. β) G43 (record { pos = 2; ty = Syntax.tyRef (Syntax.named 0) Syntax.imm Rec.named; ref = λ x. x; }, (Num.vAt 8 λ x. x, (Num.vAt 7 λ x. x, tt))) 9 (L._∷_ 0 L.[]) (Call.sub-id 𝓤 H A W (G43 .slots)) (ShrSlice.spares-sslice 𝓤 H A W Rec.row q24 0, Shared.reads-sslice 𝓤 H A W Rec.row q24 0, Path.refl, ((Scalar.reads-sc 𝓤 H A W (Row.sInt Syntax.w64), Path.refl), ((Scalar.reads-sc 𝓤 H A W (Row.sInt Syntax.w64), Path.refl), tt))) (TReads.room-gone 𝓤 H A (Syntax.tyStruct (L._∷_ 115 (L._∷_ 116 (L._∷_ 101 (L._∷_ 112 (L._∷_ 58 (L._∷_ 58 (L._∷_ 65 (L._∷_ 114 (L._∷_ 111 (L._∷_ 117 (L._∷_ 110 (L._∷_ 100 L.[])))))))))))) (Syntax.tcons q9 (Syntax.tcons q9 (Syntax.tcons q9 (Syntax.tcons q9 Syntax.tnil)))))) (tt, tt) Path.refl) d25
+          d26 = Typed.s-seq 𝓤 H A W 𝓣 E G43 G44 b22 b33 Δ5 (Typed.both (s39 bs)) (at25 bs) (Plain.t-call-plain 𝓤 H A W 𝓣 1 ps·3 r·3 (claims· .6) (claims· .7) "search::scan::gather" (known .3) E (λ pos β. β) G43 (record { pos = 2; ty = Syntax.tyRef (Syntax.named 0) Syntax.imm Rec.named; ref = λ x. x }, (Num.vAt 8 λ x. x, (Num.vAt 7 λ x. x, tt))) 9 (L._∷_ 0 L.[]) (Call.sub-id 𝓤 H A W (G43 .slots)) (ShrSlice.spares-sslice 𝓤 H A W Rec.row q24 0, Shared.reads-sslice 𝓤 H A W Rec.row q24 0, Path.refl, ((Scalar.reads-sc 𝓤 H A W (Row.sInt Syntax.w64), Path.refl), ((Scalar.reads-sc 𝓤 H A W (Row.sInt Syntax.w64), Path.refl), tt))) (TReads.room-gone 𝓤 H A (Syntax.tyStruct (L._∷_ 115 (L._∷_ 116 (L._∷_ 101 (L._∷_ 112 (L._∷_ 58 (L._∷_ 58 (L._∷_ 65 (L._∷_ 114 (L._∷_ 111 (L._∷_ 117 (L._∷_ 110 (L._∷_ 100 L.[])))))))))))) (Syntax.tcons q9 (Syntax.tcons q9 (Syntax.tcons q9 (Syntax.tcons q9 Syntax.tnil)))))) (tt, tt) Path.refl) d25
 
           d27 : Typed.Typed 𝓤 H A 𝓣 E G42 b34 Δ5 (at27 bs)
           d27 = Typed.g-pre 𝓤 H A W 𝓣 E G42 G43 b34 Δ5 (Typed.pass T42 T43 (s38 bs)) (at26 bs) (Scalar.g-room 𝓤 H A W E G42 19 Syntax.tyBool (Scalar.room-sc 𝓤 H A W Row.sBool)) d26
@@ -1608,7 +1608,7 @@ module _ (claims· : Claims) where
           d34 = Typed.g-pre 𝓤 H A W 𝓣 E G38 G39 b37 Δ5 (Typed.pass T38 T39 (s34 bs)) (at33 bs) (Scalar.g-room 𝓤 H A W E G38 20 (Syntax.tyInt Syntax.w64) (Scalar.room-sc 𝓤 H A W (Row.sInt Syntax.w64))) d33
 
           d35 : Typed.Typed 𝓤 H A 𝓣 E G37 b38 Δ5 (at35 bs)
-          d35 = Typed.s-seq 𝓤 H A W 𝓣 E G37 G38 b20 b37 Δ5 (Typed.both (s33 bs)) (at34 bs) (WayStmt.t-way-copy-out 𝓤 H A W E 𝓣 (Declared.row fraction-proofs-Fraction·.the-type) Path.refl (Copies.cStruct fraction-proofs-Fraction·.the-type fraction-proofs-Fraction-Laws·.the-laws fraction-proofs-Fraction-Laws·.the-copy .copy 𝓤 H A W) (λ ρ. Unit) G37 (Row.out 22 (Row.out 5 (G37 .locals))) (λ u. Row.drop 22 (Row.out 5 (G37 .locals)) (Row.drop 5 (G37 .locals) u)) (G37 .slots) 22 (λ t. L._∷_ (Syntax.deref q8) t) q8 q8 23 q19 (λ x. x) (λ u. ListN.getD (At.getAt (network-proofs-Nodes·.the-type .parts) 3 (network-proofs-Nodes·.struct .as-values (u .1 .1 .1 .1 .1 .0))) (u .1 .1 .1 .1 .1 .1 .1 .1 .0) (fraction-proofs-Fraction·.struct .make (IntN.pos 0, (0, tt)) tt)) (λ u. (Row.hd 0 (Row.tl (Row.tl (Row.tl (Row.tl (Row.tl bs))))), Shared.bySize 8 (u .1 .1 .1 .1 .1 .1 .1 .1 .0) (Nat._+_ Nat.zero 52))) (λ T′. record { locals = Row.setRow 5 q21 (Row.setRow 22 (22, Rows.sc-here Row.sPtr) T′); slots = G37 .slots; }) (λ u T′ m′. Row.set 5 q21 (u .1 .1 .1 .1 .1 .0) (Row.setRow 22 (22, Rows.sc-here Row.sPtr) T′) (Row.set 22 (22, Rows.sc-here Row.sPtr) (u .1 .1 .1 .1 .1 .1 .1 .1 .1 .1 .1 .1 .1 .1 .1 .1 .1 .1 .1 .1 .1 .1 .0) T′ m′)) (λ u. Path._≡_ (u .1 .1 .1 .1 .1 .1 .1 .1 .1 .1 .1 .1 .1 .1 .1 .1 .1 .1 .1 .1 .1 .1 .0 .0) (Row.hd 0 (Row.tl (Row.tl (Row.tl (Row.tl (Row.tl bs)))))) × Path._≡_ (u .1 .1 .1 .1 .1 .1 .1 .1 .1 .1 .1 .1 .1 .1 .1 .1 .1 .1 .1 .1 .1 .1 .0 .1) (Shared.bySize 8 (u .1 .1 .1 .1 .1 .1 .1 .1 .0) (Nat._+_ Nat.zero 52)) × Asked.InArray G37 (λ u. u .1 .1 .1 .1 .1 .1 .1 .1 .0) 33 u) (λ x. Unit) (Own.told-none 𝓤 H A (G37 .slots)) (DerefMove.learns-nothing 𝓤 H A (Declared.row fraction-proofs-Fraction·.the-type)) (λ ρ told u asked. RuleWay.w-look 𝓤 H A W E (ItemWay.w-item-look 𝓤 H A W E (Declared.row network-proofs-Nodes·.the-type) (Declared.row fraction-proofs-Fraction·.the-type) 33 tt q6 q8 3 52 (λ x. At.getAt (network-proofs-Nodes·.the-type .parts) 3 (network-proofs-Nodes·.struct .as-values x)) (λ x ys. x) (Shared.bySize 8) (λ i o. Elements.at-mul o 8 i) G37 ρ u (G37 .slots) 5 22 (u .1 .1 .1 .1 .1 .1 .1 .1 .0) (fraction-proofs-Fraction·.struct .make (IntN.pos 0, (0, tt)) tt) (λ x. x) (λ x. x) (TReads.as-is 𝓤 H A q23) (TReads.as-is 𝓤 H A (Rows.sc-here Row.sPtr)) Path.refl (asked .0) (asked .1) (asked .2) Path.refl λ a. Items.cut-records 𝓤 H A TreeShare.fullShare (Declared.row network-proofs-Nodes·.the-type) fraction-proofs-Fraction·.the-type 33 52 (u .1 .1 .1 .1 .1 .0) (u .1 .1 .1 .1 .1 .0) (At.getAt (network-proofs-Nodes·.the-type .parts) 3 (network-proofs-Nodes·.struct .as-values (u .1 .1 .1 .1 .1 .0))) (At.getAt (network-proofs-Nodes·.the-type .parts) 3 (network-proofs-Nodes·.struct .as-values (u .1 .1 .1 .1 .1 .0))) a (Behind.look-at 𝓤 H A W TreeShare.fullShare network-proofs-Nodes·.the-type network-proofs-Nodes-Laws·.the-laws 3 52 Path.refl Path.refl a (u .1 .1 .1 .1 .1 .0) (network-proofs-Nodes·.struct .as-values (u .1 .1 .1 .1 .1 .0)) Path.refl))) (TReads.room-gone 𝓤 H A q8) (Yields.makes-mem 𝓤 H A W (λ ρ. Unit) (Declared.row fraction-proofs-Fraction·.the-type) Path.refl q19 (λ x. x) λ ρ told. Local.whole-mem 𝓤 H A W (Declared.row fraction-proofs-Fraction·.the-type) ρ) Path.refl Path.refl Path.refl) d34
+          d35 = Typed.s-seq 𝓤 H A W 𝓣 E G37 G38 b20 b37 Δ5 (Typed.both (s33 bs)) (at34 bs) (WayStmt.t-way-copy-out 𝓤 H A W E 𝓣 (Declared.row fraction-proofs-Fraction·.the-type) Path.refl (Copies.cStruct fraction-proofs-Fraction·.the-type fraction-proofs-Fraction-Laws·.the-laws fraction-proofs-Fraction-Laws·.the-copy .copy 𝓤 H A W) (λ ρ. Unit) G37 (Row.out 22 (Row.out 5 (G37 .locals))) (λ u. Row.drop 22 (Row.out 5 (G37 .locals)) (Row.drop 5 (G37 .locals) u)) (G37 .slots) 22 (λ t. L._∷_ (Syntax.deref q8) t) q8 q8 23 q19 (λ x. x) (λ u. ListN.getD (At.getAt (network-proofs-Nodes·.the-type .parts) 3 (network-proofs-Nodes·.struct .as-values (u .1 .1 .1 .1 .1 .0))) (u .1 .1 .1 .1 .1 .1 .1 .1 .0) (fraction-proofs-Fraction·.struct .make (IntN.pos 0, (0, tt)) tt)) (λ u. (Row.hd 0 (Row.tl (Row.tl (Row.tl (Row.tl (Row.tl bs))))), Shared.bySize 8 (u .1 .1 .1 .1 .1 .1 .1 .1 .0) (Nat._+_ Nat.zero 52))) (λ T′. record { locals = Row.setRow 5 q21 (Row.setRow 22 (22, Rows.sc-here Row.sPtr) T′); slots = G37 .slots }) (λ u T′ m′. Row.set 5 q21 (u .1 .1 .1 .1 .1 .0) (Row.setRow 22 (22, Rows.sc-here Row.sPtr) T′) (Row.set 22 (22, Rows.sc-here Row.sPtr) (u .1 .1 .1 .1 .1 .1 .1 .1 .1 .1 .1 .1 .1 .1 .1 .1 .1 .1 .1 .1 .1 .1 .0) T′ m′)) (λ u. Path._≡_ (u .1 .1 .1 .1 .1 .1 .1 .1 .1 .1 .1 .1 .1 .1 .1 .1 .1 .1 .1 .1 .1 .1 .0 .0) (Row.hd 0 (Row.tl (Row.tl (Row.tl (Row.tl (Row.tl bs)))))) × Path._≡_ (u .1 .1 .1 .1 .1 .1 .1 .1 .1 .1 .1 .1 .1 .1 .1 .1 .1 .1 .1 .1 .1 .1 .0 .1) (Shared.bySize 8 (u .1 .1 .1 .1 .1 .1 .1 .1 .0) (Nat._+_ Nat.zero 52)) × Asked.InArray G37 (λ u. u .1 .1 .1 .1 .1 .1 .1 .1 .0) 33 u) (λ x. Unit) (Own.told-none 𝓤 H A (G37 .slots)) (DerefMove.learns-nothing 𝓤 H A (Declared.row fraction-proofs-Fraction·.the-type)) (λ ρ told u asked. RuleWay.w-look 𝓤 H A W E (ItemWay.w-item-look 𝓤 H A W E (Declared.row network-proofs-Nodes·.the-type) (Declared.row fraction-proofs-Fraction·.the-type) 33 tt q6 q8 3 52 (λ x. At.getAt (network-proofs-Nodes·.the-type .parts) 3 (network-proofs-Nodes·.struct .as-values x)) (λ x ys. x) (Shared.bySize 8) (λ i o. Elements.at-mul o 8 i) G37 ρ u (G37 .slots) 5 22 (u .1 .1 .1 .1 .1 .1 .1 .1 .0) (fraction-proofs-Fraction·.struct .make (IntN.pos 0, (0, tt)) tt) (λ x. x) (λ x. x) (TReads.as-is 𝓤 H A q23) (TReads.as-is 𝓤 H A (Rows.sc-here Row.sPtr)) Path.refl (asked .0) (asked .1) (asked .2) Path.refl λ a. Items.cut-records 𝓤 H A TreeShare.fullShare (Declared.row network-proofs-Nodes·.the-type) fraction-proofs-Fraction·.the-type 33 52 (u .1 .1 .1 .1 .1 .0) (u .1 .1 .1 .1 .1 .0) (At.getAt (network-proofs-Nodes·.the-type .parts) 3 (network-proofs-Nodes·.struct .as-values (u .1 .1 .1 .1 .1 .0))) (At.getAt (network-proofs-Nodes·.the-type .parts) 3 (network-proofs-Nodes·.struct .as-values (u .1 .1 .1 .1 .1 .0))) a (Behind.look-at 𝓤 H A W TreeShare.fullShare network-proofs-Nodes·.the-type network-proofs-Nodes-Laws·.the-laws 3 52 Path.refl Path.refl a (u .1 .1 .1 .1 .1 .0) (network-proofs-Nodes·.struct .as-values (u .1 .1 .1 .1 .1 .0)) Path.refl))) (TReads.room-gone 𝓤 H A q8) (Yields.makes-mem 𝓤 H A W (λ ρ. Unit) (Declared.row fraction-proofs-Fraction·.the-type) Path.refl q19 (λ x. x) λ ρ told. Local.whole-mem 𝓤 H A W (Declared.row fraction-proofs-Fraction·.the-type) ρ) Path.refl Path.refl Path.refl) d34
 
           d36 : Typed.Typed 𝓤 H A 𝓣 E G36 b38 Δ5 (at36 bs)
           d36 = Typed.g-pre 𝓤 H A W 𝓣 E G36 G37 b38 Δ5 (Typed.pass T36 T37 (s32 bs)) (at35 bs) (Scalar.g-room 𝓤 H A W E G36 21 Syntax.tyPtr (Scalar.room-sc 𝓤 H A W Row.sPtr)) d35
@@ -1657,7 +1657,7 @@ module _ (claims· : Claims) where
           d50 = Typed.g-pre 𝓤 H A W 𝓣 E G26 G27 b46 Δ3 (Typed.pass T26 T27 (s23 bs)) (at49 bs) (Scalar.g-room 𝓤 H A W E G26 11 (Syntax.tyInt Syntax.w64) (Scalar.room-sc 𝓤 H A W (Row.sInt Syntax.w64))) d49
 
           d51 : Typed.Typed 𝓤 H A 𝓣 E G25 b47 Δ3 (at51 bs)
-          d51 = Typed.s-seq 𝓤 H A W 𝓣 E G25 G26 b15 b46 Δ3 (Typed.both (s22 bs)) (at50 bs) (WayStmt.t-way-copy-out 𝓤 H A W E 𝓣 (Referent.rtF (Referent.fInt Syntax.w64)) Path.refl (Copies.cRf (Referent.fInt Syntax.w64) .copy 𝓤 H A W) (λ ρ. Unit) G25 (Row.out 17 (Row.out 6 (G25 .locals))) (λ u. Row.drop 17 (Row.out 6 (G25 .locals)) (Row.drop 6 (G25 .locals) u)) (G25 .slots) 17 (λ t. L._∷_ (Syntax.deref (Syntax.tyInt Syntax.w64)) t) (Syntax.tyInt Syntax.w64) (Syntax.tyInt Syntax.w64) 18 q35 (λ x. x) (λ u. ListN.getD (At.getAt (network-proofs-Degrees·.the-type .parts) 0 (network-proofs-Degrees·.struct .as-values (u .1 .1 .1 .1 .1 .1 .0))) (u .1 .1 .1 .1 .1 .1 .1 .1 .0) 0) (λ u. (Row.hd 0 (Row.tl (Row.tl (Row.tl (Row.tl (Row.tl (Row.tl bs)))))), Shared.bySize 8 (u .1 .1 .1 .1 .1 .1 .1 .1 .0) (Nat._+_ Nat.zero 0))) (λ T′. record { locals = Row.setRow 6 q18 (Row.setRow 17 (17, Rows.sc-here Row.sPtr) T′); slots = G25 .slots; }) (λ u T′ m′. Row.set 6 q18 (u .1 .1 .1 .1 .1 .1 .0) (Row.setRow 17 (17, Rows.sc-here Row.sPtr) T′) (Row.set 17 (17, Rows.sc-here Row.sPtr) (u .1 .1 .1 .1 .1 .1 .1 .1 .1 .1 .1 .1 .1 .1 .1 .1 .1 .0) T′ m′)) (λ u. Path._≡_ (u .1 .1 .1 .1 .1 .1 .1 .1 .1 .1 .1 .1 .1 .1 .1 .1 .1 .0 .0) (Row.hd 0 (Row.tl (Row.tl (Row.tl (Row.tl (Row.tl (Row.tl bs))))))) × Path._≡_ (u .1 .1 .1 .1 .1 .1 .1 .1 .1 .1 .1 .1 .1 .1 .1 .1 .1 .0 .1) (Shared.bySize 8 (u .1 .1 .1 .1 .1 .1 .1 .1 .0) (Nat._+_ Nat.zero 0)) × Asked.InArray G25 (λ u. u .1 .1 .1 .1 .1 .1 .1 .1 .0) 33 u) (λ x. Unit) (Own.told-none 𝓤 H A (G25 .slots)) (DerefMove.learns-nothing 𝓤 H A (Referent.rtF (Referent.fInt Syntax.w64))) (λ ρ told u asked. RuleWay.w-look 𝓤 H A W E (ItemWay.w-item-look 𝓤 H A W E (Declared.row network-proofs-Degrees·.the-type) (Referent.rtF (Referent.fInt Syntax.w64)) 33 tt q25 (Syntax.tyInt Syntax.w64) 0 0 (λ x. At.getAt (network-proofs-Degrees·.the-type .parts) 0 (network-proofs-Degrees·.struct .as-values x)) (λ x ys. x) (Shared.bySize 8) (λ i o. Elements.at-mul o 8 i) G25 ρ u (G25 .slots) 6 17 (u .1 .1 .1 .1 .1 .1 .1 .1 .0) 0 (λ x. x) (λ x. x) (TReads.as-is 𝓤 H A q22) (TReads.as-is 𝓤 H A (Rows.sc-here Row.sPtr)) Path.refl (asked .0) (asked .1) (asked .2) Path.refl λ a. Items.cut-array 𝓤 H A TreeShare.fullShare (Declared.row network-proofs-Degrees·.the-type) (Referent.rtF (Referent.fInt Syntax.w64)) 33 0 (u .1 .1 .1 .1 .1 .1 .0) (u .1 .1 .1 .1 .1 .1 .0) (At.getAt (network-proofs-Degrees·.the-type .parts) 0 (network-proofs-Degrees·.struct .as-values (u .1 .1 .1 .1 .1 .1 .0))) (At.getAt (network-proofs-Degrees·.the-type .parts) 0 (network-proofs-Degrees·.struct .as-values (u .1 .1 .1 .1 .1 .1 .0))) a (Behind.look-at 𝓤 H A W TreeShare.fullShare network-proofs-Degrees·.the-type network-proofs-Degrees-Laws·.the-laws 0 0 Path.refl Path.refl a (u .1 .1 .1 .1 .1 .1 .0) (network-proofs-Degrees·.struct .as-values (u .1 .1 .1 .1 .1 .1 .0)) Path.refl))) (TReads.room-gone 𝓤 H A (Syntax.tyInt Syntax.w64)) (Yields.makes-mem 𝓤 H A W (λ ρ. Unit) (Referent.rtF (Referent.fInt Syntax.w64)) Path.refl q35 (λ x. x) λ ρ told. Local.sc-mem 𝓤 H A W (Referent.fInt Syntax.w64) ρ) Path.refl Path.refl Path.refl) d50
+          d51 = Typed.s-seq 𝓤 H A W 𝓣 E G25 G26 b15 b46 Δ3 (Typed.both (s22 bs)) (at50 bs) (WayStmt.t-way-copy-out 𝓤 H A W E 𝓣 (Referent.rtF (Referent.fInt Syntax.w64)) Path.refl (Copies.cRf (Referent.fInt Syntax.w64) .copy 𝓤 H A W) (λ ρ. Unit) G25 (Row.out 17 (Row.out 6 (G25 .locals))) (λ u. Row.drop 17 (Row.out 6 (G25 .locals)) (Row.drop 6 (G25 .locals) u)) (G25 .slots) 17 (λ t. L._∷_ (Syntax.deref (Syntax.tyInt Syntax.w64)) t) (Syntax.tyInt Syntax.w64) (Syntax.tyInt Syntax.w64) 18 q35 (λ x. x) (λ u. ListN.getD (At.getAt (network-proofs-Degrees·.the-type .parts) 0 (network-proofs-Degrees·.struct .as-values (u .1 .1 .1 .1 .1 .1 .0))) (u .1 .1 .1 .1 .1 .1 .1 .1 .0) 0) (λ u. (Row.hd 0 (Row.tl (Row.tl (Row.tl (Row.tl (Row.tl (Row.tl bs)))))), Shared.bySize 8 (u .1 .1 .1 .1 .1 .1 .1 .1 .0) (Nat._+_ Nat.zero 0))) (λ T′. record { locals = Row.setRow 6 q18 (Row.setRow 17 (17, Rows.sc-here Row.sPtr) T′); slots = G25 .slots }) (λ u T′ m′. Row.set 6 q18 (u .1 .1 .1 .1 .1 .1 .0) (Row.setRow 17 (17, Rows.sc-here Row.sPtr) T′) (Row.set 17 (17, Rows.sc-here Row.sPtr) (u .1 .1 .1 .1 .1 .1 .1 .1 .1 .1 .1 .1 .1 .1 .1 .1 .1 .0) T′ m′)) (λ u. Path._≡_ (u .1 .1 .1 .1 .1 .1 .1 .1 .1 .1 .1 .1 .1 .1 .1 .1 .1 .0 .0) (Row.hd 0 (Row.tl (Row.tl (Row.tl (Row.tl (Row.tl (Row.tl bs))))))) × Path._≡_ (u .1 .1 .1 .1 .1 .1 .1 .1 .1 .1 .1 .1 .1 .1 .1 .1 .1 .0 .1) (Shared.bySize 8 (u .1 .1 .1 .1 .1 .1 .1 .1 .0) (Nat._+_ Nat.zero 0)) × Asked.InArray G25 (λ u. u .1 .1 .1 .1 .1 .1 .1 .1 .0) 33 u) (λ x. Unit) (Own.told-none 𝓤 H A (G25 .slots)) (DerefMove.learns-nothing 𝓤 H A (Referent.rtF (Referent.fInt Syntax.w64))) (λ ρ told u asked. RuleWay.w-look 𝓤 H A W E (ItemWay.w-item-look 𝓤 H A W E (Declared.row network-proofs-Degrees·.the-type) (Referent.rtF (Referent.fInt Syntax.w64)) 33 tt q25 (Syntax.tyInt Syntax.w64) 0 0 (λ x. At.getAt (network-proofs-Degrees·.the-type .parts) 0 (network-proofs-Degrees·.struct .as-values x)) (λ x ys. x) (Shared.bySize 8) (λ i o. Elements.at-mul o 8 i) G25 ρ u (G25 .slots) 6 17 (u .1 .1 .1 .1 .1 .1 .1 .1 .0) 0 (λ x. x) (λ x. x) (TReads.as-is 𝓤 H A q22) (TReads.as-is 𝓤 H A (Rows.sc-here Row.sPtr)) Path.refl (asked .0) (asked .1) (asked .2) Path.refl λ a. Items.cut-array 𝓤 H A TreeShare.fullShare (Declared.row network-proofs-Degrees·.the-type) (Referent.rtF (Referent.fInt Syntax.w64)) 33 0 (u .1 .1 .1 .1 .1 .1 .0) (u .1 .1 .1 .1 .1 .1 .0) (At.getAt (network-proofs-Degrees·.the-type .parts) 0 (network-proofs-Degrees·.struct .as-values (u .1 .1 .1 .1 .1 .1 .0))) (At.getAt (network-proofs-Degrees·.the-type .parts) 0 (network-proofs-Degrees·.struct .as-values (u .1 .1 .1 .1 .1 .1 .0))) a (Behind.look-at 𝓤 H A W TreeShare.fullShare network-proofs-Degrees·.the-type network-proofs-Degrees-Laws·.the-laws 0 0 Path.refl Path.refl a (u .1 .1 .1 .1 .1 .1 .0) (network-proofs-Degrees·.struct .as-values (u .1 .1 .1 .1 .1 .1 .0)) Path.refl))) (TReads.room-gone 𝓤 H A (Syntax.tyInt Syntax.w64)) (Yields.makes-mem 𝓤 H A W (λ ρ. Unit) (Referent.rtF (Referent.fInt Syntax.w64)) Path.refl q35 (λ x. x) λ ρ told. Local.sc-mem 𝓤 H A W (Referent.fInt Syntax.w64) ρ) Path.refl Path.refl Path.refl) d50
 
           d52 : Typed.Typed 𝓤 H A 𝓣 E G24 b47 Δ3 (at52 bs)
           d52 = Typed.g-pre 𝓤 H A W 𝓣 E G24 G25 b47 Δ3 (Typed.pass T24 T25 (s21 bs)) (at51 bs) (Scalar.g-room 𝓤 H A W E G24 16 Syntax.tyPtr (Scalar.room-sc 𝓤 H A W Row.sPtr)) d51
@@ -1675,7 +1675,7 @@ module _ (claims· : Claims) where
           d56 = Typed.g-pre 𝓤 H A W 𝓣 E G20 G21 b50 Δ3 (Typed.pass T20 T21 (s17 bs)) (at55 bs) (Scalar.g-room 𝓤 H A W E G20 15 Syntax.tyPtr (Scalar.room-sc 𝓤 H A W Row.sPtr)) d55
 
           d57 : Typed.Typed 𝓤 H A 𝓣 E G19 b51 Δ3 (at57 bs)
-          d57 = Typed.s-seq 𝓤 H A W 𝓣 E G19 G20 b11 b50 Δ3 (Typed.both (s16 bs)) (at56 bs) (WayStmt.t-way-copy-out 𝓤 H A W E 𝓣 (Referent.rtF Referent.fBool) Path.refl (Copies.cRf Referent.fBool .copy 𝓤 H A W) (λ ρ. Unit) G19 (Row.out 15 (Row.out 5 (G19 .locals))) (λ u. Row.drop 15 (Row.out 5 (G19 .locals)) (Row.drop 5 (G19 .locals) u)) (G19 .slots) 15 (λ t. L._∷_ (Syntax.deref Syntax.tyBool) t) Syntax.tyBool Syntax.tyBool 12 (Rows.sc-here Row.sBool) (λ x. x) (λ u. ListN.getD (At.getAt (network-proofs-Nodes·.the-type .parts) 2 (network-proofs-Nodes·.struct .as-values (u .1 .1 .1 .1 .1 .0))) (u .1 .1 .1 .1 .1 .1 .1 .1 .0) Bool.false) (λ u. (Row.hd 0 (Row.tl (Row.tl (Row.tl (Row.tl (Row.tl bs))))), Shared.byByte (u .1 .1 .1 .1 .1 .1 .1 .1 .0) (Nat._+_ Nat.zero 16))) (λ T′. record { locals = Row.setRow 5 q21 (Row.setRow 15 (15, Rows.sc-here Row.sPtr) T′); slots = G19 .slots; }) (λ u T′ m′. Row.set 5 q21 (u .1 .1 .1 .1 .1 .0) (Row.setRow 15 (15, Rows.sc-here Row.sPtr) T′) (Row.set 15 (15, Rows.sc-here Row.sPtr) (u .1 .1 .1 .1 .1 .1 .1 .1 .1 .1 .1 .1 .1 .1 .1 .0) T′ m′)) (λ u. Path._≡_ (u .1 .1 .1 .1 .1 .1 .1 .1 .1 .1 .1 .1 .1 .1 .1 .0 .0) (Row.hd 0 (Row.tl (Row.tl (Row.tl (Row.tl (Row.tl bs)))))) × Path._≡_ (u .1 .1 .1 .1 .1 .1 .1 .1 .1 .1 .1 .1 .1 .1 .1 .0 .1) (Shared.byByte (u .1 .1 .1 .1 .1 .1 .1 .1 .0) (Nat._+_ Nat.zero 16)) × Asked.InArray G19 (λ u. u .1 .1 .1 .1 .1 .1 .1 .1 .0) 33 u) (λ x. Unit) (Own.told-none 𝓤 H A (G19 .slots)) (DerefMove.learns-nothing 𝓤 H A (Referent.rtF Referent.fBool)) (λ ρ told u asked. RuleWay.w-look 𝓤 H A W E (ItemWay.w-item-look 𝓤 H A W E (Declared.row network-proofs-Nodes·.the-type) (Referent.rtF Referent.fBool) 33 tt q36 Syntax.tyBool 2 16 (λ x. At.getAt (network-proofs-Nodes·.the-type .parts) 2 (network-proofs-Nodes·.struct .as-values x)) (λ x ys. x) Shared.byByte (λ i o. Elements.at-byte o i) G19 ρ u (G19 .slots) 5 15 (u .1 .1 .1 .1 .1 .1 .1 .1 .0) Bool.false (λ x. x) (λ x. x) (TReads.as-is 𝓤 H A q23) (TReads.as-is 𝓤 H A (Rows.sc-here Row.sPtr)) Path.refl (asked .0) (asked .1) (asked .2) Path.refl λ a. Items.cut-array 𝓤 H A TreeShare.fullShare (Declared.row network-proofs-Nodes·.the-type) (Referent.rtF Referent.fBool) 33 16 (u .1 .1 .1 .1 .1 .0) (u .1 .1 .1 .1 .1 .0) (At.getAt (network-proofs-Nodes·.the-type .parts) 2 (network-proofs-Nodes·.struct .as-values (u .1 .1 .1 .1 .1 .0))) (At.getAt (network-proofs-Nodes·.the-type .parts) 2 (network-proofs-Nodes·.struct .as-values (u .1 .1 .1 .1 .1 .0))) a (Behind.look-at 𝓤 H A W TreeShare.fullShare network-proofs-Nodes·.the-type network-proofs-Nodes-Laws·.the-laws 2 16 Path.refl Path.refl a (u .1 .1 .1 .1 .1 .0) (network-proofs-Nodes·.struct .as-values (u .1 .1 .1 .1 .1 .0)) Path.refl))) (TReads.room-gone 𝓤 H A Syntax.tyBool) (Yields.makes-mem 𝓤 H A W (λ ρ. Unit) (Referent.rtF Referent.fBool) Path.refl (Rows.sc-here Row.sBool) (λ x. x) λ ρ told. Local.sc-mem 𝓤 H A W Referent.fBool ρ) Path.refl Path.refl Path.refl) d56
+          d57 = Typed.s-seq 𝓤 H A W 𝓣 E G19 G20 b11 b50 Δ3 (Typed.both (s16 bs)) (at56 bs) (WayStmt.t-way-copy-out 𝓤 H A W E 𝓣 (Referent.rtF Referent.fBool) Path.refl (Copies.cRf Referent.fBool .copy 𝓤 H A W) (λ ρ. Unit) G19 (Row.out 15 (Row.out 5 (G19 .locals))) (λ u. Row.drop 15 (Row.out 5 (G19 .locals)) (Row.drop 5 (G19 .locals) u)) (G19 .slots) 15 (λ t. L._∷_ (Syntax.deref Syntax.tyBool) t) Syntax.tyBool Syntax.tyBool 12 (Rows.sc-here Row.sBool) (λ x. x) (λ u. ListN.getD (At.getAt (network-proofs-Nodes·.the-type .parts) 2 (network-proofs-Nodes·.struct .as-values (u .1 .1 .1 .1 .1 .0))) (u .1 .1 .1 .1 .1 .1 .1 .1 .0) Bool.false) (λ u. (Row.hd 0 (Row.tl (Row.tl (Row.tl (Row.tl (Row.tl bs))))), Shared.byByte (u .1 .1 .1 .1 .1 .1 .1 .1 .0) (Nat._+_ Nat.zero 16))) (λ T′. record { locals = Row.setRow 5 q21 (Row.setRow 15 (15, Rows.sc-here Row.sPtr) T′); slots = G19 .slots }) (λ u T′ m′. Row.set 5 q21 (u .1 .1 .1 .1 .1 .0) (Row.setRow 15 (15, Rows.sc-here Row.sPtr) T′) (Row.set 15 (15, Rows.sc-here Row.sPtr) (u .1 .1 .1 .1 .1 .1 .1 .1 .1 .1 .1 .1 .1 .1 .1 .0) T′ m′)) (λ u. Path._≡_ (u .1 .1 .1 .1 .1 .1 .1 .1 .1 .1 .1 .1 .1 .1 .1 .0 .0) (Row.hd 0 (Row.tl (Row.tl (Row.tl (Row.tl (Row.tl bs)))))) × Path._≡_ (u .1 .1 .1 .1 .1 .1 .1 .1 .1 .1 .1 .1 .1 .1 .1 .0 .1) (Shared.byByte (u .1 .1 .1 .1 .1 .1 .1 .1 .0) (Nat._+_ Nat.zero 16)) × Asked.InArray G19 (λ u. u .1 .1 .1 .1 .1 .1 .1 .1 .0) 33 u) (λ x. Unit) (Own.told-none 𝓤 H A (G19 .slots)) (DerefMove.learns-nothing 𝓤 H A (Referent.rtF Referent.fBool)) (λ ρ told u asked. RuleWay.w-look 𝓤 H A W E (ItemWay.w-item-look 𝓤 H A W E (Declared.row network-proofs-Nodes·.the-type) (Referent.rtF Referent.fBool) 33 tt q36 Syntax.tyBool 2 16 (λ x. At.getAt (network-proofs-Nodes·.the-type .parts) 2 (network-proofs-Nodes·.struct .as-values x)) (λ x ys. x) Shared.byByte (λ i o. Elements.at-byte o i) G19 ρ u (G19 .slots) 5 15 (u .1 .1 .1 .1 .1 .1 .1 .1 .0) Bool.false (λ x. x) (λ x. x) (TReads.as-is 𝓤 H A q23) (TReads.as-is 𝓤 H A (Rows.sc-here Row.sPtr)) Path.refl (asked .0) (asked .1) (asked .2) Path.refl λ a. Items.cut-array 𝓤 H A TreeShare.fullShare (Declared.row network-proofs-Nodes·.the-type) (Referent.rtF Referent.fBool) 33 16 (u .1 .1 .1 .1 .1 .0) (u .1 .1 .1 .1 .1 .0) (At.getAt (network-proofs-Nodes·.the-type .parts) 2 (network-proofs-Nodes·.struct .as-values (u .1 .1 .1 .1 .1 .0))) (At.getAt (network-proofs-Nodes·.the-type .parts) 2 (network-proofs-Nodes·.struct .as-values (u .1 .1 .1 .1 .1 .0))) a (Behind.look-at 𝓤 H A W TreeShare.fullShare network-proofs-Nodes·.the-type network-proofs-Nodes-Laws·.the-laws 2 16 Path.refl Path.refl a (u .1 .1 .1 .1 .1 .0) (network-proofs-Nodes·.struct .as-values (u .1 .1 .1 .1 .1 .0)) Path.refl))) (TReads.room-gone 𝓤 H A Syntax.tyBool) (Yields.makes-mem 𝓤 H A W (λ ρ. Unit) (Referent.rtF Referent.fBool) Path.refl (Rows.sc-here Row.sBool) (λ x. x) λ ρ told. Local.sc-mem 𝓤 H A W Referent.fBool ρ) Path.refl Path.refl Path.refl) d56
 
           d58 : Typed.Typed 𝓤 H A 𝓣 E G18 b51 Δ3 (at58 bs)
           d58 = Typed.g-pre 𝓤 H A W 𝓣 E G18 G19 b51 Δ3 (Typed.pass T18 T19 (s15 bs)) (at57 bs) (Scalar.g-room 𝓤 H A W E G18 14 Syntax.tyPtr (Scalar.room-sc 𝓤 H A W Row.sPtr)) d57
@@ -1742,9 +1742,9 @@ module _ (claims· : Claims) where
 
       module _ (κs : Lifetimes.Lfts 1) where
         pub record Args : Type 0 where
-          pub t1 : FnKinds.Den {n = 1} κs (Value.pVal record { ty = Declared.row network-proofs-Nodes·.the-type; one = Path.refl; val = StructLaws.val network-proofs-Nodes·.the-type network-proofs-Nodes-Laws·.the-laws; tells = StructLaws.tells network-proofs-Nodes·.the-type network-proofs-Nodes-Laws·.the-laws; still = StructLaws.still network-proofs-Nodes·.the-type network-proofs-Nodes-Laws·.the-copy Exit.yes; row = Rows.whole (Declared.row network-proofs-Nodes·.the-type); rd = λ x. x; mk = λ x. x; } λ M 𝓤 H A W. record { copies = StructLaws.copy network-proofs-Nodes·.the-type network-proofs-Nodes-Laws·.the-copy 𝓤 H A W; lawful = StructLaws.lawful network-proofs-Nodes·.the-type network-proofs-Nodes-Laws·.the-laws 𝓤 H A W; makes = StructLaws.makes network-proofs-Nodes·.the-type network-proofs-Nodes-Laws·.the-plain 𝓤 H A; in-mem = Local.mem-whole 𝓤 H A W (Declared.row network-proofs-Nodes·.the-type); of-mem = Local.whole-mem 𝓤 H A W (Declared.row network-proofs-Nodes·.the-type); })
+          pub t1 : FnKinds.Den {n = 1} κs (Value.pVal record { ty = Declared.row network-proofs-Nodes·.the-type; one = Path.refl; val = StructLaws.val network-proofs-Nodes·.the-type network-proofs-Nodes-Laws·.the-laws; tells = StructLaws.tells network-proofs-Nodes·.the-type network-proofs-Nodes-Laws·.the-laws; still = StructLaws.still network-proofs-Nodes·.the-type network-proofs-Nodes-Laws·.the-copy Exit.yes; row = Rows.whole (Declared.row network-proofs-Nodes·.the-type); rd = λ x. x; mk = λ x. x } λ M 𝓤 H A W. record { copies = StructLaws.copy network-proofs-Nodes·.the-type network-proofs-Nodes-Laws·.the-copy 𝓤 H A W; lawful = StructLaws.lawful network-proofs-Nodes·.the-type network-proofs-Nodes-Laws·.the-laws 𝓤 H A W; makes = StructLaws.makes network-proofs-Nodes·.the-type network-proofs-Nodes-Laws·.the-plain 𝓤 H A; in-mem = Local.mem-whole 𝓤 H A W (Declared.row network-proofs-Nodes·.the-type); of-mem = Local.whole-mem 𝓤 H A W (Declared.row network-proofs-Nodes·.the-type) })
           pub arcs : FnKinds.Den {n = 1} κs (ShrSlice.pShrS Rec.row 0 tt)
-          pub t3 : FnKinds.Den {n = 1} κs (Value.pVal record { ty = Declared.row network-proofs-Degrees·.the-type; one = Path.refl; val = StructLaws.val network-proofs-Degrees·.the-type network-proofs-Degrees-Laws·.the-laws; tells = StructLaws.tells network-proofs-Degrees·.the-type network-proofs-Degrees-Laws·.the-laws; still = StructLaws.still network-proofs-Degrees·.the-type network-proofs-Degrees-Laws·.the-copy Exit.yes; row = Rows.whole (Declared.row network-proofs-Degrees·.the-type); rd = λ x. x; mk = λ x. x; } λ M 𝓤 H A W. record { copies = StructLaws.copy network-proofs-Degrees·.the-type network-proofs-Degrees-Laws·.the-copy 𝓤 H A W; lawful = StructLaws.lawful network-proofs-Degrees·.the-type network-proofs-Degrees-Laws·.the-laws 𝓤 H A W; makes = StructLaws.makes network-proofs-Degrees·.the-type network-proofs-Degrees-Laws·.the-plain 𝓤 H A; in-mem = Local.mem-whole 𝓤 H A W (Declared.row network-proofs-Degrees·.the-type); of-mem = Local.whole-mem 𝓤 H A W (Declared.row network-proofs-Degrees·.the-type); })
+          pub t3 : FnKinds.Den {n = 1} κs (Value.pVal record { ty = Declared.row network-proofs-Degrees·.the-type; one = Path.refl; val = StructLaws.val network-proofs-Degrees·.the-type network-proofs-Degrees-Laws·.the-laws; tells = StructLaws.tells network-proofs-Degrees·.the-type network-proofs-Degrees-Laws·.the-laws; still = StructLaws.still network-proofs-Degrees·.the-type network-proofs-Degrees-Laws·.the-copy Exit.yes; row = Rows.whole (Declared.row network-proofs-Degrees·.the-type); rd = λ x. x; mk = λ x. x } λ M 𝓤 H A W. record { copies = StructLaws.copy network-proofs-Degrees·.the-type network-proofs-Degrees-Laws·.the-copy 𝓤 H A W; lawful = StructLaws.lawful network-proofs-Degrees·.the-type network-proofs-Degrees-Laws·.the-laws 𝓤 H A W; makes = StructLaws.makes network-proofs-Degrees·.the-type network-proofs-Degrees-Laws·.the-plain 𝓤 H A; in-mem = Local.mem-whole 𝓤 H A W (Declared.row network-proofs-Degrees·.the-type); of-mem = Local.whole-mem 𝓤 H A W (Declared.row network-proofs-Degrees·.the-type) })
           pub k : FnKinds.Den {n = 1} κs (Num.pNum Syntax.w64)
 
         abbrev pub dens : (a : Args) → FnKinds.Dens κs ps
@@ -2036,14 +2036,14 @@ module _ (claims· : Claims) where
 
       module _ (before· : Then2) where
         abbrev pub After-gather·own : Type 0
-        After-gather·own = Called.Called ps·3 r·3 (claims· .7) T43 (record { pos = 2; ty = Syntax.tyRef (Syntax.named 0) Syntax.imm Rec.named; ref = λ x. x; }, (Num.vAt 8 λ x. x, (Num.vAt 7 λ x. x, tt))) (m40 (before· .before))
+        After-gather·own = Called.Called ps·3 r·3 (claims· .7) T43 (record { pos = 2; ty = Syntax.tyRef (Syntax.named 0) Syntax.imm Rec.named; ref = λ x. x }, (Num.vAt 8 λ x. x, (Num.vAt 7 λ x. x, tt))) (m40 (before· .before))
 
       pub record After-gather : Type 0 where
         pub before : Then2
         pub gather : After-gather·own before
 
       abbrev pub After-gather·gave : (c : After-gather) → s39 (c .before .before .before .before .before .before .before .before .before .before .before .blocks) .gives (m40 (c .before .before))
-      After-gather·gave = λ c. Called.given ps·3 r·3 (claims· .7) T43 (record { pos = 2; ty = Syntax.tyRef (Syntax.named 0) Syntax.imm Rec.named; ref = λ x. x; }, (Num.vAt 8 λ x. x, (Num.vAt 7 λ x. x, tt))) (m40 (c .before .before)) (c .gather)
+      After-gather·gave = λ c. Called.given ps·3 r·3 (claims· .7) T43 (record { pos = 2; ty = Syntax.tyRef (Syntax.named 0) Syntax.imm Rec.named; ref = λ x. x }, (Num.vAt 8 λ x. x, (Num.vAt 7 λ x. x, tt))) (m40 (c .before .before)) (c .gather)
 
       abbrev pub m42 : (before : After-gather) → (given : s40 (before .before .before .before .before .before .before .before .before .before .before .before .blocks) .gives (m41 (before .before) (After-gather·gave before))) → Typed.Mo T45
       m42 = λ before given. s40 (before .before .before .before .before .before .before .before .before .before .before .before .blocks) .next (m41 (before .before) (After-gather·gave before)) given
@@ -2158,7 +2158,7 @@ module _ (claims· : Claims) where
 
       module _ (before· : After-has-degree) where
         pub record Joined1·own : Type 0 where
-          pub came : Logic._⊎_ ((if1 : Then1·own before·) × (may-apply-arg : After-may-apply-arg·own record { before = before·; if1 = if1; }) × (may-apply : After-may-apply·own record { before = record { before = before·; if1 = if1 }; may-apply-arg = may-apply-arg; }) × (if2 : Then2·own record { before = record { before = record { before = before·; if1 = if1 }; may-apply-arg = may-apply-arg; }; may-apply = may-apply; }) × (gather : After-gather·own record { before = record { before = record { before = record { before = before·; if1 = if1 }; may-apply-arg = may-apply-arg; }; may-apply = may-apply; }; if2 = if2; }) × (at-node-arg : After-at-node-arg·own record { before = record { before = record { before = record { before = record { before = before·; if1 = if1 }; may-apply-arg = may-apply-arg; }; may-apply = may-apply; }; if2 = if2; }; gather = gather; }) × (at-node : After-at-node·own record { before = record { before = record { before = record { before = record { before = record { before = before·; if1 = if1 }; may-apply-arg = may-apply-arg; }; may-apply = may-apply; }; if2 = if2; }; gather = gather; }; at-node-arg = at-node-arg; }) × Else3·own record { before = record { before = record { before = record { before = record { before = record { before = record { before = before·; if1 = if1 }; may-apply-arg = may-apply-arg; }; may-apply = may-apply; }; if2 = if2; }; gather = gather; }; at-node-arg = at-node-arg; }; at-node = at-node; }) (Logic._⊎_ ((if1 : Then1·own before·) × (may-apply-arg : After-may-apply-arg·own record { before = before·; if1 = if1; }) × (may-apply : After-may-apply·own record { before = record { before = before·; if1 = if1 }; may-apply-arg = may-apply-arg; }) × Else2·own record { before = record { before = record { before = before·; if1 = if1 }; may-apply-arg = may-apply-arg; }; may-apply = may-apply; }) (Else1·own before·))
+          pub came : Logic._⊎_ ((if1 : Then1·own before·) × (may-apply-arg : After-may-apply-arg·own record { before = before·; if1 = if1 }) × (may-apply : After-may-apply·own record { before = record { before = before·; if1 = if1 }; may-apply-arg = may-apply-arg }) × (if2 : Then2·own record { before = record { before = record { before = before·; if1 = if1 }; may-apply-arg = may-apply-arg }; may-apply = may-apply }) × (gather : After-gather·own record { before = record { before = record { before = record { before = before·; if1 = if1 }; may-apply-arg = may-apply-arg }; may-apply = may-apply }; if2 = if2 }) × (at-node-arg : After-at-node-arg·own record { before = record { before = record { before = record { before = record { before = before·; if1 = if1 }; may-apply-arg = may-apply-arg }; may-apply = may-apply }; if2 = if2 }; gather = gather }) × (at-node : After-at-node·own record { before = record { before = record { before = record { before = record { before = record { before = before·; if1 = if1 }; may-apply-arg = may-apply-arg }; may-apply = may-apply }; if2 = if2 }; gather = gather }; at-node-arg = at-node-arg }) × Else3·own record { before = record { before = record { before = record { before = record { before = record { before = record { before = before·; if1 = if1 }; may-apply-arg = may-apply-arg }; may-apply = may-apply }; if2 = if2 }; gather = gather }; at-node-arg = at-node-arg }; at-node = at-node }) (Logic._⊎_ ((if1 : Then1·own before·) × (may-apply-arg : After-may-apply-arg·own record { before = before·; if1 = if1 }) × (may-apply : After-may-apply·own record { before = record { before = before·; if1 = if1 }; may-apply-arg = may-apply-arg }) × Else2·own record { before = record { before = record { before = before·; if1 = if1 }; may-apply-arg = may-apply-arg }; may-apply = may-apply }) (Else1·own before·))
 
       pub record Joined1 : Type 0 where
         pub before : After-has-degree
@@ -2210,26 +2210,26 @@ module _ (claims· : Claims) where
         lay11 = λ c. ((tt, (Path.refl, (tt, (tt, tt)))), returns-2 record { before = c .before; nothing = c .nothing })
 
         lay10 : (c : After-loop) → at70 (c .before .before .before .blocks) (W0 (c .before .before .before .κs) (c .before .before .before .args) (c .before .before .before .blocks)) (m14 (c .before))
-        lay10 = λ c. (nothing-requires record { before = c .before; loop-test = c .loop-test }, λ g. lay11 record { before = record { before = c .before; loop-test = c .loop-test }; nothing = Called.called ps·5 r·5 (claims· .11) T8 tt (m14 (c .before)) g; })
+        lay10 = λ c. (nothing-requires record { before = c .before; loop-test = c .loop-test }, λ g. lay11 record { before = record { before = c .before; loop-test = c .loop-test }; nothing = Called.called ps·5 r·5 (claims· .11) T8 tt (m14 (c .before)) g })
 
         lay9 : (c : Joined1) → at46 (c .before .before .before .before .before .before .before .blocks) (W3 (c .before .before .before .before .before .before) (c .before .before .before .before .before .loop .i)) (m59 (c .before))
         unfolding at46
         lay9 = λ c. (add-i record { before = c .before; if1 = c .if1 }, (μ·0 (Row.get 2 (T7 .locals) (m6 (c .before .before .before .before .before .before .before) (After-wanted·gave (c .before .before .before .before .before .before))) .now) (Row.get 4 (T7 .locals) (m6 (c .before .before .before .before .before .before .before) (After-wanted·gave (c .before .before .before .before .before .before)))) (Row.get 5 (T7 .locals) (m6 (c .before .before .before .before .before .before .before) (After-wanted·gave (c .before .before .before .before .before .before)))) (Row.get 6 (T7 .locals) (m6 (c .before .before .before .before .before .before .before) (After-wanted·gave (c .before .before .before .before .before .before)))) (Row.get 7 (T7 .locals) (m6 (c .before .before .before .before .before .before .before) (After-wanted·gave (c .before .before .before .before .before .before)))) (Row.get 8 (T7 .locals) (m6 (c .before .before .before .before .before .before .before) (After-wanted·gave (c .before .before .before .before .before .before)))) (Row.get 8 (T7 .locals) (m60 (c .before))), loop-less record { before = c .before; if1 = c .if1 }, (Row.get 8 (T7 .locals) (m60 (c .before)), Path.refl {a = m60 (c .before)}, loop-again record { before = c .before; if1 = c .if1 }, Path.refl {a = μ·0 (Row.get 2 (T7 .locals) (m6 (c .before .before .before .before .before .before .before) (After-wanted·gave (c .before .before .before .before .before .before))) .now) (Row.get 4 (T7 .locals) (m6 (c .before .before .before .before .before .before .before) (After-wanted·gave (c .before .before .before .before .before .before)))) (Row.get 5 (T7 .locals) (m6 (c .before .before .before .before .before .before .before) (After-wanted·gave (c .before .before .before .before .before .before)))) (Row.get 6 (T7 .locals) (m6 (c .before .before .before .before .before .before .before) (After-wanted·gave (c .before .before .before .before .before .before)))) (Row.get 7 (T7 .locals) (m6 (c .before .before .before .before .before .before .before) (After-wanted·gave (c .before .before .before .before .before .before)))) (Row.get 8 (T7 .locals) (m6 (c .before .before .before .before .before .before .before) (After-wanted·gave (c .before .before .before .before .before .before)))) (Row.get 8 (T7 .locals) (m60 (c .before)))})))
 
         lay8 : (c : After-at-node) → at23 (c .before .before .before .before .before .before .before .before .before .before .before .before .before .blocks) (W5 (c .before .before .before .before .before .before .before .before) (After-has-degree·gave (c .before .before .before .before .before .before .before))) (m43 (c .before) (After-at-node·gave c))
-        lay8 = λ c. (λ taken. ((tt, (Path.refl, (tt, (tt, tt)))), returns record { before = record { before = c .before; at-node = c .at-node }; if3 = record { taken = taken }; }), λ left. lay9 record { before = record { before = c .before .before .before .before .before .before .before .before; has-degree = c .before .before .before .before .before .before .before .has-degree; }; if1 = record { came = Logic.inl (c .before .before .before .before .before .before .if1, c .before .before .before .before .before .may-apply-arg, c .before .before .before .before .may-apply, c .before .before .before .if2, c .before .before .gather, c .before .at-node-arg, c .at-node, record { left = left }); }; })
+        lay8 = λ c. (λ taken. ((tt, (Path.refl, (tt, (tt, tt)))), returns record { before = record { before = c .before; at-node = c .at-node }; if3 = record { taken = taken } }), λ left. lay9 record { before = record { before = c .before .before .before .before .before .before .before .before; has-degree = c .before .before .before .before .before .before .before .has-degree }; if1 = record { came = Logic.inl (c .before .before .before .before .before .before .if1, c .before .before .before .before .before .may-apply-arg, c .before .before .before .before .may-apply, c .before .before .before .if2, c .before .before .gather, c .before .at-node-arg, c .at-node, record { left = left }) } })
 
         lay7 : (c : After-gather) → at25 (c .before .before .before .before .before .before .before .before .before .before .before .blocks) (W5 (c .before .before .before .before .before .before) (After-has-degree·gave (c .before .before .before .before .before))) (m41 (c .before) (After-gather·gave c))
-        lay7 = λ c. (tt, λ g. (at-node-requires record { before = record { before = c .before; gather = c .gather }; at-node-arg = record { given = g }; }, λ g'. lay8 record { before = record { before = record { before = c .before; gather = c .gather }; at-node-arg = record { given = g }; }; at-node = Called.called ps·4 r·4 (claims· .9) T45 (record { pos = 24; st = L.[]; d = 0; at = λ x. x }, (Num.vAt 4 λ x. x, (Num.vAt 8 λ x. x, (Num.vAt 7 λ x. x, (record { pos = 9; st = L.[]; d = 0; at = λ x. x }, tt))))) (m42 record { before = c .before; gather = c .gather } g) g'; }))
+        lay7 = λ c. (tt, λ g. (at-node-requires record { before = record { before = c .before; gather = c .gather }; at-node-arg = record { given = g } }, λ g'. lay8 record { before = record { before = record { before = c .before; gather = c .gather }; at-node-arg = record { given = g } }; at-node = Called.called ps·4 r·4 (claims· .9) T45 (record { pos = 24; st = L.[]; d = 0; at = λ x. x }, (Num.vAt 4 λ x. x, (Num.vAt 8 λ x. x, (Num.vAt 7 λ x. x, (record { pos = 9; st = L.[]; d = 0; at = λ x. x }, tt))))) (m42 record { before = c .before; gather = c .gather } g) g' }))
 
         lay6 : (c : After-may-apply) → at31 (c .before .before .before .before .before .before .before .before .before .blocks) (W5 (c .before .before .before .before) (After-has-degree·gave (c .before .before .before))) (m38 (c .before) (After-may-apply·gave c))
-        lay6 = λ c. (λ taken. (gather-requires record { before = record { before = c .before; may-apply = c .may-apply }; if2 = record { taken = taken }; }, λ g. lay7 record { before = record { before = record { before = c .before; may-apply = c .may-apply }; if2 = record { taken = taken }; }; gather = Called.called ps·3 r·3 (claims· .7) T43 (record { pos = 2; ty = Syntax.tyRef (Syntax.named 0) Syntax.imm Rec.named; ref = λ x. x; }, (Num.vAt 8 λ x. x, (Num.vAt 7 λ x. x, tt))) (m40 record { before = c .before; may-apply = c .may-apply }) g; }), λ left. lay9 record { before = record { before = c .before .before .before .before; has-degree = c .before .before .before .has-degree; }; if1 = record { came = Logic.inr (Logic.inl (c .before .before .if1, c .before .may-apply-arg, c .may-apply, record { left = left })); }; })
+        lay6 = λ c. (λ taken. (gather-requires record { before = record { before = c .before; may-apply = c .may-apply }; if2 = record { taken = taken } }, λ g. lay7 record { before = record { before = record { before = c .before; may-apply = c .may-apply }; if2 = record { taken = taken } }; gather = Called.called ps·3 r·3 (claims· .7) T43 (record { pos = 2; ty = Syntax.tyRef (Syntax.named 0) Syntax.imm Rec.named; ref = λ x. x }, (Num.vAt 8 λ x. x, (Num.vAt 7 λ x. x, tt))) (m40 record { before = c .before; may-apply = c .may-apply }) g }), λ left. lay9 record { before = record { before = c .before .before .before .before; has-degree = c .before .before .before .has-degree }; if1 = record { came = Logic.inr (Logic.inl (c .before .before .if1, c .before .may-apply-arg, c .may-apply, record { left = left })) } })
 
         lay5 : (c : After-has-degree) → at47 (c .before .before .before .before .before .before .blocks) (W3 (c .before .before .before .before .before) (c .before .before .before .before .loop .i)) (m27 (c .before) (After-has-degree·gave c))
-        lay5 = λ c. (λ taken. (mul-may-apply record { before = record { before = c .before; has-degree = c .has-degree }; if1 = record { taken = taken }; }, (tt, ((Path.refl, Path.refl, element-copy-out-may-apply record { before = record { before = c .before; has-degree = c .has-degree }; if1 = record { taken = taken }; }), λ g. (may-apply-requires record { before = record { before = record { before = c .before; has-degree = c .has-degree }; if1 = record { taken = taken }; }; may-apply-arg = record { given = g }; }, λ g'. lay6 record { before = record { before = record { before = record { before = c .before; has-degree = c .has-degree }; if1 = record { taken = taken }; }; may-apply-arg = record { given = g }; }; may-apply = Called.called ps·2 r·2 (claims· .5) T40 (Num.vAt 4 λ x. x, (record { pos = 23; st = L.[]; d = 0; at = λ x. x }, tt)) (m37 record { before = record { before = c .before; has-degree = c .has-degree }; if1 = record { taken = taken }; } g) g'; })))), λ left. lay9 record { before = record { before = c .before; has-degree = c .has-degree }; if1 = record { came = Logic.inr (Logic.inr record { left = left }) }; })
+        lay5 = λ c. (λ taken. (mul-may-apply record { before = record { before = c .before; has-degree = c .has-degree }; if1 = record { taken = taken } }, (tt, ((Path.refl, Path.refl, element-copy-out-may-apply record { before = record { before = c .before; has-degree = c .has-degree }; if1 = record { taken = taken } }), λ g. (may-apply-requires record { before = record { before = record { before = c .before; has-degree = c .has-degree }; if1 = record { taken = taken } }; may-apply-arg = record { given = g } }, λ g'. lay6 record { before = record { before = record { before = record { before = c .before; has-degree = c .has-degree }; if1 = record { taken = taken } }; may-apply-arg = record { given = g } }; may-apply = Called.called ps·2 r·2 (claims· .5) T40 (Num.vAt 4 λ x. x, (record { pos = 23; st = L.[]; d = 0; at = λ x. x }, tt)) (m37 record { before = record { before = c .before; has-degree = c .has-degree }; if1 = record { taken = taken } } g) g' })))), λ left. lay9 record { before = record { before = c .before; has-degree = c .has-degree }; if1 = record { came = Logic.inr (Logic.inr record { left = left }) } })
 
         lay4 : (c : In-loop) → at60 (c .before .before .before .blocks) (W3 (c .before .before) (c .before .loop .i)) (m11 (c .before))
-        lay4 = λ c. (tt, ((Path.refl, Path.refl, element-copy-out-has-degree record { before = c .before; loop-test = c .loop-test }), λ g. (mul-has-degree record { before = record { before = c .before; loop-test = c .loop-test }; has-degree-arg = record { given = g }; }, (tt, ((Path.refl, Path.refl, element-copy-out-has-degree-2 record { before = record { before = c .before; loop-test = c .loop-test }; has-degree-arg = record { given = g }; }), λ g'. (has-degree-requires record { before = record { before = record { before = c .before; loop-test = c .loop-test }; has-degree-arg = record { given = g }; }; has-degree-arg2 = record { given = g' }; }, λ g''. lay5 record { before = record { before = record { before = record { before = c .before; loop-test = c .loop-test }; has-degree-arg = record { given = g }; }; has-degree-arg2 = record { given = g' }; }; has-degree = Called.called ps·1 r·1 (claims· .3) T28 (KBool.bAt 12 λ x. x, (Num.vAt 18 λ x. x, (Num.vAt 7 λ x. x, tt))) (m26 record { before = record { before = c .before; loop-test = c .loop-test }; has-degree-arg = record { given = g }; } g') g''; }))))))
+        lay4 = λ c. (tt, ((Path.refl, Path.refl, element-copy-out-has-degree record { before = c .before; loop-test = c .loop-test }), λ g. (mul-has-degree record { before = record { before = c .before; loop-test = c .loop-test }; has-degree-arg = record { given = g } }, (tt, ((Path.refl, Path.refl, element-copy-out-has-degree-2 record { before = record { before = c .before; loop-test = c .loop-test }; has-degree-arg = record { given = g } }), λ g'. (has-degree-requires record { before = record { before = record { before = c .before; loop-test = c .loop-test }; has-degree-arg = record { given = g } }; has-degree-arg2 = record { given = g' } }, λ g''. lay5 record { before = record { before = record { before = record { before = c .before; loop-test = c .loop-test }; has-degree-arg = record { given = g } }; has-degree-arg2 = record { given = g' } }; has-degree = Called.called ps·1 r·1 (claims· .3) T28 (KBool.bAt 12 λ x. x, (Num.vAt 18 λ x. x, (Num.vAt 7 λ x. x, tt))) (m26 record { before = record { before = c .before; loop-test = c .loop-test }; has-degree-arg = record { given = g } } g') g'' }))))))
 
         lay3 : (c : After-loop) → at5 (c .before .before .before .blocks) (W4 (c .before .before) (c .before .loop .i)) (m10 (c .before .before) (c .before .loop .i))
         lay3 = λ c. lay10 record { before = c .before; loop-test = c .loop-test }
@@ -2238,14 +2238,14 @@ module _ (claims· : Claims) where
         lay2 = λ c. lay4 record { before = c .before; loop-test = c .loop-test }
 
         lay1 : (c : After-wanted) → at72 (c .before .blocks) (W0 (c .before .κs) (c .before .args) (c .before .blocks)) (m5 (c .before) (After-wanted·gave c))
-        lay1 = λ c. ((Row.get 8 (T7 .locals) (m6 (c .before) (After-wanted·gave c)), Path.refl {a = m6 (c .before) (After-wanted·gave c)}, loop-holds record { before = c .before; wanted = c .wanted }), λ vs inv. (tt, (λ taken. lay2 record { before = record { before = record { before = c .before; wanted = c .wanted }; loop = record { i = vs; inv = inv }; }; loop-test = record { taken = Tests.leb-true (Row.get 8 (T9 .locals) (m8 record { before = c .before; wanted = c .wanted; } vs)) (Row.get 11 (T9 .locals) (m8 record { before = c .before; wanted = c .wanted; } vs)) taken; }; }, λ left. lay3 record { before = record { before = record { before = c .before; wanted = c .wanted }; loop = record { i = vs; inv = inv }; }; loop-test = record { left = Tests.leb-false (Row.get 8 (T9 .locals) (m8 record { before = c .before; wanted = c .wanted; } vs)) (Row.get 11 (T9 .locals) (m8 record { before = c .before; wanted = c .wanted; } vs)) left; }; })))
+        lay1 = λ c. ((Row.get 8 (T7 .locals) (m6 (c .before) (After-wanted·gave c)), Path.refl {a = m6 (c .before) (After-wanted·gave c)}, loop-holds record { before = c .before; wanted = c .wanted }), λ vs inv. (tt, (λ taken. lay2 record { before = record { before = record { before = c .before; wanted = c .wanted }; loop = record { i = vs; inv = inv } }; loop-test = record { taken = Tests.leb-true (Row.get 8 (T9 .locals) (m8 record { before = c .before; wanted = c .wanted } vs)) (Row.get 11 (T9 .locals) (m8 record { before = c .before; wanted = c .wanted } vs)) taken } }, λ left. lay3 record { before = record { before = record { before = c .before; wanted = c .wanted }; loop = record { i = vs; inv = inv } }; loop-test = record { left = Tests.leb-false (Row.get 8 (T9 .locals) (m8 record { before = c .before; wanted = c .wanted } vs)) (Row.get 11 (T9 .locals) (m8 record { before = c .before; wanted = c .wanted } vs)) left } })))
 
         pub laid : (c : Start) → at77 (c .blocks) (W0 (c .κs) (c .args) (c .blocks)) (m0 (c .κs) (c .args) (c .blocks))
-        laid = λ c. (wanted-requires c, λ g. lay1 record { before = c; wanted = Called.called ps·0 r·0 (claims· .1) T5 (Num.vAt 4 λ x. x, tt) (m4 (c .κs) (c .args) (c .blocks)) g; })
+        laid = λ c. (wanted-requires c, λ g. lay1 record { before = c; wanted = Called.called ps·0 r·0 (claims· .1) T5 (Num.vAt 4 λ x. x, tt) (m4 (c .κs) (c .args) (c .blocks)) g })
 
         module _ (κs : Lifetimes.Lfts 1) (qs : Lifetimes.Shares 1) where
           pub asked : (a : FnKinds.Dens κs ps) → (good : FnKinds.GoodsP κs ps a) → (pre : Pre· κs a) → (bs : L.List Nat.ℕ) → Φ bs (Any.wantQ 1 ps r xs m κs qs a (Post· κs a)) (Function.init 1 ps r xs m κs qs a)
-          asked = λ a good pre bs. laid record { κs = κs; args = record { t1 = a .0; arcs = a .1 .0; t3 = a .1 .1 .0; k = a .1 .1 .1 .0 }; blocks = bs; good = good; fits = record { k = record { fits = good .1 .1 .1 .0 .1 } }; pre = pre; }
+          asked = λ a good pre bs. laid record { κs = κs; args = record { t1 = a .0; arcs = a .1 .0; t3 = a .1 .1 .0; k = a .1 .1 .1 .0 }; blocks = bs; good = good; fits = record { k = record { fits = good .1 .1 .1 .0 .1 } }; pre = pre }
 
         module _ {M : Type 1} (𝓤 : URA.URA M) (H : Wp.Heap 𝓤) (A : Atoms.Atoms 𝓤) (W : Kit.Given 𝓤 H A) (𝓣 : Wp.Tables 𝓤 H) (known0 : Plain.Known 𝓤 H A W 𝓣 0 ps·0 r·0 (claims· .0) (claims· .1) "rules::tried::wanted") (known1 : Plain.Known 𝓤 H A W 𝓣 0 ps·1 r·1 (claims· .2) (claims· .3) "search::scan::has_degree") (known2 : Plain.Known 𝓤 H A W 𝓣 0 ps·2 r·2 (claims· .4) (claims· .5) "rules::tried::may_apply") (known3 : Plain.Known 𝓤 H A W 𝓣 1 ps·3 r·3 (claims· .6) (claims· .7) "search::scan::gather") (known4 : Plain.Known 𝓤 H A W 𝓣 0 ps·4 r·4 (claims· .8) (claims· .9) "rules::tried::at_node") (known5 : Plain.Known 𝓤 H A W 𝓣 0 ps·5 r·5 (claims· .10) (claims· .11) "rules::found::nothing") where
           pub spec : Statement.Triple 𝓤 (Wp.WpFn 𝓤 H (𝓣 .C) (𝓣 .Λ) (Function.fnOf 1 ps r xs m hs body)) (Function.plainOf 𝓤 H A 1 ps r Pre· Post·)

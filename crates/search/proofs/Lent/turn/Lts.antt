@@ -167,10 +167,10 @@ abbrev pub q0 : Syntax.Ty
 q0 = Syntax.tyStruct (L._∷_ 110 (L._∷_ 101 (L._∷_ 116 (L._∷_ 119 (L._∷_ 111 (L._∷_ 114 (L._∷_ 107 (L._∷_ 58 (L._∷_ 58 (L._∷_ 78 (L._∷_ 111 (L._∷_ 100 (L._∷_ 101 (L._∷_ 115 L.[])))))))))))))) (Syntax.tcons (Syntax.tyInt Syntax.w64) (Syntax.tcons (Syntax.tyInt Syntax.w64) (Syntax.tcons (Syntax.tyArray Syntax.tyBool 33) (Syntax.tcons (Syntax.tyArray q4 33) Syntax.tnil))))
 
 abbrev pub ps : L.List (FnKinds.PK 2)
-ps = L._∷_ (Value.pVal record { ty = Declared.row Progress·.the-type; one = Path.refl; val = StructLaws.val Progress·.the-type Progress-Laws·.the-laws; tells = StructLaws.tells Progress·.the-type Progress-Laws·.the-laws; still = StructLaws.still Progress·.the-type Progress-Laws·.the-copy Exit.yes; row = Rows.whole (Declared.row Progress·.the-type); rd = λ x. x; mk = λ x. x; } λ M 𝓤 H A W. record { copies = StructLaws.copy Progress·.the-type Progress-Laws·.the-copy 𝓤 H A W; lawful = StructLaws.lawful Progress·.the-type Progress-Laws·.the-laws 𝓤 H A W; makes = StructLaws.makes Progress·.the-type Progress-Laws·.the-plain 𝓤 H A; in-mem = Local.mem-whole 𝓤 H A W (Declared.row Progress·.the-type); of-mem = Local.whole-mem 𝓤 H A W (Declared.row Progress·.the-type); }) (L._∷_ (MutSlice.pMutS (Signed.SInt Syntax.w32) 0 tt) (L._∷_ (MutSlice.pMutS Rec.row 1 tt) L.[]))
+ps = L._∷_ (Value.pVal record { ty = Declared.row Progress·.the-type; one = Path.refl; val = StructLaws.val Progress·.the-type Progress-Laws·.the-laws; tells = StructLaws.tells Progress·.the-type Progress-Laws·.the-laws; still = StructLaws.still Progress·.the-type Progress-Laws·.the-copy Exit.yes; row = Rows.whole (Declared.row Progress·.the-type); rd = λ x. x; mk = λ x. x } λ M 𝓤 H A W. record { copies = StructLaws.copy Progress·.the-type Progress-Laws·.the-copy 𝓤 H A W; lawful = StructLaws.lawful Progress·.the-type Progress-Laws·.the-laws 𝓤 H A W; makes = StructLaws.makes Progress·.the-type Progress-Laws·.the-plain 𝓤 H A; in-mem = Local.mem-whole 𝓤 H A W (Declared.row Progress·.the-type); of-mem = Local.whole-mem 𝓤 H A W (Declared.row Progress·.the-type) }) (L._∷_ (MutSlice.pMutS (Signed.SInt Syntax.w32) 0 tt) (L._∷_ (MutSlice.pMutS Rec.row 1 tt) L.[]))
 
 abbrev pub r : FnKinds.RK 2
-r = Value.rVal record { ty = Declared.row Progress·.the-type; one = Path.refl; val = StructLaws.val Progress·.the-type Progress-Laws·.the-laws; tells = StructLaws.tells Progress·.the-type Progress-Laws·.the-laws; still = StructLaws.still Progress·.the-type Progress-Laws·.the-copy Exit.yes; row = Rows.whole (Declared.row Progress·.the-type); rd = λ x. x; mk = λ x. x; } λ M 𝓤 H A W. record { copies = StructLaws.copy Progress·.the-type Progress-Laws·.the-copy 𝓤 H A W; lawful = StructLaws.lawful Progress·.the-type Progress-Laws·.the-laws 𝓤 H A W; makes = StructLaws.makes Progress·.the-type Progress-Laws·.the-plain 𝓤 H A; in-mem = Local.mem-whole 𝓤 H A W (Declared.row Progress·.the-type); of-mem = Local.whole-mem 𝓤 H A W (Declared.row Progress·.the-type); }
+r = Value.rVal record { ty = Declared.row Progress·.the-type; one = Path.refl; val = StructLaws.val Progress·.the-type Progress-Laws·.the-laws; tells = StructLaws.tells Progress·.the-type Progress-Laws·.the-laws; still = StructLaws.still Progress·.the-type Progress-Laws·.the-copy Exit.yes; row = Rows.whole (Declared.row Progress·.the-type); rd = λ x. x; mk = λ x. x } λ M 𝓤 H A W. record { copies = StructLaws.copy Progress·.the-type Progress-Laws·.the-copy 𝓤 H A W; lawful = StructLaws.lawful Progress·.the-type Progress-Laws·.the-laws 𝓤 H A W; makes = StructLaws.makes Progress·.the-type Progress-Laws·.the-plain 𝓤 H A; in-mem = Local.mem-whole 𝓤 H A W (Declared.row Progress·.the-type); of-mem = Local.whole-mem 𝓤 H A W (Declared.row Progress·.the-type) }
 
 abbrev pub xs : L.List Syntax.Ty
 xs = L._∷_ (Syntax.tyStruct (L._∷_ 114 (L._∷_ 117 (L._∷_ 108 (L._∷_ 101 (L._∷_ 115 (L._∷_ 58 (L._∷_ 58 (L._∷_ 116 (L._∷_ 114 (L._∷_ 105 (L._∷_ 101 (L._∷_ 100 (L._∷_ 58 (L._∷_ 58 (L._∷_ 76 (L._∷_ 111 (L._∷_ 111 (L._∷_ 107 (L._∷_ 101 (L._∷_ 100 L.[])))))))))))))))))))) (Syntax.tcons (Syntax.tyStruct (L._∷_ 114 (L._∷_ 117 (L._∷_ 108 (L._∷_ 101 (L._∷_ 115 (L._∷_ 58 (L._∷_ 58 (L._∷_ 102 (L._∷_ 111 (L._∷_ 117 (L._∷_ 110 (L._∷_ 100 (L._∷_ 58 (L._∷_ 58 (L._∷_ 70 (L._∷_ 111 (L._∷_ 117 (L._∷_ 110 (L._∷_ 100 L.[]))))))))))))))))))) (Syntax.tcons Syntax.tyBool (Syntax.tcons Syntax.tyBool (Syntax.tcons (Syntax.tyStruct (L._∷_ 115 (L._∷_ 116 (L._∷_ 101 (L._∷_ 112 (L._∷_ 58 (L._∷_ 58 (L._∷_ 83 (L._∷_ 116 (L._∷_ 101 (L._∷_ 112 L.[])))))))))) (Syntax.tcons (Syntax.tyInt Syntax.w64) (Syntax.tcons (Syntax.tyInt Syntax.w64) (Syntax.tcons (Syntax.tyStruct (L._∷_ 115 (L._∷_ 116 (L._∷_ 101 (L._∷_ 112 (L._∷_ 58 (L._∷_ 58 (L._∷_ 67 (L._∷_ 104 (L._∷_ 97 (L._∷_ 110 (L._∷_ 103 (L._∷_ 101 L.[])))))))))))) (Syntax.tcons (Syntax.tyStruct (L._∷_ 110 (L._∷_ 101 (L._∷_ 116 (L._∷_ 119 (L._∷_ 111 (L._∷_ 114 (L._∷_ 107 (L._∷_ 58 (L._∷_ 58 (L._∷_ 69 (L._∷_ 100 (L._∷_ 105 (L._∷_ 116 L.[]))))))))))))) (Syntax.tcons q5 (Syntax.tcons q5 (Syntax.tcons q5 (Syntax.tcons q5 (Syntax.tcons q1 (Syntax.tcons q1 (Syntax.tcons (Syntax.tyInt Syntax.w64) Syntax.tnil)))))))) (Syntax.tcons (Syntax.tyStruct (L._∷_ 115 (L._∷_ 116 (L._∷_ 101 (L._∷_ 112 (L._∷_ 58 (L._∷_ 58 (L._∷_ 79 (L._∷_ 108 (L._∷_ 100 L.[]))))))))) (Syntax.tcons (Syntax.tyInt Syntax.w64) (Syntax.tcons q4 (Syntax.tcons q5 (Syntax.tcons q5 (Syntax.tcons q5 (Syntax.tcons q5 (Syntax.tcons q2 Syntax.tnil)))))))) Syntax.tnil))) Syntax.tnil)))) Syntax.tnil)))) (Syntax.tcons q3 Syntax.tnil))) (L._∷_ q29 (L._∷_ q10 (L._∷_ (Syntax.tyInt Syntax.w8) (L._∷_ Syntax.tyUnit (L._∷_ q30 (L._∷_ q11 (L._∷_ (Syntax.tyStruct (L._∷_ 110 (L._∷_ 101 (L._∷_ 116 (L._∷_ 119 (L._∷_ 111 (L._∷_ 114 (L._∷_ 107 (L._∷_ 58 (L._∷_ 58 (L._∷_ 69 (L._∷_ 100 (L._∷_ 105 (L._∷_ 116 L.[]))))))))))))) (Syntax.tcons q5 (Syntax.tcons q5 (Syntax.tcons q5 (Syntax.tcons q5 (Syntax.tcons q1 (Syntax.tcons q1 (Syntax.tcons (Syntax.tyInt Syntax.w64) Syntax.tnil)))))))) (L._∷_ q26 (L._∷_ q9 L.[])))))))))
@@ -179,40 +179,40 @@ abbrev pub m : Nat.ℕ
 m = 3
 
 abbrev pub ps·0 : L.List (FnKinds.PK 0)
-ps·0 = L._∷_ (Value.pVal record { ty = Declared.row Progress·.the-type; one = Path.refl; val = StructLaws.val Progress·.the-type Progress-Laws·.the-laws; tells = StructLaws.tells Progress·.the-type Progress-Laws·.the-laws; still = StructLaws.still Progress·.the-type Progress-Laws·.the-copy Exit.yes; row = Rows.whole (Declared.row Progress·.the-type); rd = λ x. x; mk = λ x. x; } λ M 𝓤 H A W. record { copies = StructLaws.copy Progress·.the-type Progress-Laws·.the-copy 𝓤 H A W; lawful = StructLaws.lawful Progress·.the-type Progress-Laws·.the-laws 𝓤 H A W; makes = StructLaws.makes Progress·.the-type Progress-Laws·.the-plain 𝓤 H A; in-mem = Local.mem-whole 𝓤 H A W (Declared.row Progress·.the-type); of-mem = Local.whole-mem 𝓤 H A W (Declared.row Progress·.the-type); }) L.[]
+ps·0 = L._∷_ (Value.pVal record { ty = Declared.row Progress·.the-type; one = Path.refl; val = StructLaws.val Progress·.the-type Progress-Laws·.the-laws; tells = StructLaws.tells Progress·.the-type Progress-Laws·.the-laws; still = StructLaws.still Progress·.the-type Progress-Laws·.the-copy Exit.yes; row = Rows.whole (Declared.row Progress·.the-type); rd = λ x. x; mk = λ x. x } λ M 𝓤 H A W. record { copies = StructLaws.copy Progress·.the-type Progress-Laws·.the-copy 𝓤 H A W; lawful = StructLaws.lawful Progress·.the-type Progress-Laws·.the-laws 𝓤 H A W; makes = StructLaws.makes Progress·.the-type Progress-Laws·.the-plain 𝓤 H A; in-mem = Local.mem-whole 𝓤 H A W (Declared.row Progress·.the-type); of-mem = Local.whole-mem 𝓤 H A W (Declared.row Progress·.the-type) }) L.[]
 
 abbrev pub r·0 : FnKinds.RK 0
 r·0 = Num.rNum Syntax.w8
 
 abbrev pub ps·1 : L.List (FnKinds.PK 1)
-ps·1 = L._∷_ (Value.pVal record { ty = Declared.row network-proofs-Nodes·.the-type; one = Path.refl; val = StructLaws.val network-proofs-Nodes·.the-type network-proofs-Nodes-Laws·.the-laws; tells = StructLaws.tells network-proofs-Nodes·.the-type network-proofs-Nodes-Laws·.the-laws; still = StructLaws.still network-proofs-Nodes·.the-type network-proofs-Nodes-Laws·.the-copy Exit.yes; row = Rows.whole (Declared.row network-proofs-Nodes·.the-type); rd = λ x. x; mk = λ x. x; } λ M 𝓤 H A W. record { copies = StructLaws.copy network-proofs-Nodes·.the-type network-proofs-Nodes-Laws·.the-copy 𝓤 H A W; lawful = StructLaws.lawful network-proofs-Nodes·.the-type network-proofs-Nodes-Laws·.the-laws 𝓤 H A W; makes = StructLaws.makes network-proofs-Nodes·.the-type network-proofs-Nodes-Laws·.the-plain 𝓤 H A; in-mem = Local.mem-whole 𝓤 H A W (Declared.row network-proofs-Nodes·.the-type); of-mem = Local.whole-mem 𝓤 H A W (Declared.row network-proofs-Nodes·.the-type); }) (L._∷_ (ShrSlice.pShrS Rec.row 0 tt) (L._∷_ (Value.pVal record { ty = Declared.row costly-arc-proofs-Seen·.the-type; one = Path.refl; val = StructLaws.val costly-arc-proofs-Seen·.the-type costly-arc-proofs-Seen-Laws·.the-laws; tells = StructLaws.tells costly-arc-proofs-Seen·.the-type costly-arc-proofs-Seen-Laws·.the-laws; still = StructLaws.still costly-arc-proofs-Seen·.the-type costly-arc-proofs-Seen-Laws·.the-copy Exit.yes; row = Rows.whole (Declared.row costly-arc-proofs-Seen·.the-type); rd = λ x. x; mk = λ x. x; } λ M 𝓤 H A W. record { copies = StructLaws.copy costly-arc-proofs-Seen·.the-type costly-arc-proofs-Seen-Laws·.the-copy 𝓤 H A W; lawful = StructLaws.lawful costly-arc-proofs-Seen·.the-type costly-arc-proofs-Seen-Laws·.the-laws 𝓤 H A W; makes = StructLaws.makes costly-arc-proofs-Seen·.the-type costly-arc-proofs-Seen-Laws·.the-plain 𝓤 H A; in-mem = Local.mem-whole 𝓤 H A W (Declared.row costly-arc-proofs-Seen·.the-type); of-mem = Local.whole-mem 𝓤 H A W (Declared.row costly-arc-proofs-Seen·.the-type); }) (L._∷_ (Num.pNum Syntax.w8) L.[])))
+ps·1 = L._∷_ (Value.pVal record { ty = Declared.row network-proofs-Nodes·.the-type; one = Path.refl; val = StructLaws.val network-proofs-Nodes·.the-type network-proofs-Nodes-Laws·.the-laws; tells = StructLaws.tells network-proofs-Nodes·.the-type network-proofs-Nodes-Laws·.the-laws; still = StructLaws.still network-proofs-Nodes·.the-type network-proofs-Nodes-Laws·.the-copy Exit.yes; row = Rows.whole (Declared.row network-proofs-Nodes·.the-type); rd = λ x. x; mk = λ x. x } λ M 𝓤 H A W. record { copies = StructLaws.copy network-proofs-Nodes·.the-type network-proofs-Nodes-Laws·.the-copy 𝓤 H A W; lawful = StructLaws.lawful network-proofs-Nodes·.the-type network-proofs-Nodes-Laws·.the-laws 𝓤 H A W; makes = StructLaws.makes network-proofs-Nodes·.the-type network-proofs-Nodes-Laws·.the-plain 𝓤 H A; in-mem = Local.mem-whole 𝓤 H A W (Declared.row network-proofs-Nodes·.the-type); of-mem = Local.whole-mem 𝓤 H A W (Declared.row network-proofs-Nodes·.the-type) }) (L._∷_ (ShrSlice.pShrS Rec.row 0 tt) (L._∷_ (Value.pVal record { ty = Declared.row costly-arc-proofs-Seen·.the-type; one = Path.refl; val = StructLaws.val costly-arc-proofs-Seen·.the-type costly-arc-proofs-Seen-Laws·.the-laws; tells = StructLaws.tells costly-arc-proofs-Seen·.the-type costly-arc-proofs-Seen-Laws·.the-laws; still = StructLaws.still costly-arc-proofs-Seen·.the-type costly-arc-proofs-Seen-Laws·.the-copy Exit.yes; row = Rows.whole (Declared.row costly-arc-proofs-Seen·.the-type); rd = λ x. x; mk = λ x. x } λ M 𝓤 H A W. record { copies = StructLaws.copy costly-arc-proofs-Seen·.the-type costly-arc-proofs-Seen-Laws·.the-copy 𝓤 H A W; lawful = StructLaws.lawful costly-arc-proofs-Seen·.the-type costly-arc-proofs-Seen-Laws·.the-laws 𝓤 H A W; makes = StructLaws.makes costly-arc-proofs-Seen·.the-type costly-arc-proofs-Seen-Laws·.the-plain 𝓤 H A; in-mem = Local.mem-whole 𝓤 H A W (Declared.row costly-arc-proofs-Seen·.the-type); of-mem = Local.whole-mem 𝓤 H A W (Declared.row costly-arc-proofs-Seen·.the-type) }) (L._∷_ (Num.pNum Syntax.w8) L.[])))
 
 abbrev pub r·1 : FnKinds.RK 1
-r·1 = Value.rVal record { ty = Declared.row rules-proofs-tried-Looked·.the-type; one = Path.refl; val = StructLaws.val rules-proofs-tried-Looked·.the-type rules-proofs-tried-Looked-Laws·.the-laws; tells = StructLaws.tells rules-proofs-tried-Looked·.the-type rules-proofs-tried-Looked-Laws·.the-laws; still = StructLaws.still rules-proofs-tried-Looked·.the-type rules-proofs-tried-Looked-Laws·.the-copy Exit.yes; row = Rows.whole (Declared.row rules-proofs-tried-Looked·.the-type); rd = λ x. x; mk = λ x. x; } λ M 𝓤 H A W. record { copies = StructLaws.copy rules-proofs-tried-Looked·.the-type rules-proofs-tried-Looked-Laws·.the-copy 𝓤 H A W; lawful = StructLaws.lawful rules-proofs-tried-Looked·.the-type rules-proofs-tried-Looked-Laws·.the-laws 𝓤 H A W; makes = StructLaws.makes rules-proofs-tried-Looked·.the-type rules-proofs-tried-Looked-Laws·.the-plain 𝓤 H A; in-mem = Local.mem-whole 𝓤 H A W (Declared.row rules-proofs-tried-Looked·.the-type); of-mem = Local.whole-mem 𝓤 H A W (Declared.row rules-proofs-tried-Looked·.the-type); }
+r·1 = Value.rVal record { ty = Declared.row rules-proofs-tried-Looked·.the-type; one = Path.refl; val = StructLaws.val rules-proofs-tried-Looked·.the-type rules-proofs-tried-Looked-Laws·.the-laws; tells = StructLaws.tells rules-proofs-tried-Looked·.the-type rules-proofs-tried-Looked-Laws·.the-laws; still = StructLaws.still rules-proofs-tried-Looked·.the-type rules-proofs-tried-Looked-Laws·.the-copy Exit.yes; row = Rows.whole (Declared.row rules-proofs-tried-Looked·.the-type); rd = λ x. x; mk = λ x. x } λ M 𝓤 H A W. record { copies = StructLaws.copy rules-proofs-tried-Looked·.the-type rules-proofs-tried-Looked-Laws·.the-copy 𝓤 H A W; lawful = StructLaws.lawful rules-proofs-tried-Looked·.the-type rules-proofs-tried-Looked-Laws·.the-laws 𝓤 H A W; makes = StructLaws.makes rules-proofs-tried-Looked·.the-type rules-proofs-tried-Looked-Laws·.the-plain 𝓤 H A; in-mem = Local.mem-whole 𝓤 H A W (Declared.row rules-proofs-tried-Looked·.the-type); of-mem = Local.whole-mem 𝓤 H A W (Declared.row rules-proofs-tried-Looked·.the-type) }
 
 abbrev pub ps·2 : L.List (FnKinds.PK 0)
-ps·2 = L._∷_ (Value.pVal record { ty = Declared.row rules-proofs-tried-Looked·.the-type; one = Path.refl; val = StructLaws.val rules-proofs-tried-Looked·.the-type rules-proofs-tried-Looked-Laws·.the-laws; tells = StructLaws.tells rules-proofs-tried-Looked·.the-type rules-proofs-tried-Looked-Laws·.the-laws; still = StructLaws.still rules-proofs-tried-Looked·.the-type rules-proofs-tried-Looked-Laws·.the-copy Exit.yes; row = Rows.whole (Declared.row rules-proofs-tried-Looked·.the-type); rd = λ x. x; mk = λ x. x; } λ M 𝓤 H A W. record { copies = StructLaws.copy rules-proofs-tried-Looked·.the-type rules-proofs-tried-Looked-Laws·.the-copy 𝓤 H A W; lawful = StructLaws.lawful rules-proofs-tried-Looked·.the-type rules-proofs-tried-Looked-Laws·.the-laws 𝓤 H A W; makes = StructLaws.makes rules-proofs-tried-Looked·.the-type rules-proofs-tried-Looked-Laws·.the-plain 𝓤 H A; in-mem = Local.mem-whole 𝓤 H A W (Declared.row rules-proofs-tried-Looked·.the-type); of-mem = Local.whole-mem 𝓤 H A W (Declared.row rules-proofs-tried-Looked·.the-type); }) L.[]
+ps·2 = L._∷_ (Value.pVal record { ty = Declared.row rules-proofs-tried-Looked·.the-type; one = Path.refl; val = StructLaws.val rules-proofs-tried-Looked·.the-type rules-proofs-tried-Looked-Laws·.the-laws; tells = StructLaws.tells rules-proofs-tried-Looked·.the-type rules-proofs-tried-Looked-Laws·.the-laws; still = StructLaws.still rules-proofs-tried-Looked·.the-type rules-proofs-tried-Looked-Laws·.the-copy Exit.yes; row = Rows.whole (Declared.row rules-proofs-tried-Looked·.the-type); rd = λ x. x; mk = λ x. x } λ M 𝓤 H A W. record { copies = StructLaws.copy rules-proofs-tried-Looked·.the-type rules-proofs-tried-Looked-Laws·.the-copy 𝓤 H A W; lawful = StructLaws.lawful rules-proofs-tried-Looked·.the-type rules-proofs-tried-Looked-Laws·.the-laws 𝓤 H A W; makes = StructLaws.makes rules-proofs-tried-Looked·.the-type rules-proofs-tried-Looked-Laws·.the-plain 𝓤 H A; in-mem = Local.mem-whole 𝓤 H A W (Declared.row rules-proofs-tried-Looked·.the-type); of-mem = Local.whole-mem 𝓤 H A W (Declared.row rules-proofs-tried-Looked·.the-type) }) L.[]
 
 abbrev pub r·2 : FnKinds.RK 0
-r·2 = Value.rVal record { ty = Declared.row network-proofs-Edit·.the-type; one = Path.refl; val = StructLaws.val network-proofs-Edit·.the-type network-proofs-Edit-Laws·.the-laws; tells = StructLaws.tells network-proofs-Edit·.the-type network-proofs-Edit-Laws·.the-laws; still = StructLaws.still network-proofs-Edit·.the-type network-proofs-Edit-Laws·.the-copy Exit.yes; row = Rows.whole (Declared.row network-proofs-Edit·.the-type); rd = λ x. x; mk = λ x. x; } λ M 𝓤 H A W. record { copies = StructLaws.copy network-proofs-Edit·.the-type network-proofs-Edit-Laws·.the-copy 𝓤 H A W; lawful = StructLaws.lawful network-proofs-Edit·.the-type network-proofs-Edit-Laws·.the-laws 𝓤 H A W; makes = StructLaws.makes network-proofs-Edit·.the-type network-proofs-Edit-Laws·.the-plain 𝓤 H A; in-mem = Local.mem-whole 𝓤 H A W (Declared.row network-proofs-Edit·.the-type); of-mem = Local.whole-mem 𝓤 H A W (Declared.row network-proofs-Edit·.the-type); }
+r·2 = Value.rVal record { ty = Declared.row network-proofs-Edit·.the-type; one = Path.refl; val = StructLaws.val network-proofs-Edit·.the-type network-proofs-Edit-Laws·.the-laws; tells = StructLaws.tells network-proofs-Edit·.the-type network-proofs-Edit-Laws·.the-laws; still = StructLaws.still network-proofs-Edit·.the-type network-proofs-Edit-Laws·.the-copy Exit.yes; row = Rows.whole (Declared.row network-proofs-Edit·.the-type); rd = λ x. x; mk = λ x. x } λ M 𝓤 H A W. record { copies = StructLaws.copy network-proofs-Edit·.the-type network-proofs-Edit-Laws·.the-copy 𝓤 H A W; lawful = StructLaws.lawful network-proofs-Edit·.the-type network-proofs-Edit-Laws·.the-laws 𝓤 H A W; makes = StructLaws.makes network-proofs-Edit·.the-type network-proofs-Edit-Laws·.the-plain 𝓤 H A; in-mem = Local.mem-whole 𝓤 H A W (Declared.row network-proofs-Edit·.the-type); of-mem = Local.whole-mem 𝓤 H A W (Declared.row network-proofs-Edit·.the-type) }
 
 abbrev pub ps·3 : L.List (FnKinds.PK 1)
-ps·3 = L._∷_ (MutSlice.pMutS Rec.row 0 tt) (L._∷_ (Value.pVal record { ty = Declared.row network-proofs-Edit·.the-type; one = Path.refl; val = StructLaws.val network-proofs-Edit·.the-type network-proofs-Edit-Laws·.the-laws; tells = StructLaws.tells network-proofs-Edit·.the-type network-proofs-Edit-Laws·.the-laws; still = StructLaws.still network-proofs-Edit·.the-type network-proofs-Edit-Laws·.the-copy Exit.yes; row = Rows.whole (Declared.row network-proofs-Edit·.the-type); rd = λ x. x; mk = λ x. x; } λ M 𝓤 H A W. record { copies = StructLaws.copy network-proofs-Edit·.the-type network-proofs-Edit-Laws·.the-copy 𝓤 H A W; lawful = StructLaws.lawful network-proofs-Edit·.the-type network-proofs-Edit-Laws·.the-laws 𝓤 H A W; makes = StructLaws.makes network-proofs-Edit·.the-type network-proofs-Edit-Laws·.the-plain 𝓤 H A; in-mem = Local.mem-whole 𝓤 H A W (Declared.row network-proofs-Edit·.the-type); of-mem = Local.whole-mem 𝓤 H A W (Declared.row network-proofs-Edit·.the-type); }) L.[])
+ps·3 = L._∷_ (MutSlice.pMutS Rec.row 0 tt) (L._∷_ (Value.pVal record { ty = Declared.row network-proofs-Edit·.the-type; one = Path.refl; val = StructLaws.val network-proofs-Edit·.the-type network-proofs-Edit-Laws·.the-laws; tells = StructLaws.tells network-proofs-Edit·.the-type network-proofs-Edit-Laws·.the-laws; still = StructLaws.still network-proofs-Edit·.the-type network-proofs-Edit-Laws·.the-copy Exit.yes; row = Rows.whole (Declared.row network-proofs-Edit·.the-type); rd = λ x. x; mk = λ x. x } λ M 𝓤 H A W. record { copies = StructLaws.copy network-proofs-Edit·.the-type network-proofs-Edit-Laws·.the-copy 𝓤 H A W; lawful = StructLaws.lawful network-proofs-Edit·.the-type network-proofs-Edit-Laws·.the-laws 𝓤 H A W; makes = StructLaws.makes network-proofs-Edit·.the-type network-proofs-Edit-Laws·.the-plain 𝓤 H A; in-mem = Local.mem-whole 𝓤 H A W (Declared.row network-proofs-Edit·.the-type); of-mem = Local.whole-mem 𝓤 H A W (Declared.row network-proofs-Edit·.the-type) }) L.[])
 
 abbrev pub r·3 : FnKinds.RK 1
 r·3 = KUnit.rUnit
 
 abbrev pub ps·4 : L.List (FnKinds.PK 1)
-ps·4 = L._∷_ (MutSlice.pMutS (Signed.SInt Syntax.w32) 0 tt) (L._∷_ (Num.pNum Syntax.w64) (L._∷_ (Value.pVal record { ty = Declared.row rules-proofs-tried-Looked·.the-type; one = Path.refl; val = StructLaws.val rules-proofs-tried-Looked·.the-type rules-proofs-tried-Looked-Laws·.the-laws; tells = StructLaws.tells rules-proofs-tried-Looked·.the-type rules-proofs-tried-Looked-Laws·.the-laws; still = StructLaws.still rules-proofs-tried-Looked·.the-type rules-proofs-tried-Looked-Laws·.the-copy Exit.yes; row = Rows.whole (Declared.row rules-proofs-tried-Looked·.the-type); rd = λ x. x; mk = λ x. x; } λ M 𝓤 H A W. record { copies = StructLaws.copy rules-proofs-tried-Looked·.the-type rules-proofs-tried-Looked-Laws·.the-copy 𝓤 H A W; lawful = StructLaws.lawful rules-proofs-tried-Looked·.the-type rules-proofs-tried-Looked-Laws·.the-laws 𝓤 H A W; makes = StructLaws.makes rules-proofs-tried-Looked·.the-type rules-proofs-tried-Looked-Laws·.the-plain 𝓤 H A; in-mem = Local.mem-whole 𝓤 H A W (Declared.row rules-proofs-tried-Looked·.the-type); of-mem = Local.whole-mem 𝓤 H A W (Declared.row rules-proofs-tried-Looked·.the-type); }) L.[]))
+ps·4 = L._∷_ (MutSlice.pMutS (Signed.SInt Syntax.w32) 0 tt) (L._∷_ (Num.pNum Syntax.w64) (L._∷_ (Value.pVal record { ty = Declared.row rules-proofs-tried-Looked·.the-type; one = Path.refl; val = StructLaws.val rules-proofs-tried-Looked·.the-type rules-proofs-tried-Looked-Laws·.the-laws; tells = StructLaws.tells rules-proofs-tried-Looked·.the-type rules-proofs-tried-Looked-Laws·.the-laws; still = StructLaws.still rules-proofs-tried-Looked·.the-type rules-proofs-tried-Looked-Laws·.the-copy Exit.yes; row = Rows.whole (Declared.row rules-proofs-tried-Looked·.the-type); rd = λ x. x; mk = λ x. x } λ M 𝓤 H A W. record { copies = StructLaws.copy rules-proofs-tried-Looked·.the-type rules-proofs-tried-Looked-Laws·.the-copy 𝓤 H A W; lawful = StructLaws.lawful rules-proofs-tried-Looked·.the-type rules-proofs-tried-Looked-Laws·.the-laws 𝓤 H A W; makes = StructLaws.makes rules-proofs-tried-Looked·.the-type rules-proofs-tried-Looked-Laws·.the-plain 𝓤 H A; in-mem = Local.mem-whole 𝓤 H A W (Declared.row rules-proofs-tried-Looked·.the-type); of-mem = Local.whole-mem 𝓤 H A W (Declared.row rules-proofs-tried-Looked·.the-type) }) L.[]))
 
 abbrev pub r·4 : FnKinds.RK 1
 r·4 = KUnit.rUnit
 
 abbrev pub ps·5 : L.List (FnKinds.PK 0)
-ps·5 = L._∷_ (Value.pVal record { ty = Declared.row Progress·.the-type; one = Path.refl; val = StructLaws.val Progress·.the-type Progress-Laws·.the-laws; tells = StructLaws.tells Progress·.the-type Progress-Laws·.the-laws; still = StructLaws.still Progress·.the-type Progress-Laws·.the-copy Exit.yes; row = Rows.whole (Declared.row Progress·.the-type); rd = λ x. x; mk = λ x. x; } λ M 𝓤 H A W. record { copies = StructLaws.copy Progress·.the-type Progress-Laws·.the-copy 𝓤 H A W; lawful = StructLaws.lawful Progress·.the-type Progress-Laws·.the-laws 𝓤 H A W; makes = StructLaws.makes Progress·.the-type Progress-Laws·.the-plain 𝓤 H A; in-mem = Local.mem-whole 𝓤 H A W (Declared.row Progress·.the-type); of-mem = Local.whole-mem 𝓤 H A W (Declared.row Progress·.the-type); }) (L._∷_ (Value.pVal record { ty = Declared.row rules-proofs-tried-Looked·.the-type; one = Path.refl; val = StructLaws.val rules-proofs-tried-Looked·.the-type rules-proofs-tried-Looked-Laws·.the-laws; tells = StructLaws.tells rules-proofs-tried-Looked·.the-type rules-proofs-tried-Looked-Laws·.the-laws; still = StructLaws.still rules-proofs-tried-Looked·.the-type rules-proofs-tried-Looked-Laws·.the-copy Exit.yes; row = Rows.whole (Declared.row rules-proofs-tried-Looked·.the-type); rd = λ x. x; mk = λ x. x; } λ M 𝓤 H A W. record { copies = StructLaws.copy rules-proofs-tried-Looked·.the-type rules-proofs-tried-Looked-Laws·.the-copy 𝓤 H A W; lawful = StructLaws.lawful rules-proofs-tried-Looked·.the-type rules-proofs-tried-Looked-Laws·.the-laws 𝓤 H A W; makes = StructLaws.makes rules-proofs-tried-Looked·.the-type rules-proofs-tried-Looked-Laws·.the-plain 𝓤 H A; in-mem = Local.mem-whole 𝓤 H A W (Declared.row rules-proofs-tried-Looked·.the-type); of-mem = Local.whole-mem 𝓤 H A W (Declared.row rules-proofs-tried-Looked·.the-type); }) L.[])
+ps·5 = L._∷_ (Value.pVal record { ty = Declared.row Progress·.the-type; one = Path.refl; val = StructLaws.val Progress·.the-type Progress-Laws·.the-laws; tells = StructLaws.tells Progress·.the-type Progress-Laws·.the-laws; still = StructLaws.still Progress·.the-type Progress-Laws·.the-copy Exit.yes; row = Rows.whole (Declared.row Progress·.the-type); rd = λ x. x; mk = λ x. x } λ M 𝓤 H A W. record { copies = StructLaws.copy Progress·.the-type Progress-Laws·.the-copy 𝓤 H A W; lawful = StructLaws.lawful Progress·.the-type Progress-Laws·.the-laws 𝓤 H A W; makes = StructLaws.makes Progress·.the-type Progress-Laws·.the-plain 𝓤 H A; in-mem = Local.mem-whole 𝓤 H A W (Declared.row Progress·.the-type); of-mem = Local.whole-mem 𝓤 H A W (Declared.row Progress·.the-type) }) (L._∷_ (Value.pVal record { ty = Declared.row rules-proofs-tried-Looked·.the-type; one = Path.refl; val = StructLaws.val rules-proofs-tried-Looked·.the-type rules-proofs-tried-Looked-Laws·.the-laws; tells = StructLaws.tells rules-proofs-tried-Looked·.the-type rules-proofs-tried-Looked-Laws·.the-laws; still = StructLaws.still rules-proofs-tried-Looked·.the-type rules-proofs-tried-Looked-Laws·.the-copy Exit.yes; row = Rows.whole (Declared.row rules-proofs-tried-Looked·.the-type); rd = λ x. x; mk = λ x. x } λ M 𝓤 H A W. record { copies = StructLaws.copy rules-proofs-tried-Looked·.the-type rules-proofs-tried-Looked-Laws·.the-copy 𝓤 H A W; lawful = StructLaws.lawful rules-proofs-tried-Looked·.the-type rules-proofs-tried-Looked-Laws·.the-laws 𝓤 H A W; makes = StructLaws.makes rules-proofs-tried-Looked·.the-type rules-proofs-tried-Looked-Laws·.the-plain 𝓤 H A; in-mem = Local.mem-whole 𝓤 H A W (Declared.row rules-proofs-tried-Looked·.the-type); of-mem = Local.whole-mem 𝓤 H A W (Declared.row rules-proofs-tried-Looked·.the-type) }) L.[])
 
 abbrev pub r·5 : FnKinds.RK 0
-r·5 = Value.rVal record { ty = Declared.row Progress·.the-type; one = Path.refl; val = StructLaws.val Progress·.the-type Progress-Laws·.the-laws; tells = StructLaws.tells Progress·.the-type Progress-Laws·.the-laws; still = StructLaws.still Progress·.the-type Progress-Laws·.the-copy Exit.yes; row = Rows.whole (Declared.row Progress·.the-type); rd = λ x. x; mk = λ x. x; } λ M 𝓤 H A W. record { copies = StructLaws.copy Progress·.the-type Progress-Laws·.the-copy 𝓤 H A W; lawful = StructLaws.lawful Progress·.the-type Progress-Laws·.the-laws 𝓤 H A W; makes = StructLaws.makes Progress·.the-type Progress-Laws·.the-plain 𝓤 H A; in-mem = Local.mem-whole 𝓤 H A W (Declared.row Progress·.the-type); of-mem = Local.whole-mem 𝓤 H A W (Declared.row Progress·.the-type); }
+r·5 = Value.rVal record { ty = Declared.row Progress·.the-type; one = Path.refl; val = StructLaws.val Progress·.the-type Progress-Laws·.the-laws; tells = StructLaws.tells Progress·.the-type Progress-Laws·.the-laws; still = StructLaws.still Progress·.the-type Progress-Laws·.the-copy Exit.yes; row = Rows.whole (Declared.row Progress·.the-type); rd = λ x. x; mk = λ x. x } λ M 𝓤 H A W. record { copies = StructLaws.copy Progress·.the-type Progress-Laws·.the-copy 𝓤 H A W; lawful = StructLaws.lawful Progress·.the-type Progress-Laws·.the-laws 𝓤 H A W; makes = StructLaws.makes Progress·.the-type Progress-Laws·.the-plain 𝓤 H A; in-mem = Local.mem-whole 𝓤 H A W (Declared.row Progress·.the-type); of-mem = Local.whole-mem 𝓤 H A W (Declared.row Progress·.the-type) }
 
 abbrev pub hs : L.List Syntax.Home
 hs = L._∷_ Syntax.valueLocal (L._∷_ Syntax.valueLocal (L._∷_ Syntax.valueLocal (L._∷_ Syntax.valueLocal (L._∷_ Syntax.valueLocal (L._∷_ Syntax.valueLocal (L._∷_ Syntax.valueLocal (L._∷_ Syntax.valueLocal (L._∷_ Syntax.valueLocal (L._∷_ Syntax.valueLocal (L._∷_ Syntax.valueLocal (L._∷_ Syntax.valueLocal (L._∷_ Syntax.valueLocal (L._∷_ Syntax.valueLocal L.[])))))))))))))
@@ -447,7 +447,7 @@ module _ (claims· : Claims) where
   s3 = Call.callB ps·0 r·0 (claims· .0) (claims· .1) T4 (record { pos = 1; st = L.[]; d = 0; at = λ x. x }, tt) 7 L.[] (Syntax.tyInt Syntax.w8)
 
   abbrev s4 : Typed.Both T5 T6
-  s4 = Call.callB ps·1 r·1 (claims· .2) (claims· .3) T5 (record { pos = 1; st = L._∷_ (Syntax.field 0) L.[]; d = 0; at = λ x. Progress·.struct .as-values x .0; }, (record { pos = 6; ty = Syntax.tyRef Syntax.erased Syntax.imm Rec.named; ref = λ x. x; }, (record { pos = 1; st = L._∷_ (Syntax.field 2) L.[]; d = 328; at = λ x. Progress·.struct .as-values x .1 .1 .0; }, (Num.vAt 7 λ x. x, tt)))) 4 (L._∷_ 2 L.[]) (Syntax.tyStruct (L._∷_ 114 (L._∷_ 117 (L._∷_ 108 (L._∷_ 101 (L._∷_ 115 (L._∷_ 58 (L._∷_ 58 (L._∷_ 116 (L._∷_ 114 (L._∷_ 105 (L._∷_ 101 (L._∷_ 100 (L._∷_ 58 (L._∷_ 58 (L._∷_ 76 (L._∷_ 111 (L._∷_ 111 (L._∷_ 107 (L._∷_ 101 (L._∷_ 100 L.[])))))))))))))))))))) (Syntax.tcons (Syntax.tyStruct (L._∷_ 114 (L._∷_ 117 (L._∷_ 108 (L._∷_ 101 (L._∷_ 115 (L._∷_ 58 (L._∷_ 58 (L._∷_ 102 (L._∷_ 111 (L._∷_ 117 (L._∷_ 110 (L._∷_ 100 (L._∷_ 58 (L._∷_ 58 (L._∷_ 70 (L._∷_ 111 (L._∷_ 117 (L._∷_ 110 (L._∷_ 100 L.[]))))))))))))))))))) (Syntax.tcons Syntax.tyBool (Syntax.tcons Syntax.tyBool (Syntax.tcons (Syntax.tyStruct (L._∷_ 115 (L._∷_ 116 (L._∷_ 101 (L._∷_ 112 (L._∷_ 58 (L._∷_ 58 (L._∷_ 83 (L._∷_ 116 (L._∷_ 101 (L._∷_ 112 L.[])))))))))) (Syntax.tcons (Syntax.tyInt Syntax.w64) (Syntax.tcons (Syntax.tyInt Syntax.w64) (Syntax.tcons (Syntax.tyStruct (L._∷_ 115 (L._∷_ 116 (L._∷_ 101 (L._∷_ 112 (L._∷_ 58 (L._∷_ 58 (L._∷_ 67 (L._∷_ 104 (L._∷_ 97 (L._∷_ 110 (L._∷_ 103 (L._∷_ 101 L.[])))))))))))) (Syntax.tcons (Syntax.tyStruct (L._∷_ 110 (L._∷_ 101 (L._∷_ 116 (L._∷_ 119 (L._∷_ 111 (L._∷_ 114 (L._∷_ 107 (L._∷_ 58 (L._∷_ 58 (L._∷_ 69 (L._∷_ 100 (L._∷_ 105 (L._∷_ 116 L.[]))))))))))))) (Syntax.tcons q5 (Syntax.tcons q5 (Syntax.tcons q5 (Syntax.tcons q5 (Syntax.tcons q1 (Syntax.tcons q1 (Syntax.tcons (Syntax.tyInt Syntax.w64) Syntax.tnil)))))))) (Syntax.tcons (Syntax.tyStruct (L._∷_ 115 (L._∷_ 116 (L._∷_ 101 (L._∷_ 112 (L._∷_ 58 (L._∷_ 58 (L._∷_ 79 (L._∷_ 108 (L._∷_ 100 L.[]))))))))) (Syntax.tcons (Syntax.tyInt Syntax.w64) (Syntax.tcons q4 (Syntax.tcons q5 (Syntax.tcons q5 (Syntax.tcons q5 (Syntax.tcons q5 (Syntax.tcons q2 Syntax.tnil)))))))) Syntax.tnil))) Syntax.tnil)))) Syntax.tnil)))) (Syntax.tcons q3 Syntax.tnil)))
+  s4 = Call.callB ps·1 r·1 (claims· .2) (claims· .3) T5 (record { pos = 1; st = L._∷_ (Syntax.field 0) L.[]; d = 0; at = λ x. Progress·.struct .as-values x .0 }, (record { pos = 6; ty = Syntax.tyRef Syntax.erased Syntax.imm Rec.named; ref = λ x. x }, (record { pos = 1; st = L._∷_ (Syntax.field 2) L.[]; d = 328; at = λ x. Progress·.struct .as-values x .1 .1 .0 }, (Num.vAt 7 λ x. x, tt)))) 4 (L._∷_ 2 L.[]) (Syntax.tyStruct (L._∷_ 114 (L._∷_ 117 (L._∷_ 108 (L._∷_ 101 (L._∷_ 115 (L._∷_ 58 (L._∷_ 58 (L._∷_ 116 (L._∷_ 114 (L._∷_ 105 (L._∷_ 101 (L._∷_ 100 (L._∷_ 58 (L._∷_ 58 (L._∷_ 76 (L._∷_ 111 (L._∷_ 111 (L._∷_ 107 (L._∷_ 101 (L._∷_ 100 L.[])))))))))))))))))))) (Syntax.tcons (Syntax.tyStruct (L._∷_ 114 (L._∷_ 117 (L._∷_ 108 (L._∷_ 101 (L._∷_ 115 (L._∷_ 58 (L._∷_ 58 (L._∷_ 102 (L._∷_ 111 (L._∷_ 117 (L._∷_ 110 (L._∷_ 100 (L._∷_ 58 (L._∷_ 58 (L._∷_ 70 (L._∷_ 111 (L._∷_ 117 (L._∷_ 110 (L._∷_ 100 L.[]))))))))))))))))))) (Syntax.tcons Syntax.tyBool (Syntax.tcons Syntax.tyBool (Syntax.tcons (Syntax.tyStruct (L._∷_ 115 (L._∷_ 116 (L._∷_ 101 (L._∷_ 112 (L._∷_ 58 (L._∷_ 58 (L._∷_ 83 (L._∷_ 116 (L._∷_ 101 (L._∷_ 112 L.[])))))))))) (Syntax.tcons (Syntax.tyInt Syntax.w64) (Syntax.tcons (Syntax.tyInt Syntax.w64) (Syntax.tcons (Syntax.tyStruct (L._∷_ 115 (L._∷_ 116 (L._∷_ 101 (L._∷_ 112 (L._∷_ 58 (L._∷_ 58 (L._∷_ 67 (L._∷_ 104 (L._∷_ 97 (L._∷_ 110 (L._∷_ 103 (L._∷_ 101 L.[])))))))))))) (Syntax.tcons (Syntax.tyStruct (L._∷_ 110 (L._∷_ 101 (L._∷_ 116 (L._∷_ 119 (L._∷_ 111 (L._∷_ 114 (L._∷_ 107 (L._∷_ 58 (L._∷_ 58 (L._∷_ 69 (L._∷_ 100 (L._∷_ 105 (L._∷_ 116 L.[]))))))))))))) (Syntax.tcons q5 (Syntax.tcons q5 (Syntax.tcons q5 (Syntax.tcons q5 (Syntax.tcons q1 (Syntax.tcons q1 (Syntax.tcons (Syntax.tyInt Syntax.w64) Syntax.tnil)))))))) (Syntax.tcons (Syntax.tyStruct (L._∷_ 115 (L._∷_ 116 (L._∷_ 101 (L._∷_ 112 (L._∷_ 58 (L._∷_ 58 (L._∷_ 79 (L._∷_ 108 (L._∷_ 100 L.[]))))))))) (Syntax.tcons (Syntax.tyInt Syntax.w64) (Syntax.tcons q4 (Syntax.tcons q5 (Syntax.tcons q5 (Syntax.tcons q5 (Syntax.tcons q5 (Syntax.tcons q2 Syntax.tnil)))))))) Syntax.tnil))) Syntax.tnil)))) Syntax.tnil)))) (Syntax.tcons q3 Syntax.tnil)))
 
   abbrev s5 : Typed.Mo T6 → Typed.Mo T7
   s5 = Scalar.n-room T6 6 q10
@@ -468,7 +468,7 @@ module _ (claims· : Claims) where
   s13 = Call.callB ps·2 r·2 (claims· .4) (claims· .5) T14 (record { pos = 4; st = L.[]; d = 0; at = λ x. x }, tt) 11 L.[] (Syntax.tyStruct (L._∷_ 110 (L._∷_ 101 (L._∷_ 116 (L._∷_ 119 (L._∷_ 111 (L._∷_ 114 (L._∷_ 107 (L._∷_ 58 (L._∷_ 58 (L._∷_ 69 (L._∷_ 100 (L._∷_ 105 (L._∷_ 116 L.[]))))))))))))) (Syntax.tcons q5 (Syntax.tcons q5 (Syntax.tcons q5 (Syntax.tcons q5 (Syntax.tcons q1 (Syntax.tcons q1 (Syntax.tcons (Syntax.tyInt Syntax.w64) Syntax.tnil))))))))
 
   abbrev s14 : Typed.Both T15 T16
-  s14 = Call.callB ps·3 r·3 (claims· .6) (claims· .7) T15 (record { pos = 10; ty = Syntax.tyRef Syntax.erased Syntax.mut Rec.named; ref = λ x. x; }, (record { pos = 11; st = L.[]; d = 0; at = λ x. x }, tt)) 8 (L._∷_ 3 L.[]) Syntax.tyUnit
+  s14 = Call.callB ps·3 r·3 (claims· .6) (claims· .7) T15 (record { pos = 10; ty = Syntax.tyRef Syntax.erased Syntax.mut Rec.named; ref = λ x. x }, (record { pos = 11; st = L.[]; d = 0; at = λ x. x }, tt)) 8 (L._∷_ 3 L.[]) Syntax.tyUnit
 
   abbrev s15 : Typed.Mo T16 → Typed.Mo T17
   s15 = Scalar.n-room T16 8 Syntax.tyUnit
@@ -486,7 +486,7 @@ module _ (claims· : Claims) where
   s22 = Relend.k-sl-aggregate (Signed.SInt Syntax.w32) (Relend.asMut (Signed.SInt Syntax.w32)) T23 12 13 4 q26 q26 (λ x. x) (Scalar.oFld 2 (L._∷_ (Syntax.field 1) L.[]) (Syntax.tyInt Syntax.w64) 8 λ v. Shared.lenV (v .0))
 
   abbrev s23 : Typed.Both T24 T25
-  s23 = Call.callB ps·4 r·4 (claims· .8) (claims· .9) T24 (record { pos = 13; ty = Syntax.tyRef Syntax.erased Syntax.mut (Syntax.tyInt Syntax.w32); ref = λ x. x; }, (Num.vFld 1 (L._∷_ (Syntax.field 1) L.[]) 320 λ x. Progress·.struct .as-values x .1 .0, (record { pos = 4; st = L.[]; d = 0; at = λ x. x }, tt))) 8 (L._∷_ 4 L.[]) Syntax.tyUnit
+  s23 = Call.callB ps·4 r·4 (claims· .8) (claims· .9) T24 (record { pos = 13; ty = Syntax.tyRef Syntax.erased Syntax.mut (Syntax.tyInt Syntax.w32); ref = λ x. x }, (Num.vFld 1 (L._∷_ (Syntax.field 1) L.[]) 320 λ x. Progress·.struct .as-values x .1 .0, (record { pos = 4; st = L.[]; d = 0; at = λ x. x }, tt))) 8 (L._∷_ 4 L.[]) Syntax.tyUnit
 
   abbrev s24 : Typed.Mo T25 → Typed.Mo T26
   s24 = Scalar.n-room T25 8 Syntax.tyUnit
@@ -662,103 +662,103 @@ module _ (claims· : Claims) where
         g18 = L._∷_ (0, Rows.any-gone (Syntax.tyStruct (L._∷_ 115 (L._∷_ 101 (L._∷_ 97 (L._∷_ 114 (L._∷_ 99 (L._∷_ 104 (L._∷_ 58 (L._∷_ 58 (L._∷_ 80 (L._∷_ 114 (L._∷_ 111 (L._∷_ 103 (L._∷_ 114 (L._∷_ 101 (L._∷_ 115 (L._∷_ 115 L.[])))))))))))))))) (Syntax.tcons q0 (Syntax.tcons (Syntax.tyInt Syntax.w64) (Syntax.tcons q3 (Syntax.tcons Syntax.tyBool (Syntax.tcons Syntax.tyBool (Syntax.tcons (Syntax.tyInt Syntax.w64) (Syntax.tcons (Syntax.tyInt Syntax.w64) Syntax.tnil))))))))) (L._∷_ q31 (L._∷_ (2, Relend.mslice-owed (Signed.SInt Syntax.w32) q22 0 4 (Row.lease (κs .0) (qs .0))) (L._∷_ q18 (L._∷_ q25 (L._∷_ q23 (L._∷_ q8 (L._∷_ q33 (L._∷_ q35 (L._∷_ q24 (L._∷_ q7 (L._∷_ (11, Rows.any-gone (Syntax.tyStruct (L._∷_ 110 (L._∷_ 101 (L._∷_ 116 (L._∷_ 119 (L._∷_ 111 (L._∷_ 114 (L._∷_ 107 (L._∷_ 58 (L._∷_ 58 (L._∷_ 69 (L._∷_ 100 (L._∷_ 105 (L._∷_ 116 L.[]))))))))))))) (Syntax.tcons q5 (Syntax.tcons q5 (Syntax.tcons q5 (Syntax.tcons q5 (Syntax.tcons q1 (Syntax.tcons q1 (Syntax.tcons (Syntax.tyInt Syntax.w64) Syntax.tnil))))))))) (L._∷_ q17 (L._∷_ q14 L.[])))))))))))))
 
         abbrev G0 : Row.Cx
-        G0 = record { locals = t0; slots = L._∷_ (Row.lease (κs .0) (qs .0)) (L._∷_ (Row.lease (κs .1 .0) (qs .1 .0)) (L._∷_ Row.off (L._∷_ Row.off (L._∷_ Row.off L.[])))); }
+        G0 = record { locals = t0; slots = L._∷_ (Row.lease (κs .0) (qs .0)) (L._∷_ (Row.lease (κs .1 .0) (qs .1 .0)) (L._∷_ Row.off (L._∷_ Row.off (L._∷_ Row.off L.[])))) }
 
         abbrev G1 : Row.Cx
-        G1 = record { locals = t1; slots = L._∷_ (Row.lease (κs .0) (qs .0)) (L._∷_ (Row.lease (κs .1 .0) (qs .1 .0)) (L._∷_ Row.off (L._∷_ Row.off (L._∷_ Row.off L.[])))); }
+        G1 = record { locals = t1; slots = L._∷_ (Row.lease (κs .0) (qs .0)) (L._∷_ (Row.lease (κs .1 .0) (qs .1 .0)) (L._∷_ Row.off (L._∷_ Row.off (L._∷_ Row.off L.[])))) }
 
         abbrev G2 : Row.Cx
-        G2 = record { locals = t0; slots = L._∷_ (Row.lease (κs .0) (qs .0)) (L._∷_ (Row.lease (κs .1 .0) (qs .1 .0)) (L._∷_ Row.alive (L._∷_ Row.off (L._∷_ Row.off L.[])))); }
+        G2 = record { locals = t0; slots = L._∷_ (Row.lease (κs .0) (qs .0)) (L._∷_ (Row.lease (κs .1 .0) (qs .1 .0)) (L._∷_ Row.alive (L._∷_ Row.off (L._∷_ Row.off L.[])))) }
 
         abbrev G3 : Row.Cx
-        G3 = record { locals = g2; slots = L._∷_ (Row.lease (κs .0) (qs .0)) (L._∷_ Row.off (L._∷_ Row.alive (L._∷_ Row.off (L._∷_ Row.off L.[])))); }
+        G3 = record { locals = g2; slots = L._∷_ (Row.lease (κs .0) (qs .0)) (L._∷_ Row.off (L._∷_ Row.alive (L._∷_ Row.off (L._∷_ Row.off L.[])))) }
 
         abbrev G4 : Row.Cx
-        G4 = record { locals = g3; slots = L._∷_ (Row.lease (κs .0) (qs .0)) (L._∷_ Row.off (L._∷_ Row.alive (L._∷_ Row.off (L._∷_ Row.off L.[])))); }
+        G4 = record { locals = g3; slots = L._∷_ (Row.lease (κs .0) (qs .0)) (L._∷_ Row.off (L._∷_ Row.alive (L._∷_ Row.off (L._∷_ Row.off L.[])))) }
 
         abbrev G5 : Row.Cx
-        G5 = record { locals = g4; slots = L._∷_ (Row.lease (κs .0) (qs .0)) (L._∷_ Row.off (L._∷_ Row.alive (L._∷_ Row.off (L._∷_ Row.off L.[])))); }
+        G5 = record { locals = g4; slots = L._∷_ (Row.lease (κs .0) (qs .0)) (L._∷_ Row.off (L._∷_ Row.alive (L._∷_ Row.off (L._∷_ Row.off L.[])))) }
 
         abbrev G6 : Row.Cx
-        G6 = record { locals = g5; slots = L._∷_ (Row.lease (κs .0) (qs .0)) (L._∷_ Row.off (L._∷_ Row.alive (L._∷_ Row.off (L._∷_ Row.off L.[])))); }
+        G6 = record { locals = g5; slots = L._∷_ (Row.lease (κs .0) (qs .0)) (L._∷_ Row.off (L._∷_ Row.alive (L._∷_ Row.off (L._∷_ Row.off L.[])))) }
 
         abbrev G7 : Row.Cx
-        G7 = record { locals = g6; slots = L._∷_ (Row.lease (κs .0) (qs .0)) (L._∷_ Row.off (L._∷_ Row.alive (L._∷_ Row.off (L._∷_ Row.off L.[])))); }
+        G7 = record { locals = g6; slots = L._∷_ (Row.lease (κs .0) (qs .0)) (L._∷_ Row.off (L._∷_ Row.alive (L._∷_ Row.off (L._∷_ Row.off L.[])))) }
 
         abbrev G8 : Row.Cx
-        G8 = record { locals = g7; slots = L._∷_ (Row.lease (κs .0) (qs .0)) (L._∷_ Row.off (L._∷_ Row.alive (L._∷_ Row.off (L._∷_ Row.off L.[])))); }
+        G8 = record { locals = g7; slots = L._∷_ (Row.lease (κs .0) (qs .0)) (L._∷_ Row.off (L._∷_ Row.alive (L._∷_ Row.off (L._∷_ Row.off L.[])))) }
 
         abbrev G9 : Row.Cx
-        G9 = record { locals = g7; slots = L._∷_ (Row.lease (κs .0) (qs .0)) (L._∷_ Row.off (L._∷_ Row.dead (L._∷_ Row.off (L._∷_ Row.off L.[])))); }
+        G9 = record { locals = g7; slots = L._∷_ (Row.lease (κs .0) (qs .0)) (L._∷_ Row.off (L._∷_ Row.dead (L._∷_ Row.off (L._∷_ Row.off L.[])))) }
 
         abbrev G10 : Row.Cx
-        G10 = record { locals = t8; slots = L._∷_ (Row.lease (κs .0) (qs .0)) (L._∷_ (Row.lease (κs .1 .0) (qs .1 .0)) (L._∷_ Row.dead (L._∷_ Row.off (L._∷_ Row.off L.[])))); }
+        G10 = record { locals = t8; slots = L._∷_ (Row.lease (κs .0) (qs .0)) (L._∷_ (Row.lease (κs .1 .0) (qs .1 .0)) (L._∷_ Row.dead (L._∷_ Row.off (L._∷_ Row.off L.[])))) }
 
         abbrev G11 : Row.Cx
-        G11 = record { locals = t8; slots = L._∷_ (Row.lease (κs .0) (qs .0)) (L._∷_ (Row.lease (κs .1 .0) (qs .1 .0)) (L._∷_ Row.off (L._∷_ Row.off (L._∷_ Row.off L.[])))); }
+        G11 = record { locals = t8; slots = L._∷_ (Row.lease (κs .0) (qs .0)) (L._∷_ (Row.lease (κs .1 .0) (qs .1 .0)) (L._∷_ Row.off (L._∷_ Row.off (L._∷_ Row.off L.[])))) }
 
         abbrev G12 : Row.Cx
-        G12 = record { locals = t8; slots = L._∷_ (Row.lease (κs .0) (qs .0)) (L._∷_ (Row.lease (κs .1 .0) (qs .1 .0)) (L._∷_ Row.off (L._∷_ Row.alive (L._∷_ Row.off L.[])))); }
+        G12 = record { locals = t8; slots = L._∷_ (Row.lease (κs .0) (qs .0)) (L._∷_ (Row.lease (κs .1 .0) (qs .1 .0)) (L._∷_ Row.off (L._∷_ Row.alive (L._∷_ Row.off L.[])))) }
 
         abbrev G13 : Row.Cx
-        G13 = record { locals = g9; slots = L._∷_ (Row.lease (κs .0) (qs .0)) (L._∷_ Row.off (L._∷_ Row.off (L._∷_ Row.alive (L._∷_ Row.off L.[])))); }
+        G13 = record { locals = g9; slots = L._∷_ (Row.lease (κs .0) (qs .0)) (L._∷_ Row.off (L._∷_ Row.off (L._∷_ Row.alive (L._∷_ Row.off L.[])))) }
 
         abbrev G14 : Row.Cx
-        G14 = record { locals = g10; slots = L._∷_ (Row.lease (κs .0) (qs .0)) (L._∷_ Row.off (L._∷_ Row.off (L._∷_ Row.alive (L._∷_ Row.off L.[])))); }
+        G14 = record { locals = g10; slots = L._∷_ (Row.lease (κs .0) (qs .0)) (L._∷_ Row.off (L._∷_ Row.off (L._∷_ Row.alive (L._∷_ Row.off L.[])))) }
 
         abbrev G15 : Row.Cx
-        G15 = record { locals = g11; slots = L._∷_ (Row.lease (κs .0) (qs .0)) (L._∷_ Row.off (L._∷_ Row.off (L._∷_ Row.alive (L._∷_ Row.off L.[])))); }
+        G15 = record { locals = g11; slots = L._∷_ (Row.lease (κs .0) (qs .0)) (L._∷_ Row.off (L._∷_ Row.off (L._∷_ Row.alive (L._∷_ Row.off L.[])))) }
 
         abbrev G16 : Row.Cx
-        G16 = record { locals = g12; slots = L._∷_ (Row.lease (κs .0) (qs .0)) (L._∷_ Row.off (L._∷_ Row.off (L._∷_ Row.alive (L._∷_ Row.off L.[])))); }
+        G16 = record { locals = g12; slots = L._∷_ (Row.lease (κs .0) (qs .0)) (L._∷_ Row.off (L._∷_ Row.off (L._∷_ Row.alive (L._∷_ Row.off L.[])))) }
 
         abbrev G17 : Row.Cx
-        G17 = record { locals = g13; slots = L._∷_ (Row.lease (κs .0) (qs .0)) (L._∷_ Row.off (L._∷_ Row.off (L._∷_ Row.alive (L._∷_ Row.off L.[])))); }
+        G17 = record { locals = g13; slots = L._∷_ (Row.lease (κs .0) (qs .0)) (L._∷_ Row.off (L._∷_ Row.off (L._∷_ Row.alive (L._∷_ Row.off L.[])))) }
 
         abbrev G18 : Row.Cx
-        G18 = record { locals = g14; slots = L._∷_ (Row.lease (κs .0) (qs .0)) (L._∷_ Row.off (L._∷_ Row.off (L._∷_ Row.alive (L._∷_ Row.off L.[])))); }
+        G18 = record { locals = g14; slots = L._∷_ (Row.lease (κs .0) (qs .0)) (L._∷_ Row.off (L._∷_ Row.off (L._∷_ Row.alive (L._∷_ Row.off L.[])))) }
 
         abbrev G19 : Row.Cx
-        G19 = record { locals = g14; slots = L._∷_ (Row.lease (κs .0) (qs .0)) (L._∷_ Row.off (L._∷_ Row.off (L._∷_ Row.dead (L._∷_ Row.off L.[])))); }
+        G19 = record { locals = g14; slots = L._∷_ (Row.lease (κs .0) (qs .0)) (L._∷_ Row.off (L._∷_ Row.off (L._∷_ Row.dead (L._∷_ Row.off L.[])))) }
 
         abbrev G20 : Row.Cx
-        G20 = record { locals = t8; slots = L._∷_ (Row.lease (κs .0) (qs .0)) (L._∷_ (Row.lease (κs .1 .0) (qs .1 .0)) (L._∷_ Row.off (L._∷_ Row.dead (L._∷_ Row.off L.[])))); }
+        G20 = record { locals = t8; slots = L._∷_ (Row.lease (κs .0) (qs .0)) (L._∷_ (Row.lease (κs .1 .0) (qs .1 .0)) (L._∷_ Row.off (L._∷_ Row.dead (L._∷_ Row.off L.[])))) }
 
         abbrev G21 : Row.Cx
-        G21 = record { locals = t8; slots = L._∷_ (Row.lease (κs .0) (qs .0)) (L._∷_ (Row.lease (κs .1 .0) (qs .1 .0)) (L._∷_ Row.off (L._∷_ Row.off (L._∷_ Row.off L.[])))); }
+        G21 = record { locals = t8; slots = L._∷_ (Row.lease (κs .0) (qs .0)) (L._∷_ (Row.lease (κs .1 .0) (qs .1 .0)) (L._∷_ Row.off (L._∷_ Row.off (L._∷_ Row.off L.[])))) }
 
         abbrev G22 : Row.Cx
-        G22 = record { locals = t8; slots = L._∷_ (Row.lease (κs .0) (qs .0)) (L._∷_ (Row.lease (κs .1 .0) (qs .1 .0)) (L._∷_ Row.off (L._∷_ Row.off (L._∷_ Row.alive L.[])))); }
+        G22 = record { locals = t8; slots = L._∷_ (Row.lease (κs .0) (qs .0)) (L._∷_ (Row.lease (κs .1 .0) (qs .1 .0)) (L._∷_ Row.off (L._∷_ Row.off (L._∷_ Row.alive L.[])))) }
 
         abbrev G23 : Row.Cx
-        G23 = record { locals = g15; slots = L._∷_ Row.off (L._∷_ (Row.lease (κs .1 .0) (qs .1 .0)) (L._∷_ Row.off (L._∷_ Row.off (L._∷_ Row.alive L.[])))); }
+        G23 = record { locals = g15; slots = L._∷_ Row.off (L._∷_ (Row.lease (κs .1 .0) (qs .1 .0)) (L._∷_ Row.off (L._∷_ Row.off (L._∷_ Row.alive L.[])))) }
 
         abbrev G24 : Row.Cx
-        G24 = record { locals = g16; slots = L._∷_ Row.off (L._∷_ (Row.lease (κs .1 .0) (qs .1 .0)) (L._∷_ Row.off (L._∷_ Row.off (L._∷_ Row.alive L.[])))); }
+        G24 = record { locals = g16; slots = L._∷_ Row.off (L._∷_ (Row.lease (κs .1 .0) (qs .1 .0)) (L._∷_ Row.off (L._∷_ Row.off (L._∷_ Row.alive L.[])))) }
 
         abbrev G25 : Row.Cx
-        G25 = record { locals = g17; slots = L._∷_ Row.off (L._∷_ (Row.lease (κs .1 .0) (qs .1 .0)) (L._∷_ Row.off (L._∷_ Row.off (L._∷_ Row.alive L.[])))); }
+        G25 = record { locals = g17; slots = L._∷_ Row.off (L._∷_ (Row.lease (κs .1 .0) (qs .1 .0)) (L._∷_ Row.off (L._∷_ Row.off (L._∷_ Row.alive L.[])))) }
 
         abbrev G26 : Row.Cx
-        G26 = record { locals = g18; slots = L._∷_ Row.off (L._∷_ (Row.lease (κs .1 .0) (qs .1 .0)) (L._∷_ Row.off (L._∷_ Row.off (L._∷_ Row.alive L.[])))); }
+        G26 = record { locals = g18; slots = L._∷_ Row.off (L._∷_ (Row.lease (κs .1 .0) (qs .1 .0)) (L._∷_ Row.off (L._∷_ Row.off (L._∷_ Row.alive L.[])))) }
 
         abbrev G27 : Row.Cx
-        G27 = record { locals = g18; slots = L._∷_ Row.off (L._∷_ (Row.lease (κs .1 .0) (qs .1 .0)) (L._∷_ Row.off (L._∷_ Row.off (L._∷_ Row.dead L.[])))); }
+        G27 = record { locals = g18; slots = L._∷_ Row.off (L._∷_ (Row.lease (κs .1 .0) (qs .1 .0)) (L._∷_ Row.off (L._∷_ Row.off (L._∷_ Row.dead L.[])))) }
 
         abbrev G28 : Row.Cx
-        G28 = record { locals = t8; slots = L._∷_ (Row.lease (κs .0) (qs .0)) (L._∷_ (Row.lease (κs .1 .0) (qs .1 .0)) (L._∷_ Row.off (L._∷_ Row.off (L._∷_ Row.dead L.[])))); }
+        G28 = record { locals = t8; slots = L._∷_ (Row.lease (κs .0) (qs .0)) (L._∷_ (Row.lease (κs .1 .0) (qs .1 .0)) (L._∷_ Row.off (L._∷_ Row.off (L._∷_ Row.dead L.[])))) }
 
         abbrev G29 : Row.Cx
-        G29 = record { locals = t8; slots = L._∷_ (Row.lease (κs .0) (qs .0)) (L._∷_ (Row.lease (κs .1 .0) (qs .1 .0)) (L._∷_ Row.off (L._∷_ Row.off (L._∷_ Row.off L.[])))); }
+        G29 = record { locals = t8; slots = L._∷_ (Row.lease (κs .0) (qs .0)) (L._∷_ (Row.lease (κs .1 .0) (qs .1 .0)) (L._∷_ Row.off (L._∷_ Row.off (L._∷_ Row.off L.[])))) }
 
         abbrev G30 : Row.Cx
-        G30 = record { locals = t19; slots = L._∷_ (Row.lease (κs .0) (qs .0)) (L._∷_ (Row.lease (κs .1 .0) (qs .1 .0)) (L._∷_ Row.off (L._∷_ Row.off (L._∷_ Row.off L.[])))); }
+        G30 = record { locals = t19; slots = L._∷_ (Row.lease (κs .0) (qs .0)) (L._∷_ (Row.lease (κs .1 .0) (qs .1 .0)) (L._∷_ Row.off (L._∷_ Row.off (L._∷_ Row.off L.[])))) }
 
         abbrev G31 : Row.Cx
-        G31 = record { locals = t20; slots = L._∷_ (Row.lease (κs .0) (qs .0)) (L._∷_ (Row.lease (κs .1 .0) (qs .1 .0)) (L._∷_ Row.off (L._∷_ Row.off (L._∷_ Row.off L.[])))); }
+        G31 = record { locals = t20; slots = L._∷_ (Row.lease (κs .0) (qs .0)) (L._∷_ (Row.lease (κs .1 .0) (qs .1 .0)) (L._∷_ Row.off (L._∷_ Row.off (L._∷_ Row.off L.[])))) }
 
         abbrev G32 : Row.Cx
-        G32 = record { locals = t1; slots = L._∷_ (Row.lease (κs .0) (qs .0)) (L._∷_ (Row.lease (κs .1 .0) (qs .1 .0)) (L._∷_ Row.off (L._∷_ Row.off (L._∷_ Row.off L.[])))); }
+        G32 = record { locals = t1; slots = L._∷_ (Row.lease (κs .0) (qs .0)) (L._∷_ (Row.lease (κs .1 .0) (qs .1 .0)) (L._∷_ Row.off (L._∷_ Row.off (L._∷_ Row.off L.[])))) }
 
         abbrev Δ0 : Typed.Outs
         Δ0 = record { next = Option.none; exits = L.[]; returns = Option.some G1 }
@@ -792,7 +792,7 @@ module _ (claims· : Claims) where
           d7 = Typed.g-pre 𝓤 H A W 𝓣 E G25 G26 b13 Δ0 (Typed.pass T25 T26 s24) at6 (Scalar.g-room 𝓤 H A W E G25 8 Syntax.tyUnit (Scalar.room-sc 𝓤 H A W Row.sUnit)) d6
 
           d8 : Typed.Typed 𝓤 H A 𝓣 E G24 b14 Δ0 at8
-          d8 = Typed.s-seq 𝓤 H A W 𝓣 E G24 G25 b10 b13 Δ0 (Typed.both s23) at7 (Plain.t-call-plain 𝓤 H A W 𝓣 1 ps·4 r·4 (claims· .8) (claims· .9) "search::note" (known .4) E (λ pos β. β) G24 (record { pos = 13; ty = Syntax.tyRef Syntax.erased Syntax.mut (Syntax.tyInt Syntax.w32); ref = λ x. x; }, (Num.vFld 1 (L._∷_ (Syntax.field 1) L.[]) 320 λ x. Progress·.struct .as-values x .1 .0, (record { pos = 4; st = L.[]; d = 0; at = λ x. x }, tt))) 8 (L._∷_ 4 L.[]) (Call.sub-id 𝓤 H A W (G24 .slots)) (TReads.as-is 𝓤 H A (Mut.mslice (Signed.SInt Syntax.w32) q26 4), Mut.reads-mslice 𝓤 H A W (Signed.SInt Syntax.w32) q26 4, Path.refl, ((Reads.reads-field 𝓤 H A W Progress·.the-type Progress-Laws·.the-laws 1 (Syntax.tyInt Syntax.w64) 320 Path.refl, Path.refl), ((RuleYields.yields-copy 𝓤 H A W (λ ρ. Unit) (Declared.row rules-proofs-tried-Looked·.the-type) Path.refl (Copies.cStruct rules-proofs-tried-Looked·.the-type rules-proofs-tried-Looked-Laws·.the-laws rules-proofs-tried-Looked-Laws·.the-copy .copy 𝓤 H A W) (Rows.whole (Declared.row rules-proofs-tried-Looked·.the-type)) (λ x. x) (λ x. x) (λ ρ told. Local.mem-whole 𝓤 H A W (Declared.row rules-proofs-tried-Looked·.the-type) ρ) λ ρ told. Local.whole-mem 𝓤 H A W (Declared.row rules-proofs-tried-Looked·.the-type) ρ, Path.refl), tt))) (TReads.room-gone 𝓤 H A Syntax.tyUnit) (tt, tt) Path.refl) d7
+          d8 = Typed.s-seq 𝓤 H A W 𝓣 E G24 G25 b10 b13 Δ0 (Typed.both s23) at7 (Plain.t-call-plain 𝓤 H A W 𝓣 1 ps·4 r·4 (claims· .8) (claims· .9) "search::note" (known .4) E (λ pos β. β) G24 (record { pos = 13; ty = Syntax.tyRef Syntax.erased Syntax.mut (Syntax.tyInt Syntax.w32); ref = λ x. x }, (Num.vFld 1 (L._∷_ (Syntax.field 1) L.[]) 320 λ x. Progress·.struct .as-values x .1 .0, (record { pos = 4; st = L.[]; d = 0; at = λ x. x }, tt))) 8 (L._∷_ 4 L.[]) (Call.sub-id 𝓤 H A W (G24 .slots)) (TReads.as-is 𝓤 H A (Mut.mslice (Signed.SInt Syntax.w32) q26 4), Mut.reads-mslice 𝓤 H A W (Signed.SInt Syntax.w32) q26 4, Path.refl, ((Reads.reads-field 𝓤 H A W Progress·.the-type Progress-Laws·.the-laws 1 (Syntax.tyInt Syntax.w64) 320 Path.refl, Path.refl), ((RuleYields.yields-copy 𝓤 H A W (λ ρ. Unit) (Declared.row rules-proofs-tried-Looked·.the-type) Path.refl (Copies.cStruct rules-proofs-tried-Looked·.the-type rules-proofs-tried-Looked-Laws·.the-laws rules-proofs-tried-Looked-Laws·.the-copy .copy 𝓤 H A W) (Rows.whole (Declared.row rules-proofs-tried-Looked·.the-type)) (λ x. x) (λ x. x) (λ ρ told. Local.mem-whole 𝓤 H A W (Declared.row rules-proofs-tried-Looked·.the-type) ρ) λ ρ told. Local.whole-mem 𝓤 H A W (Declared.row rules-proofs-tried-Looked·.the-type) ρ, Path.refl), tt))) (TReads.room-gone 𝓤 H A Syntax.tyUnit) (tt, tt) Path.refl) d7
 
           d9 : Typed.Typed 𝓤 H A 𝓣 E G23 b15 Δ0 at9
           d9 = Typed.s-seq 𝓤 H A W 𝓣 E G23 G24 b9 b14 Δ0 (Typed.ask s22) at8 (Relend.t-sl-aggregate 𝓤 H A W E (Signed.SInt Syntax.w32) 𝓣 (Relend.asMut (Signed.SInt Syntax.w32)) G23 12 13 4 q26 q26 (λ x. x) (Scalar.oFld 2 (L._∷_ (Syntax.field 1) L.[]) (Syntax.tyInt Syntax.w64) 8 λ v. Shared.lenV (v .0)) (TReads.as-is 𝓤 H A (Relend.msptr (Signed.SInt Syntax.w32) q26 4)) (TReads.room-gone 𝓤 H A q9) (Relend.reads-owed-len 𝓤 H A W (Signed.SInt Syntax.w32) q22 0 4 (Row.lease (κs .0) (qs .0)) 8 Path.refl, Path.refl) Path.refl Path.refl λ b o k. tt) d8
@@ -819,7 +819,7 @@ module _ (claims· : Claims) where
           d16 = Typed.g-pre 𝓤 H A W 𝓣 E G16 G17 b16 Δ0 (Typed.pass T16 T17 s15) at15 (Scalar.g-room 𝓤 H A W E G16 8 Syntax.tyUnit (Scalar.room-sc 𝓤 H A W Row.sUnit)) d15
 
           d17 : Typed.Typed 𝓤 H A 𝓣 E G15 b17 Δ0 at17
-          d17 = Typed.s-seq 𝓤 H A W 𝓣 E G15 G16 b7 b16 Δ0 (Typed.both s14) at16 (Plain.t-call-plain 𝓤 H A W 𝓣 1 ps·3 r·3 (claims· .6) (claims· .7) "network::list::put_edit" (known .3) E (λ pos β. β) G15 (record { pos = 10; ty = Syntax.tyRef Syntax.erased Syntax.mut Rec.named; ref = λ x. x; }, (record { pos = 11; st = L.[]; d = 0; at = λ x. x }, tt)) 8 (L._∷_ 3 L.[]) (Call.sub-id 𝓤 H A W (G15 .slots)) (TReads.as-is 𝓤 H A (Mut.mslice Rec.row q30 3), Mut.reads-mslice 𝓤 H A W Rec.row q30 3, Path.refl, ((RuleYields.yields-copy 𝓤 H A W (λ ρ. Unit) (Declared.row network-proofs-Edit·.the-type) Path.refl (Copies.cStruct network-proofs-Edit·.the-type network-proofs-Edit-Laws·.the-laws network-proofs-Edit-Laws·.the-copy .copy 𝓤 H A W) (Rows.whole (Declared.row network-proofs-Edit·.the-type)) (λ x. x) (λ x. x) (λ ρ told. Local.mem-whole 𝓤 H A W (Declared.row network-proofs-Edit·.the-type) ρ) λ ρ told. Local.whole-mem 𝓤 H A W (Declared.row network-proofs-Edit·.the-type) ρ, Path.refl), tt)) (TReads.room-gone 𝓤 H A Syntax.tyUnit) (tt, tt) Path.refl) d16
+          d17 = Typed.s-seq 𝓤 H A W 𝓣 E G15 G16 b7 b16 Δ0 (Typed.both s14) at16 (Plain.t-call-plain 𝓤 H A W 𝓣 1 ps·3 r·3 (claims· .6) (claims· .7) "network::list::put_edit" (known .3) E (λ pos β. β) G15 (record { pos = 10; ty = Syntax.tyRef Syntax.erased Syntax.mut Rec.named; ref = λ x. x }, (record { pos = 11; st = L.[]; d = 0; at = λ x. x }, tt)) 8 (L._∷_ 3 L.[]) (Call.sub-id 𝓤 H A W (G15 .slots)) (TReads.as-is 𝓤 H A (Mut.mslice Rec.row q30 3), Mut.reads-mslice 𝓤 H A W Rec.row q30 3, Path.refl, ((RuleYields.yields-copy 𝓤 H A W (λ ρ. Unit) (Declared.row network-proofs-Edit·.the-type) Path.refl (Copies.cStruct network-proofs-Edit·.the-type network-proofs-Edit-Laws·.the-laws network-proofs-Edit-Laws·.the-copy .copy 𝓤 H A W) (Rows.whole (Declared.row network-proofs-Edit·.the-type)) (λ x. x) (λ x. x) (λ ρ told. Local.mem-whole 𝓤 H A W (Declared.row network-proofs-Edit·.the-type) ρ) λ ρ told. Local.whole-mem 𝓤 H A W (Declared.row network-proofs-Edit·.the-type) ρ, Path.refl), tt)) (TReads.room-gone 𝓤 H A Syntax.tyUnit) (tt, tt) Path.refl) d16
 
           d18 : Typed.Typed 𝓤 H A 𝓣 E G14 b18 Δ0 at18
           d18 = Typed.s-seq 𝓤 H A W 𝓣 E G14 G15 b6 b17 Δ0 (Typed.both s13) at17 (Plain.t-call-plain 𝓤 H A W 𝓣 0 ps·2 r·2 (claims· .4) (claims· .5) "search::edit_of" (known .2) E (λ pos β. β) G14 (record { pos = 4; st = L.[]; d = 0; at = λ x. x }, tt) 11 L.[] (Call.sub-id 𝓤 H A W (G14 .slots)) ((RuleYields.yields-copy 𝓤 H A W (λ ρ. Unit) (Declared.row rules-proofs-tried-Looked·.the-type) Path.refl (Copies.cStruct rules-proofs-tried-Looked·.the-type rules-proofs-tried-Looked-Laws·.the-laws rules-proofs-tried-Looked-Laws·.the-copy .copy 𝓤 H A W) (Rows.whole (Declared.row rules-proofs-tried-Looked·.the-type)) (λ x. x) (λ x. x) (λ ρ told. Local.mem-whole 𝓤 H A W (Declared.row rules-proofs-tried-Looked·.the-type) ρ) λ ρ told. Local.whole-mem 𝓤 H A W (Declared.row rules-proofs-tried-Looked·.the-type) ρ, Path.refl), tt) (TReads.room-gone 𝓤 H A (Syntax.tyStruct (L._∷_ 110 (L._∷_ 101 (L._∷_ 116 (L._∷_ 119 (L._∷_ 111 (L._∷_ 114 (L._∷_ 107 (L._∷_ 58 (L._∷_ 58 (L._∷_ 69 (L._∷_ 100 (L._∷_ 105 (L._∷_ 116 L.[]))))))))))))) (Syntax.tcons q5 (Syntax.tcons q5 (Syntax.tcons q5 (Syntax.tcons q5 (Syntax.tcons q1 (Syntax.tcons q1 (Syntax.tcons (Syntax.tyInt Syntax.w64) Syntax.tnil))))))))) tt Path.refl) d17
@@ -849,7 +849,7 @@ module _ (claims· : Claims) where
           d26 = Typed.g-pre 𝓤 H A W 𝓣 E G6 G7 b20 Δ0 (Typed.pass T6 T7 s5) at25 (Scalar.g-room 𝓤 H A W E G6 6 q10 (Shared.room-sslice 𝓤 H A W Rec.row q29 2)) d25
 
           d27 : Typed.Typed 𝓤 H A 𝓣 E G5 b21 Δ0 at27
-          d27 = Typed.s-seq 𝓤 H A W 𝓣 E G5 G6 b3 b20 Δ0 (Typed.both s4) at26 (Plain.t-call-plain 𝓤 H A W 𝓣 1 ps·1 r·1 (claims· .2) (claims· .3) "search::scan::next" (known .1) E (λ pos β. β) G5 (record { pos = 1; st = L._∷_ (Syntax.field 0) L.[]; d = 0; at = λ x. Progress·.struct .as-values x .0; }, (record { pos = 6; ty = Syntax.tyRef Syntax.erased Syntax.imm Rec.named; ref = λ x. x; }, (record { pos = 1; st = L._∷_ (Syntax.field 2) L.[]; d = 328; at = λ x. Progress·.struct .as-values x .1 .1 .0; }, (Num.vAt 7 λ x. x, tt)))) 4 (L._∷_ 2 L.[]) (Call.sub-id 𝓤 H A W (G5 .slots)) ((StructYields.yields-acc 𝓤 H A W q32 (Declared.row network-proofs-Nodes·.the-type) 0 (λ x. Progress·.struct .as-values x .0) Path.refl (Copies.cStruct network-proofs-Nodes·.the-type network-proofs-Nodes-Laws·.the-laws network-proofs-Nodes-Laws·.the-copy .copy 𝓤 H A W) (StructYields.acc-record 𝓤 H A W q32 network-proofs-Nodes·.the-type 0 (λ x. Progress·.struct .as-values x .0) (StructYields.acc-part 𝓤 H A W q32 (Declared.row Progress·.the-type) (Struct.Struct (Declared.shape network-proofs-Nodes·.the-type)) 0 0 (λ x. x) (λ y. network-proofs-Nodes·.the-type .to (Progress·.struct .as-values y .0)) (StructYields.acc-whole 𝓤 H A W (Declared.row Progress·.the-type)) λ y a. Behind.look-at 𝓤 H A W TreeShare.fullShare Progress·.the-type Progress-Laws·.the-laws 0 0 Path.refl Path.refl a y (Progress·.struct .as-values y) Path.refl)), Path.refl), (ShrSlice.spares-sslice 𝓤 H A W Rec.row q29 2, Shared.reads-sslice 𝓤 H A W Rec.row q29 2, Path.refl, ((StructYields.yields-acc 𝓤 H A W q32 (Declared.row costly-arc-proofs-Seen·.the-type) 328 (λ x. Progress·.struct .as-values x .1 .1 .0) Path.refl (Copies.cStruct costly-arc-proofs-Seen·.the-type costly-arc-proofs-Seen-Laws·.the-laws costly-arc-proofs-Seen-Laws·.the-copy .copy 𝓤 H A W) (StructYields.acc-record 𝓤 H A W q32 costly-arc-proofs-Seen·.the-type 328 (λ x. Progress·.struct .as-values x .1 .1 .0) (StructYields.acc-part 𝓤 H A W q32 (Declared.row Progress·.the-type) (Struct.Struct (Declared.shape costly-arc-proofs-Seen·.the-type)) 0 328 (λ x. x) (λ y. costly-arc-proofs-Seen·.the-type .to (Progress·.struct .as-values y .1 .1 .0)) (StructYields.acc-whole 𝓤 H A W (Declared.row Progress·.the-type)) λ y a. Behind.look-at 𝓤 H A W TreeShare.fullShare Progress·.the-type Progress-Laws·.the-laws 2 328 Path.refl Path.refl a y (Progress·.struct .as-values y) Path.refl)), Path.refl), ((Scalar.reads-sc 𝓤 H A W (Row.sInt Syntax.w8), Path.refl), tt)))) (TReads.room-gone 𝓤 H A (Syntax.tyStruct (L._∷_ 114 (L._∷_ 117 (L._∷_ 108 (L._∷_ 101 (L._∷_ 115 (L._∷_ 58 (L._∷_ 58 (L._∷_ 116 (L._∷_ 114 (L._∷_ 105 (L._∷_ 101 (L._∷_ 100 (L._∷_ 58 (L._∷_ 58 (L._∷_ 76 (L._∷_ 111 (L._∷_ 111 (L._∷_ 107 (L._∷_ 101 (L._∷_ 100 L.[])))))))))))))))))))) (Syntax.tcons (Syntax.tyStruct (L._∷_ 114 (L._∷_ 117 (L._∷_ 108 (L._∷_ 101 (L._∷_ 115 (L._∷_ 58 (L._∷_ 58 (L._∷_ 102 (L._∷_ 111 (L._∷_ 117 (L._∷_ 110 (L._∷_ 100 (L._∷_ 58 (L._∷_ 58 (L._∷_ 70 (L._∷_ 111 (L._∷_ 117 (L._∷_ 110 (L._∷_ 100 L.[]))))))))))))))))))) (Syntax.tcons Syntax.tyBool (Syntax.tcons Syntax.tyBool (Syntax.tcons (Syntax.tyStruct (L._∷_ 115 (L._∷_ 116 (L._∷_ 101 (L._∷_ 112 (L._∷_ 58 (L._∷_ 58 (L._∷_ 83 (L._∷_ 116 (L._∷_ 101 (L._∷_ 112 L.[])))))))))) (Syntax.tcons (Syntax.tyInt Syntax.w64) (Syntax.tcons (Syntax.tyInt Syntax.w64) (Syntax.tcons (Syntax.tyStruct (L._∷_ 115 (L._∷_ 116 (L._∷_ 101 (L._∷_ 112 (L._∷_ 58 (L._∷_ 58 (L._∷_ 67 (L._∷_ 104 (L._∷_ 97 (L._∷_ 110 (L._∷_ 103 (L._∷_ 101 L.[])))))))))))) (Syntax.tcons (Syntax.tyStruct (L._∷_ 110 (L._∷_ 101 (L._∷_ 116 (L._∷_ 119 (L._∷_ 111 (L._∷_ 114 (L._∷_ 107 (L._∷_ 58 (L._∷_ 58 (L._∷_ 69 (L._∷_ 100 (L._∷_ 105 (L._∷_ 116 L.[]))))))))))))) (Syntax.tcons q5 (Syntax.tcons q5 (Syntax.tcons q5 (Syntax.tcons q5 (Syntax.tcons q1 (Syntax.tcons q1 (Syntax.tcons (Syntax.tyInt Syntax.w64) Syntax.tnil)))))))) (Syntax.tcons (Syntax.tyStruct (L._∷_ 115 (L._∷_ 116 (L._∷_ 101 (L._∷_ 112 (L._∷_ 58 (L._∷_ 58 (L._∷_ 79 (L._∷_ 108 (L._∷_ 100 L.[]))))))))) (Syntax.tcons (Syntax.tyInt Syntax.w64) (Syntax.tcons q4 (Syntax.tcons q5 (Syntax.tcons q5 (Syntax.tcons q5 (Syntax.tcons q5 (Syntax.tcons q2 Syntax.tnil)))))))) Syntax.tnil))) Syntax.tnil)))) Syntax.tnil)))) (Syntax.tcons q3 Syntax.tnil)))) (tt, tt) Path.refl) d26
+          d27 = Typed.s-seq 𝓤 H A W 𝓣 E G5 G6 b3 b20 Δ0 (Typed.both s4) at26 (Plain.t-call-plain 𝓤 H A W 𝓣 1 ps·1 r·1 (claims· .2) (claims· .3) "search::scan::next" (known .1) E (λ pos β. β) G5 (record { pos = 1; st = L._∷_ (Syntax.field 0) L.[]; d = 0; at = λ x. Progress·.struct .as-values x .0 }, (record { pos = 6; ty = Syntax.tyRef Syntax.erased Syntax.imm Rec.named; ref = λ x. x }, (record { pos = 1; st = L._∷_ (Syntax.field 2) L.[]; d = 328; at = λ x. Progress·.struct .as-values x .1 .1 .0 }, (Num.vAt 7 λ x. x, tt)))) 4 (L._∷_ 2 L.[]) (Call.sub-id 𝓤 H A W (G5 .slots)) ((StructYields.yields-acc 𝓤 H A W q32 (Declared.row network-proofs-Nodes·.the-type) 0 (λ x. Progress·.struct .as-values x .0) Path.refl (Copies.cStruct network-proofs-Nodes·.the-type network-proofs-Nodes-Laws·.the-laws network-proofs-Nodes-Laws·.the-copy .copy 𝓤 H A W) (StructYields.acc-record 𝓤 H A W q32 network-proofs-Nodes·.the-type 0 (λ x. Progress·.struct .as-values x .0) (StructYields.acc-part 𝓤 H A W q32 (Declared.row Progress·.the-type) (Struct.Struct (Declared.shape network-proofs-Nodes·.the-type)) 0 0 (λ x. x) (λ y. network-proofs-Nodes·.the-type .to (Progress·.struct .as-values y .0)) (StructYields.acc-whole 𝓤 H A W (Declared.row Progress·.the-type)) λ y a. Behind.look-at 𝓤 H A W TreeShare.fullShare Progress·.the-type Progress-Laws·.the-laws 0 0 Path.refl Path.refl a y (Progress·.struct .as-values y) Path.refl)), Path.refl), (ShrSlice.spares-sslice 𝓤 H A W Rec.row q29 2, Shared.reads-sslice 𝓤 H A W Rec.row q29 2, Path.refl, ((StructYields.yields-acc 𝓤 H A W q32 (Declared.row costly-arc-proofs-Seen·.the-type) 328 (λ x. Progress·.struct .as-values x .1 .1 .0) Path.refl (Copies.cStruct costly-arc-proofs-Seen·.the-type costly-arc-proofs-Seen-Laws·.the-laws costly-arc-proofs-Seen-Laws·.the-copy .copy 𝓤 H A W) (StructYields.acc-record 𝓤 H A W q32 costly-arc-proofs-Seen·.the-type 328 (λ x. Progress·.struct .as-values x .1 .1 .0) (StructYields.acc-part 𝓤 H A W q32 (Declared.row Progress·.the-type) (Struct.Struct (Declared.shape costly-arc-proofs-Seen·.the-type)) 0 328 (λ x. x) (λ y. costly-arc-proofs-Seen·.the-type .to (Progress·.struct .as-values y .1 .1 .0)) (StructYields.acc-whole 𝓤 H A W (Declared.row Progress·.the-type)) λ y a. Behind.look-at 𝓤 H A W TreeShare.fullShare Progress·.the-type Progress-Laws·.the-laws 2 328 Path.refl Path.refl a y (Progress·.struct .as-values y) Path.refl)), Path.refl), ((Scalar.reads-sc 𝓤 H A W (Row.sInt Syntax.w8), Path.refl), tt)))) (TReads.room-gone 𝓤 H A (Syntax.tyStruct (L._∷_ 114 (L._∷_ 117 (L._∷_ 108 (L._∷_ 101 (L._∷_ 115 (L._∷_ 58 (L._∷_ 58 (L._∷_ 116 (L._∷_ 114 (L._∷_ 105 (L._∷_ 101 (L._∷_ 100 (L._∷_ 58 (L._∷_ 58 (L._∷_ 76 (L._∷_ 111 (L._∷_ 111 (L._∷_ 107 (L._∷_ 101 (L._∷_ 100 L.[])))))))))))))))))))) (Syntax.tcons (Syntax.tyStruct (L._∷_ 114 (L._∷_ 117 (L._∷_ 108 (L._∷_ 101 (L._∷_ 115 (L._∷_ 58 (L._∷_ 58 (L._∷_ 102 (L._∷_ 111 (L._∷_ 117 (L._∷_ 110 (L._∷_ 100 (L._∷_ 58 (L._∷_ 58 (L._∷_ 70 (L._∷_ 111 (L._∷_ 117 (L._∷_ 110 (L._∷_ 100 L.[]))))))))))))))))))) (Syntax.tcons Syntax.tyBool (Syntax.tcons Syntax.tyBool (Syntax.tcons (Syntax.tyStruct (L._∷_ 115 (L._∷_ 116 (L._∷_ 101 (L._∷_ 112 (L._∷_ 58 (L._∷_ 58 (L._∷_ 83 (L._∷_ 116 (L._∷_ 101 (L._∷_ 112 L.[])))))))))) (Syntax.tcons (Syntax.tyInt Syntax.w64) (Syntax.tcons (Syntax.tyInt Syntax.w64) (Syntax.tcons (Syntax.tyStruct (L._∷_ 115 (L._∷_ 116 (L._∷_ 101 (L._∷_ 112 (L._∷_ 58 (L._∷_ 58 (L._∷_ 67 (L._∷_ 104 (L._∷_ 97 (L._∷_ 110 (L._∷_ 103 (L._∷_ 101 L.[])))))))))))) (Syntax.tcons (Syntax.tyStruct (L._∷_ 110 (L._∷_ 101 (L._∷_ 116 (L._∷_ 119 (L._∷_ 111 (L._∷_ 114 (L._∷_ 107 (L._∷_ 58 (L._∷_ 58 (L._∷_ 69 (L._∷_ 100 (L._∷_ 105 (L._∷_ 116 L.[]))))))))))))) (Syntax.tcons q5 (Syntax.tcons q5 (Syntax.tcons q5 (Syntax.tcons q5 (Syntax.tcons q1 (Syntax.tcons q1 (Syntax.tcons (Syntax.tyInt Syntax.w64) Syntax.tnil)))))))) (Syntax.tcons (Syntax.tyStruct (L._∷_ 115 (L._∷_ 116 (L._∷_ 101 (L._∷_ 112 (L._∷_ 58 (L._∷_ 58 (L._∷_ 79 (L._∷_ 108 (L._∷_ 100 L.[]))))))))) (Syntax.tcons (Syntax.tyInt Syntax.w64) (Syntax.tcons q4 (Syntax.tcons q5 (Syntax.tcons q5 (Syntax.tcons q5 (Syntax.tcons q5 (Syntax.tcons q2 Syntax.tnil)))))))) Syntax.tnil))) Syntax.tnil)))) Syntax.tnil)))) (Syntax.tcons q3 Syntax.tnil)))) (tt, tt) Path.refl) d26
 
           d28 : Typed.Typed 𝓤 H A 𝓣 E G4 b22 Δ0 at28
           d28 = Typed.s-seq 𝓤 H A W 𝓣 E G4 G5 b2 b21 Δ0 (Typed.both s3) at27 (Plain.t-call-plain 𝓤 H A W 𝓣 0 ps·0 r·0 (claims· .0) (claims· .1) "search::time" (known .0) E (λ pos β. β) G4 (record { pos = 1; st = L.[]; d = 0; at = λ x. x }, tt) 7 L.[] (Call.sub-id 𝓤 H A W (G4 .slots)) ((RuleYields.yields-copy 𝓤 H A W (λ ρ. Unit) (Declared.row Progress·.the-type) Path.refl (Copies.cStruct Progress·.the-type Progress-Laws·.the-laws Progress-Laws·.the-copy .copy 𝓤 H A W) q32 (λ x. x) (λ x. x) (λ ρ told. Local.mem-whole 𝓤 H A W (Declared.row Progress·.the-type) ρ) λ ρ told. Local.whole-mem 𝓤 H A W (Declared.row Progress·.the-type) ρ, Path.refl), tt) (TReads.room-gone 𝓤 H A (Syntax.tyInt Syntax.w8)) tt Path.refl) d27
@@ -868,7 +868,7 @@ module _ (claims· : Claims) where
 
       module _ (κs : Lifetimes.Lfts 2) where
         pub record Args : Type 0 where
-          pub at : FnKinds.Den {n = 2} κs (Value.pVal record { ty = Declared.row Progress·.the-type; one = Path.refl; val = StructLaws.val Progress·.the-type Progress-Laws·.the-laws; tells = StructLaws.tells Progress·.the-type Progress-Laws·.the-laws; still = StructLaws.still Progress·.the-type Progress-Laws·.the-copy Exit.yes; row = Rows.whole (Declared.row Progress·.the-type); rd = λ x. x; mk = λ x. x; } λ M 𝓤 H A W. record { copies = StructLaws.copy Progress·.the-type Progress-Laws·.the-copy 𝓤 H A W; lawful = StructLaws.lawful Progress·.the-type Progress-Laws·.the-laws 𝓤 H A W; makes = StructLaws.makes Progress·.the-type Progress-Laws·.the-plain 𝓤 H A; in-mem = Local.mem-whole 𝓤 H A W (Declared.row Progress·.the-type); of-mem = Local.whole-mem 𝓤 H A W (Declared.row Progress·.the-type); })
+          pub at : FnKinds.Den {n = 2} κs (Value.pVal record { ty = Declared.row Progress·.the-type; one = Path.refl; val = StructLaws.val Progress·.the-type Progress-Laws·.the-laws; tells = StructLaws.tells Progress·.the-type Progress-Laws·.the-laws; still = StructLaws.still Progress·.the-type Progress-Laws·.the-copy Exit.yes; row = Rows.whole (Declared.row Progress·.the-type); rd = λ x. x; mk = λ x. x } λ M 𝓤 H A W. record { copies = StructLaws.copy Progress·.the-type Progress-Laws·.the-copy 𝓤 H A W; lawful = StructLaws.lawful Progress·.the-type Progress-Laws·.the-laws 𝓤 H A W; makes = StructLaws.makes Progress·.the-type Progress-Laws·.the-plain 𝓤 H A; in-mem = Local.mem-whole 𝓤 H A W (Declared.row Progress·.the-type); of-mem = Local.whole-mem 𝓤 H A W (Declared.row Progress·.the-type) })
           pub log : FnKinds.Den {n = 2} κs (MutSlice.pMutS (Signed.SInt Syntax.w32) 0 tt)
           pub arcs : FnKinds.Den {n = 2} κs (MutSlice.pMutS Rec.row 1 tt)
 
@@ -926,14 +926,14 @@ module _ (claims· : Claims) where
 
       module _ (before· : After-time) where
         abbrev pub After-next·own : Type 0
-        After-next·own = Called.Called ps·1 r·1 (claims· .3) T5 (record { pos = 1; st = L._∷_ (Syntax.field 0) L.[]; d = 0; at = λ x. Progress·.struct .as-values x .0; }, (record { pos = 6; ty = Syntax.tyRef Syntax.erased Syntax.imm Rec.named; ref = λ x. x; }, (record { pos = 1; st = L._∷_ (Syntax.field 2) L.[]; d = 328; at = λ x. Progress·.struct .as-values x .1 .1 .0; }, (Num.vAt 7 λ x. x, tt)))) (m3 (before· .before) (After-time·gave before·))
+        After-next·own = Called.Called ps·1 r·1 (claims· .3) T5 (record { pos = 1; st = L._∷_ (Syntax.field 0) L.[]; d = 0; at = λ x. Progress·.struct .as-values x .0 }, (record { pos = 6; ty = Syntax.tyRef Syntax.erased Syntax.imm Rec.named; ref = λ x. x }, (record { pos = 1; st = L._∷_ (Syntax.field 2) L.[]; d = 328; at = λ x. Progress·.struct .as-values x .1 .1 .0 }, (Num.vAt 7 λ x. x, tt)))) (m3 (before· .before) (After-time·gave before·))
 
       pub record After-next : Type 0 where
         pub before : After-time
         pub next : After-next·own before
 
       abbrev pub After-next·gave : (c : After-next) → s4 .gives (m3 (c .before .before) (After-time·gave (c .before)))
-      After-next·gave = λ c. Called.given ps·1 r·1 (claims· .3) T5 (record { pos = 1; st = L._∷_ (Syntax.field 0) L.[]; d = 0; at = λ x. Progress·.struct .as-values x .0; }, (record { pos = 6; ty = Syntax.tyRef Syntax.erased Syntax.imm Rec.named; ref = λ x. x; }, (record { pos = 1; st = L._∷_ (Syntax.field 2) L.[]; d = 328; at = λ x. Progress·.struct .as-values x .1 .1 .0; }, (Num.vAt 7 λ x. x, tt)))) (m3 (c .before .before) (After-time·gave (c .before))) (c .next)
+      After-next·gave = λ c. Called.given ps·1 r·1 (claims· .3) T5 (record { pos = 1; st = L._∷_ (Syntax.field 0) L.[]; d = 0; at = λ x. Progress·.struct .as-values x .0 }, (record { pos = 6; ty = Syntax.tyRef Syntax.erased Syntax.imm Rec.named; ref = λ x. x }, (record { pos = 1; st = L._∷_ (Syntax.field 2) L.[]; d = 328; at = λ x. Progress·.struct .as-values x .1 .1 .0 }, (Num.vAt 7 λ x. x, tt)))) (m3 (c .before .before) (After-time·gave (c .before))) (c .next)
 
       abbrev pub m5 : (before : After-time) → (given : s4 .gives (m3 (before .before) (After-time·gave before))) → Typed.Mo T7
       m5 = λ before given. s5 (m4 before given)
@@ -983,14 +983,14 @@ module _ (claims· : Claims) where
 
       module _ (before· : After-edit-of) where
         abbrev pub After-put-edit·own : Type 0
-        After-put-edit·own = Called.Called ps·3 r·3 (claims· .7) T15 (record { pos = 10; ty = Syntax.tyRef Syntax.erased Syntax.mut Rec.named; ref = λ x. x; }, (record { pos = 11; st = L.[]; d = 0; at = λ x. x }, tt)) (m10 (before· .before) (After-edit-of·gave before·))
+        After-put-edit·own = Called.Called ps·3 r·3 (claims· .7) T15 (record { pos = 10; ty = Syntax.tyRef Syntax.erased Syntax.mut Rec.named; ref = λ x. x }, (record { pos = 11; st = L.[]; d = 0; at = λ x. x }, tt)) (m10 (before· .before) (After-edit-of·gave before·))
 
       pub record After-put-edit : Type 0 where
         pub before : After-edit-of
         pub put-edit : After-put-edit·own before
 
       abbrev pub After-put-edit·gave : (c : After-put-edit) → s14 .gives (m10 (c .before .before) (After-edit-of·gave (c .before)))
-      After-put-edit·gave = λ c. Called.given ps·3 r·3 (claims· .7) T15 (record { pos = 10; ty = Syntax.tyRef Syntax.erased Syntax.mut Rec.named; ref = λ x. x; }, (record { pos = 11; st = L.[]; d = 0; at = λ x. x }, tt)) (m10 (c .before .before) (After-edit-of·gave (c .before))) (c .put-edit)
+      After-put-edit·gave = λ c. Called.given ps·3 r·3 (claims· .7) T15 (record { pos = 10; ty = Syntax.tyRef Syntax.erased Syntax.mut Rec.named; ref = λ x. x }, (record { pos = 11; st = L.[]; d = 0; at = λ x. x }, tt)) (m10 (c .before .before) (After-edit-of·gave (c .before))) (c .put-edit)
 
       abbrev pub m12 : (before : After-edit-of) → (given : s14 .gives (m10 (before .before) (After-edit-of·gave before))) → Typed.Mo T17
       m12 = λ before given. s15 (m11 before given)
@@ -1031,14 +1031,14 @@ module _ (claims· : Claims) where
 
       module _ (before· : After-note-arg) where
         abbrev pub After-note·own : Type 0
-        After-note·own = Called.Called ps·4 r·4 (claims· .9) T24 (record { pos = 13; ty = Syntax.tyRef Syntax.erased Syntax.mut (Syntax.tyInt Syntax.w32); ref = λ x. x; }, (Num.vFld 1 (L._∷_ (Syntax.field 1) L.[]) 320 λ x. Progress·.struct .as-values x .1 .0, (record { pos = 4; st = L.[]; d = 0; at = λ x. x }, tt))) (m16 (before· .before) (before· .note-arg .given))
+        After-note·own = Called.Called ps·4 r·4 (claims· .9) T24 (record { pos = 13; ty = Syntax.tyRef Syntax.erased Syntax.mut (Syntax.tyInt Syntax.w32); ref = λ x. x }, (Num.vFld 1 (L._∷_ (Syntax.field 1) L.[]) 320 λ x. Progress·.struct .as-values x .1 .0, (record { pos = 4; st = L.[]; d = 0; at = λ x. x }, tt))) (m16 (before· .before) (before· .note-arg .given))
 
       pub record After-note : Type 0 where
         pub before : After-note-arg
         pub note : After-note·own before
 
       abbrev pub After-note·gave : (c : After-note) → s23 .gives (m16 (c .before .before) (c .before .note-arg .given))
-      After-note·gave = λ c. Called.given ps·4 r·4 (claims· .9) T24 (record { pos = 13; ty = Syntax.tyRef Syntax.erased Syntax.mut (Syntax.tyInt Syntax.w32); ref = λ x. x; }, (Num.vFld 1 (L._∷_ (Syntax.field 1) L.[]) 320 λ x. Progress·.struct .as-values x .1 .0, (record { pos = 4; st = L.[]; d = 0; at = λ x. x }, tt))) (m16 (c .before .before) (c .before .note-arg .given)) (c .note)
+      After-note·gave = λ c. Called.given ps·4 r·4 (claims· .9) T24 (record { pos = 13; ty = Syntax.tyRef Syntax.erased Syntax.mut (Syntax.tyInt Syntax.w32); ref = λ x. x }, (Num.vFld 1 (L._∷_ (Syntax.field 1) L.[]) 320 λ x. Progress·.struct .as-values x .1 .0, (record { pos = 4; st = L.[]; d = 0; at = λ x. x }, tt))) (m16 (c .before .before) (c .before .note-arg .given)) (c .note)
 
       abbrev pub m18 : (before : After-note-arg) → (given : s23 .gives (m16 (before .before) (before .note-arg .given))) → Typed.Mo T26
       m18 = λ before given. s24 (m17 before given)
@@ -1091,26 +1091,26 @@ module _ (claims· : Claims) where
         lay6 = λ c. ((tt, (MutSlice.fix-len (Row.get 2 (T32 .locals) (m22 (c .before) (After-advance·gave c)) .ptr) (Row.get 2 (T32 .locals) (m22 (c .before) (After-advance·gave c)) .name) (Row.get 2 (T32 .locals) (m22 (c .before) (After-advance·gave c)) .now) (dens (c .before .before .before .before .before .before .before .before .before .before .before .κs) (c .before .before .before .before .before .before .before .before .before .before .before .args) .1 .0 .now) (same-length record { before = c .before; advance = c .advance }), (MutSlice.fix-len (Row.get 3 (T32 .locals) (m22 (c .before) (After-advance·gave c)) .ptr) (Row.get 3 (T32 .locals) (m22 (c .before) (After-advance·gave c)) .name) (Row.get 3 (T32 .locals) (m22 (c .before) (After-advance·gave c)) .now) (dens (c .before .before .before .before .before .before .before .before .before .before .before .κs) (c .before .before .before .before .before .before .before .before .before .before .before .args) .1 .1 .0 .now) (same-length-2 record { before = c .before; advance = c .advance }), tt))), returns record { before = c .before; advance = c .advance })
 
         lay5 : (c : After-note) → at7 (W0 (c .before .before .before .before .before .before .before .before .before .κs) (c .before .before .before .before .before .before .before .before .before .args)) (m17 (c .before) (After-note·gave c))
-        lay5 = λ c. (Path.refl, λ g. (advance-requires record { before = record { before = c .before; note = c .note }; log = record { given = g }; }, λ g'. lay6 record { before = record { before = record { before = c .before; note = c .note }; log = record { given = g }; }; advance = Called.called ps·5 r·5 (claims· .11) T28 (record { pos = 1; st = L.[]; d = 0; at = λ x. x }, (record { pos = 4; st = L.[]; d = 0; at = λ x. x }, tt)) (m19 record { before = c .before; note = c .note } g) g'; }))
+        lay5 = λ c. (Path.refl, λ g. (advance-requires record { before = record { before = c .before; note = c .note }; log = record { given = g } }, λ g'. lay6 record { before = record { before = record { before = c .before; note = c .note }; log = record { given = g } }; advance = Called.called ps·5 r·5 (claims· .11) T28 (record { pos = 1; st = L.[]; d = 0; at = λ x. x }, (record { pos = 4; st = L.[]; d = 0; at = λ x. x }, tt)) (m19 record { before = c .before; note = c .note } g) g' }))
 
         lay4 : (c : After-put-edit) → at16 (W0 (c .before .before .before .before .before .before .κs) (c .before .before .before .before .before .before .args)) (m11 (c .before) (After-put-edit·gave c))
-        lay4 = λ c. (Path.refl, λ g. λ g'. (Path.refl, (note-requires record { before = record { before = record { before = c .before; put-edit = c .put-edit }; arcs = record { given = g }; }; note-arg = record { given = g' }; }, λ g''. lay5 record { before = record { before = record { before = record { before = c .before; put-edit = c .put-edit }; arcs = record { given = g }; }; note-arg = record { given = g' }; }; note = Called.called ps·4 r·4 (claims· .9) T24 (record { pos = 13; ty = Syntax.tyRef Syntax.erased Syntax.mut (Syntax.tyInt Syntax.w32); ref = λ x. x; }, (Num.vFld 1 (L._∷_ (Syntax.field 1) L.[]) 320 λ x. Progress·.struct .as-values x .1 .0, (record { pos = 4; st = L.[]; d = 0; at = λ x. x }, tt))) (m16 record { before = record { before = c .before; put-edit = c .put-edit }; arcs = record { given = g }; } g') g''; })))
+        lay4 = λ c. (Path.refl, λ g. λ g'. (Path.refl, (note-requires record { before = record { before = record { before = c .before; put-edit = c .put-edit }; arcs = record { given = g } }; note-arg = record { given = g' } }, λ g''. lay5 record { before = record { before = record { before = record { before = c .before; put-edit = c .put-edit }; arcs = record { given = g } }; note-arg = record { given = g' } }; note = Called.called ps·4 r·4 (claims· .9) T24 (record { pos = 13; ty = Syntax.tyRef Syntax.erased Syntax.mut (Syntax.tyInt Syntax.w32); ref = λ x. x }, (Num.vFld 1 (L._∷_ (Syntax.field 1) L.[]) 320 λ x. Progress·.struct .as-values x .1 .0, (record { pos = 4; st = L.[]; d = 0; at = λ x. x }, tt))) (m16 record { before = record { before = c .before; put-edit = c .put-edit }; arcs = record { given = g } } g') g'' })))
 
         lay3 : (c : After-edit-of) → at17 (W0 (c .before .before .before .before .before .κs) (c .before .before .before .before .before .args)) (m10 (c .before) (After-edit-of·gave c))
-        lay3 = λ c. (put-edit-requires record { before = c .before; edit-of = c .edit-of }, λ g. lay4 record { before = record { before = c .before; edit-of = c .edit-of }; put-edit = Called.called ps·3 r·3 (claims· .7) T15 (record { pos = 10; ty = Syntax.tyRef Syntax.erased Syntax.mut Rec.named; ref = λ x. x; }, (record { pos = 11; st = L.[]; d = 0; at = λ x. x }, tt)) (m10 (c .before) (After-edit-of·gave c)) g; })
+        lay3 = λ c. (put-edit-requires record { before = c .before; edit-of = c .edit-of }, λ g. lay4 record { before = record { before = c .before; edit-of = c .edit-of }; put-edit = Called.called ps·3 r·3 (claims· .7) T15 (record { pos = 10; ty = Syntax.tyRef Syntax.erased Syntax.mut Rec.named; ref = λ x. x }, (record { pos = 11; st = L.[]; d = 0; at = λ x. x }, tt)) (m10 (c .before) (After-edit-of·gave c)) g })
 
         lay2 : (c : After-next) → at26 (W0 (c .before .before .before .κs) (c .before .before .before .args)) (m4 (c .before) (After-next·gave c))
-        lay2 = λ c. λ g. (Path.refl, (edit-of-requires record { before = record { before = c .before; next = c .next }; put-edit-arg = record { given = g }; }, λ g'. lay3 record { before = record { before = record { before = c .before; next = c .next }; put-edit-arg = record { given = g }; }; edit-of = Called.called ps·2 r·2 (claims· .5) T14 (record { pos = 4; st = L.[]; d = 0; at = λ x. x }, tt) (m9 record { before = c .before; next = c .next } g) g'; }))
+        lay2 = λ c. λ g. (Path.refl, (edit-of-requires record { before = record { before = c .before; next = c .next }; put-edit-arg = record { given = g } }, λ g'. lay3 record { before = record { before = record { before = c .before; next = c .next }; put-edit-arg = record { given = g } }; edit-of = Called.called ps·2 r·2 (claims· .5) T14 (record { pos = 4; st = L.[]; d = 0; at = λ x. x }, tt) (m9 record { before = c .before; next = c .next } g) g' }))
 
         lay1 : (c : After-time) → at27 (W0 (c .before .before .κs) (c .before .before .args)) (m3 (c .before) (After-time·gave c))
-        lay1 = λ c. (next-requires record { before = c .before; time = c .time }, λ g. lay2 record { before = record { before = c .before; time = c .time }; next = Called.called ps·1 r·1 (claims· .3) T5 (record { pos = 1; st = L._∷_ (Syntax.field 0) L.[]; d = 0; at = λ x. Progress·.struct .as-values x .0; }, (record { pos = 6; ty = Syntax.tyRef Syntax.erased Syntax.imm Rec.named; ref = λ x. x; }, (record { pos = 1; st = L._∷_ (Syntax.field 2) L.[]; d = 328; at = λ x. Progress·.struct .as-values x .1 .1 .0; }, (Num.vAt 7 λ x. x, tt)))) (m3 (c .before) (After-time·gave c)) g; })
+        lay1 = λ c. (next-requires record { before = c .before; time = c .time }, λ g. lay2 record { before = record { before = c .before; time = c .time }; next = Called.called ps·1 r·1 (claims· .3) T5 (record { pos = 1; st = L._∷_ (Syntax.field 0) L.[]; d = 0; at = λ x. Progress·.struct .as-values x .0 }, (record { pos = 6; ty = Syntax.tyRef Syntax.erased Syntax.imm Rec.named; ref = λ x. x }, (record { pos = 1; st = L._∷_ (Syntax.field 2) L.[]; d = 328; at = λ x. Progress·.struct .as-values x .1 .1 .0 }, (Num.vAt 7 λ x. x, tt)))) (m3 (c .before) (After-time·gave c)) g })
 
         pub laid : (c : Start) → at31 (W0 (c .κs) (c .args)) (m0 (c .κs) (c .args))
-        laid = λ c. λ g. (Path.refl, (time-requires record { before = c; next-arg = record { given = g } }, λ g'. lay1 record { before = record { before = c; next-arg = record { given = g } }; time = Called.called ps·0 r·0 (claims· .1) T4 (record { pos = 1; st = L.[]; d = 0; at = λ x. x }, tt) (m2 c g) g'; }))
+        laid = λ c. λ g. (Path.refl, (time-requires record { before = c; next-arg = record { given = g } }, λ g'. lay1 record { before = record { before = c; next-arg = record { given = g } }; time = Called.called ps·0 r·0 (claims· .1) T4 (record { pos = 1; st = L.[]; d = 0; at = λ x. x }, tt) (m2 c g) g' }))
 
         module _ (κs : Lifetimes.Lfts 2) (qs : Lifetimes.Shares 2) where
           pub asked : (a : FnKinds.Dens κs ps) → (good : FnKinds.GoodsP κs ps a) → (pre : Pre· κs a) → (bs : L.List Nat.ℕ) → Φ (Any.wantQ 2 ps r xs m κs qs a (Post· κs a)) (Function.init 2 ps r xs m κs qs a)
-          asked = λ a good pre bs. laid record { κs = κs; args = record { at = a .0; log = a .1 .0; arcs = a .1 .1 .0 }; good = good; pre = pre; }
+          asked = λ a good pre bs. laid record { κs = κs; args = record { at = a .0; log = a .1 .0; arcs = a .1 .1 .0 }; good = good; pre = pre }
 
         module _ {M : Type 1} (𝓤 : URA.URA M) (H : Wp.Heap 𝓤) (A : Atoms.Atoms 𝓤) (W : Kit.Given 𝓤 H A) (𝓣 : Wp.Tables 𝓤 H) (known0 : Plain.Known 𝓤 H A W 𝓣 0 ps·0 r·0 (claims· .0) (claims· .1) "search::time") (known1 : Plain.Known 𝓤 H A W 𝓣 1 ps·1 r·1 (claims· .2) (claims· .3) "search::scan::next") (known2 : Plain.Known 𝓤 H A W 𝓣 0 ps·2 r·2 (claims· .4) (claims· .5) "search::edit_of") (known3 : Plain.Known 𝓤 H A W 𝓣 1 ps·3 r·3 (claims· .6) (claims· .7) "network::list::put_edit") (known4 : Plain.Known 𝓤 H A W 𝓣 1 ps·4 r·4 (claims· .8) (claims· .9) "search::note") (known5 : Plain.Known 𝓤 H A W 𝓣 0 ps·5 r·5 (claims· .10) (claims· .11) "search::advance") where
           pub spec : Statement.Triple 𝓤 (Wp.WpFn 𝓤 H (𝓣 .C) (𝓣 .Λ) (Function.fnOf 2 ps r xs m hs body)) (Function.plainOf 𝓤 H A 2 ps r Pre· Post·)
