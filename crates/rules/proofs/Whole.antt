@@ -61,7 +61,7 @@ module _ (net : Net) (g : Legal net) where
   none-applies n = by (reduced net .ends) (run-ends nextOf (backOf rules) next-right 128 net) n (run-done nextOf (backOf rules) next-right 128 net g (legal-left g))
     where
       by : (e : Next) → e ≡ nextOf (reduced net .net) → ((k i : ℕ) → e ≡ Refuted k i → ⊥) → ((s : _) → e ≡ Takes s → ⊥) → NoneApplies lastRule rules (reduced net .net)
-      by Stops q a b = stops-none lastRule 1 rules (reduced net .net) (sym q)
+      by Stops q a b = stops-none lastRule rules (reduced net .net) (sym q)
       by (Refuted k i) q a b = absurd (a k i refl)
       by (Takes s) q a b = absurd (b s refl)
 

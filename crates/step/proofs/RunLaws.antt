@@ -8,7 +8,7 @@ use native.Mathlib.Numerals.{add-one}
 use native.Mathlib.Omega.{arith}
 use lib.Dec.{eqb}
 use lib.ListN.{length}
-use borrow.Author.Tests.{eq-eqb, ne-eqb}
+use borrow.Author.Tests.{eq-eqb, ne-eqb, eqb-false}
 use Rattle.presolve.specs.LP as LP
 use Rattle.fraction.proofs.Laws.{never}
 use Rattle.network.specs.declared.Net.{Net}
@@ -130,13 +130,16 @@ next-laws rules laws few h net g =
     }
 
 -- where the search finds nothing, no rule applies at any place
-pub stops-none : (h k : ℕ) (rules : List Rule) (net : Net) → nextFrom h k rules net ≡ Stops → NoneApplies h rules net
-unfolding nextFrom
-stops-none zero k rules net e = tt
-stops-none (suc h) k [] net e = tt
-stops-none (suc h) k (R ∷ rules) net e =
-    upward-each (λ n. n ≡ Stops → NoneApplies (suc h) (R ∷ rules) net) (R .at net) k (R .last) 1 (nextFrom h (suc k) rules net) (λ j f q. never cc) (λ j c l f q. never cc)
-    (λ f q. ((λ i l m. f i l (omega arith)), stops-none h (suc k) rules net q)) e
+from-none : (h k : ℕ) (rules : List Rule) (net : Net) → nextFrom h k rules net ≡ Stops → (r : ℕ) → k ≤ r → r < k + h → Passing (ruleFrom k rules r) net
+unfolding nextFrom ruleFrom
+from-none zero k rules net e r l m = absurd (omega arith)
+from-none (suc h) k [] net e r l m = λ i a b. refl
+from-none (suc h) k (R ∷ rules) net e r l m =
+    upward-each (λ n. n ≡ Stops → Passing (cond (eqb r k) R (ruleFrom (suc k) rules r)) net) (R .at net) k (R .last) 1 (nextFrom h (suc k) rules net) (λ j f q. never cc) (λ j c l f q. never cc)
+    (λ f q. split (eqb r k) (λ w. rw w (λ i a b. f i a (omega arith))) (λ w. rw w (let n = eqb-false r k w in from-none h (suc k) rules net q r (omega (arith, add-one k)) (omega (arith, add-one k, add-one h))))) e
+
+pub stops-none : (h : ℕ) (rules : List Rule) (net : Net) → nextBy h rules net ≡ Stops → NoneApplies h rules net
+stops-none h rules net e r l m = from-none h 1 rules net e r l (omega (arith, m))
 
 -- ---- the run
 

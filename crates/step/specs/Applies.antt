@@ -1,7 +1,7 @@
 -- Whether rules of a table apply to a network, and where.
 use mathlib.Core.Path.{_≡_}
-use mathlib.Core.List.{List, [], _∷_}
-use Prim.Native.Nat.{ℕ, zero, suc, _≤_}
+use mathlib.Core.List.{List}
+use Prim.Native.Nat.{ℕ, _≤_}
 use lib.ListN.{length}
 use Rattle.network.specs.declared.Net.{Net}
 use Rattle.step.specs.declared.Outcome.the-variants.{Passes, NoFlow}
@@ -11,11 +11,9 @@ use Rattle.step.specs.Run.{Rule, ruleOf}
 abbrev pub Passing : Rule → Net → Type 0
 Passing R net = (i : ℕ) → 1 ≤ i → i ≤ R .last → R .at net i ≡ Passes
 
--- so do the first h rules of a table
+-- so do rules 1 to h of a table
 abbrev pub NoneApplies : ℕ → List Rule → Net → Type 0
-NoneApplies zero rules net = Unit {0}
-NoneApplies (suc h) [] net = Unit {0}
-NoneApplies (suc h) (R ∷ rules) net = Passing R net × NoneApplies h rules net
+NoneApplies h rules net = (r : ℕ) → 1 ≤ r → r ≤ h → Passing (ruleOf rules r) net
 
 -- rule r of a table answers no flow at place i
 pub record Shown (rules : List Rule) (net : Net) (r i : ℕ) : Type 0 where
