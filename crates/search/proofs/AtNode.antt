@@ -52,12 +52,12 @@ module _ {net : Net} (g : Legal net) where
 
   module _ (ds : List ℕ) (are : AreDegreesTo net (net .m) ds) (i : ℕ) (m : i < 33) (d : ℕ) where
     -- a node in use of degree d, as it is handed to a rule
-    pub given : (isHere net i && eqb (getD ds i 0) d) ≡ true → {near : Around} → Near net i d near → Given net (net .supply) i d near
-    given e n = let b = and-both (isHere net i) _ e in record { legal = g; here = b .0; supplies = refl; degree = sym (degrees-are ds are i (here-number g i (b .0) .0) m) ∙ eqb-true _ _ (b .1); arcs = n }
+    pub given : (eqb (getD ds i 0) d && isHere net i) ≡ true → {near : Around} → Near net i d near → Given net (net .supply) i d near
+    given e n = let b = and-both (eqb (getD ds i 0) d) _ e in record { legal = g; here = b .1; supplies = refl; degree = sym (degrees-are ds are i (here-number g i (b .1) .0) m) ∙ eqb-true _ _ (b .0); arcs = n }
 
     -- where it is not one, a rule that asks for that degree passes
-    pub elsewhere : 1 ≤ i → (k : ℕ) → isOfNodes k ≡ true → ((degreeOf net i ≡ d → ⊥) → ruleOf rules k .at net i ≡ Passes) → (isHere net i && eqb (getD ds i 0) d) ≡ false → ruleOf rules k .at net i ≡ Passes
-    elsewhere l k n w e = split (isHere net i) (λ h. w (λ z. eqb-false _ _ (rw h at e) (degrees-are ds are i l m ∙ z))) (node-unused g k i n)
+    pub elsewhere : 1 ≤ i → (k : ℕ) → isOfNodes k ≡ true → ((degreeOf net i ≡ d → ⊥) → ruleOf rules k .at net i ≡ Passes) → (eqb (getD ds i 0) d && isHere net i) ≡ false → ruleOf rules k .at net i ≡ Passes
+    elsewhere l k n w e = split (eqb (getD ds i 0) d) (λ q. node-unused g k i n (rw q at e)) (λ q. w (λ z. eqb-false _ _ q (degrees-are ds are i l m ∙ z)))
 
 -- the arcs at a node, as the list has them
 pub old-is : (nodes : Nodes) (xs : List Arc) (i k : ℕ) {a : ℕ} {t : Arc} {u : ArcUpdate} → u ≡ record { number = a; arc = t } → t ≡ recordAt xs a → a ≡ touchingAfter (netIn nodes xs) i k → u ≡ oldArc (netIn nodes xs) (touchingAfter (netIn nodes xs) i k)

@@ -110,9 +110,9 @@ pub(crate) fn gather(arcs: &[Arc], i: usize, d: usize) -> Around
 
 // Whether a node is in use and of degree d.
 fn has_degree(here: bool, degree: usize, d: usize) -> bool
-    ensures { λ r. ⌜ r ≡ (here && eqb degree d) ⌝ }
+    ensures { λ r. ⌜ r ≡ (eqb degree d && here) ⌝ }
 {
-    here && degree == d
+    degree == d && here
 }
 
 // Rule k at the nodes upward.
