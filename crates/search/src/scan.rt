@@ -160,7 +160,7 @@ pub(crate) fn scan_costly(nodes: Nodes, arcs: &[Arc], seen: Seen, time: u8) -> L
 // ---- all rules
 
 // The next step: the first that applies.
-pub(crate) fn next(nodes: Nodes, arcs: &[Arc], seen: Seen, time: u8) -> Looked
+pub(crate) fn next(nodes: Nodes, arcs: &[Arc], mut seen: Seen, time: u8) -> Looked
     requires { ⌜ Legal (netIn nodes (now arcs)) × Known (netIn nodes (now arcs)) time seen ⌝ }
     ensures { λ r. ⌜ (r .found ≡ foundOf (nextOf (netIn nodes (now (arcs .entry))))) × Known (netIn nodes (now (arcs .entry))) time (r .seen) ⌝ }
 {
@@ -169,26 +169,22 @@ pub(crate) fn next(nodes: Nodes, arcs: &[Arc], seen: Seen, time: u8) -> Looked
         return Looked { found: one, seen };
     }
     let degrees = network::list::degrees(arcs, nodes.m);
-    let mut known = seen;
     let mut k = 2;
     while k <= LAST_RULE {
         if k == 4 {
-            let x = scan_costly(nodes, arcs, known, time);
+            let x = scan_costly(nodes, arcs, seen, time);
             if x.found.found {
                 return x;
             }
-            known = x.seen;
+            seen = x.seen;
         } else {
             let x = scan_nodes(nodes, arcs, degrees, k);
             if x.found {
-                return Looked {
-                    found: x,
-                    seen: known,
-                };
+                return Looked { found: x, seen };
             }
         }
         k += 1;
     }
     let found = rules::found::nothing();
-    Looked { found, seen: known }
+    Looked { found, seen }
 }

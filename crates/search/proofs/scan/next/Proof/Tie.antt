@@ -66,8 +66,8 @@ Then3 = λ Inv μ. scan-next-Lts·.Then3 (scan-scan-closed-Reads·.Asked, scan-s
 abbrev pub Else3 : (Inv : InvT-loop) → (μ : MeasureT-loop) → Type 0
 Else3 = λ Inv μ. scan-next-Lts·.Else3 (scan-scan-closed-Reads·.Asked, scan-scan-closed-Reads·.Learnt, network-proofs-Lent-list-degrees-Reads·.Asked, network-proofs-Lent-list-degrees-Reads·.Learnt, scan-scan-costly-Reads·.Asked, scan-scan-costly-Reads·.Learnt, scan-scan-nodes-Reads·.Asked, scan-scan-nodes-Reads·.Learnt, rules-proofs-found-nothing-Reads·.Asked, rules-proofs-found-nothing-Reads·.Learnt) scan-next-Reads·.Pre scan-next-Reads·.Post Inv μ
 
-abbrev pub After-known : (Inv : InvT-loop) → (μ : MeasureT-loop) → Type 0
-After-known = λ Inv μ. scan-next-Lts·.After-known (scan-scan-closed-Reads·.Asked, scan-scan-closed-Reads·.Learnt, network-proofs-Lent-list-degrees-Reads·.Asked, network-proofs-Lent-list-degrees-Reads·.Learnt, scan-scan-costly-Reads·.Asked, scan-scan-costly-Reads·.Learnt, scan-scan-nodes-Reads·.Asked, scan-scan-nodes-Reads·.Learnt, rules-proofs-found-nothing-Reads·.Asked, rules-proofs-found-nothing-Reads·.Learnt) scan-next-Reads·.Pre scan-next-Reads·.Post Inv μ
+abbrev pub After-seen : (Inv : InvT-loop) → (μ : MeasureT-loop) → Type 0
+After-seen = λ Inv μ. scan-next-Lts·.After-seen (scan-scan-closed-Reads·.Asked, scan-scan-closed-Reads·.Learnt, network-proofs-Lent-list-degrees-Reads·.Asked, network-proofs-Lent-list-degrees-Reads·.Learnt, scan-scan-costly-Reads·.Asked, scan-scan-costly-Reads·.Learnt, scan-scan-nodes-Reads·.Asked, scan-scan-nodes-Reads·.Learnt, rules-proofs-found-nothing-Reads·.Asked, rules-proofs-found-nothing-Reads·.Learnt) scan-next-Reads·.Pre scan-next-Reads·.Post Inv μ
 
 abbrev pub Else2 : (Inv : InvT-loop) → (μ : MeasureT-loop) → Type 0
 Else2 = λ Inv μ. scan-next-Lts·.Else2 (scan-scan-closed-Reads·.Asked, scan-scan-closed-Reads·.Learnt, network-proofs-Lent-list-degrees-Reads·.Asked, network-proofs-Lent-list-degrees-Reads·.Learnt, scan-scan-costly-Reads·.Asked, scan-scan-costly-Reads·.Learnt, scan-scan-nodes-Reads·.Asked, scan-scan-nodes-Reads·.Learnt, rules-proofs-found-nothing-Reads·.Asked, rules-proofs-found-nothing-Reads·.Learnt) scan-next-Reads·.Pre scan-next-Reads·.Post Inv μ
