@@ -85,7 +85,7 @@ module _ (net : Net) (g : Legal net) where
 
   costly-met : (j : ℕ) {o : Outcome} → Answers o → costlyArc net j ≡ o → Costly j o
   unfolding costlyArc hasPair isCostlier
-  costly-met j a e =
+  costly-met j {o} a e =
       let t = arcAt net j in
       let r = only-met a _ _ e in
       let f = only-met a _ _ (r .1) in

@@ -81,7 +81,7 @@ record Merged (i j : ℕ) (tj : Arc) (wj : Side) (k : ℕ) (tk : Arc) (wk : Side
 
 merged-met : (i j : ℕ) (tj : Arc) (wj : Side) (k : ℕ) (tk : Arc) (wk : Side) (r r′ : Fraction) {x : Outcome} → Answers x → merged i j tj wj k tk wk r r′ ≡ x → Merged i j tj wj k tk wk r r′ x
 unfolding merged
-merged-met i j tj wj k tk wk r r′ a e =
+merged-met i j tj wj k tk wk r r′ {x} a e =
     let c = fits-met a _ _ e in
     let l = fits-met a _ _ (c .2) in
     let u = fits-met a _ _ (l .2) in
