@@ -18,7 +18,7 @@ ghost use Rattle.costly_arc.specs.CostlyArc.{isOpenRoot, costlyArc};
 ghost use Rattle.costly_arc.specs.Seen.{Known};
 ghost use Rattle.rules.specs.Found.{foundOf};
 ghost use Rattle.rules.specs.Table.{rules};
-ghost use Rattle.rules.specs.Tried.{isClosed, isOfNodes};
+ghost use Rattle.rules.specs.Tried.{isClosed, isOfNodes, wantedOf, mayApply, triedAt};
 use crate::found::Found;
 use costly_arc::Seen;
 use fraction::Fraction;
@@ -57,7 +57,7 @@ pub fn at_arc(supply: [Fraction; NODE_PLACES], j: usize, t: Arc) -> Found
 
 // The degree that rule k asks for: at a node of another degree it passes.
 pub fn wanted(k: usize) -> usize
-    ensures { λ d. ⌜ ((net : Net) (i : ℕ) → isOfNodes k ≡ true → (degreeOf net i ≡ d → ⊥) → ruleOf rules k .at net i ≡ Passes) ⌝ }
+    ensures { λ d. ⌜ (d ≡ wantedOf k) × ((net : Net) (i : ℕ) → isOfNodes k ≡ true → (degreeOf net i ≡ d → ⊥) → ruleOf rules k .at net i ≡ Passes) ⌝ }
 {
     match k {
         3 => 1,
@@ -69,7 +69,7 @@ pub fn wanted(k: usize) -> usize
 
 // Whether rule k may apply at a node of supply r; where not, it passes there.
 pub fn may_apply(k: usize, r: Fraction) -> bool
-    ensures { λ x. ⌜ ((net : Net) (i : ℕ) → supplyAt net i ≡ r → x ≡ false → ruleOf rules k .at net i ≡ Passes) ⌝ }
+    ensures { λ x. ⌜ (x ≡ mayApply k r) × ((net : Net) (i : ℕ) → supplyAt net i ≡ r → x ≡ false → ruleOf rules k .at net i ≡ Passes) ⌝ }
 {
     match k {
         6 => r.is_zero(),
@@ -85,7 +85,7 @@ pub fn try_node(
     degree: usize,
     near: Around,
 ) -> Outcome
-    ensures { λ x. ⌜ ((net : Net) → Given net supply i degree near → isOfNodes k ≡ true → x ≡ ruleOf rules k .at net i) ⌝ }
+    ensures { λ x. ⌜ (x ≡ triedAt supply k i degree near) × ((net : Net) → Given net supply i degree near → isOfNodes k ≡ true → x ≡ ruleOf rules k .at net i) ⌝ }
 {
     let r = network::supply_of(supply, i);
     match k {
@@ -104,7 +104,7 @@ pub fn at_node(
     degree: usize,
     near: Around,
 ) -> Found
-    ensures { λ x. ⌜ ((net : Net) → Given net supply i degree near → isOfNodes k ≡ true → x ≡ foundOf (orElse k i (ruleOf rules k .at net i) Stops)) ⌝ }
+    ensures { λ x. ⌜ (x ≡ foundOf (orElse k i (triedAt supply k i degree near) Stops)) × ((net : Net) → Given net supply i degree near → isOfNodes k ≡ true → x ≡ foundOf (orElse k i (ruleOf rules k .at net i) Stops)) ⌝ }
 {
     crate::found::answer(k, i, try_node(supply, k, i, degree, near))
 }
