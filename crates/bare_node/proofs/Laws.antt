@@ -35,6 +35,7 @@ use Rattle.step.proofs.Node.{arcs-here}
 use Rattle.step.proofs.Figures.{itself, price-put}
 use Rattle.step.proofs.Laws.{no-old, Right, right-of, RuleLaws}
 use Rattle.bare_node.specs.BareNode.{bare, bareNode, bareBack, rule}
+use Rattle.bare_node.proofs.Tried.{passes, tried}
 
 abbrev dropping : ℕ → Edit
 dropping i = editOne noUpdate noSupplyUpdate noSupplyUpdate i
@@ -79,6 +80,7 @@ pub laws : {P : Net → Type 0} → RuleLaws P rule
 laws = record {
   few-places = omega arith;
   unused = λ net g. unused net;
+  at-nodes = λ e. record { elsewhere = passes; given = tried };
   no-flow = λ net g p i e. let m = bare-met net i tt e in ⊎-elim (λ z. no-flow net g i m (z .0)) (λ z. not-shown (z .1)) (m .shows);
   right = λ net g p i e. let m = bare-met net i tt e in ⊎-elim (λ z. not-changed (z .1)) (λ z. right net g i m (z .0) (z .1)) (m .shows);
 }

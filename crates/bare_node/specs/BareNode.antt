@@ -1,7 +1,8 @@
 -- Rule 2, bare node (01, "The six reductions"): an empty row.
-use mathlib.Core.Bool.{not}
+use mathlib.Core.Bool.{false, not}
 use Prim.Native.Nat.{ℕ}
 use lib.Dec.{eqb}
+use lib.ListN.{getD}
 use Rattle.fraction.specs.declared.Fraction.{Fraction}
 use Rattle.fraction.specs.Exact.{zeroFraction, noFigure, isZero}
 use Rattle.network.specs.declared.Net.{Net}
@@ -35,4 +36,4 @@ unfoldable pub bareBack : Old → Pair → Undone
 bareBack old pair = Restores (priceOnly (old .node) zeroFraction)
 
 abbrev pub rule : Rule
-rule = record { last = maxNodes; at = bareNode; back = bareBack }
+rule = record { last = maxNodes; at = bareNode; back = bareBack; degree = 0; balanced = false; by = λ supply i d near. bare i d (getD supply i noFigure) }

@@ -25,6 +25,7 @@ use Rattle.step.proofs.Exactly.{listed-arc, column-is}
 use Rattle.step.proofs.Lines.{Answers, only-met, flow-met, not-changed, split}
 use Rattle.step.proofs.Removing.{lower-right, dropped-shows}
 use Rattle.step.proofs.Laws.{Right, RuleLaws}
+use Rattle.step.proofs.Touch.{unlike}
 use Rattle.closed_arc.specs.ClosedArc.{closed, closedArc, rule}
 
 -- what an answer says: the bounds cross; or they are one number, and the arc is dropped there
@@ -65,6 +66,7 @@ pub laws : {P : Net → Type 0} → RuleLaws P rule
 laws = record {
   few-places = omega arith;
   unused = λ net g. unused net;
+  at-nodes = λ e. unlike e;
   no-flow = λ net g p j e. let m = closed-met net j tt e in ⊎-elim (λ c. no-flow net g j (m .used) (c .0)) (λ c. dropped-shows net j _ (c .1)) (m .shows);
   right = λ net g p j e. let m = closed-met net j tt e in ⊎-elim (λ c. not-changed (c .1)) (λ c. right net g j (m .used) (c .0) (c .1)) (m .shows);
 }

@@ -39,6 +39,7 @@ use Rattle.step.proofs.Exactly.{arc-in, arc-place}
 use Rattle.step.proofs.Lines.{Answers, only-met, split}
 use Rattle.step.proofs.Removing.{after, lower-right, dropped-shows}
 use Rattle.step.proofs.Laws.{Right, RuleLaws}
+use Rattle.step.proofs.Touch.{unlike}
 use Rattle.step.specs.Applies.{Passing}
 use Rattle.closed_arc.specs.ClosedArc as Closed
 use Rattle.closed_arc.proofs.Laws.{uncrossed}
@@ -153,6 +154,7 @@ pub laws : {P : Net → Type 0} → ((net : Net) → P net → Passing Closed.ru
 laws first = record {
   few-places = omega arith;
   unused = unused;
+  at-nodes = λ e. unlike e;
   no-flow = λ net g p j e. dropped-shows net j _ (costly-met net g j tt e .dropped);
   right = λ net g p j e. let h = costly-met net g j tt e in let u = rootless-used net g j (h .no-root) in let n = used-number g j u in right net g j (uncrossed net j u (first net p j (n .0) (n .1))) h;
 }

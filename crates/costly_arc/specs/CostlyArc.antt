@@ -15,7 +15,7 @@ use Rattle.network.specs.Network.{arcAt, isRoot}
 use Rattle.step.specs.declared.Outcome.{Outcome}
 use Rattle.step.specs.Outcome.{_>>=_, _>>_, onlyWhere}
 use Rattle.step.specs.Dropped.{droppedAt, lowerBack}
-use Rattle.step.specs.Run.{Rule}
+use Rattle.step.specs.Run.{Rule, apart}
 
 -- a result that fits and is above 0; one that fits and is below c
 abbrev pub isPositive : Worked → Bool
@@ -51,4 +51,4 @@ costlyArc net j = do
   droppedAt net j (t .lower)
 
 abbrev pub rule : Rule
-rule = record { last = maxArcs; at = costlyArc; back = lowerBack }
+rule = apart maxArcs costlyArc lowerBack

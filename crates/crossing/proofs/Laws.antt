@@ -54,8 +54,10 @@ use Rattle.step.proofs.Lines.{Answers, only-met, fits-met, not-shown, figure-me
 use Rattle.step.proofs.Node.{AtNode, ArcsAt, arcs-here}
 use Rattle.step.proofs.Figures.{Sized, Holds, itself, flow-put, price-put, larger-is, over-exactly, negated-exactly}
 use Rattle.step.proofs.Laws.{supply-small, Right, right-of, RuleLaws}
-use Rattle.crossing.specs.Crossing.{firstN, secondN, firstP, secondP, isFree, isApart, newArc, crossed, editFour, shareOf, crossedAt, crossing, crossingBack, rule}
+use Rattle.crossing.specs.Crossing.{firstN, secondN, firstP, secondP, isFree, isApart, newArc, crossed, editFour, shareOf, crossedAt, crossing, crossingBack}
+use Rattle.crossing.specs.Tried.{rule}
 use Rattle.crossing.proofs.Signs.{positive, Signed, signed-first, two-signs}
+use Rattle.crossing.proofs.Tried.{passes, tried}
 
 -- ---- what an answer says
 
@@ -332,4 +334,4 @@ unused net i e = rw e
 
 -- RULE 6
 pub laws : {P : Net → Type 0} → RuleLaws P rule
-laws = record { few-places = omega arith; unused = λ net g. unused net; no-flow = λ net g p i e. not-shown (crossing-met net g i tt e .is); right = λ net g p i e. right net g i _ _ _ _ _ _ _ _ (crossing-met net g i tt e) }
+laws = record { few-places = omega arith; unused = λ net g. unused net; at-nodes = λ e. record { elsewhere = passes; given = tried }; no-flow = λ net g p i e. not-shown (crossing-met net g i tt e .is); right = λ net g p i e. right net g i _ _ _ _ _ _ _ _ (crossing-met net g i tt e) }

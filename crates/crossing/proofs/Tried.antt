@@ -31,11 +31,11 @@ use Rattle.crossing.specs.Crossing.{signedAfter, secondN, secondP, cross
 use Rattle.crossing.specs.Tried.{noSigned, signedIn, signedOf, crossingBy}
 use Rattle.crossing.proofs.Signs.{positive, signs, signed-first, sign-touches}
 
-pub passes : (net : Net) (i : ℕ) → (eqb (degreeOf net i) 4 && isZero (supplyAt net i)) ≡ false → crossing net i ≡ Passes
+pub passes : (net : Net) (i : ℕ) → (isZero (supplyAt net i) && eqb (degreeOf net i) 4) ≡ false → crossing net i ≡ Passes
 unfolding crossing onlyWhere
 passes net i = by (isHere net i) (eqb (degreeOf net i) 4) (isZero (supplyAt net i)) _
   where
-    by : (h d z : Bool) (x : Outcome) → (d && z) ≡ false → onlyWhere h (onlyWhere d (onlyWhere z x)) ≡ Passes
+    by : (h d z : Bool) (x : Outcome) → (z && d) ≡ false → onlyWhere h (onlyWhere d (onlyWhere z x)) ≡ Passes
     by true true true x e = unlike (sym e)
     by true true false x e = refl
     by true false z x e = refl

@@ -14,7 +14,7 @@ use Rattle.network.specs.declared.Side.{Side}
 use Rattle.network.specs.declared.ArcUpdate.{ArcUpdate}
 use Rattle.network.specs.declared.Edit.{Edit}
 use Rattle.network.specs.declared.pair.Pair.{Pair}
-use Rattle.network.specs.Limits.{maxNodes, maxArcs}
+use Rattle.network.specs.Limits.{maxArcs}
 use Rattle.network.specs.Network.{noSupplyUpdate, arcAt, supplyAt, isHere, degreeOf, isTouching, orNext, isRoot, sideOf}
 use Rattle.network.specs.Pair.{flowAt}
 use Rattle.step.specs.declared.FlowUpdate.{FlowUpdate}
@@ -29,7 +29,6 @@ use Rattle.step.specs.Figure.{larger}
 use Rattle.step.specs.Outcome.{_>>=_, _>>_, onlyWhere, fits}
 use Rattle.step.specs.Back.{figure, oldArc, quoteOf}
 use Rattle.step.specs.Around.{firstAt, secondAt, thirdAt, fourthAt}
-use Rattle.step.specs.Run.{Rule}
 
 -- ---- "two arcs N with e < 0, two arcs P with e > 0"
 
@@ -145,6 +144,3 @@ crossingBack old pair = do
   p ← figure (quoteOf (n1 .arc) i pair)
   q ← figure (quoteOf (n2 .arc) i pair)
   Restores (record { one = flowOf n2 y; two = flowOf n1 x; three = flowOf p2 w; four = flowOf p1 z; price = priceOf i p q })
-
-abbrev pub rule : Rule
-rule = record { last = maxNodes; at = crossing; back = crossingBack }

@@ -2,15 +2,18 @@
 use mathlib.Core.Bool.{Bool, true, false, cond, not}
 use Prim.Native.Nat.{ℕ}
 use lib.Dec.{eqb}
+use lib.ListN.{getD}
 use Rattle.fraction.specs.declared.Fraction.{Fraction}
-use Rattle.fraction.specs.Exact.{isZero}
+use Rattle.fraction.specs.Exact.{noFigure, isZero}
 use Rattle.network.specs.declared.ArcUpdate.{ArcUpdate}
+use Rattle.network.specs.Limits.{maxNodes}
 use Rattle.network.specs.Network.{noUpdate}
 use Rattle.step.specs.declared.Around.{Around}
 use Rattle.step.specs.declared.Outcome.{Outcome}
 use Rattle.step.specs.Outcome.{_>>=_, _>>_, onlyWhere}
+use Rattle.step.specs.Run.{Rule}
 use Rattle.crossing.specs.declared.Signed.{Signed}
-use Rattle.crossing.specs.Crossing.{hasSignAt, crossedAt}
+use Rattle.crossing.specs.Crossing.{hasSignAt, crossedAt, crossing, crossingBack}
 
 -- of the arcs at node i, the first two of a sign; number 0 where there is none
 unfoldable pub signedIn : Signed → ArcUpdate → ℕ → Bool → Signed
@@ -35,3 +38,6 @@ crossingBy i d r near = do
   onlyWhere (not (eqb (n .second .number) 0))
   onlyWhere (not (eqb (p .second .number) 0))
   crossedAt i r (n .first) (n .second) (p .first) (p .second) (record { first = near .one .number; second = near .two .number; third = near .three .number; fourth = near .four .number })
+
+abbrev pub rule : Rule
+rule = record { last = maxNodes; at = crossing; back = crossingBack; degree = 4; balanced = true; by = λ supply i d near. crossingBy i d (getD supply i noFigure) near }

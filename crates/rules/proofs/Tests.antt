@@ -1,4 +1,4 @@
--- Where a test before a rule fails, the rule passes.
+-- Where the test before rule 1 fails, the rule passes.
 use mathlib.Core.Path.{_≡_, refl, sym}
 use mathlib.Core.Bool.{Bool, true, false, _&&_, _||_, not}
 use Prim.Native.Nat.{ℕ}
@@ -11,14 +11,9 @@ use Rattle.network.specs.Legal.{Legal}
 use Rattle.step.specs.declared.Outcome.{Outcome}
 use Rattle.step.specs.declared.Outcome.the-variants.{Passes}
 use Rattle.step.specs.Outcome.{onlyWhere, noFlowWhere}
-use Rattle.step.specs.Run.{ruleFrom, ruleOf}
-use Rattle.step.proofs.Lines.{split}
 use Rattle.step.proofs.Touch.{unlike}
 use Rattle.closed_arc.specs.ClosedArc.{closed, closedArc}
-use Rattle.rules.specs.Table.{rules}
-use Rattle.rules.specs.Tried.{isClosed, isOfNodes}
-
--- ---- rule 1
+use Rattle.rules.specs.Tried.{isClosed}
 
 pub closed-open : {net : Net} → Legal net → (j : ℕ) {t : Arc} → t ≡ arcAt net j → isClosed t ≡ false → closedArc net j ≡ Passes
 unfolding isClosed closed onlyWhere noFlowWhere
@@ -29,10 +24,3 @@ closed-open {net} g j q e = by (eqb (arcAt net j .from) 0) (isLess (arcAt net j 
     by false true s x f = unlike (sym f)
     by false false true x f = unlike (sym f)
     by false false false x f = refl
-
--- ---- the rules of nodes
-
--- a number of another rule is none of theirs
-pub no-node : (net : Net) (i k : ℕ) → eqb k 2 ≡ false → eqb k 3 ≡ false → eqb k 5 ≡ false → eqb k 6 ≡ false → isOfNodes k ≡ true → ruleOf rules k .at net i ≡ Passes
-unfolding ruleFrom
-no-node net i k a b c d = rw (a, b, c, d) (split (eqb k 1) (λ e. rw e (λ f. unlike f)) (λ e. split (eqb k 4) (λ q. rw (e, q) (λ f. unlike f)) (λ q. rw (e, q) (λ f. refl))))

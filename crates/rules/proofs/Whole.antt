@@ -19,7 +19,8 @@ use Rattle.step.specs.Run.{ruleOf, backOf, at, wayBack}
 use Rattle.step.proofs.Fewer.{left-within, legal-left}
 use Rattle.step.proofs.Figures.{Sized}
 use Rattle.step.specs.Applies.{NoneApplies}
-use Rattle.step.proofs.RunLaws.{Lawful, rule-places, rule-unused, NextLaws, RunLaws, next-laws, stops-none, run-laws, run-done, run-ends, restored-solved}
+use Rattle.step.proofs.Laws.{AtNodes}
+use Rattle.step.proofs.RunLaws.{Lawful, rule-places, rule-unused, rule-at-nodes, NextLaws, RunLaws, next-laws, stops-none, run-laws, run-done, run-ends, restored-solved}
 use Rattle.closed_arc.specs.ClosedArc.{closedArc}
 use Rattle.closed_arc.proofs.Laws as ClosedArc
 use Rattle.bare_node.proofs.Laws as BareNode
@@ -40,6 +41,10 @@ few-places = rule-places (λ net. Unit {0}) 1 rules lawful
 -- a rule passes at a number not in use: rules of nodes, and rule 1
 pub node-unused : {net : Net} → Legal net → (k i : ℕ) → isOfNodes k ≡ true → isHere net i ≡ false → ruleOf rules k .at net i ≡ Passes
 node-unused {net} g k i n h = rule-unused (λ net. Unit {0}) 1 rules lawful net g k i (rw (n, h))
+
+-- how a rule of nodes is tried
+pub at-nodes : (k : ℕ) → isOfNodes k ≡ true → AtNodes (ruleOf rules k)
+at-nodes = rule-at-nodes (λ net. Unit {0}) 1 rules lawful
 
 pub closed-beyond : {net : Net} → Legal net → (j : ℕ) → net .m < j → closedArc net j ≡ Passes
 closed-beyond {net} g j l = lawful .0 .unused net g j (rw (eq-eqb _ _ (g .arcs-beyond j l)))

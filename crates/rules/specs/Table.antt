@@ -1,6 +1,7 @@
 -- The rules in the order in which they are tried (01, "The six reductions").
 use mathlib.Core.List.{List, [], _∷_}
 use Prim.Native.Nat.{ℕ}
+use lib.ListN.{length}
 use Rattle.network.specs.declared.Net.{Net}
 use Rattle.network.specs.Limits.{maxSteps}
 use Rattle.step.specs.declared.Next.{Next}
@@ -10,7 +11,7 @@ use Rattle.bare_node.specs.BareNode as BareNode
 use Rattle.single_arc.specs.SingleArc as SingleArc
 use Rattle.costly_arc.specs.CostlyArc as CostlyArc
 use Rattle.two_arcs.specs.TwoArcs as TwoArcs
-use Rattle.crossing.specs.Crossing as Crossing
+use Rattle.crossing.specs.Tried as Crossing
 
 -- a new rule is a row at the end
 abbrev pub rules : List Rule
@@ -18,7 +19,7 @@ rules = ClosedArc.rule ∷ BareNode.rule ∷ SingleArc.rule ∷ CostlyArc.rule �
 
 -- the highest rule that is tried
 abbrev pub lastRule : ℕ
-lastRule = 6
+lastRule = length rules
 
 -- "After each step the search starts again: rule 1 at the arcs upward, rule 2 at the nodes upward, then 3 (nodes), 4 (arcs), 5 (nodes), 6 (nodes)."
 abbrev pub nextOf : Net → Next

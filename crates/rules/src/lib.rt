@@ -9,9 +9,6 @@ use step::Undone;
 pub mod found;
 pub mod tried;
 
-// The highest rule that is tried.
-pub const LAST_RULE: usize = 6;
-
 // What the way back over a step of a rule restores.
 pub fn undo(rule: usize, old: Old, pair: Pair) -> Undone
     ensures { λ r. ⌜ r ≡ ruleOf rules rule .back old pair ⌝ }

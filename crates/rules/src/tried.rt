@@ -2,28 +2,26 @@
 // A test before a rule is tried costs little, and where it fails the rule passes.
 ghost use mathlib.Core.Path.{_≡_};
 ghost use mathlib.Core.Bool.{true, false};
-ghost use Prim.Native.Nat.{ℕ};
+ghost use lib.Dec.{ltb};
 ghost use lib.ListN.{getD};
 ghost use Rattle.fraction.specs.Exact.{noFigure};
-ghost use Rattle.network.specs.declared.Net.{Net};
 ghost use Rattle.network.specs.Limits.{maxArcs};
-ghost use Rattle.network.specs.Network.{supplyAt, degreeOf};
 ghost use Rattle.network.specs.ArcList.{joined};
 ghost use Rattle.step.specs.declared.Next.the-variants.{Stops};
-ghost use Rattle.step.specs.declared.Outcome.the-variants.{Passes};
-ghost use Rattle.step.specs.Around.{Given};
 ghost use Rattle.step.specs.Run.{orElse, upward, ruleOf};
 ghost use Rattle.closed_arc.specs.ClosedArc.{closed};
 ghost use Rattle.costly_arc.specs.CostlyArc.{isOpenRoot, costlyArc};
 ghost use Rattle.costly_arc.specs.Seen.{Known};
 ghost use Rattle.rules.specs.Found.{foundOf};
 ghost use Rattle.rules.specs.Table.{rules};
-ghost use Rattle.rules.specs.Tried.{isClosed, isOfNodes, wantedOf, mayApply, triedAt};
+ghost use Rattle.rules.specs.Tried.{isClosed, asksOf, mayApply};
 use crate::found::Found;
 use costly_arc::Seen;
 use fraction::Fraction;
 use network::ARC_PLACES;
 use network::Arc;
+use network::MAX_ARCS;
+use network::MAX_NODES;
 use network::NODE_PLACES;
 use network::Nodes;
 use step::Around;
@@ -55,26 +53,54 @@ pub fn at_arc(supply: [Fraction; NODE_PLACES], j: usize, t: Arc) -> Found
 
 // ---- the rules of nodes
 
-// The degree that rule k asks for: at a node of another degree it passes.
-pub fn wanted(k: usize) -> usize
-    ensures { λ d. ⌜ (d ≡ wantedOf k) × ((net : Net) (i : ℕ) → isOfNodes k ≡ true → (degreeOf net i ≡ d → ⊥) → ruleOf rules k .at net i ≡ Passes) ⌝ }
+// How many places a rule has, the degree that it asks for, and whether it asks for supply 0.
+pub struct Asks {
+    pub places: usize,
+    pub degree: usize,
+    pub balanced: bool,
+}
+
+fn asking(places: usize, degree: usize, balanced: bool) -> Asks
+    ensures { λ r. ⌜ r ≡ record { places = places; degree = degree; balanced = balanced } ⌝ }
 {
-    match k {
-        3 => 1,
-        5 => 2,
-        6 => 4,
-        _ => 0,
+    Asks {
+        places,
+        degree,
+        balanced,
     }
 }
 
-// Whether rule k may apply at a node of supply r; where not, it passes there.
-pub fn may_apply(k: usize, r: Fraction) -> bool
-    ensures { λ x. ⌜ (x ≡ mayApply k r) × ((net : Net) (i : ℕ) → supplyAt net i ≡ r → x ≡ false → ruleOf rules k .at net i ≡ Passes) ⌝ }
+// What rule k asks; where there is no such rule, it has no place.
+pub fn asks_of(k: usize) -> Asks
+    ensures { λ r. ⌜ r ≡ asksOf k ⌝ }
 {
     match k {
-        6 => r.is_zero(),
-        _ => true,
+        1 => asking(MAX_ARCS, 0, false),
+        2 => asking(MAX_NODES, 0, false),
+        3 => asking(MAX_NODES, 1, false),
+        4 => asking(MAX_ARCS, 0, false),
+        5 => asking(MAX_NODES, 2, false),
+        6 => asking(MAX_NODES, 4, true),
+        _ => asking(0, 0, false),
     }
+}
+
+// Whether there is a rule k.
+pub fn is_rule(k: usize) -> bool
+    ensures { λ r. ⌜ r ≡ ltb 0 (ruleOf rules k .last) ⌝ }
+{
+    let x = asks_of(k);
+    0 < x.places
+}
+
+// Whether a supply is what a rule asks for.
+pub fn may_apply(asks: Asks, r: Fraction) -> bool
+    ensures { λ x. ⌜ x ≡ mayApply asks r ⌝ }
+{
+    if asks.balanced {
+        return r.is_zero();
+    }
+    true
 }
 
 // Rule k at node i, by its degree and the arcs there: the one place that chooses a step by the rule's number.
@@ -85,7 +111,7 @@ pub fn try_node(
     degree: usize,
     near: Around,
 ) -> Outcome
-    ensures { λ x. ⌜ (x ≡ triedAt supply k i degree near) × ((net : Net) → Given net supply i degree near → isOfNodes k ≡ true → x ≡ ruleOf rules k .at net i) ⌝ }
+    ensures { λ x. ⌜ x ≡ ruleOf rules k .by supply i degree near ⌝ }
 {
     let r = network::supply_of(supply, i);
     match k {
@@ -104,7 +130,7 @@ pub fn at_node(
     degree: usize,
     near: Around,
 ) -> Found
-    ensures { λ x. ⌜ (x ≡ foundOf (orElse k i (triedAt supply k i degree near) Stops)) × ((net : Net) → Given net supply i degree near → isOfNodes k ≡ true → x ≡ foundOf (orElse k i (ruleOf rules k .at net i) Stops)) ⌝ }
+    ensures { λ x. ⌜ x ≡ foundOf (orElse k i (ruleOf rules k .by supply i degree near) Stops) ⌝ }
 {
     crate::found::answer(k, i, try_node(supply, k, i, degree, near))
 }

@@ -51,6 +51,7 @@ use Rattle.step.proofs.Node.{AtNode, ArcsAt, arcs-here}
 use Rattle.step.proofs.Figures.{Sized, Holds, itself, flow-put, price-put, over-exactly}
 use Rattle.step.proofs.Laws.{supply-small, no-old, Right, right-of, RuleLaws}
 use Rattle.single_arc.specs.SingleArc.{forcedOut, single, singleArc, singleBack, rule}
+use Rattle.single_arc.proofs.Tried.{passes, tried}
 
 -- ---- what an answer says
 
@@ -178,6 +179,7 @@ pub laws : {P : Net → Type 0} → RuleLaws P rule
 laws = record {
   few-places = omega arith;
   unused = λ net g. unused net;
+  at-nodes = λ e. record { elsewhere = passes; given = tried };
   no-flow = λ net g p i e. let m = single-met net i tt e in ⊎-elim (λ o. single-no-flow (single-at net g i (m .0)) (outside net g i (m .0) (o .0))) (λ f. not-shown (f .is)) (m .1);
   right = λ net g p i e. let m = single-met net i tt e in ⊎-elim (λ o. not-changed (o .1)) (right net g i (m .0)) (m .1);
 }

@@ -1,4 +1,5 @@
 -- Rule 3, single arc (01, "The six reductions"): a singleton row.
+use mathlib.Core.Bool.{false}
 use mathlib.Core.List.{List}
 use Prim.Native.Nat.{ℕ}
 use lib.Dec.{eqb}
@@ -58,4 +59,4 @@ singleBack old pair = do
   Restores (flowAndPrice (old .one .number) v i p)
 
 abbrev pub rule : Rule
-rule = record { last = maxNodes; at = singleArc; back = singleBack }
+rule = record { last = maxNodes; at = singleArc; back = singleBack; degree = 1; balanced = false; by = λ supply i d near. single supply i d (near .one) }

@@ -1,6 +1,6 @@
 -- What a run and the way back ask of one rule: numbers that fit words, a change that is right, and old arcs that are put back.
 use mathlib.Core.Path.{_≡_, sym, ap, _∙_, subst}
-use mathlib.Core.Bool.{Bool, true, false, cond}
+use mathlib.Core.Bool.{Bool, true, false, cond, _&&_, _||_, not}
 use mathlib.Core.Logic.{⊎-elim, _⊎_, inl, inr}
 use mathlib.Core.List.{List, [], _∷_}
 use Prim.Native.Nat.{ℕ, _≤_}
@@ -11,17 +11,18 @@ use lib.Seq.{ext-getD}
 use borrow.Author.Tests.{ltb-true, ltb-false, eqb-true, eqb-false}
 use Rattle.presolve.specs.LP as LP
 use Rattle.fraction.specs.declared.Fraction.{Fraction}
-use Rattle.fraction.specs.Exact.{Proper, most}
+use Rattle.fraction.specs.Exact.{Proper, most, isZero}
 use Rattle.network.specs.declared.Arc.{Arc}
 use Rattle.network.specs.declared.Net.{Net}
 use Rattle.network.specs.declared.ArcUpdate.{ArcUpdate}
 use Rattle.network.specs.Limits.{maxNodes}
-use Rattle.network.specs.Network.{arcAt, supplyAt, isHere, isUsed, noEdit, updatesOf, applied, noArc, withUpdate, withUpdates}
+use Rattle.network.specs.Network.{arcAt, supplyAt, isHere, isUsed, degreeOf, noEdit, updatesOf, applied, noArc, withUpdate, withUpdates}
 use Rattle.network.specs.Legal.{Bound, Legal}
 use Rattle.network.specs.declared.pair.Pair.{Pair}
 use Rattle.network.specs.Pair.{exactPair}
 use Rattle.network.specs.Program.{programOf}
 use Rattle.network.proofs.Kept.{here-number}
+use Rattle.step.specs.declared.Around.{Around}
 use Rattle.step.specs.declared.Old.{Old}
 use Rattle.step.specs.declared.Step.{Step}
 use Rattle.step.specs.declared.Change.{Change}
@@ -30,6 +31,7 @@ use Rattle.step.specs.declared.Restored.{Restored}
 use Rattle.step.specs.declared.Undone.{Undone}
 use Rattle.step.specs.declared.Undone.the-variants.{Restores}
 use Rattle.step.specs.Back.{oldArcsOf, restored}
+use Rattle.step.specs.Around.{Given}
 use Rattle.step.specs.Run.{Rule}
 use Rattle.step.specs.declared.Numbers.{Numbers}
 use Rattle.step.proofs.Lines.{split, change-is}
@@ -124,11 +126,17 @@ pub record Right (net : Net) (c : Change) (back : Pair → Undone) : Type 0 wher
 abbrev pub inUse : Rule → Net → ℕ → Bool
 inUse R net i = cond (eqb (R .last) maxNodes) (isHere net i) (isUsed net i)
 
+-- a rule of nodes passes where degree or supply is not what it asks for, and answers by what it is given
+pub record AtNodes (R : Rule) : Type 0 where
+  pub elsewhere : (net : Net) (i : ℕ) → ((not (R .balanced) || isZero (supplyAt net i)) && eqb (degreeOf net i) (R .degree)) ≡ false → R .at net i ≡ Passes
+  pub given : {net : Net} {supply : List Fraction} {i d : ℕ} {near : Around} → Given net supply i d near → R .by supply i d near ≡ R .at net i
+
 -- a rule that is tried on legal networks of which P is known
 pub record RuleLaws (P : Net → Type 0) (R : Rule) : Type 0 where
   pub few-places : R .last ≤ 96
   -- it passes at a number not in use
   pub unused : (net : Net) → Legal net → (i : ℕ) → inUse R net i ≡ false → R .at net i ≡ Passes
+  pub at-nodes : eqb (R .last) maxNodes ≡ true → AtNodes R
   pub no-flow : (net : Net) → Legal net → P net → (i : ℕ) → R .at net i ≡ NoFlow → LP.NoFlow (programOf net)
   pub right : (net : Net) → Legal net → P net → (i : ℕ) {c : Change} → R .at net i ≡ Changes c → Right net c (R .back (c .old))
 

@@ -1,6 +1,6 @@
 -- THE COMMON ARGUMENT: what holds of each rule of a table holds of the search, of a whole run, and of the way back over it.
 use mathlib.Core.Path.{_≡_, refl, sym, ap, _∙_, subst}
-use mathlib.Core.Bool.{false, cond}
+use mathlib.Core.Bool.{true, false, cond}
 use mathlib.Core.List.{List, [], _∷_}
 use Prim.Native.Nat.{ℕ, zero, suc, _+_, _≤_, _<_}
 use native.Mathlib.Decide.{ℕ-discrete}
@@ -8,11 +8,12 @@ use native.Mathlib.Numerals.{add-one}
 use native.Mathlib.Omega.{arith}
 use lib.Dec.{eqb}
 use lib.ListN.{length}
-use borrow.Author.Tests.{eq-eqb, ne-eqb, eqb-false}
+use borrow.Author.Tests.{eq-eqb, ne-eqb, eqb-true, eqb-false}
 use Rattle.presolve.specs.LP as LP
 use Rattle.fraction.proofs.Laws.{never}
 use Rattle.network.specs.declared.Net.{Net}
 use Rattle.network.specs.declared.pair.Pair.{Pair}
+use Rattle.network.specs.Limits.{maxNodes}
 use Rattle.network.specs.Network.{applied}
 use Rattle.network.specs.Legal.{Legal}
 use Rattle.network.specs.Pair.{exactPair}
@@ -34,7 +35,8 @@ use Rattle.step.proofs.Fewer.{leftOf}
 use Rattle.step.proofs.Figures.{Sized, Holds, itself}
 use Rattle.step.proofs.Each.{All}
 use Rattle.step.proofs.Lines.{split}
-use Rattle.step.proofs.Laws.{SmallStep, old-small, Right, inUse, RuleLaws, putBackAll, put-back}
+use Rattle.step.proofs.Touch.{unlike}
+use Rattle.step.proofs.Laws.{SmallStep, old-small, Right, inUse, AtNodes, RuleLaws, putBackAll, put-back}
 
 -- ---- the table
 
@@ -43,7 +45,7 @@ abbrev pub Lawful : (Net → Type 0) → List Rule → Type 0
 Lawful P [] = Unit {0}
 Lawful P (R ∷ rules) = RuleLaws P R × Lawful (λ net. P net × Passing R net) rules
 
--- a rule of the table, by its number: its places, and that it passes at a number not in use
+-- a rule of the table, by its number: its places, that it passes at a number not in use, and how it is tried at nodes
 pub rule-places : (P : Net → Type 0) (k : ℕ) (rules : List Rule) → Lawful P rules → (r : ℕ) → ruleFrom k rules r .last ≤ 96
 unfolding ruleFrom
 rule-places P k [] laws r = omega arith
@@ -53,6 +55,17 @@ pub rule-unused : (P : Net → Type 0) (k : ℕ) (rules : List Rule) → Lawful 
 unfolding ruleFrom
 rule-unused P k [] laws net g r i = λ h. refl
 rule-unused P k (R ∷ rules) laws net g r i = split (eqb r k) (λ e. rw e (laws .0 .unused net g i)) (λ e. rw e (rule-unused _ (suc k) rules (laws .1) net g r i))
+
+pub rule-at-nodes : (P : Net → Type 0) (k : ℕ) (rules : List Rule) → Lawful P rules → (r : ℕ) → eqb (ruleFrom k rules r .last) maxNodes ≡ true → AtNodes (ruleFrom k rules r)
+unfolding ruleFrom
+rule-at-nodes P k [] laws r = λ h. unlike h
+rule-at-nodes P k (R ∷ rules) laws r = split (eqb r k) (λ e. rw e (laws .0 .at-nodes)) (λ e. rw e (rule-at-nodes _ (suc k) rules (laws .1) r))
+
+-- what has places is a rule of the table
+pub rule-within : (k : ℕ) (rules : List Rule) (r : ℕ) → 1 ≤ ruleFrom k rules r .last → r < k + length rules
+unfolding ruleFrom
+rule-within k [] r = λ h. absurd (omega arith)
+rule-within k (R ∷ rules) r = split (eqb r k) (λ e h. omega (arith, eqb-true r k e, add-one (length rules))) (λ e. rw e (λ h. omega (arith, rule-within (suc k) rules r h, add-one k, add-one (length rules))))
 
 -- ---- one rule at its places
 

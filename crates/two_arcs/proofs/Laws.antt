@@ -62,6 +62,7 @@ use Rattle.step.proofs.Figures.{Sized, Holds, Figure, itself, flow-put, price-p
 use Rattle.step.proofs.Laws.{supply-small, no-old, Right, right-of, RuleLaws}
 use Rattle.two_arcs.specs.TwoArcs.{sameSign, tighter, imageOf, newArc, merging, merged, kept, two, twoArcs, twoBack, rule}
 use Rattle.two_arcs.proofs.Figures.{lower-is, upper-is, new-bounds}
+use Rattle.two_arcs.proofs.Tried.{passes, tried}
 
 -- ---- what an answer says
 
@@ -353,4 +354,4 @@ unused net i e = rw e
 
 -- RULE 5
 pub laws : {P : Net → Type 0} → RuleLaws P rule
-laws = record { few-places = omega arith; unused = λ net g. unused net; no-flow = λ net g p i e. not-shown (two-met net g i tt e .2 .made .is); right = λ net g p i e. right net g i _ _ (two-met net g i tt e .2) }
+laws = record { few-places = omega arith; unused = λ net g. unused net; at-nodes = λ e. record { elsewhere = passes; given = tried }; no-flow = λ net g p i e. not-shown (two-met net g i tt e .2 .made .is); right = λ net g p i e. right net g i _ _ (two-met net g i tt e .2) }

@@ -1,5 +1,5 @@
 -- Rule 5, two arcs (01, "The six reductions"): a doubleton row.
-use mathlib.Core.Bool.{Bool, cond, not}
+use mathlib.Core.Bool.{Bool, false, cond, not}
 use mathlib.Core.List.{List}
 use Prim.Native.Nat.{ℕ}
 use lib.Dec.{eqb}
@@ -100,4 +100,4 @@ twoBack old pair = do
   Restores (flowAndPrice (old .two .number) y i p)
 
 abbrev pub rule : Rule
-rule = record { last = maxNodes; at = twoArcs; back = twoBack }
+rule = record { last = maxNodes; at = twoArcs; back = twoBack; degree = 2; balanced = false; by = λ supply i d near. two supply i d (near .one) (near .two) }

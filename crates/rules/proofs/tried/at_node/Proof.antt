@@ -4,4 +4,4 @@ use Rattle.rules.proofs.tried.at_node.Statement.{statement}
 use Rattle.rules.proofs.tried.at_node.Tie as tie
 
 pub at-node-spec : {M : Type 1} → statement M
-at-node-spec = tie.close (tie.spec (λ c κs. search needs) (λ c κs. search needs) (λ c. (rw (← c .before .try-node .ensures .0) (c .answer .ensures), λ net g n. rw (← c .before .try-node .ensures .1 net g n) (c .answer .ensures))))
+at-node-spec = tie.close (tie.spec (λ c κs. search needs) (λ c κs. search needs) (λ c. rw (← c .before .try-node .ensures) (c .answer .ensures)))
