@@ -5,12 +5,13 @@ use mathlib.Core.List.{List, [], _∷_}
 use Prim.Native.Nat.{ℕ, suc, _+_, _-_, _≤_, _<_}
 use native.Mathlib.Numerals.{add-one}
 use native.Mathlib.Omega.{arith}
-use lib.Dec.{eqb, ltb}
+use lib.Dec.{eqb, ltb, lit≤}
 use lib.ListN.{length}
-use borrow.Author.Tests.{ltb-true, ltb-false, eqb-true, eq-eqb, ne-eqb}
+use borrow.Author.Tests.{ltb-true, ltb-false, eqb-true, eqb-false, eq-eqb, ne-eqb}
 use Rattle.loops.specs.Loops.{all, any}
 use Rattle.loops.proofs.Laws.{all-each}
 use Rattle.step.proofs.Lines.{split}
+use Rattle.step.proofs.RunLaws.{rule-within}
 use Rattle.step.proofs.Touch.{unlike}
 use Rattle.network.specs.declared.Net.{Net}
 use Rattle.fraction.specs.Exact.{isSame}
@@ -97,6 +98,17 @@ of-nodes k l m n =
     (past-false (eqb k 1) _ (ne-eqb k 1 (λ z. omega arith))
     (past-false (eqb k 0) _ (ne-eqb k 0 (λ z. omega arith)) (all-each (λ k. eqb k 0 || (eqb k 1 || (eqb k 4 || isOfNodes k))) (lastRule + 1) refl k (omega arith))))
 
+-- a number with places is a rule's, and behind the last rule there is none
+pub is-within : (k : ℕ) → ltb 0 (ruleOf rules k .last) ≡ true → k ≤ lastRule
+is-within k e = omega (arith, rule-within 1 rules k (omega (arith, ltb-true 0 (ruleOf rules k .last) e)))
+
+pub none-left : (k : ℕ) → 2 ≤ k → ltb 0 (ruleOf rules k .last) ≡ false → lastRule < k
+unfolding ruleFrom
+none-left k l e =
+    split (ltb lastRule k) (λ f. ltb-true lastRule k f)
+    (λ f. split (eqb k 4) (λ q. unlike (sym (rw (eqb-true k 4 q) at e)))
+    (λ q. let n = of-nodes k l (ltb-false lastRule k f) (eqb-false k 4 q) in unlike (sym (rw (eqb-true (ruleOf rules k .last) 32 n) at e))))
+
 -- what the scans find, by the rule's number
 module _ (net : Net) (k : ℕ) {a : Found} where
   pub by-nodes : isOfNodes k ≡ true → a ≡ foundOf (upward (ruleOf rules k .at net) k 32 1 Stops) → a ≡ foundOf (upward (ruleOf rules k .at net) k (ruleOf rules k .last) 1 Stops)
@@ -149,11 +161,11 @@ module _ {net : Net} {k : ℕ} (h : From net k) (l : k ≤ lastRule) {a : Found}
 module _ (net : Net) {a : Found} (e : a ≡ foundOf (upward (closedArc net) 1 96 1 Stops)) where
   pub closed-here : a .found ≡ true → a ≡ foundOf (nextOf net)
   unfolding ruleFrom
-  closed-here = from-here (from-first net) (omega arith) e
+  closed-here = from-here (from-first net) (lit≤ tt) e
 
   pub closed-later : a .found ≡ false → From net 2
   unfolding ruleFrom
-  closed-later = from-more (from-first net) (omega arith) e
+  closed-later = from-more (from-first net) (lit≤ tt) e
 
 pub from-done : {net : Net} {k : ℕ} → From net k → lastRule < k → {a : Found} → a ≡ foundOf Stops → a ≡ foundOf (nextOf net)
 unfolding nextFrom

@@ -22,7 +22,6 @@ use network::Arc;
 use network::ArcUpdate;
 use network::Degrees;
 use network::Nodes;
-use rules::LAST_RULE;
 use rules::found::Found;
 use rules::tried::Looked;
 use step::Around;
@@ -120,11 +119,12 @@ pub(crate) fn scan_nodes(nodes: Nodes, arcs: &[Arc], degrees: Degrees, k: usize)
     requires { ⌜ Legal (netIn nodes (now arcs)) × AreDegreesTo (netIn nodes (now arcs)) (nodes .m) (degrees .at) × (isOfNodes k ≡ true) ⌝ }
     ensures { λ r. ⌜ r ≡ foundOf (upward (ruleOf rules k .at (netIn nodes (now (arcs .entry)))) k maxNodes 1 Stops) ⌝ }
 {
-    let d = rules::tried::wanted(k);
+    let asks = rules::tried::asks_of(k);
+    let d = asks.degree;
     let mut i = 1;
     while i <= nodes.n {
         if has_degree(nodes.here[i], degrees.at[i], d) {
-            if rules::tried::may_apply(k, nodes.supply[i]) {
+            if rules::tried::may_apply(asks, nodes.supply[i]) {
                 let near = gather(arcs, i, d);
                 let x = rules::tried::at_node(nodes.supply, k, i, d, near);
                 if x.found {
@@ -170,7 +170,8 @@ pub(crate) fn next(nodes: Nodes, arcs: &[Arc], mut seen: Seen, time: u8) -> Look
     }
     let degrees = network::list::degrees(arcs, nodes.m);
     let mut k = 2;
-    while k <= LAST_RULE {
+    let mut more = rules::tried::is_rule(k);
+    while more {
         if k == 4 {
             let x = scan_costly(nodes, arcs, seen, time);
             if x.found.found {
@@ -184,6 +185,7 @@ pub(crate) fn next(nodes: Nodes, arcs: &[Arc], mut seen: Seen, time: u8) -> Look
             }
         }
         k += 1;
+        more = rules::tried::is_rule(k);
     }
     let found = rules::found::nothing();
     Looked { found, seen }
