@@ -11,7 +11,8 @@ use Rattle.network.specs.Network.{arcAt, supplyAt}
 use Rattle.step.specs.declared.Outcome.{Outcome}
 use Rattle.step.specs.Outcome.{_>>=_, _>>_, onlyWhere, noFlowWhere}
 use Rattle.step.specs.Dropped.{dropped, lowerBack}
-use Rattle.step.specs.Run.{Rule, apart}
+use Rattle.step.specs.Around.{noTrial}
+use Rattle.step.specs.Run.{Rule}
 
 -- "l > u: the answer is no flow. l = u: supply at each end less its multiplier × l; arc dropped."
 -- j is the arc t, in use; r and r′ are the supplies at its ends
@@ -27,4 +28,4 @@ closedArc net j = closed j (arcAt net j) (supplyAt net (arcAt net j .from)) (sup
 
 -- "Back: flow l."
 abbrev pub rule : Rule
-rule = apart maxArcs closedArc lowerBack
+rule = record { last = maxArcs; at = closedArc; back = lowerBack; trial = noTrial }

@@ -15,7 +15,8 @@ use Rattle.network.specs.Network.{arcAt, isRoot}
 use Rattle.step.specs.declared.Outcome.{Outcome}
 use Rattle.step.specs.Outcome.{_>>=_, _>>_, onlyWhere}
 use Rattle.step.specs.Dropped.{droppedAt, lowerBack}
-use Rattle.step.specs.Run.{Rule, apart}
+use Rattle.step.specs.Around.{noTrial}
+use Rattle.step.specs.Run.{Rule}
 
 -- a result that fits and is above 0; one that fits and is below c
 abbrev pub isPositive : Worked → Bool
@@ -51,4 +52,4 @@ costlyArc net j = do
   droppedAt net j (t .lower)
 
 abbrev pub rule : Rule
-rule = apart maxArcs costlyArc lowerBack
+rule = record { last = maxArcs; at = costlyArc; back = lowerBack; trial = noTrial }

@@ -40,4 +40,4 @@ crossingBy i d r near = do
   crossedAt i r (n .first) (n .second) (p .first) (p .second) (record { first = near .one .number; second = near .two .number; third = near .three .number; fourth = near .four .number })
 
 abbrev pub rule : Rule
-rule = record { last = maxNodes; at = crossing; back = crossingBack; degree = 4; balanced = true; by = λ supply i d near. crossingBy i d (getD supply i noFigure) near }
+rule = record { last = maxNodes; at = crossing; back = crossingBack; trial = record { degree = 4; balanced = true; by = λ supply i d near. crossingBy i d (getD supply i noFigure) near } }

@@ -20,7 +20,7 @@ isOfNodes k = eqb (ruleOf rules k .last) maxNodes
 
 -- how many places rule k has, and what it asks of a node
 abbrev pub asksOf : ℕ → Asks
-asksOf k = record { places = ruleOf rules k .last; degree = ruleOf rules k .degree; balanced = ruleOf rules k .balanced }
+asksOf k = record { places = ruleOf rules k .last; degree = ruleOf rules k .trial .degree; balanced = ruleOf rules k .trial .balanced }
 
 -- whether a supply is what a rule asks for
 abbrev pub mayApply : Asks → Fraction → Bool

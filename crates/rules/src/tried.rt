@@ -111,7 +111,7 @@ pub fn try_node(
     degree: usize,
     near: Around,
 ) -> Outcome
-    ensures { λ x. ⌜ x ≡ ruleOf rules k .by supply i degree near ⌝ }
+    ensures { λ x. ⌜ x ≡ ruleOf rules k .trial .by supply i degree near ⌝ }
 {
     let r = network::supply_of(supply, i);
     match k {
@@ -130,7 +130,7 @@ pub fn at_node(
     degree: usize,
     near: Around,
 ) -> Found
-    ensures { λ x. ⌜ x ≡ foundOf (orElse k i (ruleOf rules k .by supply i degree near) Stops) ⌝ }
+    ensures { λ x. ⌜ x ≡ foundOf (orElse k i (ruleOf rules k .trial .by supply i degree near) Stops) ⌝ }
 {
     crate::found::answer(k, i, try_node(supply, k, i, degree, near))
 }

@@ -33,12 +33,11 @@ pub(crate) fn scan_closed(nodes: Nodes, arcs: &[Arc]) -> Found
     requires { ⌜ Legal (netIn nodes (now arcs)) ⌝ }
     ensures { λ r. ⌜ r ≡ foundOf (upward (closedArc (netIn nodes (now (arcs .entry)))) 1 maxArcs 1 Stops) ⌝ }
 {
-    let supply = nodes.supply;
     let mut j = 1;
     while j <= nodes.m {
         let t = network::list::read(arcs, j);
         if rules::tried::is_closed(t) {
-            let x = rules::tried::at_arc(supply, j, t);
+            let x = rules::tried::at_arc(nodes.supply, j, t);
             if x.found {
                 return x;
             }

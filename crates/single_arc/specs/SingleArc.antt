@@ -59,4 +59,4 @@ singleBack old pair = do
   Restores (flowAndPrice (old .one .number) v i p)
 
 abbrev pub rule : Rule
-rule = record { last = maxNodes; at = singleArc; back = singleBack; degree = 1; balanced = false; by = λ supply i d near. single supply i d (near .one) }
+rule = record { last = maxNodes; at = singleArc; back = singleBack; trial = record { degree = 1; balanced = false; by = λ supply i d near. single supply i d (near .one) } }

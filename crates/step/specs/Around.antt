@@ -1,6 +1,6 @@
 -- The arcs that touch a node, upward, and a node as the rules of nodes are given it.
 use mathlib.Core.Path.{_≡_}
-use mathlib.Core.Bool.{true}
+use mathlib.Core.Bool.{Bool, true, false}
 use mathlib.Core.List.{List}
 use Prim.Native.Nat.{ℕ, _≤_}
 use Rattle.fraction.specs.declared.Fraction.{Fraction}
@@ -8,6 +8,8 @@ use Rattle.network.specs.declared.Net.{Net}
 use Rattle.network.specs.Network.{isHere, degreeOf, touchingAfter}
 use Rattle.network.specs.Legal.{Legal}
 use Rattle.step.specs.declared.Around.{Around}
+use Rattle.step.specs.declared.Outcome.{Outcome}
+use Rattle.step.specs.declared.Outcome.the-variants.{Passes}
 use Rattle.step.specs.Back.{oldArc}
 
 -- their numbers; 0 where there are no more
@@ -24,6 +26,17 @@ abbrev pub fourthAt : Net → ℕ → ℕ
 fourthAt net i = touchingAfter net i (thirdAt net i)
 
 -- ---- for those who try a rule
+
+-- how a rule is tried at a node: the degree that it asks for, whether it asks for supply 0, and its answer by the supplies of all nodes,
+-- the node's degree and its arcs
+pub record Trial : Type 0 where
+  pub degree : ℕ
+  pub balanced : Bool
+  pub by : List Fraction → ℕ → ℕ → Around → Outcome
+
+-- of a rule of arcs
+abbrev pub noTrial : Trial
+noTrial = record { degree = 0; balanced = false; by = λ supply i d near. Passes }
 
 -- as many of them as d asks for
 pub record Near (net : Net) (i d : ℕ) (near : Around) : Type 0 where

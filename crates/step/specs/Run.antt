@@ -1,13 +1,11 @@
 -- The rules as a table, the fixed order of search, steps until none applies, and the way back over them.
-use mathlib.Core.Bool.{Bool, false, cond}
+use mathlib.Core.Bool.{cond}
 use mathlib.Core.List.{List, [], _∷_}
 use Prim.Native.Nat.{ℕ, zero, suc, _+_}
 use lib.Dec.{eqb}
-use Rattle.fraction.specs.declared.Fraction.{Fraction}
 use Rattle.network.specs.declared.Net.{Net}
 use Rattle.network.specs.declared.pair.Pair.{Pair}
 use Rattle.network.specs.Network.{applied}
-use Rattle.step.specs.declared.Around.{Around}
 use Rattle.step.specs.declared.Old.{Old}
 use Rattle.step.specs.declared.Outcome.{Outcome}
 use Rattle.step.specs.declared.Outcome.the-variants.{Passes, NoFlow, Changes}
@@ -16,6 +14,7 @@ use Rattle.step.specs.declared.Undone.the-variants.{Wide, Restores}
 use Rattle.step.specs.declared.Step.{Step}
 use Rattle.step.specs.declared.Next.{Next}
 use Rattle.step.specs.declared.Next.the-variants.{Stops, Refuted, Takes}
+use Rattle.step.specs.Around.{Trial, noTrial}
 use Rattle.step.specs.Back.{restored}
 
 -- a rule: its last place (`maxArcs` for arcs, `maxNodes` for nodes), what it answers at a place, and its way back
@@ -23,18 +22,12 @@ pub record Rule : Type 0 where
   pub last : ℕ
   pub at : Net → ℕ → Outcome
   pub back : Old → Pair → Undone
-  -- for those who try it at a node: the degree that it asks for, whether it asks for supply 0, and its answer by the supplies of all nodes, the node's degree and its arcs
-  pub degree : ℕ
-  pub balanced : Bool
-  pub by : List Fraction → ℕ → ℕ → Around → Outcome
-
--- a rule that isn't tried at nodes
-abbrev pub apart : ℕ → (Net → ℕ → Outcome) → (Old → Pair → Undone) → Rule
-apart last at back = record { last = last; at = at; back = back; degree = 0; balanced = false; by = λ supply i d near. Passes }
+  -- for those who try it: no definition below reads this
+  pub trial : Trial
 
 -- rule r of a table whose first is number k; where there is none, one that passes everywhere
 unfoldable pub ruleFrom : ℕ → List Rule → ℕ → Rule
-ruleFrom k [] r = apart 0 (λ net i. Passes) (λ old pair. Wide)
+ruleFrom k [] r = record { last = 0; at = λ net i. Passes; back = λ old pair. Wide; trial = noTrial }
 ruleFrom k (R ∷ rules) r = cond (eqb r k) R (ruleFrom (suc k) rules r)
 
 abbrev pub ruleOf : List Rule → ℕ → Rule

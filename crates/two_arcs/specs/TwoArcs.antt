@@ -100,4 +100,4 @@ twoBack old pair = do
   Restores (flowAndPrice (old .two .number) y i p)
 
 abbrev pub rule : Rule
-rule = record { last = maxNodes; at = twoArcs; back = twoBack; degree = 2; balanced = false; by = λ supply i d near. two supply i d (near .one) (near .two) }
+rule = record { last = maxNodes; at = twoArcs; back = twoBack; trial = record { degree = 2; balanced = false; by = λ supply i d near. two supply i d (near .one) (near .two) } }
