@@ -37,7 +37,8 @@ pub(crate) fn scan_closed(nodes: Nodes, arcs: &[Arc]) -> Found
     while j <= nodes.m {
         let t = network::list::read(arcs, j);
         if rules::tried::is_closed(t) {
-            let x = rules::tried::at_arc(nodes.supply, j, t);
+            let supply = nodes.supply;
+            let x = rules::tried::at_arc(supply, j, t);
             if x.found {
                 return x;
             }

@@ -30,9 +30,6 @@ MeasureT-loop = scan-scan-closed-Lts·.MeasureT-loop
 abbrev pub Start : (Inv : InvT-loop) → (μ : MeasureT-loop) → Type 0
 Start = λ Inv μ. scan-scan-closed-Lts·.Start (network-proofs-Lent-list-read-Reads·.Asked, network-proofs-Lent-list-read-Reads·.Learnt, rules-proofs-tried-is-closed-Reads·.Asked, rules-proofs-tried-is-closed-Reads·.Learnt, rules-proofs-tried-at-arc-Reads·.Asked, rules-proofs-tried-at-arc-Reads·.Learnt, rules-proofs-found-nothing-Reads·.Asked, rules-proofs-found-nothing-Reads·.Learnt) scan-scan-closed-Reads·.Pre scan-scan-closed-Reads·.Post Inv μ
 
-abbrev pub After-supply : (Inv : InvT-loop) → (μ : MeasureT-loop) → Type 0
-After-supply = λ Inv μ. scan-scan-closed-Lts·.After-supply (network-proofs-Lent-list-read-Reads·.Asked, network-proofs-Lent-list-read-Reads·.Learnt, rules-proofs-tried-is-closed-Reads·.Asked, rules-proofs-tried-is-closed-Reads·.Learnt, rules-proofs-tried-at-arc-Reads·.Asked, rules-proofs-tried-at-arc-Reads·.Learnt, rules-proofs-found-nothing-Reads·.Asked, rules-proofs-found-nothing-Reads·.Learnt) scan-scan-closed-Reads·.Pre scan-scan-closed-Reads·.Post Inv μ
-
 abbrev pub At-loop : (Inv : InvT-loop) → (μ : MeasureT-loop) → Type 0
 At-loop = λ Inv μ. scan-scan-closed-Lts·.At-loop (network-proofs-Lent-list-read-Reads·.Asked, network-proofs-Lent-list-read-Reads·.Learnt, rules-proofs-tried-is-closed-Reads·.Asked, rules-proofs-tried-is-closed-Reads·.Learnt, rules-proofs-tried-at-arc-Reads·.Asked, rules-proofs-tried-at-arc-Reads·.Learnt, rules-proofs-found-nothing-Reads·.Asked, rules-proofs-found-nothing-Reads·.Learnt) scan-scan-closed-Reads·.Pre scan-scan-closed-Reads·.Post Inv μ
 
@@ -53,6 +50,9 @@ After-is-closed = λ Inv μ. scan-scan-closed-Lts·.After-is-closed (network-pro
 
 abbrev pub Then2 : (Inv : InvT-loop) → (μ : MeasureT-loop) → Type 0
 Then2 = λ Inv μ. scan-scan-closed-Lts·.Then2 (network-proofs-Lent-list-read-Reads·.Asked, network-proofs-Lent-list-read-Reads·.Learnt, rules-proofs-tried-is-closed-Reads·.Asked, rules-proofs-tried-is-closed-Reads·.Learnt, rules-proofs-tried-at-arc-Reads·.Asked, rules-proofs-tried-at-arc-Reads·.Learnt, rules-proofs-found-nothing-Reads·.Asked, rules-proofs-found-nothing-Reads·.Learnt) scan-scan-closed-Reads·.Pre scan-scan-closed-Reads·.Post Inv μ
+
+abbrev pub After-supply : (Inv : InvT-loop) → (μ : MeasureT-loop) → Type 0
+After-supply = λ Inv μ. scan-scan-closed-Lts·.After-supply (network-proofs-Lent-list-read-Reads·.Asked, network-proofs-Lent-list-read-Reads·.Learnt, rules-proofs-tried-is-closed-Reads·.Asked, rules-proofs-tried-is-closed-Reads·.Learnt, rules-proofs-tried-at-arc-Reads·.Asked, rules-proofs-tried-at-arc-Reads·.Learnt, rules-proofs-found-nothing-Reads·.Asked, rules-proofs-found-nothing-Reads·.Learnt) scan-scan-closed-Reads·.Pre scan-scan-closed-Reads·.Post Inv μ
 
 abbrev pub After-at-arc : (Inv : InvT-loop) → (μ : MeasureT-loop) → Type 0
 After-at-arc = λ Inv μ. scan-scan-closed-Lts·.After-at-arc (network-proofs-Lent-list-read-Reads·.Asked, network-proofs-Lent-list-read-Reads·.Learnt, rules-proofs-tried-is-closed-Reads·.Asked, rules-proofs-tried-is-closed-Reads·.Learnt, rules-proofs-tried-at-arc-Reads·.Asked, rules-proofs-tried-at-arc-Reads·.Learnt, rules-proofs-found-nothing-Reads·.Asked, rules-proofs-found-nothing-Reads·.Learnt) scan-scan-closed-Reads·.Pre scan-scan-closed-Reads·.Post Inv μ
