@@ -35,10 +35,9 @@ pub(crate) fn scan_closed(nodes: Nodes, arcs: &[Arc]) -> Found
 {
     let mut j = 1;
     while j <= nodes.m {
-        let t = network::list::read(arcs, j);
-        if rules::tried::is_closed(t) {
+        if rules::tried::is_closed(network::list::read(arcs, j)) {
             let supply = nodes.supply;
-            let x = rules::tried::at_arc(supply, j, t);
+            let x = rules::tried::at_arc(supply, j, network::list::read(arcs, j));
             if x.found {
                 return x;
             }

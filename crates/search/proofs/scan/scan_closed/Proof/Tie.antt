@@ -54,6 +54,9 @@ Then2 = λ Inv μ. scan-scan-closed-Lts·.Then2 (network-proofs-Lent-list-read-R
 abbrev pub After-supply : (Inv : InvT-loop) → (μ : MeasureT-loop) → Type 0
 After-supply = λ Inv μ. scan-scan-closed-Lts·.After-supply (network-proofs-Lent-list-read-Reads·.Asked, network-proofs-Lent-list-read-Reads·.Learnt, rules-proofs-tried-is-closed-Reads·.Asked, rules-proofs-tried-is-closed-Reads·.Learnt, rules-proofs-tried-at-arc-Reads·.Asked, rules-proofs-tried-at-arc-Reads·.Learnt, rules-proofs-found-nothing-Reads·.Asked, rules-proofs-found-nothing-Reads·.Learnt) scan-scan-closed-Reads·.Pre scan-scan-closed-Reads·.Post Inv μ
 
+abbrev pub After-read2 : (Inv : InvT-loop) → (μ : MeasureT-loop) → Type 0
+After-read2 = λ Inv μ. scan-scan-closed-Lts·.After-read2 (network-proofs-Lent-list-read-Reads·.Asked, network-proofs-Lent-list-read-Reads·.Learnt, rules-proofs-tried-is-closed-Reads·.Asked, rules-proofs-tried-is-closed-Reads·.Learnt, rules-proofs-tried-at-arc-Reads·.Asked, rules-proofs-tried-at-arc-Reads·.Learnt, rules-proofs-found-nothing-Reads·.Asked, rules-proofs-found-nothing-Reads·.Learnt) scan-scan-closed-Reads·.Pre scan-scan-closed-Reads·.Post Inv μ
+
 abbrev pub After-at-arc : (Inv : InvT-loop) → (μ : MeasureT-loop) → Type 0
 After-at-arc = λ Inv μ. scan-scan-closed-Lts·.After-at-arc (network-proofs-Lent-list-read-Reads·.Asked, network-proofs-Lent-list-read-Reads·.Learnt, rules-proofs-tried-is-closed-Reads·.Asked, rules-proofs-tried-is-closed-Reads·.Learnt, rules-proofs-tried-at-arc-Reads·.Asked, rules-proofs-tried-at-arc-Reads·.Learnt, rules-proofs-found-nothing-Reads·.Asked, rules-proofs-found-nothing-Reads·.Learnt) scan-scan-closed-Reads·.Pre scan-scan-closed-Reads·.Post Inv μ
 
@@ -81,6 +84,9 @@ Need-read-requires = λ Inv μ. scan-scan-closed-Lts·.Need-read-requires (netwo
 abbrev pub Need-is-closed-requires : (Inv : InvT-loop) → (μ : MeasureT-loop) → Type 0
 Need-is-closed-requires = λ Inv μ. scan-scan-closed-Lts·.Need-is-closed-requires (network-proofs-Lent-list-read-Reads·.Asked, network-proofs-Lent-list-read-Reads·.Learnt, rules-proofs-tried-is-closed-Reads·.Asked, rules-proofs-tried-is-closed-Reads·.Learnt, rules-proofs-tried-at-arc-Reads·.Asked, rules-proofs-tried-at-arc-Reads·.Learnt, rules-proofs-found-nothing-Reads·.Asked, rules-proofs-found-nothing-Reads·.Learnt) scan-scan-closed-Reads·.Pre scan-scan-closed-Reads·.Post Inv μ
 
+abbrev pub Need-read-requires-2 : (Inv : InvT-loop) → (μ : MeasureT-loop) → Type 0
+Need-read-requires-2 = λ Inv μ. scan-scan-closed-Lts·.Need-read-requires-2 (network-proofs-Lent-list-read-Reads·.Asked, network-proofs-Lent-list-read-Reads·.Learnt, rules-proofs-tried-is-closed-Reads·.Asked, rules-proofs-tried-is-closed-Reads·.Learnt, rules-proofs-tried-at-arc-Reads·.Asked, rules-proofs-tried-at-arc-Reads·.Learnt, rules-proofs-found-nothing-Reads·.Asked, rules-proofs-found-nothing-Reads·.Learnt) scan-scan-closed-Reads·.Pre scan-scan-closed-Reads·.Post Inv μ
+
 abbrev pub Need-at-arc-requires : (Inv : InvT-loop) → (μ : MeasureT-loop) → Type 0
 Need-at-arc-requires = λ Inv μ. scan-scan-closed-Lts·.Need-at-arc-requires (network-proofs-Lent-list-read-Reads·.Asked, network-proofs-Lent-list-read-Reads·.Learnt, rules-proofs-tried-is-closed-Reads·.Asked, rules-proofs-tried-is-closed-Reads·.Learnt, rules-proofs-tried-at-arc-Reads·.Asked, rules-proofs-tried-at-arc-Reads·.Learnt, rules-proofs-found-nothing-Reads·.Asked, rules-proofs-found-nothing-Reads·.Learnt) scan-scan-closed-Reads·.Pre scan-scan-closed-Reads·.Post Inv μ
 
@@ -103,8 +109,8 @@ abbrev pub Need-returns-2 : (Inv : InvT-loop) → (μ : MeasureT-loop) → Type 
 Need-returns-2 = λ Inv μ. scan-scan-closed-Lts·.Need-returns-2 (network-proofs-Lent-list-read-Reads·.Asked, network-proofs-Lent-list-read-Reads·.Learnt, rules-proofs-tried-is-closed-Reads·.Asked, rules-proofs-tried-is-closed-Reads·.Learnt, rules-proofs-tried-at-arc-Reads·.Asked, rules-proofs-tried-at-arc-Reads·.Learnt, rules-proofs-found-nothing-Reads·.Asked, rules-proofs-found-nothing-Reads·.Learnt) scan-scan-closed-Reads·.Pre scan-scan-closed-Reads·.Post Inv μ
 
 module _ {M : Type 1} where
-  pub spec : (Inv : InvT-loop) → (μ : MeasureT-loop) → (answer : Need-loop-holds Inv μ) → (answer : Need-read-requires Inv μ) → (answer : Need-is-closed-requires Inv μ) → (answer : Need-at-arc-requires Inv μ) → (answer : Need-returns Inv μ) → (answer : Need-add-j Inv μ) → (answer : Need-loop-less Inv μ) → (answer : Need-loop-again Inv μ) → (answer : Need-nothing-requires Inv μ) → (answer : Need-returns-2 Inv μ) → scan-scan-closed-Lts·.Closed (network-proofs-Lent-list-read-Reads·.Asked, network-proofs-Lent-list-read-Reads·.Learnt, rules-proofs-tried-is-closed-Reads·.Asked, rules-proofs-tried-is-closed-Reads·.Learnt, rules-proofs-tried-at-arc-Reads·.Asked, rules-proofs-tried-at-arc-Reads·.Learnt, rules-proofs-found-nothing-Reads·.Asked, rules-proofs-found-nothing-Reads·.Learnt) scan-scan-closed-Reads·.Pre scan-scan-closed-Reads·.Post M
-  spec = λ Inv μ answer answer' answer'' answer'3 answer'4 answer'5 answer'6 answer'7 answer'8 answer'9. scan-scan-closed-Lts·.spec (network-proofs-Lent-list-read-Reads·.Asked, network-proofs-Lent-list-read-Reads·.Learnt, rules-proofs-tried-is-closed-Reads·.Asked, rules-proofs-tried-is-closed-Reads·.Learnt, rules-proofs-tried-at-arc-Reads·.Asked, rules-proofs-tried-at-arc-Reads·.Learnt, rules-proofs-found-nothing-Reads·.Asked, rules-proofs-found-nothing-Reads·.Learnt) scan-scan-closed-Reads·.Pre scan-scan-closed-Reads·.Post Inv μ answer answer' answer'' answer'3 answer'4 answer'5 answer'6 answer'7 answer'8 answer'9
+  pub spec : (Inv : InvT-loop) → (μ : MeasureT-loop) → (answer : Need-loop-holds Inv μ) → (answer : Need-read-requires Inv μ) → (answer : Need-is-closed-requires Inv μ) → (answer : Need-read-requires-2 Inv μ) → (answer : Need-at-arc-requires Inv μ) → (answer : Need-returns Inv μ) → (answer : Need-add-j Inv μ) → (answer : Need-loop-less Inv μ) → (answer : Need-loop-again Inv μ) → (answer : Need-nothing-requires Inv μ) → (answer : Need-returns-2 Inv μ) → scan-scan-closed-Lts·.Closed (network-proofs-Lent-list-read-Reads·.Asked, network-proofs-Lent-list-read-Reads·.Learnt, rules-proofs-tried-is-closed-Reads·.Asked, rules-proofs-tried-is-closed-Reads·.Learnt, rules-proofs-tried-at-arc-Reads·.Asked, rules-proofs-tried-at-arc-Reads·.Learnt, rules-proofs-found-nothing-Reads·.Asked, rules-proofs-found-nothing-Reads·.Learnt) scan-scan-closed-Reads·.Pre scan-scan-closed-Reads·.Post M
+  spec = λ Inv μ answer answer' answer'' answer'3 answer'4 answer'5 answer'6 answer'7 answer'8 answer'9 answer'10. scan-scan-closed-Lts·.spec (network-proofs-Lent-list-read-Reads·.Asked, network-proofs-Lent-list-read-Reads·.Learnt, rules-proofs-tried-is-closed-Reads·.Asked, rules-proofs-tried-is-closed-Reads·.Learnt, rules-proofs-tried-at-arc-Reads·.Asked, rules-proofs-tried-at-arc-Reads·.Learnt, rules-proofs-found-nothing-Reads·.Asked, rules-proofs-found-nothing-Reads·.Learnt) scan-scan-closed-Reads·.Pre scan-scan-closed-Reads·.Post Inv μ answer answer' answer'' answer'3 answer'4 answer'5 answer'6 answer'7 answer'8 answer'9 answer'10
 
   pub close : scan-scan-closed-Lts·.Closed (network-proofs-Lent-list-read-Reads·.Asked, network-proofs-Lent-list-read-Reads·.Learnt, rules-proofs-tried-is-closed-Reads·.Asked, rules-proofs-tried-is-closed-Reads·.Learnt, rules-proofs-tried-at-arc-Reads·.Asked, rules-proofs-tried-at-arc-Reads·.Learnt, rules-proofs-found-nothing-Reads·.Asked, rules-proofs-found-nothing-Reads·.Learnt) scan-scan-closed-Reads·.Pre scan-scan-closed-Reads·.Post M → scan-scan-closed-Statement·.statement M
   unfolding scan-scan-closed-Code·.routine Running.tablesOf
