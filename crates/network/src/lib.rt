@@ -186,12 +186,8 @@ pub fn supply_of(supply: [Fraction; NODE_PLACES], i: usize) -> Fraction
 fn put_supply(mut nodes: Nodes, i: usize, f: Fraction) -> Nodes
     ensures { λ r. ⌜ ((xs : List Arc) → r ≡ nodesOf (withSupply (joined nodes xs) i f)) ⌝ }
 {
-    if i < 1 {
-        return nodes;
-    }
-    if i < NODE_PLACES {
+    if 1 <= i && i < NODE_PLACES {
         nodes.supply[i] = f;
-        return nodes;
     }
     nodes
 }
@@ -200,12 +196,8 @@ fn put_supply(mut nodes: Nodes, i: usize, f: Fraction) -> Nodes
 fn drop_node(mut nodes: Nodes, i: usize) -> Nodes
     ensures { λ r. ⌜ ((xs : List Arc) → r ≡ nodesOf (without (joined nodes xs) i)) ⌝ }
 {
-    if i < 1 {
-        return nodes;
-    }
-    if i < NODE_PLACES {
+    if 1 <= i && i < NODE_PLACES {
         nodes.here[i] = false;
-        return nodes;
     }
     nodes
 }
