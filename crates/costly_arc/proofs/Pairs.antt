@@ -7,22 +7,22 @@ use Prim.Native.Nat.{ℕ, zero, suc, _<_}
 use native.Mathlib.Nat.{not-suc-le-zero, eq-or-lt-of-le, le-of-suc-le-suc}
 use native.Mathlib.Numerals.{add-one}
 use native.Mathlib.Omega.{arith}
-use borrow.Author.Tests.{le-ltb, lt-ltb, leb-false, not-true, ltb-true, ltb-false}
-use lib.Dec.{ltb, leb}
+use borrow.Author.Tests.{le-ltb, lt-ltb, leb-false, not-true, ltb-true, ltb-false, eq-eqb}
+use lib.Dec.{ltb, leb, eqb}
 use lib.ListN.{getD}
 use Rattle.loops.specs.Loops.{any}
 use Rattle.loops.proofs.Laws.{any-some, getD-build}
 use Rattle.fraction.specs.declared.Fraction.{Fraction}
 use Rattle.fraction.specs.declared.Worked.{Worked}
 use Rattle.fraction.specs.declared.Worked.the-variants.{Fits, Misfit}
-use Rattle.fraction.specs.Exact.{noFigure, isOperand, sumOf}
+use Rattle.fraction.specs.Exact.{noFigure, isOperand, sumOf, isSame, noUpper}
 use Rattle.fraction.specs.Formula.{figureOf, pairOf, _⊕_, _⊘_}
 use Rattle.fraction.proofs.Laws.{and-both}
 use Rattle.step.proofs.Lines.{split, or-neither}
 use Rattle.step.proofs.Touch.{unlike}
 use Rattle.network.specs.declared.Arc.{Arc}
 use Rattle.network.specs.declared.Net.{Net}
-use Rattle.network.specs.Network.{arcAt}
+use Rattle.network.specs.Network.{arcAt, isRoot}
 use Rattle.costly_arc.specs.declared.Seen.{Seen}
 use Rattle.costly_arc.specs.CostlyArc.{isUnder, isPositive, isOpenRoot, isCostlier, hasPair}
 use Rattle.costly_arc.specs.Seen.{isCandidate, isPair, isOld, Searched}
@@ -82,6 +82,18 @@ sum-way true false u v c = rw (and-false (isOperand (figureOf u)))
 sum-way true true (Fits x) (Fits y) c = refl
 sum-way true true (Fits x) Misfit c = rw (and-false (isOperand x))
 sum-way true true Misfit v c = refl
+
+-- by an arc that is no root arc without upper bound there is no way
+pub no-way : (x : Arc) → isOpenRoot x (x .from) ≡ false → (old : Bool) (i : ℕ) (e : Fraction) → wayOf old x i e ≡ noFigure
+unfolding wayOf isOpenRoot
+no-way x h old i e = by old (isRoot x) (eqb (x .from) i) (isSame (x .upper) noUpper) _ _ (rw (eq-eqb (x .from) (x .from) refl) at h)
+  where
+    by : (o r f s p : Bool) (y : Fraction) → (r && (true && s)) ≡ false → cond (not o && ((r && (f && s)) && p)) y noFigure ≡ noFigure
+    by true r f s p y h = refl
+    by false false f s p y h = refl
+    by false true f true p y h = unlike (sym h)
+    by false true true false p y h = refl
+    by false true false false p y h = refl
 
 pair-way : (t x y : Arc) (o u : Bool) → isUnder (sumOf (wayOf o x (t .from) (t .a)) (wayOf u y (t .to) (t .b))) (t .cost) ≡ (not o && (not u && isPair t x y))
 unfolding wayOf isPair isCostlier

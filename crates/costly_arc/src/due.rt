@@ -1,6 +1,7 @@
 // What is due: the root arcs that were put since a pair was last sought, and the cost by way of each.
 ghost use mathlib.Core.Path.{_≡_};
 ghost use Prim.Native.Nat.{_+_};
+ghost use lib.Dec.{ltb};
 ghost use Rattle.loops.specs.Loops.{any};
 ghost use Rattle.network.specs.Limits.{arcPlaces};
 ghost use Rattle.costly_arc.specs.CostlyArc.{isPositive, isUnder, hasPair};
@@ -102,31 +103,58 @@ fn way(old: bool, x: Arc, i: usize, e: Fraction) -> Fraction
     network::no_figure()
 }
 
-// The cost by way of each root arc at a node.
-struct Ways {
-    at: [Fraction; ARC_PLACES],
+// The costs by way of a root arc, at the from node and at the to node of an arc.
+struct Both {
+    from: Fraction,
+    to: Fraction,
 }
 
-// The ways at node i that were put at the time w or later.
-fn all_ways(net: Net, seen: Seen, w: u8, i: usize, e: Fraction) -> Ways
-    ensures { λ r. ⌜ r .at ≡ waysOf net seen w i e ⌝ }
+// Those by way of x, put at the time `put`: at the from node of t it is old before the time p, at the to node before the time q.
+fn both_ways(t: Arc, x: Arc, put: u8, p: u8, q: u8) -> Both
+    ensures { λ r. ⌜ r ≡ record { from = wayOf (ltb put p) x (t .from) (t .a); to = wayOf (ltb put q) x (t .to) (t .b) } ⌝ }
+{
+    let none = network::no_figure();
+    if !is_open_root(x, x.from) {
+        return Both {
+            from: none,
+            to: none,
+        };
+    }
+    let from = way(put < p, x, t.from, t.a);
+    let to = way(put < q, x, t.to, t.b);
+    Both { from, to }
+}
+
+// The costs by way of each root arc, at both ends of an arc.
+struct Ways {
+    from: [Fraction; ARC_PLACES],
+    to: [Fraction; ARC_PLACES],
+}
+
+fn all_ways(net: Net, seen: Seen, p: u8, q: u8, t: Arc) -> Ways
+    ensures { λ r. ⌜ (r .from ≡ waysOf net seen p (t .from) (t .a)) × (r .to ≡ waysOf net seen q (t .to) (t .b)) ⌝ }
 {
     let z = network::no_figure();
-    let mut at = [z; ARC_PLACES];
+    let mut from = [z; ARC_PLACES];
+    let mut to = [z; ARC_PLACES];
     for k in 0..ARC_PLACES {
         let x = net.arcs[k];
-        at[k] = way(seen.put[k] < w, x, i, e);
+        let both = both_ways(t, x, seen.put[k], p, q);
+        let a = both.from;
+        let b = both.to;
+        from[k] = a;
+        to[k] = b;
     }
-    Ways { at }
+    Ways { from, to }
 }
 
 // Whether a way put at the time w or later makes with q a sum below c.
-fn any_due_under(seen: Seen, w: u8, q: Fraction, to: Ways, c: Fraction) -> bool
-    ensures { λ r. ⌜ r ≡ any (isDueUnder seen w q (to .at) c) arcPlaces ⌝ }
+fn any_due_under(seen: Seen, w: u8, q: Fraction, ways: Ways, c: Fraction) -> bool
+    ensures { λ r. ⌜ r ≡ any (isDueUnder seen w q (ways .to) c) arcPlaces ⌝ }
 {
     for k in 0..ARC_PLACES {
         if seen.put[k] >= w {
-            let y = to.at[k];
+            let y = ways.to[k];
             if is_under(q.sum(y), c) {
                 return true;
             }
@@ -143,13 +171,13 @@ fn bar(old: bool, w: u8) -> u8
 }
 
 // Whether two ways, one of them put at the time w or later, make a sum below c.
-fn any_due_pair(seen: Seen, w: u8, from: Ways, to: Ways, c: Fraction) -> bool
-    ensures { λ r. ⌜ r ≡ any (isDueFrom seen w (from .at) (to .at) c) arcPlaces ⌝ }
+fn any_due_pair(seen: Seen, w: u8, ways: Ways, c: Fraction) -> bool
+    ensures { λ r. ⌜ r ≡ any (isDueFrom seen w (ways .from) (ways .to) c) arcPlaces ⌝ }
 {
     for k in 0..ARC_PLACES {
-        let q = from.at[k];
+        let q = ways.from[k];
         if q.den != 0 {
-            if any_due_under(seen, bar(seen.put[k] < w, w), q, to, c) {
+            if any_due_under(seen, bar(seen.put[k] < w, w), q, ways, c) {
                 return true;
             }
         }
@@ -163,7 +191,6 @@ pub(crate) fn has_pair(net: Net, seen: Seen, at: &[usize; NODE_PLACES], w: u8, t
 {
     let p = bar(!is_fresh(at, w, t.to), w);
     let q = bar(!is_fresh(at, w, t.from), w);
-    let from = all_ways(net, seen, p, t.from, t.a);
-    let to = all_ways(net, seen, q, t.to, t.b);
-    any_due_pair(seen, w, from, to, t.cost)
+    let ways = all_ways(net, seen, p, q, t);
+    any_due_pair(seen, w, ways, t.cost)
 }
