@@ -1,16 +1,18 @@
 -- The figures of records, and words put over those of a slice.
 use mathlib.Core.Path.{_≡_, refl, ap, ap₂, sym, _∙_}
-use mathlib.Core.List.{List}
+use mathlib.Core.List.{List, _++_}
 use Prim.Native.Nat.{ℕ, zero, suc, _+_, _-_, _*_, _/_, _%_, _≤_, _<_}
 use native.Mathlib.Numerals.{add-one}
 use native.Mathlib.Omega.{arith}
 use lib.IntN.{ℤ}
-use lib.ListN.{length, getD, set}
+use lib.ListN.{length, getD, set, take}
+use lib.Seq.{length-take-le}
+use borrow.Rule.Slice.PartMut.{midOf, putMid}
 use borrow.Author.Tests.{le-leb, lt-leb, le-ltb, lt-ltb}
-use Rattle.loops.specs.Loops.{build, upto}
-use Rattle.loops.proofs.Laws.{getD-build, Filled, filled-none, filled-more}
+use Rattle.loops.specs.Loops.{build, upto, zeros}
+use Rattle.loops.proofs.Laws.{getD-build, Filled, filled-none, filled-more, part-back, part-long}
 use Rattle.fraction.specs.declared.Fraction.{Fraction}
-use Rattle.fraction.specs.Exact.{noFigure}
+use Rattle.fraction.specs.Exact.{noFigure, denWord}
 use Rattle.network.specs.declared.Arc.{Arc}
 use Rattle.network.specs.declared.Net.{Net}
 use Rattle.network.specs.declared.pair.Pair.{Pair}
@@ -18,7 +20,9 @@ use Rattle.network.specs.Network.{noArc, arcAt, supplyAt}
 use Rattle.network.specs.Pair.{priceAt, flowAt}
 use Rattle.records.specs.Network.{roleFigure, figureOf}
 use Rattle.records.specs.Pair.{pairFigure}
-use Rattle.records.specs.internal.Put.{putFrom, arcsPut}
+use Rattle.records.specs.internal.Put.{numOf, denOf, putFrom, arcsPut}
+use Rattle.records.specs.Arrays.{arraysOf}
+use Rattle.records.proofs.Arrays.{both-filled}
 
 -- ---- the figures of a network's record, and of a pair's, by their places
 
@@ -93,8 +97,40 @@ pub put-built : (w : Fraction → ℤ) (g : ℕ → Fraction) (k t : ℕ) (s : L
 put-built w g k t s = put-same _ _ k t s (λ r l. ap w (getD-build t g noFigure r l))
 
 -- one word of each figure of a network's record, and of a pair's, over the first words of a slice
-pub net-filled : (w : Fraction → ℤ) (net : Net) {d s u : List ℤ} → s ≡ putFrom (λ k. w (supplyAt net (k + 1))) 0 (net .n) d → u ≡ arcsPut w (net .arcs) (net .n) (net .m) s → net .n + 7 * net .m ≤ length d → Filled (λ k. w (figureOf net k)) (net .n + 7 * net .m) d u (net .n + 7 * net .m)
+net-filled : (w : Fraction → ℤ) (net : Net) {d s u : List ℤ} → s ≡ putFrom (λ k. w (supplyAt net (k + 1))) 0 (net .n) d → u ≡ arcsPut w (net .arcs) (net .n) (net .m) s → net .n + 7 * net .m ≤ length d → Filled (λ k. w (figureOf net k)) (net .n + 7 * net .m) d u (net .n + 7 * net .m)
 net-filled w net p q b = rw (q, p) (filled-arcs w (net .arcs) (net .n) (net .m) (filled-front (net .n) (omega arith) b (λ r l. sym (ap w (supply-figure net r l)))) (omega arith) b (λ j r l k. sym (ap w (role-figure net j r k))))
 
-pub pair-filled : (w : Fraction → ℤ) (n m : ℕ) (pair : Pair) {d s u : List ℤ} → s ≡ putFrom (λ k. w (priceAt pair (k + 1))) 0 n d → u ≡ putFrom (λ k. w (flowAt pair (k + 1))) n m s → n + m ≤ length d → Filled (λ k. w (pairFigure n pair k)) (n + m) d u (n + m)
+pair-filled : (w : Fraction → ℤ) (n m : ℕ) (pair : Pair) {d s u : List ℤ} → s ≡ putFrom (λ k. w (priceAt pair (k + 1))) 0 n d → u ≡ putFrom (λ k. w (flowAt pair (k + 1))) n m s → n + m ≤ length d → Filled (λ k. w (pairFigure n pair k)) (n + m) d u (n + m)
 pair-filled w n m pair p q b = rw (q, p) (filled-from n m (filled-front n (omega arith) b (λ r l. sym (ap w (price-figure n pair r l)))) (omega arith) b (λ r l. sym (ap w (flow-figure n pair r))))
+
+-- ---- both words of each figure, and the rest of the slice lent for the denominators
+
+-- the figures are no more than the most
+pub net-most : (net : Net) → net .n ≤ 32 → net .m ≤ 96 → net .n + 7 * net .m ≤ 704
+net-most net h k = omega arith
+
+pub pair-most : (n m : ℕ) → n ≤ 32 → m ≤ 96 → n + m ≤ 128
+pair-most n m h k = omega arith
+
+-- t figures, and the most, b: the lengths of the output and of a slice of b words after two writers that keep them
+module _ {t b : ℕ} (l : t ≤ b) where
+  pub figures-long : {e v x : ℕ} → e ≡ b → v ≡ e → x ≡ v → t ≤ x
+  figures-long p q r = omega arith
+
+  pub figures-sized : {e v : ℕ} (x : List ℤ) → e ≡ b → v ≡ e → length x ≡ v → t ≡ length (take t x)
+  figures-sized x p q r = sym (length-take-le t x (figures-long p q r))
+
+  pub figures-within : {d s u : ℕ} → 2 * b ≤ d → s ≡ d → u ≡ s → t ≤ u
+  figures-within h p q = omega arith
+
+  pub figures-fit : {d s e v : ℕ} (u x : List ℤ) → 2 * b ≤ d → s ≡ d → length u ≡ s → e ≡ b → v ≡ e → length x ≡ v → length (take t x) ≤ length (midOf t (length u - t) u)
+  figures-fit u x h p q e v r = rw (part-long t u, length-take-le t x (figures-long e v r)) (omega arith)
+
+arrays-of : (f : ℕ → Fraction) {t : ℕ} {d u e x r : List ℤ} → Filled (λ k. f k .num) t d u t → Filled (λ k. denWord (f k .den)) t e x t → r ≡ take t x ++ zeros (length (midOf t (length u - t) u) - length (take t x)) → putMid t (length u - t) u r ≡ arraysOf f t (length d)
+arrays-of f {t} {u = u} h k q = rw (part-back t u, q, part-long t u) (both-filled f h k (omega arith))
+
+pub net-arrays : (net : Net) (d e : List ℤ) {s u v x r : List ℤ} → net .n ≤ 32 → net .m ≤ 96 → 1408 ≤ length d → length e ≡ 704 → s ≡ putFrom (λ k. numOf (supplyAt net (k + 1))) 0 (net .n) d → u ≡ arcsPut numOf (net .arcs) (net .n) (net .m) s → v ≡ putFrom (λ k. denOf (supplyAt net (k + 1))) 0 (net .n) e → x ≡ arcsPut denOf (net .arcs) (net .n) (net .m) v → r ≡ take (net .n + 7 * net .m) x ++ zeros (length (midOf (net .n + 7 * net .m) (length u - (net .n + 7 * net .m)) u) - length (take (net .n + 7 * net .m) x)) → putMid (net .n + 7 * net .m) (length u - (net .n + 7 * net .m)) u r ≡ arraysOf (figureOf net) (net .n + 7 * net .m) (length d)
+net-arrays net d e h k l m s u v x r = arrays-of (figureOf net) (net-filled numOf net s u (omega arith)) (net-filled denOf net v x (omega arith)) r
+
+pub pair-arrays : (n m : ℕ) (pair : Pair) (d e : List ℤ) {s u v x r : List ℤ} → n ≤ 32 → m ≤ 96 → 256 ≤ length d → length e ≡ 128 → s ≡ putFrom (λ k. numOf (priceAt pair (k + 1))) 0 n d → u ≡ putFrom (λ k. numOf (flowAt pair (k + 1))) n m s → v ≡ putFrom (λ k. denOf (priceAt pair (k + 1))) 0 n e → x ≡ putFrom (λ k. denOf (flowAt pair (k + 1))) n m v → r ≡ take (n + m) x ++ zeros (length (midOf (n + m) (length u - (n + m)) u) - length (take (n + m) x)) → putMid (n + m) (length u - (n + m)) u r ≡ arraysOf (pairFigure n pair) (n + m) (length d)
+pair-arrays n m pair d e h k l z s u v x r = arrays-of (pairFigure n pair) (pair-filled numOf n m pair s u (omega arith)) (pair-filled denOf n m pair v x (omega arith)) r
