@@ -14,7 +14,7 @@ ghost use Rattle.network.specs.ArcList.{noArcs, nodesOf, joined};
 ghost use Rattle.records.specs.Limits.{networkFigures};
 ghost use Rattle.records.specs.Arrays.{figureAt, arraysOf};
 ghost use Rattle.records.specs.Questions.{firstNo};
-ghost use Rattle.records.specs.Network.{figures, sizesRight, roleOf, isPermitted, isInForm, isEnd, hasEnds, arcIn, isWeightedAt, questions, nodeTurn, arcTurn, netOf, readOf, loadTurn, loaded, roleFigure, figureOf, networkOf};
+ghost use Rattle.records.specs.Network.{figures, sizesRight, roleOf, isPermitted, isInForm, isEnd, hasEnds, arcIn, isWeighted, isWeightedAt, questions, nodeTurn, arcTurn, readOf, loadTurn, loaded, roleFigure, figureOf, networkOf};
 ghost use Rattle.records.specs.internal.Put.{numOf, denOf, numsIn, densIn, putFrom, arcsPut};
 use crate::Size;
 use fraction::Fraction;
@@ -144,19 +144,15 @@ pub(crate) fn arc_in(xs: &[i32], n: usize, t: usize, j: usize) -> Arc
     }
 }
 
-// Whether of the arc of number j + 1 a is nonzero, and b zero exactly where from = to.
-fn has_weights(xs: &[i32], n: usize, t: usize, j: usize) -> bool
-    requires { ⌜ (2 + 2 * t ≤ length (now xs)) × (n + 7 * j + 7 ≤ t) ⌝ }
-    ensures { λ r. ⌜ r ≡ isWeightedAt (now (xs .entry)) n t j ⌝ }
+// Whether of an arc a is nonzero, and b zero exactly where from = to.
+fn is_weighted(t: Arc) -> bool
+    ensures { λ r. ⌜ r ≡ isWeighted t ⌝ }
 {
-    let k = n + 7 * j;
-    if figure_in(xs, t, k + 5).is_zero() {
+    if t.a.is_zero() {
         return false;
     }
-    let z = figure_in(xs, t, k + 6).is_zero();
-    let from = fraction::words::natural_of(figure_in(xs, t, k));
-    let to = fraction::words::natural_of(figure_in(xs, t, k + 1));
-    if from == to {
+    let z = t.b.is_zero();
+    if t.from == t.to {
         return z;
     }
     !z
@@ -168,7 +164,7 @@ fn all_weighted(xs: &[i32], n: usize, t: usize, m: usize) -> bool
     ensures { λ r. ⌜ r ≡ all (isWeightedAt (now (xs .entry)) n t) m ⌝ }
 {
     for j in 0..m {
-        if has_weights(xs, n, t, j) {} else {
+        if is_weighted(arc_in(xs, n, t, j)) {} else {
             return false;
         }
     }
@@ -239,23 +235,16 @@ fn read_arcs(xs: &[i32], n: usize, t: usize, m: usize) -> [Arc; ARC_PLACES]
     at
 }
 
-// The network of a record with these sizes.
-fn read_sized(xs: &[i32], n: usize, m: usize) -> Net
-    requires { ⌜ (n ≤ maxNodes) × (m ≤ maxArcs) × (2 + 2 * (n + 7 * m) ≤ length (now xs)) ⌝ }
-    ensures { λ r. ⌜ r ≡ netOf (now (xs .entry)) n m ⌝ }
-{
-    network::join(read_nodes(xs, n, m), read_arcs(xs, n, n + 7 * m, m))
-}
-
 // The network of a record; one without nodes and arcs where question 2 is answered by no.
 pub fn read(network: &[i32]) -> Net
     ensures { λ r. ⌜ r ≡ readOf (now (network .entry)) ⌝ }
 {
     if has_sizes(network) {
-        return read_sized(
-            network,
-            crate::number_at(network, 0),
-            crate::number_at(network, 1),
+        let n = crate::number_at(network, 0);
+        let m = crate::number_at(network, 1);
+        return network::join(
+            read_nodes(network, n, m),
+            read_arcs(network, n, n + 7 * m, m),
         );
     }
     network::empty_net(0, 0)

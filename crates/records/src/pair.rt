@@ -10,7 +10,7 @@ ghost use Rattle.fraction.specs.Words.{word};
 ghost use Rattle.network.specs.Limits.{maxNodes, maxArcs};
 ghost use Rattle.records.specs.Limits.{pairFigures};
 ghost use Rattle.records.specs.Arrays.{arraysOf};
-ghost use Rattle.records.specs.Pair.{hasSizes, isFraction, isPair, priceTurn, flowTurn, pairOf, pairFigure, pairWords};
+ghost use Rattle.records.specs.Pair.{isFraction, isPair, priceTurn, flowTurn, pairOf, pairFigure, pairWords};
 ghost use Rattle.records.specs.internal.Put.{numsAt, densAt, putFrom};
 use crate::Size;
 use fraction::Fraction;
@@ -46,16 +46,6 @@ fn is_long(len: usize, n: usize, m: usize) -> bool
     false
 }
 
-// Whether the record has these sizes, and their length.
-fn has_sizes(pair: &[i32], n: usize, m: usize) -> bool
-    ensures { λ r. ⌜ r ≡ hasSizes (now (pair .entry)) n m ⌝ }
-{
-    if is_long(pair.len(), n, m) {
-        return is_size(pair, 0, n) && is_size(pair, 1, m);
-    }
-    false
-}
-
 // Whether all t figures are fractions in form.
 fn all_fractions(pair: &[i32], t: usize) -> bool
     ensures { λ r. ⌜ r ≡ all (isFraction (now (pair .entry)) t) t ⌝ }
@@ -73,10 +63,16 @@ fn all_fractions(pair: &[i32], t: usize) -> bool
 pub fn is_pair(pair: &[i32], n: usize, m: usize) -> bool
     ensures { λ r. ⌜ r ≡ isPair (now (pair .entry)) n m ⌝ }
 {
-    if has_sizes(pair, n, m) {
-        return all_fractions(pair, n + m);
+    if is_long(pair.len(), n, m) {} else {
+        return false;
     }
-    false
+    if is_size(pair, 0, n) {} else {
+        return false;
+    }
+    if is_size(pair, 1, m) {} else {
+        return false;
+    }
+    all_fractions(pair, n + m)
 }
 
 // Prices of the nodes 1 to n.
