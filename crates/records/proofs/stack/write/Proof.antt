@@ -4,6 +4,7 @@ use Rattle.integer.specs.Machine.{back32}
 use Rattle.loops.proofs.Laws.{Filled, filled-all, filled-more, filled-none}
 use borrow.Author.Tests.{le-leb, lt-leb}
 use Rattle.records.specs.Logged.{stackWord, withStack}
+use Rattle.records.proofs.Turns.{turn-less}
 use borrow.Author.Needs.{needs}
 use native.Mathlib.Omega.{arith}
 use Rattle.records.proofs.stack.write.Statement.{statement}
@@ -19,11 +20,11 @@ loop-holds : tie.Need-loop-holds Inv-loop μ-loop
 loop-holds c = filled-none _ _ _
 
 loop-again : tie.Need-loop-again Inv-loop μ-loop
-loop-again c = rw (c .before .put .ensures, back32 (c .before .before .word-at .result) (search needs)) (filled-more (c .before .before .before .before .before .loop .inv) (omega arith) (omega arith) (c .before .before .word-at .ensures))
+loop-again c = rw (c .before .put .ensures, back32 (c .before .before .word-at .result) (search needs)) (filled-more (c .before .before .before .before .before .loop .inv) (c .before .before .before .before .loop-test .taken) (omega arith) (c .before .before .word-at .ensures))
 
 returns : tie.Need-returns Inv-loop μ-loop
 unfolding withStack
-returns c = rw (le-leb _ _ (c .before .before .before .if1 .taken), le-leb _ _ (c .before .before .if2 .taken)) (filled-all (c .before .loop .inv) (omega arith))
+returns c = rw (le-leb _ _ (c .before .before .before .if1 .taken), le-leb _ _ (c .before .before .if2 .taken)) (filled-all (c .before .loop .inv) (c .loop-test .left))
 
 returns-2 : tie.Need-returns-2 Inv-loop μ-loop
 unfolding withStack
@@ -34,4 +35,4 @@ unfolding withStack
 returns-3 c = rw (lt-leb _ _ (c .if1 .left))
 
 pub write-spec : {M : Type 1} → statement M
-write-spec = tie.close (tie.spec Inv-loop μ-loop (λ c. search needs) (λ c. search needs) loop-holds (λ c κs. search needs) (λ c κs. search needs) (λ c. search needs) (λ c. search needs) loop-again (λ c. search needs) returns returns-2 returns-3)
+write-spec = tie.close (tie.spec Inv-loop μ-loop (λ c. search needs) (λ c. search needs) loop-holds (λ c κs. search needs) (λ c κs. search needs) (λ c. search needs) (λ c. turn-less (c .before .before .before .before .loop-test .taken)) loop-again (λ c. search needs) returns returns-2 returns-3)
