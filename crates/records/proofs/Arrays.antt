@@ -5,7 +5,7 @@ use mathlib.Core.List.{List, [], _∷_, _++_}
 use Prim.Native.Nat.{ℕ, _+_, _-_, _≤_, _<_}
 use lib.Dec.{leb}
 use lib.IntN.{ℤ, pos}
-use lib.ListN.{List·getD-append, length, take, drop}
+use lib.ListN.{List·getD-append, length, take, drop, set}
 use lib.Seq.{ext-getD, getD-append-add}
 use borrow.Author.Tests.{le-leb, leb-true}
 use Rattle.loops.specs.Loops.{build, written, zeros}
@@ -15,6 +15,7 @@ use Rattle.fraction.specs.Exact.{denWord}
 use Rattle.fraction.proofs.Laws.{and-both}
 use Rattle.fraction.specs.Words.{word, wordOf}
 use Rattle.records.specs.Arrays.{numerators, denominators, arraysOf, hasRoom, recordOf}
+use Rattle.records.specs.internal.Put.{sized}
 
 -- the first of what was written over a longer list
 take-front : {A : Type 0} (xs ys : List A) → take (length xs) (xs ++ ys) ≡ xs
@@ -53,6 +54,10 @@ room-is least n m room e =
     let a = and-both (leb n 32) _ e in
     let b = and-both (leb m 96) _ (a .1) in
     (leb-true _ _ (a .0), leb-true _ _ (b .0), leb-true _ _ (b .1))
+
+pub sized-room : (least n m : ℕ) (s : List ℤ) → hasRoom least n m (length s) ≡ true → sized least n m s ≡ set (set s 0 (wordOf n)) 1 (wordOf m)
+unfolding sized
+sized-room least n m s h = rw h refl
 
 pub with-room : (least n m : ℕ) (f : ℕ → Fraction) (t room : ℕ) → n ≤ 32 → m ≤ 96 → least ≤ room → recordOf least n m f t room ≡ wordOf n ∷ wordOf m ∷ arraysOf f t (room - 2)
 unfolding hasRoom recordOf

@@ -1,5 +1,6 @@
 pub mod Questions
 pub mod Tables
+mod Turns
 pub mod Pairs
 pub mod Arrays
 pub mod Legal

@@ -3,13 +3,13 @@ ghost use mathlib.Core.Path.{_≡_};
 ghost use mathlib.Core.List.{_++_};
 ghost use Prim.Native.Nat.{_+_, _-_, _≤_};
 ghost use lib.ListN.{length, set};
-ghost use Rattle.loops.specs.Loops.{written, zeros};
+ghost use Rattle.loops.specs.Loops.{zeros};
 ghost use Rattle.fraction.specs.Exact.{denWord};
 ghost use Rattle.fraction.specs.Words.{word, wordOf, naturalOf};
 ghost use Rattle.network.specs.Limits.{maxNodes};
 ghost use Rattle.records.specs.Arrays.{figureAt, hasRoom};
 ghost use Rattle.records.specs.Network.{sizeOf};
-ghost use Rattle.records.specs.internal.Put.{ofNode};
+ghost use Rattle.records.specs.internal.Put.{sized, numsAt, densAt, putFrom};
 use fraction::Fraction;
 use network::MAX_ARCS;
 use network::MAX_NODES;
@@ -105,7 +105,7 @@ pub fn number_at(xs: &[i32], at: usize) -> usize
 // ---- writing
 
 // Whether the sizes are within the limits, and there are at least so many words of room.
-pub(crate) fn has_room(least: usize, n: usize, m: usize, room: usize) -> bool
+fn has_room(least: usize, n: usize, m: usize, room: usize) -> bool
     ensures { λ r. ⌜ r ≡ hasRoom least n m room ⌝ }
 {
     if n <= MAX_NODES {
@@ -114,12 +114,17 @@ pub(crate) fn has_room(least: usize, n: usize, m: usize, room: usize) -> bool
     false
 }
 
-// The sizes, over the first two words.
-pub(crate) fn write_sizes(n: usize, m: usize, out: &mut [i32])
-    ensures { λ _. ⌜ now (out .exit) ≡ set (set (now (out .entry)) 0 (wordOf n)) 1 (wordOf m) ⌝ }
+// The sizes, over the first two words, where there is room; zeros alone where there is none.
+pub(crate) fn write_sizes(least: usize, n: usize, m: usize, out: &mut [i32]) -> bool
+    ensures { λ r. ⌜ (r ≡ hasRoom least n m (length (now (out .entry)))) × (now (out .exit) ≡ sized least n m (now (out .entry))) ⌝ }
 {
-    loops::put(out, 0, fraction::words::word_of(n));
-    loops::put(out, 1, fraction::words::word_of(m));
+    if has_room(least, n, m, out.len()) {
+        loops::put(out, 0, fraction::words::word_of(n));
+        loops::put(out, 1, fraction::words::word_of(m));
+        return true;
+    }
+    loops::clear(out);
+    false
 }
 
 // Figure k: its numerator over word k of the output, its denominator over word k of those kept for behind.
@@ -132,8 +137,8 @@ pub(crate) fn put_figure(f: Fraction, k: usize, out: &mut [i32], dens: &mut [i32
 
 // The figures of the nodes 1 to n, which are the first n of a record.
 pub(crate) fn put_nodes(at: [Fraction; NODE_PLACES], n: usize, out: &mut [i32], dens: &mut [i32])
-    requires { ⌜ (n ≤ maxNodes) × (n ≤ length (now out)) × (n ≤ length (now dens)) ⌝ }
-    ensures { λ _. ⌜ (now (out .exit) ≡ written n (λ k. ofNode at k .num) (now (out .entry))) × (now (dens .exit) ≡ written n (λ k. denWord (ofNode at k .den)) (now (dens .entry))) ⌝ }
+    requires { ⌜ n ≤ maxNodes ⌝ }
+    ensures { λ _. ⌜ (now (out .exit) ≡ putFrom (numsAt at) 0 n (now (out .entry))) × (now (dens .exit) ≡ putFrom (densAt at) 0 n (now (dens .entry))) ⌝ }
 {
     for k in 0..n {
         put_figure(at[k + 1], k, out, dens);

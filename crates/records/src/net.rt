@@ -2,22 +2,20 @@
 // The next line is for tools/lift.py:
 // lent: network::Arc [i8; 56]
 ghost use mathlib.Core.Path.{_≡_};
-ghost use mathlib.Core.List.{List, _∷_};
-ghost use Prim.Native.Nat.{_+_, _-_, _*_, _≤_, _<_};
+ghost use mathlib.Core.List.{List};
+ghost use Prim.Native.Nat.{_+_, _*_, _≤_, _<_};
 ghost use lib.ListN.{length};
-ghost use Rattle.loops.specs.Loops.{all, upto};
+ghost use Rattle.loops.specs.Loops.{all, upto, build};
 ghost use Rattle.network.specs.declared.Arc.{Arc};
 ghost use Rattle.network.specs.declared.Nodes.{Nodes};
-ghost use Rattle.fraction.specs.Exact.{denWord};
-ghost use Rattle.fraction.specs.Words.{wordOf};
 ghost use Rattle.network.specs.Limits.{maxNodes, maxArcs, arcPlaces};
 ghost use Rattle.network.specs.Network.{emptyNet};
 ghost use Rattle.network.specs.ArcList.{noArcs, nodesOf, joined};
-ghost use Rattle.records.specs.Limits.{networkFigures, networkRoom};
+ghost use Rattle.records.specs.Limits.{networkFigures};
 ghost use Rattle.records.specs.Arrays.{figureAt, arraysOf};
 ghost use Rattle.records.specs.Questions.{firstNo};
-ghost use Rattle.records.specs.Network.{figures, sizesRight, roleOf, isPermitted, isInForm, isEnd, hasEnds, arcIn, isWeightedAt, questions, nodeTurn, arcTurn, netOf, readOf, loadTurn, loaded, roleFigure, figureOf, networkOf};
-ghost use Rattle.records.specs.internal.Put.{sevenPut};
+ghost use Rattle.records.specs.Network.{figures, sizesRight, roleOf, isPermitted, isInForm, isEnd, hasEnds, arcIn, isWeighted, isWeightedAt, questions, nodeTurn, arcTurn, readOf, loadTurn, loaded, roleFigure, figureOf, networkOf};
+ghost use Rattle.records.specs.internal.Put.{numOf, denOf, numsIn, densIn, putFrom, arcsPut};
 use crate::Size;
 use fraction::Fraction;
 use network::ARC_PLACES;
@@ -146,19 +144,15 @@ pub(crate) fn arc_in(xs: &[i32], n: usize, t: usize, j: usize) -> Arc
     }
 }
 
-// Whether of the arc of number j + 1 a is nonzero, and b zero exactly where from = to.
-fn has_weights(xs: &[i32], n: usize, t: usize, j: usize) -> bool
-    requires { ⌜ (2 + 2 * t ≤ length (now xs)) × (n + 7 * j + 7 ≤ t) ⌝ }
-    ensures { λ r. ⌜ r ≡ isWeightedAt (now (xs .entry)) n t j ⌝ }
+// Whether of an arc a is nonzero, and b zero exactly where from = to.
+fn is_weighted(t: Arc) -> bool
+    ensures { λ r. ⌜ r ≡ isWeighted t ⌝ }
 {
-    let k = n + 7 * j;
-    if figure_in(xs, t, k + 5).is_zero() {
+    if t.a.is_zero() {
         return false;
     }
-    let z = figure_in(xs, t, k + 6).is_zero();
-    let from = fraction::words::natural_of(figure_in(xs, t, k));
-    let to = fraction::words::natural_of(figure_in(xs, t, k + 1));
-    if from == to {
+    let z = t.b.is_zero();
+    if t.from == t.to {
         return z;
     }
     !z
@@ -170,7 +164,7 @@ fn all_weighted(xs: &[i32], n: usize, t: usize, m: usize) -> bool
     ensures { λ r. ⌜ r ≡ all (isWeightedAt (now (xs .entry)) n t) m ⌝ }
 {
     for j in 0..m {
-        if has_weights(xs, n, t, j) {} else {
+        if is_weighted(arc_in(xs, n, t, j)) {} else {
             return false;
         }
     }
@@ -241,23 +235,16 @@ fn read_arcs(xs: &[i32], n: usize, t: usize, m: usize) -> [Arc; ARC_PLACES]
     at
 }
 
-// The network of a record with these sizes.
-fn read_sized(xs: &[i32], n: usize, m: usize) -> Net
-    requires { ⌜ (n ≤ maxNodes) × (m ≤ maxArcs) × (2 + 2 * (n + 7 * m) ≤ length (now xs)) ⌝ }
-    ensures { λ r. ⌜ r ≡ netOf (now (xs .entry)) n m ⌝ }
-{
-    network::join(read_nodes(xs, n, m), read_arcs(xs, n, n + 7 * m, m))
-}
-
 // The network of a record; one without nodes and arcs where question 2 is answered by no.
 pub fn read(network: &[i32]) -> Net
     ensures { λ r. ⌜ r ≡ readOf (now (network .entry)) ⌝ }
 {
     if has_sizes(network) {
-        return read_sized(
-            network,
-            crate::number_at(network, 0),
-            crate::number_at(network, 1),
+        let n = crate::number_at(network, 0);
+        let m = crate::number_at(network, 1);
+        return network::join(
+            read_nodes(network, n, m),
+            read_arcs(network, n, n + 7 * m, m),
         );
     }
     network::empty_net(0, 0)
@@ -305,18 +292,38 @@ pub fn load(arcs: &mut [Arc], network: &[i32])
 
 // ---- writing
 
-// An arc's seven figures, in their order, from place k on.
-fn put_arc(t: Arc, k: usize, out: &mut [i32], dens: &mut [i32])
-    requires { ⌜ k ≤ networkFigures ⌝ }
-    ensures { λ _. ⌜ (now (out .exit) ≡ sevenPut (λ r. roleFigure t r .num) k (now (out .entry))) × (now (dens .exit) ≡ sevenPut (λ r. denWord (roleFigure t r .den)) k (now (dens .entry))) ⌝ }
+// An arc's seven figures, in their order.
+fn figures_of(t: Arc) -> [Fraction; 7]
+    ensures { λ r. ⌜ r ≡ build 7 (roleFigure t) ⌝ }
 {
-    crate::put_figure(fraction::words::whole(t.from), k, out, dens);
-    crate::put_figure(fraction::words::whole(t.to), k + 1, out, dens);
-    crate::put_figure(t.cost, k + 2, out, dens);
-    crate::put_figure(t.lower, k + 3, out, dens);
-    crate::put_figure(t.upper, k + 4, out, dens);
-    crate::put_figure(t.a, k + 5, out, dens);
-    crate::put_figure(t.b, k + 6, out, dens);
+    let from = fraction::words::whole(t.from);
+    let to = fraction::words::whole(t.to);
+    let cost = t.cost;
+    let lower = t.lower;
+    let upper = t.upper;
+    let a = t.a;
+    let b = t.b;
+    [from, to, cost, lower, upper, a, b]
+}
+
+// Seven figures, from place k on.
+fn put_seven(at: [Fraction; 7], k: usize, out: &mut [i32], dens: &mut [i32])
+    requires { ⌜ k ≤ networkFigures ⌝ }
+    ensures { λ _. ⌜ (now (out .exit) ≡ putFrom (numsIn at) k 7 (now (out .entry))) × (now (dens .exit) ≡ putFrom (densIn at) k 7 (now (dens .entry))) ⌝ }
+{
+    for r in 0..7 {
+        crate::put_figure(at[r], k + r, out, dens);
+    }
+}
+
+// The figures of the arcs 1 to m, behind those of n nodes.
+fn put_arcs(arcs: [Arc; ARC_PLACES], n: usize, m: usize, out: &mut [i32], dens: &mut [i32])
+    requires { ⌜ (n ≤ maxNodes) × (m ≤ maxArcs) ⌝ }
+    ensures { λ _. ⌜ (now (out .exit) ≡ arcsPut numOf arcs n m (now (out .entry))) × (now (dens .exit) ≡ arcsPut denOf arcs n m (now (dens .entry))) ⌝ }
+{
+    for j in 0..m {
+        put_seven(figures_of(arcs[j + 1]), n + 7 * j, out, dens);
+    }
 }
 
 // The figures' numerators, as many denominators, and zeros behind them.
@@ -324,33 +331,20 @@ fn write_figures(net: Net, out: &mut [i32])
     requires { ⌜ (net .n ≤ maxNodes) × (net .m ≤ maxArcs) × (2 * networkFigures ≤ length (now out)) ⌝ }
     ensures { λ _. ⌜ now (out .exit) ≡ arraysOf (figureOf net) (figures (net .n) (net .m)) (length (now (out .entry))) ⌝ }
 {
-    let n = net.n;
-    let m = net.m;
     let mut dens = [0i32; crate::NETWORK_FIGURES];
-    crate::put_nodes(net.supply, n, out, &mut dens);
-    for j in 0..m {
-        put_arc(net.arcs[j + 1], n + 7 * j, out, &mut dens);
-    }
-    let t = n + 7 * m;
+    let supply = net.supply;
+    crate::put_nodes(supply, net.n, out, &mut dens);
+    let arcs = net.arcs;
+    put_arcs(arcs, net.n, net.m, out, &mut dens);
+    let t = net.n + 7 * net.m;
     crate::write_denominators(&dens[..t], &mut out[t..]);
-}
-
-// The sizes, the numerators and the denominators.
-fn write_sized(net: Net, out: &mut [i32])
-    requires { ⌜ (net .n ≤ maxNodes) × (net .m ≤ maxArcs) × (networkRoom ≤ length (now out)) ⌝ }
-    ensures { λ _. ⌜ now (out .exit) ≡ wordOf (net .n) ∷ wordOf (net .m) ∷ arraysOf (figureOf net) (figures (net .n) (net .m)) (length (now (out .entry)) - 2) ⌝ }
-{
-    crate::write_sizes(net.n, net.m, out);
-    write_figures(net, &mut out[2..]);
 }
 
 // A network's record, and zeros behind it; zeros alone where it has no room.
 pub fn write_network(net: Net, out: &mut [i32])
     ensures { λ _. ⌜ now (out .exit) ≡ networkOf net (length (now (out .entry))) ⌝ }
 {
-    if crate::has_room(crate::NETWORK_WORDS, net.n, net.m, out.len()) {
-        write_sized(net, out);
-    } else {
-        loops::clear(out);
+    if crate::write_sizes(crate::NETWORK_WORDS, net.n, net.m, out) {
+        write_figures(net, &mut out[2..]);
     }
 }

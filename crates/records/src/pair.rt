@@ -1,18 +1,20 @@
 // A pair's record: question 8, the pair that it holds, and the record of a pair.
 ghost use mathlib.Core.Path.{_≡_};
-ghost use mathlib.Core.List.{_∷_};
-ghost use Prim.Native.Nat.{_+_, _-_, _*_, _≤_};
+ghost use Prim.Native.Nat.{_+_, _*_, _≤_};
 ghost use lib.Dec.{eqb};
 ghost use lib.IntN.{pos};
 ghost use lib.ListN.{length};
 ghost use Rattle.integer.specs.Whole.{eqZ};
 ghost use Rattle.loops.specs.Loops.{all, upto};
-ghost use Rattle.fraction.specs.Words.{word, wordOf};
+ghost use Rattle.fraction.specs.Words.{word};
 ghost use Rattle.network.specs.Limits.{maxNodes, maxArcs};
-ghost use Rattle.records.specs.Limits.{pairFigures, pairRoom};
+ghost use Rattle.records.specs.Limits.{pairFigures};
 ghost use Rattle.records.specs.Arrays.{arraysOf};
-ghost use Rattle.records.specs.Pair.{hasSizes, isFraction, isPair, priceTurn, flowTurn, pairOf, pairFigure, pairWords};
+ghost use Rattle.records.specs.Pair.{isFraction, isPair, priceTurn, flowTurn, pairOf, pairFigure, pairWords};
+ghost use Rattle.records.specs.internal.Put.{numsAt, densAt, putFrom};
 use crate::Size;
+use fraction::Fraction;
+use network::ARC_PLACES;
 use network::MAX_ARCS;
 use network::MAX_NODES;
 use network::pair::Pair;
@@ -44,16 +46,6 @@ fn is_long(len: usize, n: usize, m: usize) -> bool
     false
 }
 
-// Whether the record has these sizes, and their length.
-fn has_sizes(pair: &[i32], n: usize, m: usize) -> bool
-    ensures { λ r. ⌜ r ≡ hasSizes (now (pair .entry)) n m ⌝ }
-{
-    if is_long(pair.len(), n, m) {
-        return is_size(pair, 0, n) && is_size(pair, 1, m);
-    }
-    false
-}
-
 // Whether all t figures are fractions in form.
 fn all_fractions(pair: &[i32], t: usize) -> bool
     ensures { λ r. ⌜ r ≡ all (isFraction (now (pair .entry)) t) t ⌝ }
@@ -71,10 +63,16 @@ fn all_fractions(pair: &[i32], t: usize) -> bool
 pub fn is_pair(pair: &[i32], n: usize, m: usize) -> bool
     ensures { λ r. ⌜ r ≡ isPair (now (pair .entry)) n m ⌝ }
 {
-    if has_sizes(pair, n, m) {
-        return all_fractions(pair, n + m);
+    if is_long(pair.len(), n, m) {} else {
+        return false;
     }
-    false
+    if is_size(pair, 0, n) {} else {
+        return false;
+    }
+    if is_size(pair, 1, m) {} else {
+        return false;
+    }
+    all_fractions(pair, n + m)
 }
 
 // Prices of the nodes 1 to n.
@@ -120,36 +118,35 @@ pub fn read_pair(words: &[i32], n: usize, m: usize) -> Pair
 
 // ---- writing
 
+// The figures of the arcs 1 to m, behind those of n nodes.
+fn put_flows(at: [Fraction; ARC_PLACES], n: usize, m: usize, out: &mut [i32], dens: &mut [i32])
+    requires { ⌜ (n ≤ maxNodes) × (m ≤ maxArcs) ⌝ }
+    ensures { λ _. ⌜ (now (out .exit) ≡ putFrom (numsAt at) n m (now (out .entry))) × (now (dens .exit) ≡ putFrom (densAt at) n m (now (dens .entry))) ⌝ }
+{
+    for j in 0..m {
+        crate::put_figure(at[j + 1], n + j, out, dens);
+    }
+}
+
 // The figures' numerators, as many denominators, and zeros behind them.
 fn write_figures(n: usize, m: usize, pair: Pair, out: &mut [i32])
     requires { ⌜ (n ≤ maxNodes) × (m ≤ maxArcs) × (2 * pairFigures ≤ length (now out)) ⌝ }
     ensures { λ _. ⌜ now (out .exit) ≡ arraysOf (pairFigure n pair) (n + m) (length (now (out .entry))) ⌝ }
 {
     let mut dens = [0i32; crate::PAIR_FIGURES];
-    crate::put_nodes(pair.price, n, out, &mut dens);
-    for j in 0..m {
-        crate::put_figure(pair.flow[j + 1], n + j, out, &mut dens);
-    }
+    let price = pair.price;
+    crate::put_nodes(price, n, out, &mut dens);
+    let flow = pair.flow;
+    put_flows(flow, n, m, out, &mut dens);
     let t = n + m;
     crate::write_denominators(&dens[..t], &mut out[t..]);
-}
-
-// The sizes, the numerators and the denominators.
-fn write_sized(n: usize, m: usize, pair: Pair, out: &mut [i32])
-    requires { ⌜ (n ≤ maxNodes) × (m ≤ maxArcs) × (pairRoom ≤ length (now out)) ⌝ }
-    ensures { λ _. ⌜ now (out .exit) ≡ wordOf n ∷ wordOf m ∷ arraysOf (pairFigure n pair) (n + m) (length (now (out .entry)) - 2) ⌝ }
-{
-    crate::write_sizes(n, m, out);
-    write_figures(n, m, pair, &mut out[2..]);
 }
 
 // A pair's record, and zeros behind it; zeros alone where it has no room.
 pub fn write_pair(n: usize, m: usize, pair: Pair, out: &mut [i32])
     ensures { λ _. ⌜ now (out .exit) ≡ pairWords n m pair (length (now (out .entry))) ⌝ }
 {
-    if crate::has_room(crate::PAIR_WORDS, n, m, out.len()) {
-        write_sized(n, m, pair, out);
-    } else {
-        loops::clear(out);
+    if crate::write_sizes(crate::PAIR_WORDS, n, m, out) {
+        write_figures(n, m, pair, &mut out[2..]);
     }
 }

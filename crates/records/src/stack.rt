@@ -1,10 +1,5 @@
 // The stack's record, word by word, from the log; and question 7, whether the stack offered is that one.
 ghost use mathlib.Core.Path.{_≡_};
-ghost use Prim.Native.Nat.{_+_, _*_, _≤_};
-ghost use lib.ListN.{length};
-ghost use Rattle.loops.specs.Loops.{written};
-ghost use Rattle.network.specs.Limits.{maxSteps};
-ghost use Rattle.records.specs.Limits.{stackRoom};
 ghost use Rattle.records.specs.Logged.{stackWord, withStack, isStackOf};
 use network::MAX_STEPS;
 
@@ -21,24 +16,16 @@ pub fn word_at(log: &[i32], s: usize, k: usize) -> i32
     fraction::words::word_of(log::place_at(log, k - 1 - s))
 }
 
-// The record of s steps, over the first words of a slice that has room.
-fn write_words(log: &[i32], s: usize, out: &mut [i32])
-    requires { ⌜ (s ≤ maxSteps) × (stackRoom ≤ length (now out)) ⌝ }
-    ensures { λ _. ⌜ now (out .exit) ≡ written (1 + 2 * s) (stackWord (now (log .entry)) s) (now (out .entry)) ⌝ }
-{
-    let end = 1 + 2 * s;
-    for k in 0..end {
-        loops::put(out, k, word_at(log, s, k));
-    }
-}
-
-// It; nothing is written where there are more steps than a run has, or no room.
+// The record of s steps, over the first words of a slice; nothing is written where there are more steps than a run has, or no room.
 pub fn write(log: &[i32], s: usize, out: &mut [i32])
     ensures { λ _. ⌜ now (out .exit) ≡ withStack (now (log .entry)) s (now (out .entry)) ⌝ }
 {
     if s <= MAX_STEPS {
         if crate::STACK_WORDS <= out.len() {
-            write_words(log, s, out);
+            let end = 1 + 2 * s;
+            for k in 0..end {
+                loops::put(out, k, word_at(log, s, k));
+            }
         }
     }
 }

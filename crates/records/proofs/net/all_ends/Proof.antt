@@ -2,6 +2,7 @@
 use Prim.Native.Nat.{_-_}
 use Rattle.loops.proofs.Laws.{Passed, passed-all, passed-fails, passed-more, passed-none}
 use Rattle.records.specs.Network.{hasEnds}
+use Rattle.records.proofs.Turns.{turn-less}
 use borrow.Author.Needs.{needs}
 use mathlib.Core.Path.{_∙_, sym}
 use native.Mathlib.Omega.{arith}
@@ -18,13 +19,13 @@ loop-holds : tie.Need-loop-holds Inv-loop μ-loop
 loop-holds c = passed-none _ _
 
 returns : tie.Need-returns Inv-loop μ-loop
-returns c = passed-fails (c .before .before .before .loop .inv) (omega arith) (sym (c .before .has-ends .ensures) ∙ c .if1 .left)
+returns c = passed-fails (c .before .before .before .loop .inv) (c .before .before .loop-test .taken) (sym (c .before .has-ends .ensures) ∙ c .if1 .left)
 
 loop-again : tie.Need-loop-again Inv-loop μ-loop
-loop-again c = passed-more (c .before .before .before .loop .inv) (omega arith) (sym (c .before .has-ends .ensures) ∙ c .if1 .taken)
+loop-again c = passed-more (c .before .before .before .loop .inv) (c .before .before .loop-test .taken) (sym (c .before .has-ends .ensures) ∙ c .if1 .taken)
 
 returns-2 : tie.Need-returns-2 Inv-loop μ-loop
-returns-2 c = passed-all (c .before .loop .inv) (omega arith)
+returns-2 c = passed-all (c .before .loop .inv) (c .loop-test .left)
 
 pub all-ends-spec : {M : Type 1} → statement M
-all-ends-spec = tie.close (tie.spec Inv-loop μ-loop loop-holds (λ c κs. search needs) returns (λ c. search needs) (λ c. search needs) loop-again returns-2)
+all-ends-spec = tie.close (tie.spec Inv-loop μ-loop loop-holds (λ c κs. search needs) returns (λ c. search needs) (λ c. turn-less (c .before .before .loop-test .taken)) loop-again returns-2)

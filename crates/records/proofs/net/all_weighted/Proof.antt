@@ -1,9 +1,10 @@
 -- `records::all_weighted` meets its contract.
 use Prim.Native.Nat.{_-_}
 use Rattle.loops.proofs.Laws.{Passed, passed-all, passed-fails, passed-more, passed-none}
-use Rattle.records.specs.Network.{isWeightedAt}
+use Rattle.records.specs.Network.{isWeighted, isWeightedAt}
+use Rattle.records.proofs.Turns.{turn-less}
 use borrow.Author.Needs.{needs}
-use mathlib.Core.Path.{_∙_, sym}
+use mathlib.Core.Path.{_∙_, ap, sym}
 use native.Mathlib.Omega.{arith}
 use Rattle.records.proofs.net.all_weighted.Statement.{statement}
 use Rattle.records.proofs.net.all_weighted.Tie as tie
@@ -18,13 +19,13 @@ loop-holds : tie.Need-loop-holds Inv-loop μ-loop
 loop-holds c = passed-none _ _
 
 returns : tie.Need-returns Inv-loop μ-loop
-returns c = passed-fails (c .before .before .before .loop .inv) (omega arith) (sym (c .before .has-weights .ensures) ∙ c .if1 .left)
+returns c = passed-fails (c .before .before .before .before .loop .inv) (c .before .before .before .loop-test .taken) (sym (c .before .is-weighted .ensures ∙ ap isWeighted (c .before .before .arc-in .ensures)) ∙ c .if1 .left)
 
 loop-again : tie.Need-loop-again Inv-loop μ-loop
-loop-again c = passed-more (c .before .before .before .loop .inv) (omega arith) (sym (c .before .has-weights .ensures) ∙ c .if1 .taken)
+loop-again c = passed-more (c .before .before .before .before .loop .inv) (c .before .before .before .loop-test .taken) (sym (c .before .is-weighted .ensures ∙ ap isWeighted (c .before .before .arc-in .ensures)) ∙ c .if1 .taken)
 
 returns-2 : tie.Need-returns-2 Inv-loop μ-loop
-returns-2 c = passed-all (c .before .loop .inv) (omega arith)
+returns-2 c = passed-all (c .before .loop .inv) (c .loop-test .left)
 
 pub all-weighted-spec : {M : Type 1} → statement M
-all-weighted-spec = tie.close (tie.spec Inv-loop μ-loop loop-holds (λ c κs. search needs) returns (λ c. search needs) (λ c. search needs) loop-again returns-2)
+all-weighted-spec = tie.close (tie.spec Inv-loop μ-loop loop-holds (λ c κs. search needs) (λ c κs. search needs) returns (λ c. search needs) (λ c. turn-less (c .before .before .before .loop-test .taken)) loop-again returns-2)

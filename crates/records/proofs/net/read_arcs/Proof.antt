@@ -6,6 +6,7 @@ use Rattle.network.specs.declared.Nodes.{Nodes}
 use Rattle.network.specs.Network.{withArc}
 use Rattle.network.specs.ArcList.{joined, noArcs}
 use Rattle.records.specs.Network.{arcTurn}
+use Rattle.records.proofs.Turns.{turn-less}
 use borrow.Author.Needs.{needs}
 use native.Mathlib.Omega.{arith}
 use Rattle.records.proofs.net.read_arcs.Statement.{statement}
@@ -28,4 +29,4 @@ returns : tie.Need-returns Inv-loop μ-loop
 returns c = λ nodes. folded-all _ (c .before .loop .inv nodes) (omega arith)
 
 pub read-arcs-spec : {M : Type 1} → statement M
-read-arcs-spec = tie.close (tie.spec Inv-loop μ-loop (λ c κs. search needs) loop-holds (λ c κs. search needs) (λ c. search needs) (λ c. search needs) (λ c. search needs) (λ c. search needs) (λ c. search needs) loop-again returns)
+read-arcs-spec = tie.close (tie.spec Inv-loop μ-loop (λ c κs. search needs) loop-holds (λ c κs. search needs) (λ c. search needs) (λ c. search needs) (λ c. search needs) (λ c. search needs) (λ c. turn-less (c .before .loop-test .taken)) loop-again returns)

@@ -7,6 +7,7 @@ use Rattle.network.specs.declared.Arc.{Arc}
 use Rattle.network.specs.Network.{emptyNet, withNode, withSupply}
 use Rattle.network.specs.ArcList.{joined, nodesOf}
 use Rattle.records.specs.Network.{nodeTurn}
+use Rattle.records.proofs.Turns.{turn-less}
 use borrow.Author.Needs.{needs}
 use native.Mathlib.Omega.{arith}
 use Rattle.records.proofs.net.read_nodes.Statement.{statement}
@@ -29,4 +30,4 @@ returns : tie.Need-returns Inv-loop μ-loop
 returns c = λ arcs. folded-all _ (c .before .loop .inv arcs) (omega arith)
 
 pub read-nodes-spec : {M : Type 1} → statement M
-read-nodes-spec = tie.close (tie.spec Inv-loop μ-loop (λ c. search needs) (λ c. search needs) (λ c κs. search needs) loop-holds (λ c κs. search needs) (λ c. search needs) (λ c. search needs) (λ c. search needs) (λ c. search needs) (λ c. search needs) (λ c. search needs) (λ c. search needs) loop-again returns)
+read-nodes-spec = tie.close (tie.spec Inv-loop μ-loop (λ c. search needs) (λ c. search needs) (λ c κs. search needs) loop-holds (λ c κs. search needs) (λ c. search needs) (λ c. search needs) (λ c. search needs) (λ c. search needs) (λ c. search needs) (λ c. search needs) (λ c. turn-less (c .before .loop-test .taken)) loop-again returns)

@@ -1,47 +1,44 @@
 -- `records::net::write_figures` meets its contract.
-use Prim.Native.Nat.{_+_, _-_, _*_}
-use mathlib.Core.Path.{_∙_, _≡_, sym, ap}
-use native.Mathlib.Omega.{arith}
-use lib.Seq.{length-take-le}
-use Rattle.loops.proofs.Laws.{Filled, part-back, part-long}
-use Rattle.fraction.specs.declared.Fraction.{Fraction}
-use Rattle.fraction.specs.Exact.{denWord}
-use Rattle.records.specs.Arrays.{arraysOf}
-use Rattle.records.specs.Network.{figureOf}
-use Rattle.records.proofs.Arrays.{both-filled}
-use Rattle.records.proofs.Put.{filled-first, filled-seven, role-figure, supply-figure}
+use mathlib.Core.Path.{refl}
+use Rattle.records.proofs.Put.{figures-fit, figures-long, figures-sized, figures-within, net-arrays, net-most}
 use borrow.Author.Needs.{needs}
 use Rattle.records.proofs.net.write_figures.Statement.{statement}
 use Rattle.records.proofs.net.write_figures.Tie as tie
 
-abbrev Inv-loop : tie.InvT-loop
-Inv-loop out₀ net n m dens₀ j₀ out dens j = Filled (λ k. figureOf net k .num) (n + 7 * m) out₀ out (n + 7 * j) × Filled (λ k. denWord (figureOf net k .den)) (n + 7 * m) dens₀ dens (n + 7 * j)
+array-share-prefix-dens : tie.Need-array-share-prefix-dens
+array-share-prefix-dens c =
+    let a = c .before .before .before .before .before .before .before .before .before .before .before .before .before .before .args in
+    let h = c .before .before .before .before .before .before .before .before .before .before .before .before .before .before .pre in
+    figures-long (net-most (a .net) (h .0) (h .1)) refl (c .before .before .before .before .before .before .before .before .before .before .put-nodes .kept .1 .1 .1 .0) (c .before .before .before .before .put-arcs .kept .1 .1 .1 .1 .0)
 
-abbrev μ-loop : tie.MeasureT-loop
-μ-loop out₀ net n m dens₀ j₀ out dens j = m - j
+slice-aggregate-write-denominators : tie.Need-slice-aggregate-write-denominators
+slice-aggregate-write-denominators c =
+    let a = c .before .before .before .before .before .before .before .before .before .before .before .before .before .before .before .args in
+    let h = c .before .before .before .before .before .before .before .before .before .before .before .before .before .before .before .pre in
+    figures-sized (net-most (a .net) (h .0) (h .1)) _ refl (c .before .before .before .before .before .before .before .before .before .before .before .put-nodes .kept .1 .1 .1 .0) (c .before .before .before .before .before .put-arcs .kept .1 .1 .1 .1 .0)
 
-loop-holds : tie.Need-loop-holds Inv-loop μ-loop
-loop-holds c =
-    let e = c .before .before .put-nodes .ensures in
-    let z : c .before .before .before .before .before .before .args .t1 .n + 7 * 0 ≡ c .before .before .before .before .before .before .args .t1 .n = omega arith in (
-      filled-first _ _ _ _ (e .0) z (omega arith) (λ k l. sym (ap (λ (f : Fraction). f .num) (supply-figure (c .before .before .before .before .before .before .args .t1) k l))),
-      filled-first _ _ _ _ (e .1) z (omega arith) (λ k l. sym (ap (λ (f : Fraction). denWord (f .den)) (supply-figure (c .before .before .before .before .before .before .args .t1) k l))),
-    )
+sub-write-denominators : tie.Need-sub-write-denominators
+sub-write-denominators c =
+    let a = c .before .before .before .before .before .before .before .before .before .before .before .before .before .before .before .args in
+    let h = c .before .before .before .before .before .before .before .before .before .before .before .before .before .before .before .pre in
+    figures-within (net-most (a .net) (h .0) (h .1)) (h .2) (c .before .before .before .before .before .before .before .before .before .before .before .put-nodes .kept .1 .1 .0) (c .before .before .before .before .before .put-arcs .kept .1 .1 .1 .0)
 
-loop-again : tie.Need-loop-again Inv-loop μ-loop
-loop-again c =
-    let i = c .before .before .before .before .before .before .before .loop .inv in
-    let e = c .before .before .put-arc .ensures in
-    let f = role-figure (c .before .before .before .before .before .before .before .before .before .before .before .before .before .before .args .t1) (c .before .before .before .before .before .before .before .loop .j) in
-    let q : c .before .before .before .before .before .before .before .before .before .before .before .before .before .before .args .t1 .n + 7 * (c .before .before .before .before .before .before .before .loop .j + 1) ≡ c .before .before .before .before .before .before .before .before .before .before .before .before .before .before .args .t1 .n + 7 * c .before .before .before .before .before .before .before .loop .j + 7 = omega arith in (
-      rw (e .0) (filled-seven (c .before .before .before .before .before .before .before .before .before .before .before .before .before .before .args .t1 .n + 7 * (c .before .before .before .before .before .before .before .loop .j + 1)) (i .0) q (omega arith) (omega (arith, c .before .before .before .before .before .before .before .before .before .before .put-nodes .kept .1 .1 .0)) (λ r l. sym (ap (λ (f : Fraction). f .num) (f r l)))),
-      rw (e .1) (filled-seven (c .before .before .before .before .before .before .before .before .before .before .before .before .before .before .args .t1 .n + 7 * (c .before .before .before .before .before .before .before .loop .j + 1)) (i .1) q (omega arith) (omega (arith, c .before .before .before .before .before .before .before .before .before .before .put-nodes .kept .1 .1 .1 .0)) (λ r l. sym (ap (λ (f : Fraction). denWord (f .den)) (f r l)))),
-    )
+write-denominators-requires : tie.Need-write-denominators-requires
+write-denominators-requires c κs =
+    let a = c .before .before .before .before .before .before .before .before .before .before .before .before .before .before .before .before .args in
+    let h = c .before .before .before .before .before .before .before .before .before .before .before .before .before .before .before .before .pre in
+    let p = c .before .before .before .before .before .before .before .before .before .before .before .before .put-nodes .kept .1 .1 in
+    let q = c .before .before .before .before .before .before .put-arcs .kept .1 .1 .1 in
+    let w = c .before .before .before .before .before .before .put-arcs .last .1 .1 .1 in
+    figures-fit (net-most (a .net) (h .0) (h .1)) (w .0) _ (h .2) (p .0) (q .0) refl (p .1 .0) (q .1 .0)
 
-returns : tie.Need-returns Inv-loop μ-loop
+returns : tie.Need-returns
 returns c =
-    let i = c .before .before .before .before .before .loop .inv in
-    rw (part-back, c .before .write-denominators .ensures, part-long) (both-filled (figureOf (c .before .before .before .before .before .before .before .before .before .before .before .before .args .t1)) (i .0) (i .1) (omega arith) ∙ ap (arraysOf (figureOf (c .before .before .before .before .before .before .before .before .before .before .before .before .args .t1)) (c .before .before .before .before .before .before .before .before .before .before .before .before .args .t1 .n + 7 * c .before .before .before .before .before .before .before .before .before .before .before .before .args .t1 .m)) (c .before .before .before .before .before .before .before .before .put-nodes .kept .1 .1 .0))
+    let a = c .before .before .before .before .before .before .before .before .before .before .before .before .before .before .before .before .before .before .args in
+    let h = c .before .before .before .before .before .before .before .before .before .before .before .before .before .before .before .before .before .before .pre in
+    let p = c .before .before .before .before .before .before .before .before .before .before .before .before .before .before .put-nodes .ensures in
+    let q = c .before .before .before .before .before .before .before .before .put-arcs .ensures in
+    net-arrays (a .net) _ _ (h .0) (h .1) (h .2) refl (p .0) (q .0) (p .1) (q .1) (c .before .write-denominators .ensures)
 
 pub write-figures-spec : {M : Type 1} → statement M
-write-figures-spec = tie.close (tie.spec Inv-loop μ-loop (λ c. search needs) (λ c κs. search needs) loop-holds (λ c. search needs) (λ c. search needs) (λ c. search needs) (λ c. search needs) (λ c. search needs) (λ c. search needs) (λ c κs. search needs) (λ c. search needs) (λ c. search needs) loop-again (λ c. search needs) (λ c. search needs) (λ c. search needs) (λ c. let i = c .before .before .loop .inv in sym (length-take-le _ _ (omega (arith, i .1 .long, c .before .before .before .before .before .put-nodes .kept .1 .1 .1 .0)))) (λ c. search needs) (λ c. search needs) (λ c. search needs) (λ c. search needs) (λ c κs. let i = c .before .before .before .loop .inv in rw (part-long, length-take-le (c .before .before .before .before .before .before .before .before .before .before .args .t1 .n + 7 * c .before .before .before .before .before .before .before .before .before .before .args .t1 .m) (c .before .before .before .loop .dens) (omega (arith, i .1 .long, c .before .before .before .before .before .before .put-nodes .kept .1 .1 .1 .0))) (omega (arith, i .0 .long, c .before .before .before .before .before .before .put-nodes .kept .1 .1 .0))) (λ c. search needs) returns)
+write-figures-spec = tie.close (tie.spec (λ c. search needs) (λ c κs. search needs) (λ c. search needs) (λ c κs. search needs) (λ c. search needs) (λ c. search needs) array-share-prefix-dens slice-aggregate-write-denominators (λ c. search needs) sub-write-denominators sub-write-denominators (λ c. search needs) write-denominators-requires (λ c. search needs) returns)

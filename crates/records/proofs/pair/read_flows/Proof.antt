@@ -4,6 +4,7 @@ use Rattle.loops.proofs.Laws.{Folded, folded-all, folded-more, folded-none}
 use Rattle.network.proofs.Numbers.{number}
 use Rattle.records.specs.Pair.{flowTurn}
 use Rattle.network.specs.Pair.{withFlow}
+use Rattle.records.proofs.Turns.{turn-less}
 use borrow.Author.Needs.{needs}
 use native.Mathlib.Omega.{arith}
 use Rattle.records.proofs.pair.read_flows.Statement.{statement}
@@ -26,4 +27,4 @@ returns : tie.Need-returns Inv-loop μ-loop
 returns c = folded-all _ (c .before .loop .inv) (omega arith)
 
 pub read-flows-spec : {M : Type 1} → statement M
-read-flows-spec = tie.close (tie.spec Inv-loop μ-loop loop-holds (λ c. search needs) (λ c κs. search needs) (λ c. search needs) (λ c. search needs) (λ c. search needs) (λ c. search needs) (λ c. search needs) loop-again returns)
+read-flows-spec = tie.close (tie.spec Inv-loop μ-loop loop-holds (λ c. search needs) (λ c κs. search needs) (λ c. search needs) (λ c. search needs) (λ c. search needs) (λ c. search needs) (λ c. turn-less (c .before .loop-test .taken)) loop-again returns)
