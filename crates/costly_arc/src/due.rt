@@ -149,12 +149,12 @@ fn all_ways(net: Net, seen: Seen, p: u8, q: u8, t: Arc) -> Ways
 }
 
 // Whether a way put at the time w or later makes with q a sum below c.
-fn any_due_under(seen: Seen, w: u8, q: Fraction, ways: Ways, c: Fraction) -> bool
-    ensures { λ r. ⌜ r ≡ any (isDueUnder seen w q (ways .to) c) arcPlaces ⌝ }
+fn any_due_under(seen: Seen, w: u8, q: Fraction, to: [Fraction; ARC_PLACES], c: Fraction) -> bool
+    ensures { λ r. ⌜ r ≡ any (isDueUnder seen w q to c) arcPlaces ⌝ }
 {
     for k in 0..ARC_PLACES {
         if seen.put[k] >= w {
-            let y = ways.to[k];
+            let y = to[k];
             if is_under(q.sum(y), c) {
                 return true;
             }
@@ -174,10 +174,11 @@ fn bar(old: bool, w: u8) -> u8
 fn any_due_pair(seen: Seen, w: u8, ways: Ways, c: Fraction) -> bool
     ensures { λ r. ⌜ r ≡ any (isDueFrom seen w (ways .from) (ways .to) c) arcPlaces ⌝ }
 {
+    let to = ways.to;
     for k in 0..ARC_PLACES {
         let q = ways.from[k];
         if q.den != 0 {
-            if any_due_under(seen, bar(seen.put[k] < w, w), q, ways, c) {
+            if any_due_under(seen, bar(seen.put[k] < w, w), q, to, c) {
                 return true;
             }
         }
