@@ -7,7 +7,7 @@ use Prim.Native.Nat.{ℕ, zero, suc, _<_}
 use native.Mathlib.Nat.{not-suc-le-zero, eq-or-lt-of-le, le-of-suc-le-suc}
 use native.Mathlib.Numerals.{add-one}
 use native.Mathlib.Omega.{arith}
-use borrow.Author.Tests.{le-ltb, lt-ltb, leb-false, not-true, ltb-true, ltb-false, eq-eqb}
+use borrow.Author.Tests.{le-ltb, lt-ltb, leb-false, not-true, ltb-true, ltb-false, eq-eqb, ne-eqb}
 use lib.Dec.{ltb, leb, eqb}
 use lib.ListN.{getD}
 use Rattle.loops.specs.Loops.{any}
@@ -94,6 +94,10 @@ no-way x h old i e = by old (isRoot x) (eqb (x .from) i) (isSame (x .upper) noUp
     by false true f true p y h = unlike (sym h)
     by false true true false p y h = refl
     by false true false false p y h = refl
+
+pub other-way : (x : Arc) (i : ℕ) → (x .from ≡ i → ⊥) → (old : Bool) (e : Fraction) → wayOf old x i e ≡ noFigure
+unfolding wayOf isOpenRoot
+other-way x i n old e = rw (ne-eqb (x .from) i n, and-false (isRoot x), and-false (not old))
 
 pair-way : (t x y : Arc) (o u : Bool) → isUnder (sumOf (wayOf o x (t .from) (t .a)) (wayOf u y (t .to) (t .b))) (t .cost) ≡ (not o && (not u && isPair t x y))
 unfolding wayOf isPair isCostlier

@@ -103,6 +103,16 @@ fn way(old: bool, x: Arc, i: usize, e: Fraction) -> Fraction
     network::no_figure()
 }
 
+// It; an arc at another node is passed over at once.
+fn way_at(old: bool, x: Arc, i: usize, e: Fraction) -> Fraction
+    ensures { λ r. ⌜ r ≡ wayOf old x i e ⌝ }
+{
+    if x.from != i {
+        return network::no_figure();
+    }
+    way(old, x, i, e)
+}
+
 // The costs by way of a root arc, at the from node and at the to node of an arc.
 struct Both {
     from: Fraction,
@@ -120,8 +130,8 @@ fn both_ways(t: Arc, x: Arc, put: u8, p: u8, q: u8) -> Both
             to: none,
         };
     }
-    let from = way(put < p, x, t.from, t.a);
-    let to = way(put < q, x, t.to, t.b);
+    let from = way_at(put < p, x, t.from, t.a);
+    let to = way_at(put < q, x, t.to, t.b);
     Both { from, to }
 }
 
