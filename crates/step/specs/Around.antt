@@ -38,7 +38,7 @@ pub record Trial : Type 0 where
 abbrev pub noTrial : Trial
 noTrial = record { degree = 0; balanced = false; by = λ supply i d near. Passes }
 
--- as many of them as d asks for
+-- of the arcs that touch node i, as many as d asks for
 pub record Near (net : Net) (i d : ℕ) (near : Around) : Type 0 where
   pub one : 1 ≤ d → near .one ≡ oldArc net (firstAt net i)
   pub two : 2 ≤ d → near .two ≡ oldArc net (secondAt net i)
