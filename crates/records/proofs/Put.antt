@@ -10,7 +10,7 @@ use lib.Seq.{length-take-le}
 use borrow.Rule.Slice.PartMut.{midOf, putMid}
 use borrow.Author.Tests.{le-leb, lt-leb, le-ltb, lt-ltb}
 use Rattle.loops.specs.Loops.{build, upto, zeros}
-use Rattle.loops.proofs.Laws.{getD-build, Filled, filled-none, filled-more, part-back, part-long}
+use Rattle.loops.proofs.Laws.{getD-build, Filled, filled-none, filled-more, Folded, folded-none, folded-more, folded-all, part-back, part-long}
 use Rattle.fraction.specs.declared.Fraction.{Fraction}
 use Rattle.fraction.specs.Exact.{noFigure, denWord}
 use Rattle.network.specs.declared.Arc.{Arc}
@@ -48,22 +48,19 @@ flow-figure n pair j = let e : n + j - n + 1 ≡ j + 1 = omega arith in rw (lt-l
 
 -- ---- words put over those of a slice
 
--- a loop that takes a slice on: at its head, after the turns below i of n, where d is what stood there
+-- a loop that takes a slice on and keeps its length: at its head, after the turns below i of n, where d is what stood there
 pub record Turned (f : ℕ → List ℤ → List ℤ) (n : ℕ) (d s : List ℤ) (i : ℕ) : Type 0 where
-  pub below : i ≤ n
+  pub folded : Folded f n d i s
   pub long : length s ≡ length d
-  pub is : s ≡ upto f i d
 
 pub turned-none : {f : ℕ → List ℤ → List ℤ} {n : ℕ} {d : List ℤ} → Turned f n d d 0
-unfolding upto
-turned-none = record { below = omega arith; long = refl; is = refl }
+turned-none {f} {n} {d} = record { folded = folded-none f n d; long = refl }
 
 pub turned-more : {f : ℕ → List ℤ → List ℤ} {n : ℕ} {d s t : List ℤ} {i : ℕ} → Turned f n d s i → i < n → length t ≡ length s → t ≡ f i s → Turned f n d t (i + 1)
-unfolding upto
-turned-more {i = i} h l long e = record { below = omega arith; long = long ∙ h .long; is = e ∙ rw (add-one i, h .is) refl }
+turned-more {f} h l long e = record { folded = folded-more f (h .folded) l e; long = long ∙ h .long }
 
 pub turned-all : {f : ℕ → List ℤ → List ℤ} {n : ℕ} {d s : List ℤ} {i : ℕ} → Turned f n d s i → n ≤ i → s ≡ upto f n d
-turned-all {n = n} {i = i} h l = let e : i ≡ n = omega arith in h .is ∙ rw e refl
+turned-all {f} h l = folded-all f (h .folded) l
 
 -- t words more, behind k of them
 pub filled-from : {f g : ℕ → ℤ} {n : ℕ} {d s : List ℤ} (k t : ℕ) → Filled f n d s k → k + t ≤ n → n ≤ length d → ((r : ℕ) → r < t → g r ≡ f (k + r)) → Filled f n d (putFrom g k t s) (k + t)
