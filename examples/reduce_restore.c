@@ -9,21 +9,21 @@
 
 static const int32_t network[] = {
     3, 3,
-    4, -5, 2, 1, 2, 1, 0, 3, 1, -1, 1, 2, 2, 0, 1, 1, -1, 3, 2, 7, 0, 1, 1, -1,
-    1, 1, 1, 1, 1, 1, 1, 1, 1, 1, 1, 1, 1, 1, 0, 1, 1, 1, 1, 1, 1, 0, 1, 2,
+    0, 4, -5, 2, 1, 2, 1, 0, 3, 1, -1, 1, 2, 2, 0, 1, 1, -1, 3, 2, 7, 0, 1, 1, -1,
+    1, 1, 1, 1, 1, 1, 1, 1, 1, 1, 1, 1, 1, 1, 1, 0, 1, 1, 1, 1, 1, 1, 0, 1, 2,
 };
 static const int32_t pair[] = {2, 2, 2, 0, 3, 1, 1, 1, 1, 1};
 
 /* What document 01 prints. */
 static const int32_t reduced[] = {
     2, 2,
-    4, -4, 1, 2, 1, 0, 3, 1, -1, 1, 2, 2, 0, 1, 1, -1,
-    1, 1, 1, 1, 1, 1, 1, 1, 1, 1, 1, 1, 1, 0, 1, 1,
+    14, 4, -4, 1, 2, 1, 0, 3, 1, -1, 1, 2, 2, 0, 1, 1, -1,
+    1, 1, 1, 1, 1, 1, 1, 1, 1, 1, 1, 1, 1, 1, 0, 1, 1,
 };
 static const int32_t steps[] = {1, 3, 3};
 static const int32_t restored[] = {3, 3, 2, 0, 7, 3, 1, 2, 1, 1, 1, 1, 1, 1};
-static const int32_t reduced_value[] = {5, 1};
-static const int32_t both_values[] = {5, 1, 19, 1};
+static const int32_t reduced_value[] = {19, 1};
+static const int32_t both_values[] = {19, 1, 19, 1};
 
 static int32_t out[PATSKVIME_NETWORK];
 static int32_t stack[PATSKVIME_STACK];

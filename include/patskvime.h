@@ -2,7 +2,7 @@
  * Linux.
  *
  * A slice is a pointer to 32-bit words and how many words there are. Records are those of the README:
- *   network: n, m, n + 7m numerators, as many denominators
+ *   network: n, m, 1 + n + 7m numerators (the constant, supplies, the arcs' figures), as many denominators
  *   stack:   s, s rule numbers, s places
  *   pair:    n, m, n + m numerators (prices, then flows), as many denominators
  * The length of a record given is exactly its own. A slice lent for an answer or as scratch may be longer than what is
@@ -26,7 +26,7 @@ extern "C" {
 #endif
 
 /* Words to lend. */
-#define PATSKVIME_NETWORK 1410
+#define PATSKVIME_NETWORK 1412
 #define PATSKVIME_STACK 257
 #define PATSKVIME_PAIR 258
 #define PATSKVIME_VALUE 2
@@ -48,7 +48,8 @@ size_t patskvime_reduce(const int32_t *network, size_t network_length,
                         int32_t *scratch, size_t scratch_length);
 
 /* Tests a pair of prices and flows on a network.
- * 0: the flow is feasible, no feasible flow costs less, and values has its cost, numerator and denominator.
+ * 0: the flow is feasible, no feasible flow costs less, and values has its cost together with the network's constant,
+ * numerator and denominator.
  * Refusals: 1 to 5, 8 to 12; where none of 1 to 5 applies, exactly the pairs that prove themselves optimal with figures
  * that fit are passed.
  * Lend values PATSKVIME_VALUE words. */
@@ -59,7 +60,7 @@ size_t patskvime_test(const int32_t *network, size_t network_length,
 /* Restores a pair of the reduced network to the network given, whose reduction has the steps in stack; of the stack that
  * patskvime_reduce wrote these are the first 1 + 2 * stack[0] words.
  * 0: out has a pair whose flow is feasible in the network given, and no feasible flow there costs less; values has the
- * reduced network's value and the original's. Refusals: 1 to 13.
+ * reduced network's value and the original's, which are equal. Refusals: 1 to 13.
  * Lend out PATSKVIME_PAIR words, values PATSKVIME_VALUES, scratch PATSKVIME_SCRATCH. */
 size_t patskvime_restore(const int32_t *network, size_t network_length,
                          const int32_t *stack, size_t stack_length,

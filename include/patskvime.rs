@@ -4,7 +4,7 @@
 #![allow(dead_code)]
 
 /// Words to lend.
-pub const NETWORK: usize = 1410;
+pub const NETWORK: usize = 1412;
 pub const STACK: usize = 257;
 pub const PAIR: usize = 258;
 pub const VALUE: usize = 2;

@@ -1,4 +1,4 @@
-//! Deterministic networks for the benchmarks, with reductions of three kinds.
+//! Deterministic networks for the benchmarks, with reductions of three kinds. Their constants are 0.
 
 use crate::draw::Draw;
 use crate::fraction::{Bound, Fraction};
@@ -90,7 +90,8 @@ fn arc(draw: &mut Draw, from: usize, to: usize, lower: Bound, upper: Bound) -> A
 }
 
 fn network_of(n: usize, arcs: Vec<Arc>) -> Network {
-    Network { supplies: (1..=n).map(|node| (node, Fraction::ZERO)).collect(), arcs: (1..).zip(arcs).collect() }
+    let supplies = (1..=n).map(|node| (node, Fraction::ZERO)).collect();
+    Network { constant: Fraction::ZERO, supplies, arcs: (1..).zip(arcs).collect() }
 }
 
 /// Half the nodes in a ring (rule 5), the others in trees that hang from it (rule 3), and all further arcs closed
@@ -158,7 +159,7 @@ fn mixed(draw: &mut Draw, n: usize, m: usize) -> Network {
     let mut all = Network::default();
     let mut misses = 0;
     while misses < 20 {
-        let part = samples::network(draw, Shape::Small);
+        let part = samples::without_constant(draw, Shape::Small);
         let (nodes, arcs) = (all.supplies.len(), all.arcs.len());
         if nodes + part.supplies.len() > n || arcs + part.arcs.len() > m {
             misses += 1;

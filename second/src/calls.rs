@@ -6,7 +6,7 @@ use crate::reduce::{reduce, End};
 use crate::restore::restore;
 
 /// Words that question 1 asks for: network, stack and scratch; the test's values; pair, values and scratch.
-pub const REDUCING_ROOM: [usize; 3] = [1410, 257, 10240];
+pub const REDUCING_ROOM: [usize; 3] = [1412, 257, 10240];
 pub const TEST_ROOM: [usize; 1] = [2];
 pub const RESTORING_ROOM: [usize; 3] = [258, 4, 10240];
 
@@ -54,4 +54,18 @@ pub fn restore_call(network: &[i32], stack: &[i32], pair: &[i32], lent: [usize; 
         let values = values.into_iter().flat_map(|(numerator, denominator)| [numerator, denominator]).collect();
         Ok(Told { code: 0, records: [restored.pair.record().words(), values, vec![]] })
     })
+}
+
+#[cfg(test)]
+mod tests {
+    use super::*;
+    use crate::network::{record_length, MOST_ARCS, MOST_NODES};
+
+    /// Each output has just the room that the largest record needs.
+    #[test]
+    fn largest_records() {
+        let most = MOST_NODES + MOST_ARCS;
+        assert_eq!(REDUCING_ROOM[..2], [record_length(MOST_NODES, MOST_ARCS), 1 + 2 * most]);
+        assert_eq!(RESTORING_ROOM[0], 2 + 2 * most);
+    }
 }

@@ -26,7 +26,7 @@ fn output(child: Child) -> Vec<u8> {
 
 /// The words of a question and of its answer; zeros fill both.
 const ASKED: usize = 204;
-const TOLD: usize = 60;
+const TOLD: usize = 62;
 
 /// What a question is about, its first word.
 #[derive(Clone, Copy)]

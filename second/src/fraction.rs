@@ -118,6 +118,13 @@ impl PartialOrd for Fraction {
     }
 }
 
+/// Zero.
+impl Default for Fraction {
+    fn default() -> Fraction {
+        Fraction::ZERO
+    }
+}
+
 /// "Comparison is always exact."
 impl Ord for Fraction {
     fn cmp(&self, other: &Fraction) -> Ordering {

@@ -1,9 +1,10 @@
-//! Second implementation of the network presolver, written from document 01 alone.
+//! Second implementation of the network presolver, written from document 01 and from request 2026-01 alone.
 //! It exists to be compared with the verified one.
 
 pub mod bench_networks;
 pub mod calls;
 pub mod compare;
+pub mod constants;
 pub mod draw;
 pub mod exact;
 pub mod fraction;

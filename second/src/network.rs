@@ -1,4 +1,4 @@
-//! Networks and their record, with the questions 2 to 5 of 01.
+//! Networks and their record, with the questions 2 to 5 of 01. The constant is that of request 2026-01.
 
 use crate::fraction::{Bound, Fraction};
 use std::collections::BTreeMap;
@@ -63,10 +63,11 @@ impl Arc {
     }
 }
 
-/// A network: nodes (with their supplies) and arcs by their numbers. Numbers need not be
+/// A network: its constant, and nodes (with their supplies) and arcs by their numbers. Numbers need not be
 /// consecutive, so a network in the course of a reduction is one too.
 #[derive(Clone, PartialEq, Eq, Debug, Default)]
 pub struct Network {
+    pub constant: Fraction,
     pub supplies: BTreeMap<usize, Fraction>,
     pub arcs: BTreeMap<usize, Arc>,
 }
@@ -82,6 +83,7 @@ impl Network {
         let new_number: BTreeMap<usize, usize> = self.supplies.keys().copied().zip(1..).collect();
         let renumber = |arc: &Arc| Arc { from: new_number[&arc.from], to: new_number[&arc.to], ..*arc };
         Network {
+            constant: self.constant,
             supplies: (1..).zip(self.supplies.values().copied()).collect(),
             arcs: (1..).zip(self.arcs.values().map(renumber)).collect(),
         }
@@ -89,7 +91,8 @@ impl Network {
 
     /// The network's record; the numbers must be consecutive from 1.
     pub fn record(&self) -> Record {
-        let mut figures: Vec<(i32, i32)> = self.supplies.values().map(|supply| supply.words()).collect();
+        let mut figures = vec![self.constant.words()];
+        figures.extend(self.supplies.values().map(|supply| supply.words()));
         for arc in self.arcs.values() {
             figures.push((arc.from as i32, 1));
             figures.push((arc.to as i32, 1));
@@ -105,18 +108,20 @@ impl Network {
     /// Questions 2 to 5 about a record of words.
     pub fn read(words: &[i32]) -> Result<Network, Refusal> {
         let (n, m) = sizes(words).ok_or(Refusal(2))?;
-        let count = n + ARC_FIGURES * m;
-        if words.len() != 2 + 2 * count {
+        if words.len() != record_length(n, m) {
             return Err(Refusal(2));
         }
-        let figures = read_figures(n, &words[2..2 + count], &words[2 + count..]).ok_or(Refusal(3))?;
-        let (supplies, arcs) = figures.split_at(n);
+        let (numerators, denominators) = words[2..].split_at(figure_count(n, m));
+        let figures = read_figures(n, numerators, denominators).ok_or(Refusal(3))?;
+        let (plain_figures, arcs) = figures.split_at(figure_count(n, 0));
+        let plain_figures: Vec<Fraction> = plain_figures.iter().copied().map(plain).collect();
         let ends = arcs.chunks(ARC_FIGURES).map(|arc| read_ends(n, arc));
         let ends: Vec<(usize, usize)> = ends.collect::<Option<_>>().ok_or(Refusal(4))?;
         let arcs = arcs.chunks(ARC_FIGURES).zip(ends).map(|(arc, ends)| read_arc(ends, arc));
         let arcs: Vec<Arc> = arcs.collect::<Option<_>>().ok_or(Refusal(5))?;
         Ok(Network {
-            supplies: (1..).zip(supplies.iter().map(|supply| plain(*supply))).collect(),
+            constant: plain_figures[0],
+            supplies: (1..).zip(plain_figures[1..].iter().copied()).collect(),
             arcs: (1..).zip(arcs).collect(),
         })
     }
@@ -129,10 +134,21 @@ pub fn sizes(words: &[i32]) -> Option<(usize, usize)> {
     (n <= MOST_NODES && m <= MOST_ARCS).then_some((n, m))
 }
 
+/// How many figures n nodes and m arcs have: the constant, the supplies, the arcs' figures. Those of a further arc begin
+/// at this position, counted from 0.
+pub fn figure_count(n: usize, m: usize) -> usize {
+    1 + n + ARC_FIGURES * m
+}
+
+/// Words of a network's record: the sizes, the numerators, the denominators.
+pub fn record_length(n: usize, m: usize) -> usize {
+    2 + 2 * figure_count(n, m)
+}
+
 /// "Is each figure a fraction in form, or a permitted mark?"
 fn read_figures(n: usize, numerators: &[i32], denominators: &[i32]) -> Option<Vec<Bound>> {
     let read_one = |(position, (&numerator, &denominator)): (usize, (&i32, &i32))| {
-        let place_in_arc = if position < n { None } else { Some((position - n) % ARC_FIGURES) };
+        let place_in_arc = position.checked_sub(figure_count(n, 0)).map(|place| place % ARC_FIGURES);
         match place_in_arc {
             Some(3) => Bound::read_lower(numerator, denominator),
             Some(4) => Bound::read_upper(numerator, denominator),

@@ -96,9 +96,9 @@ fn reduced_cost(arc: &Arc, prices: &BTreeMap<usize, Fraction>) -> Option<Fractio
     Some(d)
 }
 
-/// "The value is the sum of c × flow, arcs upward."
+/// "The value is the sum of c × flow, arcs upward", and it "starts from" the constant.
 pub fn value(network: &Network, flows: &BTreeMap<usize, Fraction>) -> Option<Fraction> {
-    let mut sum = Fraction::ZERO;
+    let mut sum = network.constant;
     for (number, arc) in &network.arcs {
         sum = sum.plus(arc.cost.times(flows[number])?)?;
     }
@@ -128,22 +128,34 @@ mod tests {
     /// A's reduced network with the pairs of A to D.
     #[test]
     fn reduced_instances() {
-        let network = "2 2 4 -4 1 2 1 0 3 1 -1 1 2 2 0 1 1 -1 1 1 1 1 1 1 1 1 1 1 1 1 1 0 1 1";
-        assert_eq!(tested(network, "2 2 2 0 3 1 1 1 1 1"), Ok((5, 1)));
+        let network = "2 2 14 4 -4 1 2 1 0 3 1 -1 1 2 2 0 1 1 -1 1 1 1 1 1 1 1 1 1 1 1 1 1 1 0 1 1";
+        assert_eq!(tested(network, "2 2 2 0 3 1 1 1 1 1"), Ok((19, 1)));
         assert_eq!(tested(network, "2 2 2 0 2 2 1 1 1 1"), Err(Refusal(12)));
         assert_eq!(tested(network, "2 2 2 0 4 0 1 1 1 1"), Err(Refusal(11)));
         assert_eq!(tested(network, "2 2 2 0 3 2 1 1 1 1"), Err(Refusal(10)));
         assert_eq!(tested(network, "2 2 2 0 2147483647 1 1 1 1 1"), Err(Refusal(9)));
         assert_eq!(tested(network, "2 2 2 0 3 1 1 1 1 1 1"), Err(Refusal(8)));
         assert_eq!(tested(network, "2 2 2 0 3 1 1 1 1 0"), Err(Refusal(8)));
-        assert_eq!(tested("1 0 0 2", "1 0 0 1"), Err(Refusal(3)));
+        assert_eq!(tested("1 0 0 0 1 2", "1 0 0 1"), Err(Refusal(3)));
+    }
+
+    /// The sum starts from the constant: its partial sums must fit too. Without arcs the constant is the value.
+    #[test]
+    fn constant_first() {
+        let network = |constant: i32| format!("1 2 {constant} 0 1 1 1 0 9 1 0 1 1 -1 0 9 -1 0{}", " 1".repeat(16));
+        let there_and_back = |constant| tested(&network(constant), "1 2 1 1 1 1 1 1");
+        assert_eq!(there_and_back(5), Ok((5, 1)));
+        assert_eq!(there_and_back(-2147483647), Ok((-2147483647, 1)));
+        assert_eq!(there_and_back(2147483646), Ok((2147483646, 1)));
+        assert_eq!(there_and_back(2147483647), Err(Refusal(9)));
+        assert_eq!(tested("0 0 -7 3", "0 0"), Ok((-7, 3)));
     }
 
     /// A itself with the restored pair.
     #[test]
     fn restored_instance() {
-        let network = "3 3 4 -5 2 1 2 1 0 3 1 -1 1 2 2 0 1 1 -1 3 2 7 0 1 1 -1 \
-                       1 1 1 1 1 1 1 1 1 1 1 1 1 1 0 1 1 1 1 1 1 0 1 2";
+        let network = "3 3 0 4 -5 2 1 2 1 0 3 1 -1 1 2 2 0 1 1 -1 3 2 7 0 1 1 -1 \
+                       1 1 1 1 1 1 1 1 1 1 1 1 1 1 1 0 1 1 1 1 1 1 0 1 2";
         assert_eq!(tested(network, "3 3 2 0 7 3 1 2 1 1 1 1 1 1"), Ok((19, 1)));
     }
 }

@@ -53,6 +53,7 @@ fn solved_again(draw: &mut Draw) -> Case {
 /// What a figure is for.
 #[derive(Clone, Copy, PartialEq, Eq)]
 enum Part {
+    Constant,
     Multiplier,
     Flow,
     Price,
@@ -61,10 +62,12 @@ enum Part {
     Slack,
 }
 
-use Part::{Flow, Multiplier, Price, ReducedCost, Slack};
+use Part::{Constant, Flow, Multiplier, Price, ReducedCost, Slack};
 
 /// Figures that meet in one operation of the test.
-const MEETING: [&[Part]; 8] = [
+const MEETING: [&[Part]; 10] = [
+    &[Constant],
+    &[Constant, Flow],
     &[Multiplier, Flow],
     &[Flow],
     &[Multiplier, Price],
@@ -72,7 +75,7 @@ const MEETING: [&[Part]; 8] = [
     &[Price, ReducedCost],
     &[Flow, ReducedCost],
     &[Slack, Flow],
-    &[Multiplier, Flow, Price, ReducedCost, Slack],
+    &[Constant, Multiplier, Flow, Price, ReducedCost, Slack],
 ];
 
 /// How figures are drawn: of a hundred of these parts so many are wide, and of the others so many are plain.
@@ -180,12 +183,21 @@ impl Draft {
             let price = taste.figure(draw, Price);
             prices.values_mut().for_each(|it| *it = price);
         }
-        Draft {
-            taste,
+        let mut draft = Draft {
             case: Case { network: Network::default(), pair: Pair { prices, flows: BTreeMap::new() } },
             balances: (1..=nodes).map(|node| (node, Exact::zero())).collect(),
             value: Exact::zero(),
-        }
+            taste,
+        };
+        let constant = draft.taste.figure(draw, Constant);
+        draft.begin_value(constant);
+        draft
+    }
+
+    /// The value's sum starts from the constant.
+    fn begin_value(&mut self, constant: Fraction) {
+        self.case.network.constant = constant;
+        self.value = exact(constant);
     }
 
     /// An arc anywhere; where it is no root arc its multipliers are often opposite.
@@ -208,12 +220,16 @@ impl Draft {
         let (g, h) = draw.of(&[(65536, 32768), (2, 1 << 30), (3, 715827883), (4, 1 << 29), (46341, 46341)]);
         let sign = draw.sign();
         let (factor, times, near) = (over(g, 1), over(h * sign, 1), over((WIDEST - draw.within(0, 3)) * sign, 1));
-        let root_arcs = match draw.below(3) {
+        let root_arcs = match draw.below(4) {
             0 => vec![(Fraction::ONE, near.negated(), Fraction::ZERO), (factor, times, Fraction::ZERO)],
             1 => vec![(factor, Fraction::ZERO, near)],
+            2 => {
+                self.begin_value(near.negated());
+                vec![(Fraction::ONE, times, factor)]
+            }
             _ => vec![(Fraction::ONE, Fraction::ONE, near.negated()), (Fraction::ONE, times, factor)],
         };
-        let price = if root_arcs.len() == 1 { times } else { Fraction::ZERO };
+        let price = if root_arcs[0].1.is_zero() { times } else { Fraction::ZERO };
         self.case.pair.prices.insert(node, price);
         for (multiplier, flow, cost) in root_arcs {
             self.put_arc(draw, [node, node], [multiplier, Fraction::ZERO], flow, cost);
@@ -312,11 +328,12 @@ fn any_of<'a, T>(draw: &mut Draw, items: &'a mut BTreeMap<usize, T>) -> Option<&
 impl Case {
     /// Changes one figure.
     fn damage(&mut self, draw: &mut Draw) {
-        let figure = match draw.below(8) {
+        let figure = match draw.below(9) {
             0 => any_of(draw, &mut self.pair.flows),
             1 => any_of(draw, &mut self.pair.prices),
             2 => any_of(draw, &mut self.network.supplies),
             3 => any_of(draw, &mut self.network.arcs).map(|arc| &mut arc.cost),
+            4 => Some(&mut self.network.constant),
             _ => return self.damage_bound(draw),
         };
         if let Some(figure) = figure {

@@ -1,6 +1,6 @@
 //! The programs as functions from the text given to the bytes printed.
 
-use crate::network::{sizes, Network, Record, Refusal, ARC_FIGURES, MOST_ARCS, MOST_NODES};
+use crate::network::{record_length, sizes, Network, Record, Refusal, MOST_ARCS, MOST_NODES};
 use crate::reduce::{reduce, End, Reduction};
 use crate::restore::{restore, Restored};
 use crate::text::{line, read_words, LONGEST_TEXT};
@@ -63,7 +63,7 @@ pub struct Parts<'a> {
 /// outside the limits is 2, a stack cut short or with s outside 0 to 128 is 7; the rest is the pair."
 pub fn split(words: &[i32]) -> Result<Parts<'_>, Refusal> {
     let (n, m) = sizes(words).ok_or(Refusal(2))?;
-    let (network, rest) = words.split_at_checked(2 + 2 * (n + ARC_FIGURES * m)).ok_or(Refusal(2))?;
+    let (network, rest) = words.split_at_checked(record_length(n, m)).ok_or(Refusal(2))?;
     let steps = rest.first().and_then(|&s| usize::try_from(s).ok()).ok_or(Refusal(7))?;
     if steps > MOST_NODES + MOST_ARCS {
         return Err(Refusal(7));
@@ -100,8 +100,8 @@ fn print_restored(restored: &Restored) -> String {
 mod tests {
     use super::*;
 
-    pub const A: &str = "3 3\n4 -5 2 1 2 1 0 3 1 -1 1 2 2 0 1 1 -1 3 2 7 0 1 1 -1\n\
-                         1 1 1 1 1 1 1 1 1 1 1 1 1 1 0 1 1 1 1 1 1 0 1 2\n";
+    const A: &str = "3 3\n0 4 -5 2 1 2 1 0 3 1 -1 1 2 2 0 1 1 -1 3 2 7 0 1 1 -1\n\
+                     1 1 1 1 1 1 1 1 1 1 1 1 1 1 1 0 1 1 1 1 1 1 0 1 2\n";
 
     fn reduced(text: &str) -> String {
         reducing(text.as_bytes())
@@ -109,26 +109,26 @@ mod tests {
 
     #[test]
     fn instance_a() {
-        let printed = "reduced\n2 2\n4 -4 1 2 1 0 3 1 -1 1 2 2 0 1 1 -1\n\
-                       1 1 1 1 1 1 1 1 1 1 1 1 1 0 1 1\n1\n3\n3\n";
+        let printed = "reduced\n2 2\n14 4 -4 1 2 1 0 3 1 -1 1 2 2 0 1 1 -1\n\
+                       1 1 1 1 1 1 1 1 1 1 1 1 1 1 0 1 1\n1\n3\n3\n";
         assert_eq!(reduced(A), printed);
     }
 
     #[test]
     fn instance_e() {
-        assert_eq!(reduced("0 0"), "reduced\n0 0\n\n\n0\n\n\n");
+        assert_eq!(reduced("0 0 0 1"), "reduced\n0 0\n0\n1\n0\n\n\n");
     }
 
     #[test]
     fn instance_f() {
-        assert_eq!(reduced("1 0 1 1"), "no flow 2 1\n0\n\n\n");
-        assert_eq!(reduced("1 0 0 1"), "reduced\n0 0\n\n\n1\n2\n1\n");
+        assert_eq!(reduced("1 0 0 1 1 1"), "no flow 2 1\n0\n\n\n");
+        assert_eq!(reduced("1 0 0 0 1 1"), "reduced\n0 0\n0\n1\n1\n2\n1\n");
     }
 
     /// Instance G: an arc from 1 to 2 and a root arc at each; the nodes have degree 2.
     fn instance_g_text(cost: i32) -> String {
-        let numerators = format!("0 0 1 2 {cost} 0 1 1 1 1 1 2 0 1 1 0 2 2 3 0 1 1 0");
-        format!("2 3\n{numerators}\n1 1 1 1 1 1 0 1 1 1 1 1 1 0 1 1 1 1 1 1 0 1 1\n")
+        let numerators = format!("0 0 0 1 2 {cost} 0 1 1 1 1 1 2 0 1 1 0 2 2 3 0 1 1 0");
+        format!("2 3\n{numerators}\n1 1 1 1 1 1 1 0 1 1 1 1 1 1 0 1 1 1 1 1 1 0 1 1\n")
     }
 
     #[test]
@@ -145,7 +145,7 @@ mod tests {
 
     #[test]
     fn instance_a_restored() {
-        let printed = "restored\n3 3\n2 0 7 3 1 2\n1 1 1 1 1 1\n5 1\n19 1\n";
+        let printed = "restored\n3 3\n2 0 7 3 1 2\n1 1 1 1 1 1\n19 1\n19 1\n";
         assert_eq!(restored_a("2 2\n2 0 3 1\n1 1 1 1\n"), printed);
     }
 
@@ -162,24 +162,27 @@ mod tests {
             ("", 2),
             ("0", 2),
             ("33 0", 2),
-            ("1 0 0", 2),
-            ("0 0", 7),
-            ("0 0 129", 7),
-            ("0 0 -1", 7),
-            ("0 0 1 2", 7),
-            ("1 0 0 2", 7),
-            ("1 0 0 2 0", 3),
-            ("1 0 1 1 0", 6),
-            ("1 0 0 1 0", 7),
-            ("1 0 0 1 1 2 1", 8),
-            ("1 0 0 1 1 2 1 0", 8),
-            ("1 0 0 1 1 2 1 0 0 0", 8),
-            ("1 0 0 1 1 2 2 0 0", 7),
+            ("0 0", 2),
+            ("0 0 0", 2),
+            ("1 0 0 0 1", 2),
+            ("0 0 0 1", 7),
+            ("0 0 0 1 129", 7),
+            ("0 0 0 1 -1", 7),
+            ("0 0 0 1 1 2", 7),
+            ("1 0 0 0 1 2", 7),
+            ("1 0 0 0 1 2 0", 3),
+            ("1 0 0 0 2 1 0", 3),
+            ("1 0 0 1 1 1 0", 6),
+            ("1 0 0 0 1 1 0", 7),
+            ("1 0 0 0 1 1 1 2 1", 8),
+            ("1 0 0 0 1 1 1 2 1 0", 8),
+            ("1 0 0 0 1 1 1 2 1 0 0 0", 8),
+            ("1 0 0 0 1 1 1 2 2 0 0", 7),
         ] {
             assert_eq!(restoring(text.as_bytes()), format!("refused {number}\n"), "{text}");
         }
-        assert_eq!(restoring(b"0 0 0 0 0"), "restored\n0 0\n\n\n0 1\n0 1\n");
-        assert_eq!(restoring(b"1 0 0 1 1 2 1 0 0"), "restored\n1 0\n0\n1\n0 1\n0 1\n");
+        assert_eq!(restoring(b"0 0 0 1 0 0 0"), "restored\n0 0\n\n\n0 1\n0 1\n");
+        assert_eq!(restoring(b"1 0 -5 0 3 1 1 2 1 0 0"), "restored\n1 0\n0\n1\n-5 3\n-5 3\n");
     }
 
     #[test]
@@ -187,18 +190,24 @@ mod tests {
         for (text, number) in [
             ("", 2),
             ("0", 2),
-            ("0 0 0", 2),
+            ("0 0", 2),
+            ("0 0 0 1 0", 2),
             ("33 0", 2),
             ("0 97", 2),
             ("-1 0", 2),
             ("-2147483648 0", 2),
-            ("1 0 0 2", 3),
-            ("1 0 -2147483648 1", 3),
-            ("0 1 1 1 0 0 0 1 0 1 1 1 1 1 1 1", 4),
-            ("1 1 0 1 1 0 0 0 0 0 1 1 1 1 1 1 1 1", 5),
-            ("1 1 0 1 1 0 0 0 1 1 1 1 1 1 1 1 1 1", 5),
-            ("1 0 0 x", 14),
-            ("0 0 -", 14),
+            ("1 0 0 1", 2),
+            ("1 0 0 0 1 2", 3),
+            ("1 0 0 -2147483648 1 1", 3),
+            ("0 0 1 0", 3),
+            ("0 0 -1 0", 3),
+            ("0 0 0 2", 3),
+            ("0 0 -2147483648 1", 3),
+            ("0 1 0 1 1 0 0 0 1 0 1 1 1 1 1 1 1 1", 4),
+            ("1 1 0 0 1 1 0 0 0 0 0 1 1 1 1 1 1 1 1 1", 5),
+            ("1 1 0 0 1 1 0 0 0 1 1 1 1 1 1 1 1 1 1 1", 5),
+            ("1 0 0 0 1 x", 14),
+            ("0 0 0 -", 14),
         ] {
             assert_eq!(reduced(text), format!("refused {number}\n"), "{text}");
         }

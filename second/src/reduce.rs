@@ -50,7 +50,8 @@ fn first_that_applies(network: &Network) -> Option<(u8, usize, Found)> {
     None
 }
 
-fn places(network: &Network, rule: u8) -> Vec<usize> {
+/// The places at which a rule is tried, upward.
+pub fn places(network: &Network, rule: u8) -> Vec<usize> {
     if place_is_arc(rule) {
         network.arcs.keys().copied().collect()
     } else {

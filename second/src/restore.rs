@@ -14,6 +14,14 @@ pub struct Restored {
     pub value: Fraction,
 }
 
+impl Restored {
+    /// "The reduced and the restored value are then equal for every pair that restoring brings back." None, or what is
+    /// wrong.
+    pub fn complaint(&self) -> Option<String> {
+        (self.reduced_value != self.value).then(|| format!("values differ: {self:?}"))
+    }
+}
+
 /// Questions 2 to 13 about the words of an original network, a stack and a pair for the reduced network.
 pub fn restore(network: &[i32], stack: &[i32], pair: &[i32]) -> Result<Restored, Refusal> {
     let original = Network::read(network)?;

@@ -1,4 +1,4 @@
-//! The six reductions of 01, each tried at one place of a network.
+//! The six reductions of 01, each tried at one place of a network, with what they add to the constant of 2026-01.
 
 use crate::fraction::{Bound, Fraction};
 use crate::network::{Arc, Network};
@@ -18,6 +18,8 @@ pub enum Found {
 pub struct Change {
     pub rule: u8,
     pub place: usize,
+    /// The constant after the step.
+    pub constant: Fraction,
     pub new_supplies: Vec<(usize, Fraction)>,
     pub new_arcs: Vec<Numbered>,
     pub dropped_arcs: Vec<usize>,
@@ -47,6 +49,14 @@ pub fn place_is_arc(rule: u8) -> bool {
 
 /// One rule at one place. None: it doesn't apply there, also because some figure doesn't fit.
 pub fn try_rule(network: &Network, rule: u8, place: usize) -> Option<Found> {
+    match apart_from_constant(network, rule, place)? {
+        Found::NoFlow => Some(Found::NoFlow),
+        Found::Step(change) => Some(Found::Step(Change { constant: new_constant(network, &change.back)?, ..change })),
+    }
+}
+
+/// The same without regard to the constant, which a step leaves as it was.
+pub fn apart_from_constant(network: &Network, rule: u8, place: usize) -> Option<Found> {
     match rule {
         1 => closed_arc(network, place),
         2 => bare_node(network, place),
@@ -58,8 +68,20 @@ pub fn try_rule(network: &Network, rule: u8, place: usize) -> Option<Found> {
     }
 }
 
+/// "Rules 1, 3 and 4 add c × flow to it, rule 5 adds ck × r ÷ ek; a constant that doesn't fit stops the rule there."
+fn new_constant(network: &Network, back: &Back) -> Option<Fraction> {
+    let carried = match back {
+        Back::FixedFlow { arc, flow } => network.arcs[arc].cost.times(*flow)?,
+        Back::SingleArc { arc: (_, arc), flow, .. } => arc.cost.times(*flow)?,
+        Back::TwoArcs { node, supply, gone: (_, k), .. } => k.cost.times(*supply)?.over(k.multiplier(*node))?,
+        Back::BareNode { .. } | Back::Crossing { .. } => return Some(network.constant),
+    };
+    network.constant.plus(carried)
+}
+
 /// The network after a step.
 pub fn apply(network: &mut Network, change: &Change) {
+    network.constant = change.constant;
     for arc in &change.dropped_arcs {
         network.arcs.remove(arc);
     }
@@ -82,6 +104,7 @@ fn fix_flow(network: &Network, rule: u8, number: usize, flow: Fraction) -> Optio
     Some(Found::Step(Change {
         rule,
         place: number,
+        constant: network.constant,
         new_supplies: supplies.collect::<Option<_>>()?,
         new_arcs: vec![],
         dropped_arcs: vec![number],
@@ -115,6 +138,7 @@ fn bare_node(network: &Network, node: usize) -> Option<Found> {
     Some(Found::Step(Change {
         rule: 2,
         place: node,
+        constant: network.constant,
         new_supplies: vec![],
         new_arcs: vec![],
         dropped_arcs: vec![],
@@ -138,6 +162,7 @@ fn single_arc(network: &Network, node: usize) -> Option<Found> {
     Some(Found::Step(Change {
         rule: 3,
         place: node,
+        constant: network.constant,
         new_supplies,
         new_arcs: vec![],
         dropped_arcs: vec![number],
@@ -200,6 +225,7 @@ fn two_arcs(network: &Network, node: usize) -> Option<Found> {
     Some(Found::Step(Change {
         rule: 5,
         place: node,
+        constant: network.constant,
         new_supplies,
         new_arcs: vec![(kept.0, joined)],
         dropped_arcs: vec![gone.0],
@@ -254,6 +280,7 @@ fn crossing(network: &Network, node: usize) -> Option<Found> {
     Some(Found::Step(Change {
         rule: 6,
         place: node,
+        constant: network.constant,
         new_supplies: vec![],
         new_arcs,
         dropped_arcs: vec![],
@@ -314,6 +341,7 @@ mod tests {
 
     fn network(supplies: &[i32], arcs: &[Arc]) -> Network {
         Network {
+            constant: Fraction::ZERO,
             supplies: (1..).zip(supplies.iter().map(|supply| whole(*supply))).collect(),
             arcs: (1..).zip(arcs.iter().copied()).collect(),
         }
@@ -403,5 +431,67 @@ mod tests {
         assert_eq!(try_rule(&network(&[5, 0], &[road(NONE)]), 3, 1), None);
         let steep = arc((1, 1), 0, (finite(0), finite(1)), (f(1, 2), Fraction::ZERO));
         assert_eq!(try_rule(&network(&[2147483647], &[steep]), 3, 1), None);
+    }
+
+    const WIDEST: i32 = 2147483647;
+
+    /// The network with a constant.
+    fn carrying(constant: Fraction, given: &Network) -> Network {
+        Network { constant, ..given.clone() }
+    }
+
+    /// The constant after the rule's step; none where it doesn't apply.
+    fn carried(constant: Fraction, given: &Network, rule: u8, place: usize) -> Option<Fraction> {
+        try_rule(&carrying(constant, given), rule, place).map(|found| step(Some(found)).constant)
+    }
+
+    /// Rule 1 adds c × l to the constant, and rule 4 likewise; both the product and the sum must fit.
+    #[test]
+    fn fixed_flow_carries_cost() {
+        let closed =
+            |cost, flow| network(&[0], &[arc((1, 1), cost, (finite(flow), finite(flow)), (whole(1), whole(0)))]);
+        assert_eq!(carried(f(1, 2), &closed(3, 5), 1, 1), Some(f(31, 2)));
+        assert_eq!(carried(whole(WIDEST - 1), &closed(1, 1), 1, 1), Some(whole(WIDEST)));
+        assert_eq!(carried(whole(WIDEST), &closed(1, 1), 1, 1), None);
+        assert_eq!(carried(whole(-WIDEST), &closed(65536, 32768), 1, 1), None);
+        let root = |node, cost| arc((node, node), cost, (finite(0), NONE), (whole(1), whole(0)));
+        let costly = arc((1, 2), 6, (finite(2), NONE), (whole(1), whole(1)));
+        let given = network(&[0, 0], &[costly, root(1, 2), root(2, 3)]);
+        assert_eq!(carried(whole(7), &given, 4, 1), Some(whole(19)));
+        assert_eq!(carried(whole(WIDEST - 11), &given, 4, 1), None);
+    }
+
+    /// Rule 3 adds c × v; where v shows no flow, the constant isn't worked.
+    #[test]
+    fn single_arc_carries_cost() {
+        let root = |cost, upper| network(&[6], &[arc((1, 1), cost, (finite(0), upper), (whole(2), whole(0)))]);
+        assert_eq!(carried(f(1, 3), &root(5, NONE), 3, 1), Some(f(46, 3)));
+        assert_eq!(carried(whole(WIDEST), &root(5, NONE), 3, 1), None);
+        assert_eq!(carried(whole(-WIDEST), &root(WIDEST, NONE), 3, 1), None);
+        let shows_no_flow = carrying(whole(WIDEST), &root(WIDEST, finite(2)));
+        assert_eq!(try_rule(&shows_no_flow, 3, 1), Some(Found::NoFlow));
+    }
+
+    /// Rule 5 adds ck × r ÷ ek, left to right: ck × r must fit.
+    #[test]
+    fn two_arcs_carry_cost() {
+        let given = |supply, cost, ek| {
+            let j = arc((1, 2), 0, (finite(0), NONE), (whole(1), whole(1)));
+            let k = arc((2, 2), cost, (Bound::AbsentLower, NONE), (whole(ek), whole(0)));
+            network(&[0, supply], &[j, k])
+        };
+        assert_eq!(carried(f(1, 6), &given(3, 5, 2), 5, 2), Some(f(23, 3)));
+        assert_eq!(carried(whole(WIDEST - 6), &given(3, 5, 2), 5, 2), None);
+        assert_eq!(carried(whole(0), &given(65536, 32768, 65536), 5, 2), None);
+        assert_eq!(carried(whole(0), &given(65536, 32767, 65536), 5, 2), Some(whole(32767)));
+    }
+
+    /// Rules 2 and 6 leave the constant alone.
+    #[test]
+    fn other_rules_carry_nothing() {
+        assert_eq!(carried(f(WIDEST, 2), &network(&[0], &[]), 2, 1), Some(f(WIDEST, 2)));
+        let around = |end, e| arc((end, 5), 9, (finite(0), NONE), (whole(1), whole(e)));
+        let given = network(&[0; 5], &[around(1, -1), around(2, -1), around(3, 1), around(4, 1)]);
+        assert_eq!(carried(whole(-WIDEST), &given, 6, 5), Some(whole(-WIDEST)));
     }
 }

@@ -1,7 +1,7 @@
 //! Deterministic sample texts: records whole or damaged, written plainly or oddly.
 
 use crate::draw::Draw;
-use crate::network::{sizes, ARC_FIGURES};
+use crate::network::{figure_count, record_length, sizes, ARC_FIGURES};
 use crate::samples::{network, small, wide, Shape};
 use crate::text::LONGEST_TEXT;
 
@@ -42,18 +42,31 @@ pub fn put(words: &mut [i32], position: usize, figure: (i32, i32)) {
     }
 }
 
+/// Changes a network's constant, which is its first figure: mostly to a mark or to no fraction in form.
+fn damage_constant(draw: &mut Draw, words: &mut [i32]) {
+    let figure = any_figure(draw);
+    put(words, 0, figure)
+}
+
+/// Takes the constant out of a network's record: what is left is as records were before there was one.
+pub fn drop_constant(words: &mut Vec<i32>) {
+    if words.len() >= record_length(0, 0) {
+        words.remove(1 + words.len() / 2);
+        words.remove(2);
+    }
+}
+
 /// Damages a network's record in one place. The record must have the right length.
 fn damage_figure(draw: &mut Draw, words: &mut [i32], n: usize, m: usize) {
-    let count = n + ARC_FIGURES * m;
-    if count == 0 {
-        return;
+    if draw.chance(10) {
+        return damage_constant(draw, words);
     }
     if m == 0 || draw.chance(25) {
-        let position = draw.below(count);
+        let position = draw.below(figure_count(n, m));
         let figure = any_figure(draw);
         return put(words, position, figure);
     }
-    let first = n + ARC_FIGURES * draw.below(m);
+    let first = figure_count(n, draw.below(m));
     let n = n as i32;
     match draw.below(10) {
         0 => put(words, first + 3, (1, 0)),
@@ -90,20 +103,21 @@ fn damage_figure(draw: &mut Draw, words: &mut [i32], n: usize, m: usize) {
 /// Damages one figure of a network's record, if its sizes and length still tell where.
 pub fn damage_network(draw: &mut Draw, words: &mut [i32]) {
     if let Some((n, m)) = sizes(words) {
-        if words.len() == 2 + 2 * (n + ARC_FIGURES * m) {
+        if words.len() == record_length(n, m) {
             damage_figure(draw, words, n, m);
         }
     }
 }
 
 pub fn damage_length(draw: &mut Draw, words: &mut Vec<i32>) {
-    match draw.below(5) {
+    match draw.below(6) {
         0 => {
             words.pop();
         }
         1 => words.push(draw.within(0, 1) as i32),
         2 => words.truncate(draw.below(words.len() + 1)),
         3 => words[0] = words[0].wrapping_add(draw.sign() as i32),
+        4 => drop_constant(words),
         _ => words[1] = words[1].wrapping_add(draw.sign() as i32),
     }
 }
@@ -128,7 +142,8 @@ pub fn limit_record(draw: &mut Draw) -> Vec<i32> {
     let m = draw.of(&[0, 1, 2, 95, 96, 96, 97, 98, -1, 2147483647, -2147483648]);
     let mut words = vec![n, m];
     if (0..=34).contains(&n) && (0..=98).contains(&m) {
-        let mut figures: Vec<(i32, i32)> = (0..n).map(|_| (0, 1)).collect();
+        let mut figures = vec![(draw.of(&[0, 0, 1, 2147483647, -2147483647]), 1)];
+        figures.extend((0..n).map(|_| (0, 1)));
         for _ in 0..m {
             let from = draw.within(1, n.max(1) as i64) as i32;
             let to = draw.within(1, n.max(1) as i64) as i32;
@@ -177,7 +192,7 @@ pub fn text_of(draw: &mut Draw, words: &[i32]) -> Vec<u8> {
 }
 
 /// Fixed odd texts.
-const ODD_TEXTS: [&[u8]; 50] = [
+const ODD_TEXTS: [&[u8]; 60] = [
     b"",
     b" ",
     b"\n",
@@ -185,32 +200,41 @@ const ODD_TEXTS: [&[u8]; 50] = [
     b" \n\r \n",
     b"0",
     b"0 0",
-    b"0 0\n",
-    b"0 0\r\n",
-    b"\r\n0\r\n0\r\n",
-    b"-0 -0",
-    b"-000 0000",
-    b"00000000000000000000000000000000000000000000 0",
+    b"0 0 0",
+    b"0 0 0 1",
+    b"0 0 0 1\n",
+    b"0 0 0 1\r\n",
+    b"\r\n0\r\n0\r\n0\r\n1\r\n",
+    b"-0 -0 -0 1",
+    b"-000 0000 000 01",
+    b"00000000000000000000000000000000000000000000 0 0 1",
+    b"0 0 2147483647 2147483646",
+    b"0 0 1 0",
+    b"0 0 -1 0",
+    b"0 0 2 4",
+    b"0 0 0 2",
+    b"0 0 1 -1",
+    b"0 0 -2147483648 1",
     b"-",
-    b"- 0",
-    b"0 0 -",
+    b"- 0 0 1",
+    b"0 0 0 1 -",
     b"--1",
-    b"0 --0",
+    b"0 --0 0 1",
     b"+1",
-    b"+0 +0",
-    b"0 1-1",
-    b"0\t0",
-    b"0 0\t",
-    b"0 0\0",
+    b"+0 +0 0 1",
+    b"0 1-1 0 1",
+    b"0\t0 0 1",
+    b"0 0 0 1\t",
+    b"0 0 0 1\0",
     b"\0",
-    b"0\x0b0",
-    b"0\x0c0",
-    b"0 0\x0b",
-    b"0 0\x1a",
-    b"\xef\xbb\xbf0 0",
-    b"0 0\xa0",
-    b"0 0 \xff",
-    b"0 \xd9\xa0",
+    b"0\x0b0 0 1",
+    b"0\x0c0 0 1",
+    b"0 0 0 1\x0b",
+    b"0 0 0 1\x1a",
+    b"\xef\xbb\xbf0 0 0 1",
+    b"0 0 0 1\xa0",
+    b"0 0 0 1 \xff",
+    b"0 0 \xd9\xa0 1",
     b"2147483647 0",
     b"2147483648 0",
     b"0 2147483648",
@@ -222,12 +246,13 @@ const ODD_TEXTS: [&[u8]; 50] = [
     b"99999999999999999999999999999999999999999999999999 0",
     b"0 00000000000000000000000000002147483648",
     b"1 0 0 1",
-    b"1 0 -0 001",
-    b"1 0 -1 1",
-    b"0 0 0",
-    b"1.0 0",
-    b"0x0 0",
-    b"0,0",
+    b"1 0 0 0 1 1",
+    b"1 0 -0 -0 001 1",
+    b"1 0 0 -1 1 1",
+    b"0 0 0 1 0",
+    b"1.0 0 0 1",
+    b"0x0 0 0 1",
+    b"0,0 0 1",
 ];
 
 /// A text filled up or overfilled around the longest length.
@@ -325,7 +350,8 @@ pub fn reducing_text(draw: &mut Draw, number: usize) -> Vec<u8> {
     text_of(draw, &words)
 }
 
-fn shape(which: usize) -> Shape {
+/// The shape of the texts whose number leaves this rest by 20.
+pub fn shape(which: usize) -> Shape {
     match which {
         4 => Shape::Full,
         5 => Shape::LongRun,

@@ -1,5 +1,6 @@
 //! Deterministic sample networks, shaped so that each rule fires often and figures come near the width.
 
+use crate::constants::with_constant;
 use crate::draw::Draw;
 use crate::exact::Exact;
 use crate::fraction::{Bound, Fraction};
@@ -30,6 +31,12 @@ pub enum Shape {
 
 /// A sample network of the shape.
 pub fn network(draw: &mut Draw, shape: Shape) -> Network {
+    let network = without_constant(draw, shape);
+    with_constant(draw, network)
+}
+
+/// A sample network of the shape, its constant 0.
+pub fn without_constant(draw: &mut Draw, shape: Shape) -> Network {
     match shape {
         Shape::Small => gadgets(draw, SMALL),
         Shape::Spoilt => gadgets(draw, Taste { spoilt: 100, ..SMALL }),
@@ -508,6 +515,7 @@ impl Draft {
     /// The network with the draft's arcs and the supplies of its flows.
     fn network(&self, draw: &mut Draw) -> Network {
         Network {
+            constant: Fraction::ZERO,
             supplies: (1..).zip(self.supplies(draw)).collect(),
             arcs: (1..).zip(self.arcs.iter().map(|arc| arc.arc)).collect(),
         }

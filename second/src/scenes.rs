@@ -35,7 +35,52 @@ pub fn scene(draw: &mut Draw, rule: u8) -> Scene {
         draft.balance(draw, rule);
     }
     draft.surround(draw, place_is_arc(rule));
-    draft.stirred(draw, place_is_arc(rule))
+    let taste = draft.taste;
+    let mut scene = draft.stirred(draw, place_is_arc(rule));
+    if draw.chance(15) {
+        scene.raise_carried_cost(draw, rule);
+    }
+    scene.network.constant = match scene.carried_cost(rule) {
+        _ if draw.chance(15) => wide(draw),
+        Some(carried) => taste.aimed(draw, Constant, &-&carried),
+        None => taste.figure(draw, Constant),
+    };
+    scene
+}
+
+impl Scene {
+    /// The arc whose cost a step of the rule carries into the constant, and the flow, exactly; none where no step does.
+    fn carried(&self, rule: u8) -> Option<(usize, Exact)> {
+        let Scene { network, place } = self;
+        match rule {
+            1 | 4 => Some((*place, exact(network.arcs[place].lower.finite()?))),
+            3 | 5 => {
+                let at_place = network.arcs_at(*place);
+                // Rule 5 drops the higher number unless the lower is a root arc.
+                let which = if at_place.first()?.1.is_root() { 0 } else { at_place.len() - 1 };
+                let (number, arc) = at_place[which];
+                Some((number, &exact(network.supplies[place]) / &exact(arc.multiplier(*place))))
+            }
+            _ => None,
+        }
+    }
+
+    /// What a step of the rule adds to the constant, exactly.
+    fn carried_cost(&self, rule: u8) -> Option<Exact> {
+        let (number, flow) = self.carried(rule)?;
+        Some(&exact(self.network.arcs[&number].cost) * &flow)
+    }
+
+    /// Brings what a step adds to the constant just beyond the width, by the cost, if there is one that fits.
+    fn raise_carried_cost(&mut self, draw: &mut Draw, rule: u8) {
+        let carried = self.carried(rule).filter(|(_, flow)| !flow.is_zero() && flow.fraction().is_some());
+        if let Some((number, flow)) = carried {
+            if let Some(cost) = (&beyond(draw, &flow) / &flow).fraction() {
+                let arc = self.network.arcs.get_mut(&number).expect("at the place");
+                arc.cost = signed(cost, rule == 4 || draw.chance(50));
+            }
+        }
+    }
 }
 
 /// Where the wide figures of a network come from.
@@ -57,6 +102,7 @@ enum Role {
     /// The supply at the place, and at other nodes.
     Supply,
     Far,
+    Constant,
     Cost,
     Limit,
     /// The multiplier at the place, or a; the one at the other end, or b; that of a root arc for rule 4.
@@ -65,10 +111,14 @@ enum Role {
     Root,
 }
 
-use Role::{Cost, Far, Here, Limit, Root, Supply, There};
+use Role::{Constant, Cost, Far, Here, Limit, Root, Supply, There};
 
 /// Figures that meet in one formula.
-const MEETING: [&[Role]; 11] = [
+const MEETING: [&[Role]; 15] = [
+    &[Constant],
+    &[Cost, Limit],
+    &[Cost, Supply],
+    &[Here, Cost, Supply],
     &[Here, There],
     &[Here, Supply],
     &[There, Supply],
@@ -140,7 +190,7 @@ impl Taste {
         let source = Source::new(draw);
         if draw.chance(30) {
             return Taste {
-                roles: &[Supply, Far, Cost, Limit, Here, There, Root],
+                roles: &[Supply, Far, Constant, Cost, Limit, Here, There, Root],
                 share: draw.of(&[0, 10, 20, 40, 80]),
                 plain: 0,
                 source,
@@ -215,6 +265,13 @@ pub fn at_the_width(draw: &mut Draw) -> Exact {
         return &bottom / &top;
     }
     &top / &bottom
+}
+
+/// A factor times a whole number, just beyond the width where the factor is above 1 in size.
+pub fn beyond(draw: &mut Draw, factor: &Exact) -> Exact {
+    let factor = factor.fraction().expect("a figure of a network");
+    let times = WIDEST * factor.denominator() as i64 / (factor.numerator() as i64).abs() + draw.within(0, 1);
+    &exact(factor) * &Exact::whole(times)
 }
 
 fn absolute(figure: Fraction) -> Fraction {
@@ -548,9 +605,51 @@ impl Draft {
         let moved = |arc: Arc| Arc { from: numbers[arc.from - 1], to: numbers[arc.to - 1], ..arc };
         let place = if place_is_arc { places[0] } else { numbers[0] };
         let network = Network {
+            constant: Fraction::ZERO,
             supplies: numbers.iter().copied().zip(self.supplies).collect(),
             arcs: places.into_iter().zip(self.arcs.into_iter().map(moved)).collect(),
         };
         Scene { network, place }
+    }
+}
+
+#[cfg(test)]
+mod tests {
+    use super::*;
+    use crate::rules::{apart_from_constant, try_rule, Found};
+
+    /// Rules 1, 3, 4 and 5 often stop for their constant alone: for the sum, which is too wide, or for an operation
+    /// before it although the sum would fit. Where they don't stop, the constant is the exact sum; rules 2 and 6 leave
+    /// it alone.
+    #[test]
+    fn constants() {
+        let mut draw = Draw::new(12);
+        for rule in 1..=6 {
+            let (mut steps, mut wide_sums, mut before_sum) = (0, 0, 0);
+            for _ in 0..5000 {
+                let scene = scene(&mut draw, rule);
+                let Scene { network, place } = &scene;
+                let Some(Found::Step(_)) = apart_from_constant(network, rule, *place) else {
+                    assert_eq!(try_rule(network, rule, *place), apart_from_constant(network, rule, *place));
+                    continue;
+                };
+                let carried = scene.carried_cost(rule).unwrap_or(Exact::zero());
+                let sum = (&exact(network.constant) + &carried).fraction();
+                match (try_rule(network, rule, *place), sum) {
+                    (Some(Found::Step(change)), sum) => {
+                        assert_eq!(sum, Some(change.constant));
+                        steps += 1;
+                    }
+                    (None, None) => wide_sums += 1,
+                    (None, Some(_)) => before_sum += 1,
+                    found => panic!("{found:?}"),
+                }
+            }
+            if matches!(rule, 2 | 6) {
+                assert_eq!((wide_sums, before_sum), (0, 0));
+            } else {
+                assert!(8 * wide_sums > steps && before_sum > 4, "rule {rule}: {steps} {wide_sums} {before_sum}");
+            }
+        }
     }
 }

@@ -94,7 +94,8 @@ pub fn solve(network: &Network, reversed: bool) -> Solution {
         return Solution::Unbounded;
     }
     let prices = simplex.prices();
-    let value = simplex.columns.iter().zip(&simplex.values).fold(Exact::zero(), |sum, (c, x)| &sum + &(&c.cost * x));
+    let parts = simplex.columns.iter().zip(&simplex.values).map(|(column, x)| &column.cost * x);
+    let value = parts.fold(Exact::from(network.constant), |sum, part| &sum + &part);
     simplex.values.truncate(arcs.len());
     let mut flows = simplex.values;
     if reversed {

@@ -8,7 +8,7 @@ use crate::network::Network;
 use crate::optimality::Pair;
 use crate::rules::{Back, Change, Numbered};
 use crate::samples::small;
-use crate::scenes::{at_the_width, over, sign, Source, WIDEST};
+use crate::scenes::{at_the_width, beyond, over, sign, Source, WIDEST};
 
 fn exact(figure: Fraction) -> Exact {
     Exact::from(figure)
@@ -21,13 +21,6 @@ fn with_sign_of(figure: &Exact, number: Exact) -> Exact {
     } else {
         -&number
     }
-}
-
-/// A factor times a whole number, just beyond the width where the factor is above 1 in size.
-fn beyond(draw: &mut Draw, factor: &Exact) -> Exact {
-    let factor = factor.fraction().expect("a figure of a network");
-    let times = WIDEST * factor.denominator() as i64 / (factor.numerator() as i64).abs() + draw.within(0, 1);
-    &exact(factor) * &Exact::whole(times)
 }
 
 /// An arc's figures at a node, exactly: c, e, and o with the other end, if it has one.

@@ -9,7 +9,7 @@ use crate::optimality::Pair;
 use crate::reduce::{reduce, End, Reduction};
 use crate::restore::{price_by, Restored};
 use crate::rules::Back;
-use crate::sample_texts::{damage_network, improper_figure, odd_text, put, text_of};
+use crate::sample_texts::{damage_network, drop_constant, improper_figure, odd_text, put, text_of};
 use crate::samples::{network, wide, Shape};
 use crate::solve::{is_optimal, solve, Solution};
 
@@ -269,11 +269,13 @@ fn damage_stack(draw: &mut Draw, words: &mut Words) {
 }
 
 fn damage_original(draw: &mut Draw, words: &mut Words) {
-    if draw.chance(80) {
-        damage_network(draw, &mut words.network);
-    } else {
-        let position = draw.below(2);
-        words.network[position] = draw.of(&[-1, 0, 1, 32, 33, 96, 97, 2147483647, -2147483648]);
+    match draw.below(10) {
+        0 => drop_constant(&mut words.network),
+        1 | 2 => {
+            let position = draw.below(2);
+            words.network[position] = draw.of(&[-1, 0, 1, 32, 33, 96, 97, 2147483647, -2147483648]);
+        }
+        _ => damage_network(draw, &mut words.network),
     }
 }
 
@@ -370,5 +372,32 @@ pub fn sample(draw: &mut Draw, number: usize) -> Sample {
         15 | 18 => whole(draw, Shape::HeavyCrossing),
         16 | 17 => whole(draw, Shape::SteepChain),
         _ => whole(draw, Shape::Small),
+    }
+}
+
+#[cfg(test)]
+mod tests {
+    use super::*;
+    use crate::programs::read_and_restore;
+
+    /// Whatever is restored has the same value as before, and whole trips end in an optimum of the original.
+    #[test]
+    fn restored_trips() {
+        let mut draw = Draw::new(14);
+        let (mut restored, mut carried) = (0, 0);
+        for number in 0..1500 {
+            let Sample { text, trip, whole } = sample(&mut draw, number);
+            let answer = read_and_restore(&text);
+            if let Ok(answer) = &answer {
+                assert_eq!(answer.complaint(), None);
+                restored += 1;
+            }
+            if whole && trip.pair.is_some() {
+                assert_eq!(trip.complaint_about(&answer), None);
+                let reduced = trip.reduced().expect("it has a pair");
+                carried += (answer.is_ok() && reduced.constant != trip.original.constant) as usize;
+            }
+        }
+        assert!(restored > 300 && carried > 100, "{restored}, and {carried} trips with cost carried");
     }
 }

@@ -55,7 +55,7 @@ fn put_network(out: &mut [u8], at: usize, words: &[i32]) -> usize
 {
     let n = size_at(words, 0);
     let m = size_at(words, 1);
-    put_record(out, at, words, 2, n + 7 * m)
+    put_record(out, at, words, 2, 1 + n + 7 * m)
 }
 
 fn put_stack(out: &mut [u8], at: usize, words: &[i32]) -> usize

@@ -35,7 +35,7 @@ fn split_sized(words: &[i32], n: usize, m: usize) -> Split
     requires { ⌜ (n ≤ maxNodes) × (m ≤ maxArcs) ⌝ }
     ensures { λ r. ⌜ r ≡ splitSized (now (words .entry)) n m ⌝ }
 {
-    let end = 2 + 2 * (n + 7 * m);
+    let end = 2 + 2 * (1 + n + 7 * m);
     if end <= words.len() {
         return split_stack(words, end);
     }

@@ -17,7 +17,7 @@ use Rattle.fraction.specs.Value.{value}
 use Rattle.fraction.proofs.Formulas.{zero-proper, zero-is, nonzero-value}
 use Rattle.network.specs.declared.Net.{Net}
 use Rattle.network.specs.declared.Edit.{Edit}
-use Rattle.network.specs.Network.{arcAt, supplyAt, isHere, isTouching, degreeOf, noUpdate, noSupplyUpdate, editOne}
+use Rattle.network.specs.Network.{arcAt, supplyAt, isHere, isTouching, degreeOf, noUpdate, noSupplyUpdate, editOne, applied}
 use Rattle.network.specs.Legal.{Legal}
 use Rattle.network.specs.Pair.{withPrice, withFlow}
 use Rattle.network.specs.Program.{exactOf, programOf}
@@ -37,14 +37,14 @@ use Rattle.step.proofs.Laws.{no-old, Right, right-of, RuleLaws}
 use Rattle.bare_node.specs.BareNode.{bare, bareNode, bareBack, rule}
 use Rattle.bare_node.proofs.Tried.{passes, tried}
 
-abbrev dropping : ℕ → Edit
-dropping i = editOne noUpdate noSupplyUpdate noSupplyUpdate i
+abbrev dropping : Net → ℕ → Edit
+dropping net i = editOne noUpdate noSupplyUpdate noSupplyUpdate i (net .constant)
 
 -- what an answer says of the node: it has a supply; or it has none, and is dropped
 record Bare (net : Net) (i : ℕ) (x : Outcome) : Type 0 where
   here : isHere net i ≡ true
   bare : degreeOf net i ≡ 0
-  shows : ((isZero (supplyAt net i) ≡ false) × (NoFlow ≡ x)) ⊎ ((isZero (supplyAt net i) ≡ true) × (Changes (record { edit = dropping i; old = oldOne i noFigure noUpdate }) ≡ x))
+  shows : ((isZero (supplyAt net i) ≡ false) × (NoFlow ≡ x)) ⊎ ((isZero (supplyAt net i) ≡ true) × (Changes (record { edit = dropping net i; old = oldOne i noFigure noUpdate }) ≡ x))
 
 bare-met : (net : Net) (i : ℕ) {x : Outcome} → Answers x → bareNode net i ≡ x → Bare net i x
 unfolding bareNode bare
@@ -60,12 +60,12 @@ module _ (net : Net) (g : Legal net) (i : ℕ) {x : Outcome} (m : Bare net i x) 
   untouched : Untouched (programOf net) i
   untouched k l = alone net g i [] no-arc k none
 
-  right : {c : Change} → isZero (supplyAt net i) ≡ true → Changes (record { edit = dropping i; old = oldOne i noFigure noUpdate }) ≡ Changes c → Right net c (bareBack (c .old))
-  unfolding bareBack exactOf restored withFlow withPrice
+  right : {c : Change} → isZero (supplyAt net i) ≡ true → Changes (record { edit = dropping net i; old = oldOne i noFigure noUpdate }) ≡ Changes c → Right net c (bareBack (c .old))
+  unfolding applied bareBack exactOf restored withFlow withPrice
   right zero e =
-      right-of g bareBack e (dropped-framed net 0 noSupplyUpdate noSupplyUpdate i no-level no-level (λ k l t. absurd (no-arc k t))) (inl (m .here))
+      right-of g bareBack e (dropped-framed net 0 noSupplyUpdate noSupplyUpdate i no-level no-level (g .constant-proper) (λ k l t. absurd (no-arc k t))) (inl (m .here))
       (record { arcs = no-old g; named = λ x u. u; node = here-number g i (m .here) .1; supply = lit≤ tt; new = omega arith }) (bare-back i 0ℚ)
-      (record { shift = 0ℚ; sound = bare-sound 0ℚ (record { bare = untouched; rows-same = refl; cols-same = refl; same = λ k l. column-kept net (dropping i) k (no-names k); rhs-is = λ s l. rhs-after net g (dropping i) (programOf net .rhs) (λ s h n. ap value (supply-same net (dropping i) s (λ l. absurd (omega arith)) (λ l. absurd (omega arith))) ∙ sym (rhs-is net s h)) (λ h. sym (rhs-is net i h ∙ zero-figure _ zero)) (λ s h. sym (rhs-off net s h)) s; constant-is = refl }) })
+      (bare-sound 0ℚ (record { bare = untouched; rows-same = refl; cols-same = refl; same = λ k l. column-kept net (dropping net i) k (no-names k); rhs-is = λ s l. rhs-after net g (dropping net i) (programOf net .rhs) (λ s h n. ap value (supply-same net (dropping net i) s (λ l. absurd (omega arith)) (λ l. absurd (omega arith))) ∙ sym (rhs-is net s h)) (λ h. sym (rhs-is net i h ∙ zero-figure _ zero)) (λ s h. sym (rhs-off net s h)) s; constant-is = refl }))
       (λ pair z r q. rw (restored-is q) (price-put (itself z) i _ (here-number g i (m .here)) (zero-proper, zero-is)))
 
   no-flow : isZero (supplyAt net i) ≡ false → LP.NoFlow (programOf net)

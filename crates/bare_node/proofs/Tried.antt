@@ -20,6 +20,6 @@ pub passes : (net : Net) (i : ℕ) → eqb (degreeOf net i) 0 ≡ false → bare
 unfolding bareNode bare onlyWhere
 passes net i e = split (isHere net i) (λ h. rw (h, e)) (λ h. rw h)
 
-pub tried : {net : Net} {supply : List Fraction} {i d : ℕ} {near : Around} → Given net supply i d near → bare i d (getD supply i noFigure) ≡ bareNode net i
+pub tried : {net : Net} {constant : Fraction} {supply : List Fraction} {i d : ℕ} {near : Around} → Given net constant supply i d near → bare constant i d (getD supply i noFigure) ≡ bareNode net i
 unfolding bareNode onlyWhere
-tried g = rw (g .here, g .degree, g .supplies)
+tried g = rw (g .here, g .degree, g .constant-is, g .supplies)

@@ -19,21 +19,21 @@ use Rattle.step.specs.Back.{oldOne, priceOnly}
 use Rattle.step.specs.Run.{Rule}
 
 -- "degree 0. r not 0: no flow. Otherwise dropped."
--- node i has degree d and supply r
-unfoldable pub bare : ℕ → ℕ → Fraction → Outcome
-bare i d r = do
+-- node i has degree d and supply r; the constant stays
+unfoldable pub bare : Fraction → ℕ → ℕ → Fraction → Outcome
+bare constant i d r = do
   onlyWhere (eqb d 0)
   noFlowWhere (not (isZero r))
-  Changes (record { edit = editOne noUpdate noSupplyUpdate noSupplyUpdate i; old = oldOne i noFigure noUpdate })
+  Changes (record { edit = editOne noUpdate noSupplyUpdate noSupplyUpdate i constant; old = oldOne i noFigure noUpdate })
 
 unfoldable pub bareNode : Net → ℕ → Outcome
 bareNode net i = do
   onlyWhere (isHere net i)
-  bare i (degreeOf net i) (supplyAt net i)
+  bare (net .constant) i (degreeOf net i) (supplyAt net i)
 
 -- "Back: price 0."
 unfoldable pub bareBack : Old → Pair → Undone
 bareBack old pair = Restores (priceOnly (old .node) zeroFraction)
 
 abbrev pub rule : Rule
-rule = record { last = maxNodes; at = bareNode; back = bareBack; trial = record { degree = 0; balanced = false; by = λ supply i d near. bare i d (getD supply i noFigure) } }
+rule = record { last = maxNodes; at = bareNode; back = bareBack; trial = record { degree = 0; balanced = false; by = λ constant supply i d near. bare constant i d (getD supply i noFigure) } }

@@ -9,8 +9,8 @@ use step::Outcome;
 use step::Undone;
 
 // Rule 2 at node i of this degree and supply r.
-pub fn bare_node(i: usize, degree: usize, r: Fraction) -> Outcome
-    ensures { λ x. ⌜ x ≡ bare i degree r ⌝ }
+pub fn bare_node(constant: Fraction, i: usize, degree: usize, r: Fraction) -> Outcome
+    ensures { λ x. ⌜ x ≡ bare constant i degree r ⌝ }
 {
     if degree != 0 {
         return Outcome::Passes;
@@ -23,6 +23,7 @@ pub fn bare_node(i: usize, degree: usize, r: Fraction) -> Outcome
         network::no_supply_update(),
         network::no_supply_update(),
         i,
+        constant,
     );
     let old = step::old_one(i, network::no_figure(), network::no_update());
     Outcome::Changes(Change { edit, old })

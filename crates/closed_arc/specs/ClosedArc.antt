@@ -16,15 +16,15 @@ use Rattle.step.specs.Run.{Rule}
 
 -- "l > u: the answer is no flow. l = u: supply at each end less its multiplier × l; arc dropped."
 -- j is the arc t, in use; r and r′ are the supplies at its ends
-unfoldable pub closed : ℕ → Arc → Fraction → Fraction → Outcome
-closed j t r r′ = do
+unfoldable pub closed : Fraction → ℕ → Arc → Fraction → Fraction → Outcome
+closed constant j t r r′ = do
   onlyWhere (not (eqb (t .from) 0))
   noFlowWhere (isLess (t .upper) (t .lower))
   onlyWhere (isSame (t .lower) (t .upper))
-  dropped j t (t .lower) r r′
+  dropped constant j t (t .lower) r r′
 
 abbrev pub closedArc : Net → ℕ → Outcome
-closedArc net j = closed j (arcAt net j) (supplyAt net (arcAt net j .from)) (supplyAt net (arcAt net j .to))
+closedArc net j = closed (net .constant) j (arcAt net j) (supplyAt net (arcAt net j .from)) (supplyAt net (arcAt net j .to))
 
 -- "Back: flow l."
 abbrev pub rule : Rule

@@ -6,8 +6,8 @@ use network::Arc;
 use step::Outcome;
 
 // Rule 1 at arc j, t; left and right are the supplies of its ends.
-pub fn closed_arc(j: usize, t: Arc, left: Fraction, right: Fraction) -> Outcome
-    ensures { λ x. ⌜ x ≡ closed j t left right ⌝ }
+pub fn closed_arc(constant: Fraction, j: usize, t: Arc, left: Fraction, right: Fraction) -> Outcome
+    ensures { λ x. ⌜ x ≡ closed constant j t left right ⌝ }
 {
     if t.from == 0 {
         return Outcome::Passes;
@@ -18,5 +18,5 @@ pub fn closed_arc(j: usize, t: Arc, left: Fraction, right: Fraction) -> Outcome
     if !t.lower.same(t.upper) {
         return Outcome::Passes;
     }
-    step::drop_arc(j, t, t.lower, left, right)
+    step::drop_arc(constant, j, t, t.lower, left, right)
 }

@@ -24,7 +24,7 @@ use Rattle.loops.proofs.Laws.{any-some}
 use Rattle.network.specs.declared.Arc.{Arc}
 use Rattle.network.specs.declared.Net.{Net}
 use Rattle.network.specs.declared.Edit.{Edit}
-use Rattle.network.specs.Network.{arcAt, isUsed, isRoot}
+use Rattle.network.specs.Network.{arcAt, isUsed, isRoot, applied}
 use Rattle.network.specs.Legal.{Legal}
 use Rattle.network.specs.Program.{boundOf, exactOf, programOf}
 use Rattle.network.proofs.Sane.{sane}
@@ -37,7 +37,7 @@ use Rattle.step.specs.Outcome.{onlyWhere}
 use Rattle.step.specs.Dropped.{droppedAt, lowerBack}
 use Rattle.step.proofs.Exactly.{arc-in, arc-place}
 use Rattle.step.proofs.Lines.{Answers, only-met, split}
-use Rattle.step.proofs.Removing.{after, lower-right, dropped-shows}
+use Rattle.step.proofs.Removing.{lower-right, dropped-shows}
 use Rattle.step.proofs.Laws.{Right, RuleLaws}
 use Rattle.step.proofs.Touch.{unlike}
 use Rattle.step.specs.Applies.{Passing}
@@ -124,8 +124,8 @@ module _ (net : Net) (g : Legal net) where
     share : (c a b : Fraction) → Gives (Fits c ⊗ Fits a ⊘ Fits b) (value c *ℚ value a *ℚ invℚ (value b))
     share c a b = over-gives (times-gives (given c) (given a)) (given b)
 
-    pair-arc : (c : Edit) → Removed (programOf net) (after net g j c (value (t .lower))) j (value (t .lower))
-        → CostlyArc (programOf net) (after net g j c (value (t .lower))) j (w .k) (w .m) (t .from) (t .to) (value (t .a)) (value (t .b)) (value (x .a)) (value (y .a)) (value (t .lower))
+    pair-arc : (c : Edit) → Removed (programOf net) (programOf (applied net c)) j (value (t .lower))
+        → CostlyArc (programOf net) (programOf (applied net c)) j (w .k) (w .m) (t .from) (t .to) (value (t .a)) (value (t .b)) (value (x .a)) (value (y .a)) (value (t .lower))
     unfolding exactOf isRoot
     pair-arc c r =
         let used = rootless-used j (w .no-root) in

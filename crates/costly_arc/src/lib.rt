@@ -82,12 +82,12 @@ pub fn is_candidate(t: Arc) -> bool
 }
 
 // Arc j, t, dropped at its lower bound.
-fn at_lower(supply: [Fraction; NODE_PLACES], j: usize, t: Arc) -> Outcome
-    ensures { λ r. ⌜ r ≡ dropped j t (t .lower) (getD supply (t .from) noFigure) (getD supply (t .to) noFigure) ⌝ }
+fn at_lower(constant: Fraction, supply: [Fraction; NODE_PLACES], j: usize, t: Arc) -> Outcome
+    ensures { λ r. ⌜ r ≡ dropped constant j t (t .lower) (getD supply (t .from) noFigure) (getD supply (t .to) noFigure) ⌝ }
 {
     let left = network::supply_of(supply, t.from);
     let right = network::supply_of(supply, t.to);
-    step::drop_arc(j, t, t.lower, left, right)
+    step::drop_arc(constant, j, t, t.lower, left, right)
 }
 
 // The rule at arc j.
@@ -105,7 +105,7 @@ pub fn costly_arc(net: Net, j: usize) -> Outcome
         return Outcome::Passes;
     }
     let supply = net.supply;
-    at_lower(supply, j, t)
+    at_lower(net.constant, supply, j, t)
 }
 
 // The rule at its places upward, by what is known.
@@ -121,7 +121,7 @@ pub fn scan(net: Net, seen: Seen, now: u8) -> Found
         let t = net.arcs[j];
         let w = known.sought[j];
         if due::is_due(&at, w, t) {
-            if let Outcome::Changes(change) = at_lower(supply, j, t) {
+            if let Outcome::Changes(change) = at_lower(net.constant, supply, j, t) {
                 if due::has_pair(net, known, &at, w, t) {
                     let s = Step {
                         rule: 4,

@@ -8,12 +8,13 @@ use native.Mathlib.Omega.{arith}
 use lib.Dec.{eqb}
 use borrow.Author.Tests.{eqb-true, ne-eqb, not-true}
 use Rattle.algebra.proofs.Solver.{_:-_, :0, _:=_, ring1}
-use Rattle.algebra.proofs.Rat.{ℚ-ring}
+use Rattle.algebra.proofs.Rat.{ℚ-ring, addℚ-zero as add-zero}
 use Rattle.algebra.specs.Rat.{_+ℚ_, _*ℚ_, -ℚ_, 0ℚ as 𝟘, invℚ as inv}
 use Rattle.algebra.proofs.Sum.{Absent, none as nowhere, step}
 use Rattle.algebra.specs.Sum.{only}
 use Rattle.presolve.proofs.Named.{Perm, perm-of, absent-perm, all-mem, apart, further}
 use Rattle.presolve.specs.LP as LP
+use Rattle.presolve.proofs.Step.{SoundStep}
 use Rattle.presolve.proofs.Price.{only-zero}
 use Rattle.presolve.proofs.Crossing.{four, crossing-back, crossing-sound}
 use Rattle.presolve.proofs.Rewire.{OpenArc, cross-arc, crossing-of}
@@ -49,7 +50,7 @@ use Rattle.step.specs.Around.{firstAt, secondAt, thirdAt, fourthAt}
 use Rattle.step.proofs.Frame.{Puts, Tame, Framed, Unnamed, no-level, arc-stands, supply-same}
 use Rattle.step.proofs.Each.{All, any-mem, apart-distinct}
 use Rattle.step.proofs.Touch.{touching-first}
-use Rattle.step.proofs.Exactly.{Far, arc-in, zero-figure, spokeOf, alone, SoundTo, shifted, sound-shifted, rewired}
+use Rattle.step.proofs.Exactly.{Far, arc-in, zero-figure, spokeOf, alone, rewired}
 use Rattle.step.proofs.Lines.{Answers, only-met, fits-met, not-shown, figure-met, restored-is}
 use Rattle.step.proofs.Node.{AtNode, ArcsAt, arcs-here}
 use Rattle.step.proofs.Figures.{Sized, Holds, itself, flow-put, price-put, larger-is, over-exactly, negated-exactly}
@@ -123,7 +124,7 @@ record Met (net : Net) (i n1 n2 p1 p2 k1 k2 k3 k4 : ℕ) (x : Outcome) : Type 0 
   b : New net i n1 p2
   c : New net i n2 p1
   d : New net i n2 p2
-  is : Changes (record { edit = editFour (numbers k1 k2 k3 k4) (arcOf a) (arcOf b) (arcOf c) (arcOf d) i; old = record { node = i; supply = supplyAt net i; one = oldArc net n1; two = oldArc net n2; three = oldArc net p1; four = oldArc net p2; new = numbers k1 k2 k3 k4 } }) ≡ x
+  is : Changes (record { edit = editFour (numbers k1 k2 k3 k4) (arcOf a) (arcOf b) (arcOf c) (arcOf d) i (net .constant); old = record { node = i; supply = supplyAt net i; one = oldArc net n1; two = oldArc net n2; three = oldArc net p1; four = oldArc net p2; new = numbers k1 k2 k3 k4 } }) ≡ x
 
 crossing-met : (net : Net) → Legal net → (i : ℕ) {x : Outcome} → Answers x → crossing net i ≡ x → Met net i (firstN net i) (secondN net i) (firstP net i) (secondP net i) (firstAt net i) (secondAt net i) (thirdAt net i) (fourthAt net i) x
 unfolding crossing crossedAt
@@ -213,7 +214,7 @@ module _ (net : Net) (g : Legal net) (i n1 n2 p1 p2 k1 k2 k3 k4 : ℕ) {chg : Ch
   up = m .upward .each
 
   edit : Edit
-  edit = editFour (numbers k1 k2 k3 k4) (arcOf (m .a)) (arcOf (m .b)) (arcOf (m .c)) (arcOf (m .d)) i
+  edit = editFour (numbers k1 k2 k3 k4) (arcOf (m .a)) (arcOf (m .b)) (arcOf (m .c)) (arcOf (m .d)) i (net .constant)
 
   order : Perm (four p1 p2 n1 n2) (four k1 k2 k3 k4)
   order =
@@ -227,6 +228,7 @@ module _ (net : Net) (g : Legal net) (i n1 n2 p1 p2 k1 k2 k3 k4 : ℕ) {chg : Ch
         arcs = (new-puts g (m .a) (up .0), (new-puts g (m .b) (up .1 .0), (new-puts g (m .c) (up .1 .1 .0), (new-puts g (m .d) (up .1 .1 .1 .0), tt))));
         left = no-level;
         right = no-level;
+        constant = g .constant-proper;
         only = λ x l t. m .upward .all x t;
       }
 
@@ -256,13 +258,12 @@ module _ (net : Net) (g : Legal net) (i n1 n2 p1 p2 k1 k2 k3 k4 : ℕ) {chg : Ch
   back : LP.Pair → LP.Pair
   back = crossing-back (programOf net) i (spokeOf net i n1) (spokeOf net i n2) (spokeOf net i p1) (spokeOf net i p2) k1 k2 k3 k4
 
-  sound : SoundTo net (applied net edit) back
+  sound : SoundStep (programOf net) (programOf (applied net edit)) back
   unfolding edit back exactOf
   sound =
-      sound-shifted net (applied net edit) (𝟘 +ℚ 𝟘)
-      (crossing-sound
-      (crossing-of (exactOf net) (shifted (applied net edit) (𝟘 +ℚ 𝟘)) i (spokeOf net i n1) (spokeOf net i n2) (spokeOf net i p1) (spokeOf net i p2) k1 k2 k3 k4
-      (rewired net g edit (m .here) (four p1 p2 n1 n2) unnamed i 𝟘 𝟘 (inr refl) supplies)
+      crossing-sound
+      (crossing-of (exactOf net) (exactOf (applied net edit)) i (spokeOf net i n1) (spokeOf net i n2) (spokeOf net i p1) (spokeOf net i p2) k1 k2 k3 k4
+      (rewired net g edit (m .here) (four p1 p2 n1 n2) unnamed i 𝟘 𝟘 (inr refl) supplies (sym (add-zero _)))
       (omega (arith, here-number g i (m .here) .1))
       (zero-figure _ (m .zero))
       (at .1 .1 .0 .spoke)
@@ -287,7 +288,7 @@ module _ (net : Net) (g : Legal net) (i n1 n2 p1 p2 k1 k2 k3 k4 : ℕ) {chg : Ch
       (ap exactArc (stands .0) ∙ new-exact g (m .a))
       (ap exactArc (stands .1) ∙ new-exact g (m .b))
       (ap exactArc (stands .2) ∙ new-exact g (m .c))
-      (ap exactArc (stands .3) ∙ new-exact g (m .d))))
+      (ap exactArc (stands .3) ∙ new-exact g (m .d)))
 
   -- ---- the way back
 

@@ -1,5 +1,5 @@
 -- Rule 6 as it is tried: at a node of another degree or supply it passes, and the signs among the four arcs are those of the network.
-use mathlib.Core.Path.{_≡_, refl, sym, ap, _∙_, subst}
+use mathlib.Core.Path.{_≡_, refl, sym, ap, _∙_, subst₂}
 use mathlib.Core.Bool.{Bool, true, false, cond, _&&_}
 use mathlib.Core.List.{List, [], _∷_}
 use mathlib.Core.Logic.{⊎-elim}
@@ -135,10 +135,10 @@ module _ {net : Net} (g : Legal net) (i : ℕ) (l : 1 ≤ i) (below : Bool) wher
           let c = up .1 .1 .1 .0 .above (at .1 .1 .1 .0 .above) in
           absurd (none-any (λ y. after (fourthAt net i) ≡ y) all ((λ z. omega arith), ((λ z. omega arith), ((λ z. omega arith), ((λ z. omega arith), tt)))) (four .all _ (touching-at g i l _ (sign-touches net i below _ (h .passes (positive _ e)))))))
 
-pub tried : {net : Net} {supply : List Fraction} {i d : ℕ} {near : Around} → Given net supply i d near → crossingBy i d (getD supply i noFigure) near ≡ crossing net i
+pub tried : {net : Net} {constant : Fraction} {supply : List Fraction} {i d : ℕ} {near : Around} → Given net constant supply i d near → crossingBy constant i d (getD supply i noFigure) near ≡ crossing net i
 unfolding crossingBy crossing onlyWhere
 tried {net} {i = i} {d} {near} g =
-    subst (λ s. crossingBy i d (getD s i noFigure) near ≡ crossing net i) (g .supplies)
+    subst₂ (λ k s. crossingBy k i d (getD s i noFigure) near ≡ crossing net i) (g .constant-is) (g .supplies)
     (rw (g .here, g .degree) (split (eqb d 4)
     (λ e. let n : Near net i 4 near = rw (eqb-true d 4 e) at (g .arcs) in
     let by : (below : Bool) → _ = λ below. chosen-is (g .legal) i (here-number (g .legal) i (g .here) .0) below (g .degree ∙ eqb-true d 4 e) n in

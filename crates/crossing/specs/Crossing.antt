@@ -87,21 +87,21 @@ crossed i n p rest = do
 abbrev pub putOf : ℕ → Arc → ArcUpdate
 putOf k t = record { number = k; arc = t }
 
--- four arcs take these numbers, and a node is dropped
-abbrev pub editFour : Numbers → Arc → Arc → Arc → Arc → ℕ → Edit
-editFour k a b c d gone = record { one = putOf (k .first) a; two = putOf (k .second) b; three = putOf (k .third) c; four = putOf (k .fourth) d; left = noSupplyUpdate; right = noSupplyUpdate; gone = gone }
+-- four arcs take these numbers, and a node is dropped; the constant stays
+abbrev pub editFour : Numbers → Arc → Arc → Arc → Arc → ℕ → Fraction → Edit
+editFour k a b c d gone constant = record { one = putOf (k .first) a; two = putOf (k .second) b; three = putOf (k .third) c; four = putOf (k .fourth) d; left = noSupplyUpdate; right = noSupplyUpdate; gone = gone; constant = constant }
 
 -- n1, n2 are the N and p1, p2 the P at node i of supply r, and k the four old numbers in upward order
 -- "for each N, then each P, upward, a new arc"; "the four take the four old numbers in upward order"; the node is dropped
-unfoldable pub crossedAt : ℕ → Fraction → ArcUpdate → ArcUpdate → ArcUpdate → ArcUpdate → Numbers → Outcome
-crossedAt i r n1 n2 p1 p2 k = do
+unfoldable pub crossedAt : Fraction → ℕ → Fraction → ArcUpdate → ArcUpdate → ArcUpdate → ArcUpdate → Numbers → Outcome
+crossedAt constant i r n1 n2 p1 p2 k = do
   onlyWhere (isFree (n1 .arc) && (isFree (n2 .arc) && (isFree (p1 .arc) && isFree (p2 .arc))))
   onlyWhere (isApart (n1 .arc) (p1 .arc) i && (isApart (n1 .arc) (p2 .arc) i && (isApart (n2 .arc) (p1 .arc) i && isApart (n2 .arc) (p2 .arc) i)))
   a ← crossed i (n1 .arc) (p1 .arc)
   b ← crossed i (n1 .arc) (p2 .arc)
   c ← crossed i (n2 .arc) (p1 .arc)
   d ← crossed i (n2 .arc) (p2 .arc)
-  Changes (record { edit = editFour k a b c d i; old = record { node = i; supply = r; one = n1; two = n2; three = p1; four = p2; new = k } })
+  Changes (record { edit = editFour k a b c d i constant; old = record { node = i; supply = r; one = n1; two = n2; three = p1; four = p2; new = k } })
 
 -- "degree 4", "r = 0", "two arcs N with e < 0, two arcs P with e > 0"
 unfoldable pub crossing : Net → ℕ → Outcome
@@ -111,7 +111,7 @@ crossing net i = do
   onlyWhere (isZero (supplyAt net i))
   onlyWhere (not (eqb (secondN net i) 0))
   onlyWhere (not (eqb (secondP net i) 0))
-  crossedAt i (supplyAt net i) (oldArc net (firstN net i)) (oldArc net (secondN net i)) (oldArc net (firstP net i)) (oldArc net (secondP net i)) (upwardAt net i)
+  crossedAt (net .constant) i (supplyAt net i) (oldArc net (firstN net i)) (oldArc net (secondN net i)) (oldArc net (firstP net i)) (oldArc net (secondP net i)) (upwardAt net i)
 
 -- ---- "Back: N gets -(sum of its two ÷ e), P the sum of its two ÷ e"
 

@@ -29,15 +29,15 @@ unfoldable pub signedOf : Around → ℕ → Bool → Signed
 signedOf near i below = signedIn (signedIn (signedIn (signedIn noSigned (near .one) i below) (near .two) i below) (near .three) i below) (near .four) i below
 
 -- node i has degree d and supply r
-unfoldable pub crossingBy : ℕ → ℕ → Fraction → Around → Outcome
-crossingBy i d r near = do
+unfoldable pub crossingBy : Fraction → ℕ → ℕ → Fraction → Around → Outcome
+crossingBy constant i d r near = do
   let n = signedOf near i true
   let p = signedOf near i false
   onlyWhere (eqb d 4)
   onlyWhere (isZero r)
   onlyWhere (not (eqb (n .second .number) 0))
   onlyWhere (not (eqb (p .second .number) 0))
-  crossedAt i r (n .first) (n .second) (p .first) (p .second) (record { first = near .one .number; second = near .two .number; third = near .three .number; fourth = near .four .number })
+  crossedAt constant i r (n .first) (n .second) (p .first) (p .second) (record { first = near .one .number; second = near .two .number; third = near .three .number; fourth = near .four .number })
 
 abbrev pub rule : Rule
-rule = record { last = maxNodes; at = crossing; back = crossingBack; trial = record { degree = 4; balanced = true; by = λ supply i d near. crossingBy i d (getD supply i noFigure) near } }
+rule = record { last = maxNodes; at = crossing; back = crossingBack; trial = record { degree = 4; balanced = true; by = λ constant supply i d near. crossingBy constant i d (getD supply i noFigure) near } }

@@ -123,8 +123,16 @@ fn crossed(i: usize, n: Arc, p: Arc) -> Made
 }
 
 // Four arcs take the numbers k, and a node is dropped.
-fn edit_four(k: Numbers, a: Arc, b: Arc, c: Arc, d: Arc, gone: usize) -> network::Edit
-    ensures { λ r. ⌜ r ≡ editFour k a b c d gone ⌝ }
+fn edit_four(
+    k: Numbers,
+    a: Arc,
+    b: Arc,
+    c: Arc,
+    d: Arc,
+    gone: usize,
+    constant: Fraction,
+) -> network::Edit
+    ensures { λ r. ⌜ r ≡ editFour k a b c d gone constant ⌝ }
 {
     let none = network::no_supply_update();
     network::Edit {
@@ -135,11 +143,13 @@ fn edit_four(k: Numbers, a: Arc, b: Arc, c: Arc, d: Arc, gone: usize) -> network
         left: none,
         right: none,
         gone,
+        constant,
     }
 }
 
 // n1, n2 are the N and p1, p2 the P at node i of supply r, and new the four numbers upward.
 fn cross(
+    constant: Fraction,
     i: usize,
     r: Fraction,
     n1: ArcUpdate,
@@ -148,7 +158,7 @@ fn cross(
     p2: ArcUpdate,
     new: Numbers,
 ) -> Outcome
-    ensures { λ x. ⌜ x ≡ crossedAt i r n1 n2 p1 p2 new ⌝ }
+    ensures { λ x. ⌜ x ≡ crossedAt constant i r n1 n2 p1 p2 new ⌝ }
 {
     if !all_free(n1.arc, n2.arc, p1.arc, p2.arc) {
         return Outcome::Passes;
@@ -168,7 +178,7 @@ fn cross(
     let Made::Puts(d) = crossed(i, n2.arc, p2.arc) else {
         return Outcome::Passes;
     };
-    let edit = edit_four(new, a, b, c, d, i);
+    let edit = edit_four(new, a, b, c, d, i, constant);
     let old = Old {
         node: i,
         supply: r,
@@ -213,8 +223,8 @@ fn by_sign(near: Around, i: usize, below: bool) -> Signed
 }
 
 // Rule 6 at node i of this degree and supply r, by the arcs there.
-pub fn crossing(i: usize, degree: usize, r: Fraction, near: Around) -> Outcome
-    ensures { λ x. ⌜ x ≡ crossingBy i degree r near ⌝ }
+pub fn crossing(constant: Fraction, i: usize, degree: usize, r: Fraction, near: Around) -> Outcome
+    ensures { λ x. ⌜ x ≡ crossingBy constant i degree r near ⌝ }
 {
     if degree != 4 {
         return Outcome::Passes;
@@ -236,7 +246,7 @@ pub fn crossing(i: usize, degree: usize, r: Fraction, near: Around) -> Outcome
         third: near.three.number,
         fourth: near.four.number,
     };
-    cross(i, r, n.first, n.second, p.first, p.second, new)
+    cross(constant, i, r, n.first, n.second, p.first, p.second, new)
 }
 
 // ---- the way back

@@ -1,4 +1,4 @@
--- The figures of the test in exact numbers: where they fit, a balance is what the flow brings to the node, a reduced cost is the program's, and the value is the total.
+-- The figures of the test in exact numbers: where they fit, a balance is what the flow brings to the node, and a reduced cost and the value are the program's.
 use mathlib.Core.Path.{_≡_, refl, sym, ap, ap₂, _∙_, subst}
 use mathlib.Core.Bool.{cond}
 use mathlib.Core.Logic.{_⊎_, inl, inr}
@@ -11,10 +11,11 @@ use borrow.Author.Tests.{eq-eqb, ne-eqb, eqb-true, eqb-false}
 use Rattle.loops.specs.Loops.{upto}
 use Rattle.algebra.proofs.Solver.{_:+_, _:*_, _:-_, :0, _:=_, ring1, ring3}
 use Rattle.algebra.specs.Rat.{ℚ, _+ℚ_, _*ℚ_, 0ℚ}
-use Rattle.algebra.proofs.Rat.{ℚ-ring, addℚ-zero, addℚ-comm}
+use Rattle.algebra.proofs.Rat.{ℚ-ring, addℚ-zero}
 use Rattle.algebra.specs.Sum.{sum, range, only}
 use Rattle.algebra.proofs.Sum.{only-same, only-other}
 use Rattle.presolve.specs.LP.{reduced, brings, total}
+use Rattle.presolve.specs.LP as LP
 use Rattle.presolve.proofs.Price.{only-zero}
 use Rattle.presolve.specs.Net.{touch, column, columnAt, out}
 use Rattle.presolve.proofs.Net.{column-in, column-out, touch-off, reduced-of}
@@ -23,7 +24,7 @@ use Rattle.presolve.proofs.Net as ExactLaws
 use Rattle.fraction.specs.declared.Fraction.{Fraction}
 use Rattle.fraction.specs.declared.Worked.{Worked}
 use Rattle.fraction.specs.declared.Worked.the-variants.{Fits}
-use Rattle.fraction.specs.Exact.{zeroFraction}
+use Rattle.fraction.specs.Exact.{Proper, zeroFraction}
 use Rattle.fraction.specs.Formula.{_⊕_, _⊗_}
 use Rattle.fraction.specs.Value.{value}
 use Rattle.fraction.proofs.Formulas.{given, lessℚ, minus-gives, times-gives, zero-proper, zero-is}
@@ -43,15 +44,19 @@ use Rattle.figures.specs.Figures.{balanceTurn, balanceOf, reducedCost, v
 term-exactly : {w : Worked} {s : ℚ} (e x : Fraction) → Exactly w s → Exactly (w ⊕ Fits e ⊗ Fits x) (s +ℚ value e *ℚ value x)
 term-exactly e x k = plus-exactly (gives k) (times-gives (given e) (given x))
 
--- ---- sums "start at 0 and run over the arcs upward"
+-- a fraction in form
+alone-exactly : (x : Fraction) → Proper x → Exactly (Fits x) (value x)
+alone-exactly x p = λ z e. let q : z ≡ x = cc in (rw q p, ap value q)
 
-module _ (turn : ℕ → Worked → Worked) (f : ℕ → ℚ) (m : ℕ) (none : (c : ℕ) → (c ≡ 0) ⊎ (m < c) → f c ≡ 0ℚ) (more : (j : ℕ) (w : Worked) (s : ℚ) → j < m → Exactly w s → Exactly (turn j w) (s +ℚ f (j + 1))) where
-  upward : (k : ℕ) → k ≤ m → Exactly (upto turn k (Fits zeroFraction)) (sum (range (suc k)) f)
+-- ---- sums that start at w, of value b, and "run over the arcs upward"
+
+module _ {w : Worked} {b : ℚ} (start : Exactly w b) (turn : ℕ → Worked → Worked) (f : ℕ → ℚ) (m : ℕ) (none : (c : ℕ) → (c ≡ 0) ⊎ (m < c) → f c ≡ 0ℚ) (more : (j : ℕ) (w : Worked) (s : ℚ) → j < m → Exactly w s → Exactly (turn j w) (s +ℚ f (j + 1))) where
+  upward : (k : ℕ) → k ≤ m → Exactly (upto turn k w) (b +ℚ sum (range (suc k)) f)
   unfolding upto range
-  upward zero h = λ z e. let q : z ≡ zeroFraction = cc in (rw q zero-proper, ap value q ∙ zero-is ∙ sym (addℚ-zero (f 0) ∙ none 0 (inl refl)))
+  upward zero h = same (sym (ap (λ (q : ℚ). b +ℚ q) (addℚ-zero (f 0) ∙ none 0 (inl refl)) ∙ addℚ-zero b)) start
   upward (suc k) h =
-      same (addℚ-comm (sum (range (suc k)) f) (f (k + 1)) ∙ ap (λ (t : ℕ). f t +ℚ sum (range (suc k)) f) (add-one k))
-      (more k (upto turn k (Fits zeroFraction)) (sum (range (suc k)) f) (omega (arith, add-one k)) (upward k (omega (arith, add-one k))))
+      same (ring3 ℚ-ring b (sum (range (suc k)) f) (f (k + 1)) (λ b s t. (b :+ s) :+ t := b :+ (t :+ s)) refl ∙ ap (λ (t : ℕ). b +ℚ (f t +ℚ sum (range (suc k)) f)) (add-one k))
+      (more k (upto turn k w) (b +ℚ sum (range (suc k)) f) (omega (arith, add-one k)) (upward k (omega (arith, add-one k))))
 
   beyond : (d : ℕ) → sum (range (suc m + d)) f ≡ sum (range (suc m)) f
   unfolding range
@@ -60,10 +65,10 @@ module _ (turn : ℕ → Worked → Worked) (f : ℕ → ℚ) (m : ℕ) (none : 
       let e : suc m + suc d ≡ suc (suc m + d) = omega (arith, add-one d, add-one (suc m + d)) in
       ap (λ (t : ℕ). sum (range t) f) e ∙ ap₂ _+ℚ_ (none (suc m + d) (inr (omega (arith, add-one m)))) (beyond d) ∙ ring1 ℚ-ring (sum (range (suc m)) f) (λ s. :0 :+ s := s) refl
 
-  over-arcs : m ≤ 96 → Exactly (upto turn m (Fits zeroFraction)) (sum (range 97) f)
+  over-arcs : m ≤ 96 → Exactly (upto turn m w) (b +ℚ sum (range 97) f)
   over-arcs h =
       let e : suc m + (96 - m) ≡ 97 = omega (arith, add-one m) in
-      same (sym (beyond (96 - m)) ∙ ap (λ (t : ℕ). sum (range t) f) e) (upward m (omega arith))
+      same (ap (λ (q : ℚ). b +ℚ q) (sym (beyond (96 - m)) ∙ ap (λ (t : ℕ). sum (range t) f) e)) (upward m (omega arith))
 
 -- ---- the factor of an arc at its ends
 
@@ -126,16 +131,17 @@ module _ {net : Net} (g : Legal net) (h : Gapless net) (pair : Pair) where
   pub balance-exactly : (i : ℕ) → Exactly (balanceOf net pair i) (brings (programOf net) (exactPair pair .flow) i)
   unfolding balanceOf brings exactOf
   balance-exactly i =
-      over-arcs (balanceTurn net pair i) (λ c. columnAt (exactOf net) c .coef i *ℚ value (flowAt pair c)) (net .m)
+      same (ring1 ℚ-ring _ (λ s. :0 :+ s := s) refl)
+      (over-arcs (same zero-is (alone-exactly zeroFraction zero-proper)) (balanceTurn net pair i) (λ c. columnAt (exactOf net) c .coef i *ℚ value (flowAt pair c)) (net .m)
       (λ c o. ap (λ k. k .coef i *ℚ value (flowAt pair c)) (column-unused c o) ∙ ring1 ℚ-ring (value (flowAt pair c)) (λ x. :0 :* x := :0) refl)
       (λ j w s l k. same (ap (λ t. s +ℚ t .coef i *ℚ value (flowAt pair (j + 1))) (sym (column-used (j + 1) (omega arith) (omega arith)))) (turn-exactly (arcAt net (j + 1)) (legal-at j l) i (flowAt pair (j + 1)) w s k))
-      (g .few-arcs)
+      (g .few-arcs))
 
   -- the value
-  pub value-exactly : Exactly (valueOf net pair) (total (programOf net) (exactPair pair .flow))
+  pub value-exactly : Exactly (valueOf net pair) (LP.value (programOf net) (exactPair pair .flow))
   unfolding valueOf total exactOf
   value-exactly =
-      over-arcs (valueTurn net pair) (λ c. columnAt (exactOf net) c .cost *ℚ value (flowAt pair c)) (net .m)
+      over-arcs (alone-exactly (net .constant) (g .constant-proper)) (valueTurn net pair) (λ c. columnAt (exactOf net) c .cost *ℚ value (flowAt pair c)) (net .m)
       (λ c o. ap (λ k. k .cost *ℚ value (flowAt pair c)) (column-unused c o) ∙ ring1 ℚ-ring (value (flowAt pair c)) (λ x. :0 :* x := :0) refl)
       (λ j w s l k. same (ap (λ t. s +ℚ t .cost *ℚ value (flowAt pair (j + 1))) (sym (column-used (j + 1) (omega arith) (omega arith)))) (term-exactly (arcAt net (j + 1) .cost) (flowAt pair (j + 1)) k))
       (g .few-arcs)

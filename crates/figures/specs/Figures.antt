@@ -31,13 +31,13 @@ reducedCost t pair =
     cond (isRoot t) (Fits (t .cost) ⊖ Fits (t .a) ⊗ Fits (priceAt pair (t .from)))
     (Fits (t .cost) ⊖ Fits (t .a) ⊗ Fits (priceAt pair (t .from)) ⊖ Fits (t .b) ⊗ Fits (priceAt pair (t .to)))
 
--- ---- "the value is the sum of c × flow, arcs upward"
+-- ---- "the value is the sum of c × flow, arcs upward"; "A network record now has a constant, .. and the value's sum starts from it" (02, 2026-01)
 
 abbrev pub valueTurn : Net → Pair → ℕ → Worked → Worked
 valueTurn net pair j w = w ⊕ Fits (arcAt net (j + 1) .cost) ⊗ Fits (flowAt pair (j + 1))
 
 unfoldable pub valueOf : Net → Pair → Worked
-valueOf net pair = upto (valueTurn net pair) (net .m) (Fits zeroFraction)
+valueOf net pair = upto (valueTurn net pair) (net .m) (Fits (net .constant))
 
 -- ---- 9. "Do all balances, reduced costs and the value fit?" Nodes and arcs are counted from 0 here
 

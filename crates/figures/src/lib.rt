@@ -132,11 +132,12 @@ fn reduced_cost(t: Arc, price: [Fraction; NODE_PLACES]) -> Worked
     reduced(t, p, q)
 }
 
-// The value.
+// The value, from the constant on.
 pub fn value(net: Net, pair: Pair) -> Worked
     ensures { λ r. ⌜ r ≡ valueOf net pair ⌝ }
 {
-    let mut w = Fraction::ZERO.fit();
+    let constant = net.constant;
+    let mut w = constant.fit();
     for j in 0..net.m {
         let mut t = network::no_arc();
         let mut x = network::no_figure();

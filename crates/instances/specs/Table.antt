@@ -1,4 +1,4 @@
--- The marked instances of document 01, as one table: what the definitions compute, and what the document says.
+-- The marked instances of document 01, with the constants of document 02, 2026-01, as one table: what the definitions compute, and what the document says.
 use mathlib.Core.Path.{_≡_, refl}
 use mathlib.Core.Bool.{Bool, true, false}
 use mathlib.Core.List.{List, [], _∷_, _++_, map}
@@ -32,14 +32,14 @@ use Rattle.optimality.specs.Test.{pairQuestions}
 use Rattle.step.specs.declared.Outcome.{Outcome}
 use Rattle.step.specs.declared.Outcome.the-variants.{Passes, NoFlow as NoFlow·outcome, Changes}
 use Rattle.step.specs.Outcome.{onlyWhere, noFlowWhere, fits}
-use Rattle.step.specs.Dropped.{supplyLess, dropped, lowerBack}
+use Rattle.step.specs.Dropped.{supplyLess, costAdded, dropped, lowerBack}
 use Rattle.step.specs.Back.{figure, restored, quoteAt}
 use Rattle.step.specs.Run.{ruleFrom, upward, nextFrom, runBy, runOf, wayBack}
 use Rattle.closed_arc.specs.ClosedArc.{closed}
 use Rattle.bare_node.specs.BareNode.{bare, bareNode, bareBack}
 use Rattle.single_arc.specs.SingleArc.{forcedOut, single, singleArc, singleBack}
 use Rattle.costly_arc.specs.CostlyArc.{isOpenRoot, isCostlier, hasPair, costlyArc}
-use Rattle.two_arcs.specs.TwoArcs.{sameSign, tighter, imageOf, merged, kept, two, twoArcs, twoBack}
+use Rattle.two_arcs.specs.TwoArcs.{sameSign, tighter, imageOf, gained, merged, kept, two, twoArcs, twoBack}
 use Rattle.crossing.specs.Crossing.{hasSignAt, signedAfter, isFree, isApart, crossed as crossedArc, crossedAt, crossing, crossingBack}
 use Rattle.rules.specs.Table.{reduced}
 use Rattle.survivors.specs.Survivors.{spreadOf}
@@ -92,19 +92,19 @@ outcome r net stack = (r, (filled networkRoom net, filled stackRoom stack))
 abbrev neg : ℕ → ℤ
 neg k = negℤ (pos k)
 
--- A, its reducing half. The text given: sizes, numerators, denominators
+-- A, its reducing half, with its constants 0 and 14 (02, 2026-01). The text given: sizes, numerators, denominators
 abbrev given : List ℤ
 given =
     (pos 3 ∷ pos 3 ∷ [])
-    ++ (pos 4 ∷ neg 5 ∷ pos 2 ∷ pos 1 ∷ pos 2 ∷ pos 1 ∷ pos 0 ∷ pos 3 ∷ pos 1 ∷ neg 1 ∷ pos 1 ∷ pos 2 ∷ pos 2 ∷ pos 0 ∷ pos 1 ∷ pos 1 ∷ neg 1 ∷ pos 3 ∷ pos 2 ∷ pos 7 ∷ pos 0 ∷ pos 1 ∷ pos 1 ∷ neg 1 ∷ [])
-    ++ (pos 1 ∷ pos 1 ∷ pos 1 ∷ pos 1 ∷ pos 1 ∷ pos 1 ∷ pos 1 ∷ pos 1 ∷ pos 1 ∷ pos 1 ∷ pos 1 ∷ pos 1 ∷ pos 1 ∷ pos 1 ∷ pos 0 ∷ pos 1 ∷ pos 1 ∷ pos 1 ∷ pos 1 ∷ pos 1 ∷ pos 1 ∷ pos 0 ∷ pos 1 ∷ pos 2 ∷ [])
+    ++ (pos 0 ∷ pos 4 ∷ neg 5 ∷ pos 2 ∷ pos 1 ∷ pos 2 ∷ pos 1 ∷ pos 0 ∷ pos 3 ∷ pos 1 ∷ neg 1 ∷ pos 1 ∷ pos 2 ∷ pos 2 ∷ pos 0 ∷ pos 1 ∷ pos 1 ∷ neg 1 ∷ pos 3 ∷ pos 2 ∷ pos 7 ∷ pos 0 ∷ pos 1 ∷ pos 1 ∷ neg 1 ∷ [])
+    ++ (pos 1 ∷ pos 1 ∷ pos 1 ∷ pos 1 ∷ pos 1 ∷ pos 1 ∷ pos 1 ∷ pos 1 ∷ pos 1 ∷ pos 1 ∷ pos 1 ∷ pos 1 ∷ pos 1 ∷ pos 1 ∷ pos 1 ∷ pos 0 ∷ pos 1 ∷ pos 1 ∷ pos 1 ∷ pos 1 ∷ pos 1 ∷ pos 1 ∷ pos 0 ∷ pos 1 ∷ pos 2 ∷ [])
 
 -- what is printed: sizes, numerators, denominators; then step count, rules, places
 abbrev left : List ℤ
 left =
     (pos 2 ∷ pos 2 ∷ [])
-    ++ (pos 4 ∷ neg 4 ∷ pos 1 ∷ pos 2 ∷ pos 1 ∷ pos 0 ∷ pos 3 ∷ pos 1 ∷ neg 1 ∷ pos 1 ∷ pos 2 ∷ pos 2 ∷ pos 0 ∷ pos 1 ∷ pos 1 ∷ neg 1 ∷ [])
-    ++ (pos 1 ∷ pos 1 ∷ pos 1 ∷ pos 1 ∷ pos 1 ∷ pos 1 ∷ pos 1 ∷ pos 1 ∷ pos 1 ∷ pos 1 ∷ pos 1 ∷ pos 1 ∷ pos 1 ∷ pos 0 ∷ pos 1 ∷ pos 1 ∷ [])
+    ++ (pos 14 ∷ pos 4 ∷ neg 4 ∷ pos 1 ∷ pos 2 ∷ pos 1 ∷ pos 0 ∷ pos 3 ∷ pos 1 ∷ neg 1 ∷ pos 1 ∷ pos 2 ∷ pos 2 ∷ pos 0 ∷ pos 1 ∷ pos 1 ∷ neg 1 ∷ [])
+    ++ (pos 1 ∷ pos 1 ∷ pos 1 ∷ pos 1 ∷ pos 1 ∷ pos 1 ∷ pos 1 ∷ pos 1 ∷ pos 1 ∷ pos 1 ∷ pos 1 ∷ pos 1 ∷ pos 1 ∷ pos 1 ∷ pos 0 ∷ pos 1 ∷ pos 1 ∷ [])
 
 abbrev stack : List ℤ
 stack = pos 1 ∷ pos 3 ∷ pos 3 ∷ []
@@ -132,24 +132,24 @@ offered x y = (pos 2 ∷ pos 2 ∷ []) ++ (pos 2 ∷ pos 0 ∷ pos x ∷ pos y �
 abbrev back : List ℤ
 back = (pos 3 ∷ pos 3 ∷ []) ++ (pos 2 ∷ pos 0 ∷ pos 7 ∷ pos 3 ∷ pos 1 ∷ pos 2 ∷ []) ++ (pos 1 ∷ pos 1 ∷ pos 1 ∷ pos 1 ∷ pos 1 ∷ pos 1 ∷ [])
 
--- reduced value 5, value 19
+-- both values are 19 (02, 2026-01)
 abbrev A-back : Row
-A-back = row Return (restoring given stack (offered 3 1)) (Restored, (filled pairRoom back, pos 5 ∷ pos 1 ∷ pos 19 ∷ pos 1 ∷ []))
+A-back = row Return (restoring given stack (offered 3 1)) (Restored, (filled pairRoom back, pos 19 ∷ pos 1 ∷ pos 19 ∷ pos 1 ∷ []))
 
 -- B. A's pair with flows 2 and 2, prices unchanged: refusal 12
 abbrev B : Row
 B = row Return (restoring given stack (offered 2 2)) (RefusedBack 12, (zeros pairRoom, zeros valueRoom))
 
--- E. n = 0, m = 0: reduced, no steps
+-- E. n = 0, m = 0: reduced, no steps; the constant is 0
 abbrev nothing : List ℤ
-nothing = pos 0 ∷ pos 0 ∷ []
+nothing = pos 0 ∷ pos 0 ∷ pos 0 ∷ pos 1 ∷ []
 
 abbrev E : Row
 E = row Reducing (reducing nothing) (outcome Reduced nothing (pos 0 ∷ []))
 
 -- F. One node, supply 1, no arc: no flow, rule 2, place 1; supply 0: one step
 abbrev oneNode : ℤ → List ℤ
-oneNode r = pos 1 ∷ pos 0 ∷ r ∷ pos 1 ∷ []
+oneNode r = pos 1 ∷ pos 0 ∷ pos 0 ∷ r ∷ pos 1 ∷ pos 1 ∷ []
 
 abbrev F : Row
 F =
@@ -168,9 +168,9 @@ abbrev withArcs : ℕ → List Arc → Net → Net
 withArcs j [] net = net
 withArcs j (t ∷ ts) net = withArcs (j + 1) ts (withArc net j t)
 
--- n nodes of supply 0, and arcs, both numbered from 1
+-- n nodes of supply 0, and arcs, both numbered from 1, and the constant 0
 abbrev network : ℕ → List Arc → Net
-network n ts = withArcs 1 ts (upto (λ i net. withNode net (i + 1) (whole 0)) n (emptyNet n (length ts)))
+network n ts = withArcs 1 ts (upto (λ i net. withNode net (i + 1) (whole 0)) n (emptyNet n (length ts) (whole 0)))
 
 -- G. Rule 4, l = 0, root arcs without upper bound, multipliers 1 throughout, c1 = 2, c2 = 3: cost 6 applies, 5 doesn't
 abbrev costing : ℕ → Net
@@ -232,19 +232,19 @@ J = row (Worked × Worked) (sumOf (over (pos 2147483647) 1) (over (pos 1) 1), su
 -- A as the programs have it: the text given, and the lines that are printed, as bytes
 
 abbrev textGiven : List ℕ
-textGiven = 51 ∷ 32 ∷ 51 ∷ 10 ∷ 52 ∷ 32 ∷ 45 ∷ 53 ∷ 32 ∷ 50 ∷ 32 ∷ 49 ∷ 32 ∷ 50 ∷ 32 ∷ 49 ∷ 32 ∷ 48 ∷ 32 ∷ 51 ∷ 32 ∷ 49 ∷ 32 ∷ 45 ∷ 49 ∷ 32 ∷ 49 ∷ 32 ∷ 50 ∷ 32 ∷ 50 ∷ 32 ∷ 48 ∷ 32 ∷ 49 ∷ 32 ∷ 49 ∷ 32 ∷ 45 ∷ 49 ∷ 32 ∷ 51 ∷ 32 ∷ 50 ∷ 32 ∷ 55 ∷ 32 ∷ 48 ∷ 32 ∷ 49 ∷ 32 ∷ 49 ∷ 32 ∷ 45 ∷ 49 ∷ 10 ∷ 49 ∷ 32 ∷ 49 ∷ 32 ∷ 49 ∷ 32 ∷ 49 ∷ 32 ∷ 49 ∷ 32 ∷ 49 ∷ 32 ∷ 49 ∷ 32 ∷ 49 ∷ 32 ∷ 49 ∷ 32 ∷ 49 ∷ 32 ∷ 49 ∷ 32 ∷ 49 ∷ 32 ∷ 49 ∷ 32 ∷ 49 ∷ 32 ∷ 48 ∷ 32 ∷ 49 ∷ 32 ∷ 49 ∷ 32 ∷ 49 ∷ 32 ∷ 49 ∷ 32 ∷ 49 ∷ 32 ∷ 49 ∷ 32 ∷ 48 ∷ 32 ∷ 49 ∷ 32 ∷ 50 ∷ 10 ∷ []
+textGiven = 51 ∷ 32 ∷ 51 ∷ 10 ∷ 48 ∷ 32 ∷ 52 ∷ 32 ∷ 45 ∷ 53 ∷ 32 ∷ 50 ∷ 32 ∷ 49 ∷ 32 ∷ 50 ∷ 32 ∷ 49 ∷ 32 ∷ 48 ∷ 32 ∷ 51 ∷ 32 ∷ 49 ∷ 32 ∷ 45 ∷ 49 ∷ 32 ∷ 49 ∷ 32 ∷ 50 ∷ 32 ∷ 50 ∷ 32 ∷ 48 ∷ 32 ∷ 49 ∷ 32 ∷ 49 ∷ 32 ∷ 45 ∷ 49 ∷ 32 ∷ 51 ∷ 32 ∷ 50 ∷ 32 ∷ 55 ∷ 32 ∷ 48 ∷ 32 ∷ 49 ∷ 32 ∷ 49 ∷ 32 ∷ 45 ∷ 49 ∷ 10 ∷ 49 ∷ 32 ∷ 49 ∷ 32 ∷ 49 ∷ 32 ∷ 49 ∷ 32 ∷ 49 ∷ 32 ∷ 49 ∷ 32 ∷ 49 ∷ 32 ∷ 49 ∷ 32 ∷ 49 ∷ 32 ∷ 49 ∷ 32 ∷ 49 ∷ 32 ∷ 49 ∷ 32 ∷ 49 ∷ 32 ∷ 49 ∷ 32 ∷ 49 ∷ 32 ∷ 48 ∷ 32 ∷ 49 ∷ 32 ∷ 49 ∷ 32 ∷ 49 ∷ 32 ∷ 49 ∷ 32 ∷ 49 ∷ 32 ∷ 49 ∷ 32 ∷ 48 ∷ 32 ∷ 49 ∷ 32 ∷ 50 ∷ 10 ∷ []
 
 abbrev linesReduced : List ℕ
-linesReduced = 114 ∷ 101 ∷ 100 ∷ 117 ∷ 99 ∷ 101 ∷ 100 ∷ 10 ∷ 50 ∷ 32 ∷ 50 ∷ 10 ∷ 52 ∷ 32 ∷ 45 ∷ 52 ∷ 32 ∷ 49 ∷ 32 ∷ 50 ∷ 32 ∷ 49 ∷ 32 ∷ 48 ∷ 32 ∷ 51 ∷ 32 ∷ 49 ∷ 32 ∷ 45 ∷ 49 ∷ 32 ∷ 49 ∷ 32 ∷ 50 ∷ 32 ∷ 50 ∷ 32 ∷ 48 ∷ 32 ∷ 49 ∷ 32 ∷ 49 ∷ 32 ∷ 45 ∷ 49 ∷ 10 ∷ 49 ∷ 32 ∷ 49 ∷ 32 ∷ 49 ∷ 32 ∷ 49 ∷ 32 ∷ 49 ∷ 32 ∷ 49 ∷ 32 ∷ 49 ∷ 32 ∷ 49 ∷ 32 ∷ 49 ∷ 32 ∷ 49 ∷ 32 ∷ 49 ∷ 32 ∷ 49 ∷ 32 ∷ 49 ∷ 32 ∷ 48 ∷ 32 ∷ 49 ∷ 32 ∷ 49 ∷ 10 ∷ 49 ∷ 10 ∷ 51 ∷ 10 ∷ 51 ∷ 10 ∷ []
+linesReduced = 114 ∷ 101 ∷ 100 ∷ 117 ∷ 99 ∷ 101 ∷ 100 ∷ 10 ∷ 50 ∷ 32 ∷ 50 ∷ 10 ∷ 49 ∷ 52 ∷ 32 ∷ 52 ∷ 32 ∷ 45 ∷ 52 ∷ 32 ∷ 49 ∷ 32 ∷ 50 ∷ 32 ∷ 49 ∷ 32 ∷ 48 ∷ 32 ∷ 51 ∷ 32 ∷ 49 ∷ 32 ∷ 45 ∷ 49 ∷ 32 ∷ 49 ∷ 32 ∷ 50 ∷ 32 ∷ 50 ∷ 32 ∷ 48 ∷ 32 ∷ 49 ∷ 32 ∷ 49 ∷ 32 ∷ 45 ∷ 49 ∷ 10 ∷ 49 ∷ 32 ∷ 49 ∷ 32 ∷ 49 ∷ 32 ∷ 49 ∷ 32 ∷ 49 ∷ 32 ∷ 49 ∷ 32 ∷ 49 ∷ 32 ∷ 49 ∷ 32 ∷ 49 ∷ 32 ∷ 49 ∷ 32 ∷ 49 ∷ 32 ∷ 49 ∷ 32 ∷ 49 ∷ 32 ∷ 49 ∷ 32 ∷ 48 ∷ 32 ∷ 49 ∷ 32 ∷ 49 ∷ 10 ∷ 49 ∷ 10 ∷ 51 ∷ 10 ∷ 51 ∷ 10 ∷ []
 
 abbrev A-text : Row
 A-text = row (List ℕ) (reduceText textGiven) linesReduced
 
 abbrev textOffered : List ℕ
-textOffered = 51 ∷ 32 ∷ 51 ∷ 10 ∷ 52 ∷ 32 ∷ 45 ∷ 53 ∷ 32 ∷ 50 ∷ 32 ∷ 49 ∷ 32 ∷ 50 ∷ 32 ∷ 49 ∷ 32 ∷ 48 ∷ 32 ∷ 51 ∷ 32 ∷ 49 ∷ 32 ∷ 45 ∷ 49 ∷ 32 ∷ 49 ∷ 32 ∷ 50 ∷ 32 ∷ 50 ∷ 32 ∷ 48 ∷ 32 ∷ 49 ∷ 32 ∷ 49 ∷ 32 ∷ 45 ∷ 49 ∷ 32 ∷ 51 ∷ 32 ∷ 50 ∷ 32 ∷ 55 ∷ 32 ∷ 48 ∷ 32 ∷ 49 ∷ 32 ∷ 49 ∷ 32 ∷ 45 ∷ 49 ∷ 10 ∷ 49 ∷ 32 ∷ 49 ∷ 32 ∷ 49 ∷ 32 ∷ 49 ∷ 32 ∷ 49 ∷ 32 ∷ 49 ∷ 32 ∷ 49 ∷ 32 ∷ 49 ∷ 32 ∷ 49 ∷ 32 ∷ 49 ∷ 32 ∷ 49 ∷ 32 ∷ 49 ∷ 32 ∷ 49 ∷ 32 ∷ 49 ∷ 32 ∷ 48 ∷ 32 ∷ 49 ∷ 32 ∷ 49 ∷ 32 ∷ 49 ∷ 32 ∷ 49 ∷ 32 ∷ 49 ∷ 32 ∷ 49 ∷ 32 ∷ 48 ∷ 32 ∷ 49 ∷ 32 ∷ 50 ∷ 10 ∷ 49 ∷ 10 ∷ 51 ∷ 10 ∷ 51 ∷ 10 ∷ 50 ∷ 32 ∷ 50 ∷ 10 ∷ 50 ∷ 32 ∷ 48 ∷ 32 ∷ 51 ∷ 32 ∷ 49 ∷ 10 ∷ 49 ∷ 32 ∷ 49 ∷ 32 ∷ 49 ∷ 32 ∷ 49 ∷ 10 ∷ []
+textOffered = 51 ∷ 32 ∷ 51 ∷ 10 ∷ 48 ∷ 32 ∷ 52 ∷ 32 ∷ 45 ∷ 53 ∷ 32 ∷ 50 ∷ 32 ∷ 49 ∷ 32 ∷ 50 ∷ 32 ∷ 49 ∷ 32 ∷ 48 ∷ 32 ∷ 51 ∷ 32 ∷ 49 ∷ 32 ∷ 45 ∷ 49 ∷ 32 ∷ 49 ∷ 32 ∷ 50 ∷ 32 ∷ 50 ∷ 32 ∷ 48 ∷ 32 ∷ 49 ∷ 32 ∷ 49 ∷ 32 ∷ 45 ∷ 49 ∷ 32 ∷ 51 ∷ 32 ∷ 50 ∷ 32 ∷ 55 ∷ 32 ∷ 48 ∷ 32 ∷ 49 ∷ 32 ∷ 49 ∷ 32 ∷ 45 ∷ 49 ∷ 10 ∷ 49 ∷ 32 ∷ 49 ∷ 32 ∷ 49 ∷ 32 ∷ 49 ∷ 32 ∷ 49 ∷ 32 ∷ 49 ∷ 32 ∷ 49 ∷ 32 ∷ 49 ∷ 32 ∷ 49 ∷ 32 ∷ 49 ∷ 32 ∷ 49 ∷ 32 ∷ 49 ∷ 32 ∷ 49 ∷ 32 ∷ 49 ∷ 32 ∷ 49 ∷ 32 ∷ 48 ∷ 32 ∷ 49 ∷ 32 ∷ 49 ∷ 32 ∷ 49 ∷ 32 ∷ 49 ∷ 32 ∷ 49 ∷ 32 ∷ 49 ∷ 32 ∷ 48 ∷ 32 ∷ 49 ∷ 32 ∷ 50 ∷ 10 ∷ 49 ∷ 10 ∷ 51 ∷ 10 ∷ 51 ∷ 10 ∷ 50 ∷ 32 ∷ 50 ∷ 10 ∷ 50 ∷ 32 ∷ 48 ∷ 32 ∷ 51 ∷ 32 ∷ 49 ∷ 10 ∷ 49 ∷ 32 ∷ 49 ∷ 32 ∷ 49 ∷ 32 ∷ 49 ∷ 10 ∷ []
 
 abbrev linesRestored : List ℕ
-linesRestored = 114 ∷ 101 ∷ 115 ∷ 116 ∷ 111 ∷ 114 ∷ 101 ∷ 100 ∷ 10 ∷ 51 ∷ 32 ∷ 51 ∷ 10 ∷ 50 ∷ 32 ∷ 48 ∷ 32 ∷ 55 ∷ 32 ∷ 51 ∷ 32 ∷ 49 ∷ 32 ∷ 50 ∷ 10 ∷ 49 ∷ 32 ∷ 49 ∷ 32 ∷ 49 ∷ 32 ∷ 49 ∷ 32 ∷ 49 ∷ 32 ∷ 49 ∷ 10 ∷ 53 ∷ 32 ∷ 49 ∷ 10 ∷ 49 ∷ 57 ∷ 32 ∷ 49 ∷ 10 ∷ []
+linesRestored = 114 ∷ 101 ∷ 115 ∷ 116 ∷ 111 ∷ 114 ∷ 101 ∷ 100 ∷ 10 ∷ 51 ∷ 32 ∷ 51 ∷ 10 ∷ 50 ∷ 32 ∷ 48 ∷ 32 ∷ 55 ∷ 32 ∷ 51 ∷ 32 ∷ 49 ∷ 32 ∷ 50 ∷ 10 ∷ 49 ∷ 32 ∷ 49 ∷ 32 ∷ 49 ∷ 32 ∷ 49 ∷ 32 ∷ 49 ∷ 32 ∷ 49 ∷ 10 ∷ 49 ∷ 57 ∷ 32 ∷ 49 ∷ 10 ∷ 49 ∷ 57 ∷ 32 ∷ 49 ∷ 10 ∷ []
 
 abbrev A-back-text : Row
 A-back-text = row (List ℕ) (restoreText textOffered) linesRestored
@@ -253,5 +253,5 @@ abbrev pub table : List Row
 table = A ∷ A-text ∷ A-back ∷ A-back-text ∷ B ∷ E ∷ F ∷ G ∷ H ∷ I ∷ J ∷ []
 
 pub marked : All table
-unfolding gcd gcdBy build upto count all any scan isOperand isProper fitted reduceOf sumOf productOf differenceOf quotientOf negationOf reciprocalOf isLess isSame isZero isFinite fromWords denWord pairOf _⊕_ _⊖_ _⊗_ _⊘_ ⊝_ withArc withSupply withNode without applied isTouching degreeOf touchingAfter isRoot farEnd sideOf figureAt sizesRight figuresRight endsRight multipliersRight questions roleOf isPermitted isEnd hasEnds arcIn isWeighted netOf readOf rankOf packNode packArc packedOf arraysOf wordOf roleFigure figureOf hasRoom recordOf networkOf withPrice withFlow hasSizes isPair pairRead balanceOf reducedCost valueOf allFit isWithin isAt keepsRule testQuestions pairQuestions onlyWhere noFlowWhere fits supplyLess dropped lowerBack figure restored quoteAt upward nextFrom ruleFrom runBy runOf wayBack closed bare bareNode bareBack forcedOut single singleArc singleBack isOpenRoot isCostlier hasPair costlyArc sameSign tighter imageOf merged kept two twoArcs twoBack hasSignAt signedAfter isFree isApart crossedArc crossedAt crossing crossingBack arcRank spreadOf stackRecord Stack.stackOf sameWords isRoomy reduceTable isRoomyBack offerTable runTable restoreTable broughtBack pairFigure pairWords separator digit pieces valueFrom wordsIn wordsOf digitsIn digits behindSpaces spaced lineOf recordLines reduceText stackSplit splitSized splitOf restoreText
+unfolding gcd gcdBy build upto count all any scan isOperand isProper fitted reduceOf sumOf productOf differenceOf quotientOf negationOf reciprocalOf isLess isSame isZero isFinite fromWords denWord pairOf _⊕_ _⊖_ _⊗_ _⊘_ ⊝_ withArc withSupply withNode without applied isTouching degreeOf touchingAfter isRoot farEnd sideOf figureAt sizesRight figuresRight endsRight multipliersRight questions roleOf isPermitted isEnd hasEnds arcIn isWeighted netOf readOf rankOf packNode packArc packedOf arraysOf wordOf roleFigure figureOf hasRoom recordOf networkOf withPrice withFlow hasSizes isPair pairRead balanceOf reducedCost valueOf allFit isWithin isAt keepsRule testQuestions pairQuestions onlyWhere noFlowWhere fits supplyLess costAdded dropped lowerBack figure restored quoteAt upward nextFrom ruleFrom runBy runOf wayBack closed bare bareNode bareBack forcedOut single singleArc singleBack isOpenRoot isCostlier hasPair costlyArc sameSign tighter imageOf gained merged kept two twoArcs twoBack hasSignAt signedAfter isFree isApart crossedArc crossedAt crossing crossingBack arcRank spreadOf stackRecord Stack.stackOf sameWords isRoomy reduceTable isRoomyBack offerTable runTable restoreTable broughtBack pairFigure pairWords separator digit pieces valueFrom wordsIn wordsOf digitsIn digits behindSpaces spaced lineOf recordLines reduceText stackSplit splitSized splitOf restoreText
 marked = (refl, (refl, (refl, (refl, (refl, (refl, (refl, (refl, (refl, (refl, (refl, tt)))))))))))

@@ -14,7 +14,7 @@ use Rattle.fraction.specs.Exact.{Proper, noFigure}
 use Rattle.fraction.proofs.Laws.{and-both, never}
 use Rattle.network.specs.declared.Arc.{Arc}
 use Rattle.network.specs.declared.Net.{Net}
-use Rattle.network.specs.Network.{noArc, arcAt, supplyAt, isHere, isNumber, isTouching, withArc, withSupply, without}
+use Rattle.network.specs.Network.{noArc, arcAt, supplyAt, isHere, isNumber, isTouching, withArc, withSupply, withConstant, without}
 use Rattle.network.specs.Legal.{LegalArc, Legal, MayPut}
 
 -- ---- one element replaced: what stands at a place then, and the length
@@ -112,6 +112,7 @@ module _ {net : Net} (g : Legal net) where
         no-arc = ⊎-elim (λ e. ap (λ (t : Arc). t .from) e ∙ g .no-arc) (λ w. absurd (omega (arith, w .0, w .1))) (arc-either net j t 0);
         nodes-beyond = g .nodes-beyond;
         arcs-beyond = λ i l. ⊎-elim (λ e. ap (λ (t : Arc). t .from) e ∙ g .arcs-beyond i l) (λ w. ap (λ (t : Arc). t .from) (w .2) ∙ beyond (rw (w .1) at l) ok) (arc-either net j t i);
+        constant-proper = g .constant-proper;
         supply-proper = g .supply-proper;
         unused = λ i z. ⊎-elim (λ e. e ∙ g .unused i (rw e at z)) (λ w. w .2 ∙ none (rw (w .2) at z) ok) (arc-either net j t i);
         used = λ i l. ⊎-elim (λ e. rw e (let h = g .used i (rw e at l) in moved h (h .from-here) (h .to-here))) (λ w. rw (w .2) (some (rw (w .2) at l) ok)) (arc-either net j t i);
@@ -142,7 +143,26 @@ module _ {net : Net} (g : Legal net) where
         no-arc = g .no-arc;
         nodes-beyond = g .nodes-beyond;
         arcs-beyond = g .arcs-beyond;
+        constant-proper = g .constant-proper;
         supply-proper = λ i e. ⊎-elim (λ q. rw q (g .supply-proper i e)) (λ w. rw (w .2) (ok (w .0))) (supply-either net j r i);
+        unused = g .unused;
+        used = λ i l. let h = g .used i l in moved h (h .from-here) (h .to-here);
+      }
+
+  pub constant-kept : (k : Fraction) → Proper k → Legal (withConstant net k)
+  constant-kept k proper =
+      record {
+        here-long = g .here-long;
+        supply-long = g .supply-long;
+        arcs-long = g .arcs-long;
+        few-nodes = g .few-nodes;
+        few-arcs = g .few-arcs;
+        no-node = g .no-node;
+        no-arc = g .no-arc;
+        nodes-beyond = g .nodes-beyond;
+        arcs-beyond = g .arcs-beyond;
+        constant-proper = proper;
+        supply-proper = g .supply-proper;
         unused = g .unused;
         used = λ i l. let h = g .used i l in moved h (h .from-here) (h .to-here);
       }
@@ -161,6 +181,7 @@ module _ {net : Net} (g : Legal net) where
         no-arc = g .no-arc;
         nodes-beyond = λ i l. ⊎-elim (λ e. e ∙ g .nodes-beyond i l) (λ w. w .2) (here-either net j i);
         arcs-beyond = g .arcs-beyond;
+        constant-proper = g .constant-proper;
         supply-proper = λ i e. ⊎-elim (λ q. g .supply-proper i (sym q ∙ e)) (λ w. never (let f = sym e ∙ w .2 in cc)) (here-either net j i);
         unused = g .unused;
         used = λ i l. let h = g .used i l in moved h (stays _ (h .from-here) (λ k. apart i k .0)) (stays _ (h .to-here) (λ k. apart i k .1));

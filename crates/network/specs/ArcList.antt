@@ -40,10 +40,10 @@ arcsIn xs = build arcPlaces (recordAt xs)
 
 -- what a network is beside its arcs, and the network of both
 abbrev pub nodesOf : Net → Nodes
-nodesOf net = record { n = net .n; m = net .m; here = net .here; supply = net .supply }
+nodesOf net = record { n = net .n; m = net .m; constant = net .constant; here = net .here; supply = net .supply }
 
 abbrev pub joined : Nodes → List Arc → Net
-joined nodes arcs = record { n = nodes .n; m = nodes .m; here = nodes .here; supply = nodes .supply; arcs = arcs }
+joined nodes arcs = record { n = nodes .n; m = nodes .m; constant = nodes .constant; here = nodes .here; supply = nodes .supply; arcs = arcs }
 
 abbrev pub netIn : Nodes → List Arc → Net
 netIn nodes xs = joined nodes (arcsIn xs)

@@ -40,6 +40,7 @@ pub record Legal (net : Net) : Type 0 where
   -- and end at n and m: numbers above are not in use
   pub nodes-beyond : (i : ℕ) → net .n < i → isHere net i ≡ false
   pub arcs-beyond : (j : ℕ) → net .m < j → arcAt net j .from ≡ 0
+  pub constant-proper : Proper (net .constant)
   pub supply-proper : (i : ℕ) → isHere net i ≡ true → Proper (supplyAt net i)
   -- a number not in use has the zero record
   pub unused : (j : ℕ) → arcAt net j .from ≡ 0 → arcAt net j ≡ noArc

@@ -20,9 +20,9 @@ use Rattle.network.specs.declared.Side.{Side}
 abbrev pub noArc : Arc
 noArc = record { from = 0; to = 0; cost = noFigure; lower = noFigure; upper = noFigure; a = noFigure; b = noFigure }
 
--- no node and no arc yet, of n and m
-abbrev pub emptyNet : ℕ → ℕ → Net
-emptyNet n m = record { n = n; m = m; here = replicate nodePlaces false; supply = replicate nodePlaces noFigure; arcs = replicate arcPlaces noArc }
+-- no node and no arc yet, of n and m, with a constant
+abbrev pub emptyNet : ℕ → ℕ → Fraction → Net
+emptyNet n m constant = record { n = n; m = m; constant = constant; here = replicate nodePlaces false; supply = replicate nodePlaces noFigure; arcs = replicate arcPlaces noArc }
 
 -- arc j, the supply r of node i, and whether node i is in use
 abbrev pub arcAt : Net → ℕ → Arc
@@ -44,13 +44,13 @@ isNumber top k = leb 1 k && leb k top
 
 -- replaced, where there is such a number: arc j, the supply of node i, whether node i is in use
 unfoldable pub withArc : Net → ℕ → Arc → Net
-withArc net j t = record { n = net .n; m = net .m; here = net .here; supply = net .supply; arcs = cond (isNumber maxArcs j) (set (net .arcs) j t) (net .arcs) }
+withArc net j t = record { n = net .n; m = net .m; constant = net .constant; here = net .here; supply = net .supply; arcs = cond (isNumber maxArcs j) (set (net .arcs) j t) (net .arcs) }
 
 unfoldable pub withSupply : Net → ℕ → Fraction → Net
-withSupply net i r = record { n = net .n; m = net .m; here = net .here; supply = cond (isNumber maxNodes i) (set (net .supply) i r) (net .supply); arcs = net .arcs }
+withSupply net i r = record { n = net .n; m = net .m; constant = net .constant; here = net .here; supply = cond (isNumber maxNodes i) (set (net .supply) i r) (net .supply); arcs = net .arcs }
 
 abbrev pub setHere : Net → ℕ → Bool → Net
-setHere net i h = record { n = net .n; m = net .m; here = cond (isNumber maxNodes i) (set (net .here) i h) (net .here); supply = net .supply; arcs = net .arcs }
+setHere net i h = record { n = net .n; m = net .m; constant = net .constant; here = cond (isNumber maxNodes i) (set (net .here) i h) (net .here); supply = net .supply; arcs = net .arcs }
 
 -- node i put in use, with its supply; node i dropped
 unfoldable pub withNode : Net → ℕ → Fraction → Net
@@ -58,6 +58,10 @@ withNode net i r = setHere (withSupply net i r) i true
 
 unfoldable pub without : Net → ℕ → Net
 without net i = setHere net i false
+
+-- the constant replaced
+abbrev pub withConstant : Net → Fraction → Net
+withConstant net constant = record { n = net .n; m = net .m; constant = constant; here = net .here; supply = net .supply; arcs = net .arcs }
 
 -- ---- a step's change
 
@@ -76,7 +80,7 @@ abbrev pub updatesOf : Edit → List ArcUpdate
 updatesOf c = c .one ∷ c .two ∷ c .three ∷ c .four ∷ []
 
 unfoldable pub applied : Net → Edit → Net
-applied net c = without (withSupplyUpdate (withSupplyUpdate (withUpdates net (updatesOf c)) (c .left)) (c .right)) (c .gone)
+applied net c = withConstant (without (withSupplyUpdate (withSupplyUpdate (withUpdates net (updatesOf c)) (c .left)) (c .right)) (c .gone)) (c .constant)
 
 -- ---- an arc as it is seen from a node
 
@@ -136,9 +140,9 @@ noUpdate = record { number = 0; arc = noArc }
 abbrev pub noSupplyUpdate : SupplyUpdate
 noSupplyUpdate = record { node = 0; supply = noFigure }
 
--- a change of one arc, two supplies and a node
-abbrev pub editOne : ArcUpdate → SupplyUpdate → SupplyUpdate → ℕ → Edit
-editOne one left right gone = record { one = one; two = noUpdate; three = noUpdate; four = noUpdate; left = left; right = right; gone = gone }
+-- a change of one arc, two supplies, a node and the constant
+abbrev pub editOne : ArcUpdate → SupplyUpdate → SupplyUpdate → ℕ → Fraction → Edit
+editOne one left right gone constant = record { one = one; two = noUpdate; three = noUpdate; four = noUpdate; left = left; right = right; gone = gone; constant = constant }
 
 abbrev pub noEdit : Edit
-noEdit = editOne noUpdate noSupplyUpdate noSupplyUpdate 0
+noEdit = editOne noUpdate noSupplyUpdate noSupplyUpdate 0 noFigure

@@ -2,7 +2,7 @@
 use mathlib.Core.Bool.{cond, not}
 use mathlib.Core.Option.{Option, some, none}
 use lib.Dec.{eqb}
-use Rattle.algebra.specs.Rat.{ℚ, 0ℚ}
+use Rattle.algebra.specs.Rat.{ℚ}
 use Rattle.presolve.specs.LP.{LP}
 use Rattle.presolve.specs.Net.{Working, lpOf}
 use Rattle.presolve.specs.Net as Exact
@@ -29,7 +29,7 @@ exactOf net =
       m = arcPlaces;
       node? = isHere net;
       arc? = λ j. not (eqb (arcAt net j .from) 0);
-      constant = 0ℚ;
+      constant = value (net .constant);
       supply = λ i. value (supplyAt net i);
       arc = λ j. exactArc (arcAt net j);
     }

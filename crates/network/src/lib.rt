@@ -41,10 +41,12 @@ pub struct Arc {
     pub b: Fraction,
 }
 
-// n nodes and m arcs were given. Each stands at its number, from 1: whether the node is in use, its supply r, and the arc.
+// n nodes and m arcs were given, and the constant of the value. Each node and arc stands at its number, from 1: whether the
+// node is in use, its supply r, and the arc.
 pub struct Net {
     pub n: usize,
     pub m: usize,
+    pub constant: Fraction,
     pub here: [bool; NODE_PLACES],
     pub supply: [Fraction; NODE_PLACES],
     pub arcs: [Arc; ARC_PLACES],
@@ -54,6 +56,7 @@ pub struct Net {
 pub struct Nodes {
     pub n: usize,
     pub m: usize,
+    pub constant: Fraction,
     pub here: [bool; NODE_PLACES],
     pub supply: [Fraction; NODE_PLACES],
 }
@@ -70,7 +73,7 @@ pub struct SupplyUpdate {
     pub supply: Fraction,
 }
 
-// What a step changes: at most four arcs, two supplies, and the node that is dropped, or 0.
+// What a step changes: at most four arcs, two supplies, the node that is dropped, or 0, and the constant.
 pub struct Edit {
     pub one: ArcUpdate,
     pub two: ArcUpdate,
@@ -79,6 +82,7 @@ pub struct Edit {
     pub left: SupplyUpdate,
     pub right: SupplyUpdate,
     pub gone: usize,
+    pub constant: Fraction,
 }
 
 // An arc at node i: its multiplier e there, the multiplier o at its other end, and that end, which is 0 for a root arc.
@@ -111,15 +115,16 @@ pub fn no_arc() -> Arc
     }
 }
 
-// No node and no arc yet, of n and m.
-pub fn empty_net(n: usize, m: usize) -> Net
-    ensures { λ r. ⌜ r ≡ emptyNet n m ⌝ }
+// No node and no arc yet, of n and m, with a constant.
+pub fn empty_net(n: usize, m: usize, constant: Fraction) -> Net
+    ensures { λ r. ⌜ r ≡ emptyNet n m constant ⌝ }
 {
     let f = no_figure();
     let a = no_arc();
     Net {
         n,
         m,
+        constant,
         here: [false; NODE_PLACES],
         supply: [f; NODE_PLACES],
         arcs: [a; ARC_PLACES],
@@ -130,11 +135,13 @@ pub fn empty_net(n: usize, m: usize) -> Net
 pub fn nodes_of(net: Net) -> Nodes
     ensures { λ r. ⌜ r ≡ nodesOf net ⌝ }
 {
+    let constant = net.constant;
     let here = net.here;
     let supply = net.supply;
     Nodes {
         n: net.n,
         m: net.m,
+        constant,
         here,
         supply,
     }
@@ -144,11 +151,13 @@ pub fn nodes_of(net: Net) -> Nodes
 pub fn join(nodes: Nodes, arcs: [Arc; ARC_PLACES]) -> Net
     ensures { λ r. ⌜ r ≡ joined nodes arcs ⌝ }
 {
+    let constant = nodes.constant;
     let here = nodes.here;
     let supply = nodes.supply;
     Net {
         n: nodes.n,
         m: nodes.m,
+        constant,
         here,
         supply,
         arcs,
@@ -202,14 +211,24 @@ fn drop_node(mut nodes: Nodes, i: usize) -> Nodes
     nodes
 }
 
-// The nodes after a step's change, whatever the arcs.
+// The nodes and the constant after a step's change, whatever the arcs.
 pub fn settle(nodes: Nodes, c: Edit) -> Nodes
     ensures { λ r. ⌜ ((xs : List Arc) → r ≡ nodesOf (applied (joined nodes xs) c)) ⌝ }
 {
     let left = c.left;
     let right = c.right;
     let a = put_supply(nodes, left.node, left.supply);
-    drop_node(put_supply(a, right.node, right.supply), c.gone)
+    let b = drop_node(put_supply(a, right.node, right.supply), c.gone);
+    let constant = c.constant;
+    let here = b.here;
+    let supply = b.supply;
+    Nodes {
+        n: b.n,
+        m: b.m,
+        constant,
+        here,
+        supply,
+    }
 }
 
 // Whether an arc touches node i.
@@ -300,9 +319,15 @@ pub fn no_supply_update() -> SupplyUpdate
     SupplyUpdate { node: 0, supply }
 }
 
-// A change of one arc, two supplies and a node.
-pub fn edit_one(one: ArcUpdate, left: SupplyUpdate, right: SupplyUpdate, gone: usize) -> Edit
-    ensures { λ r. ⌜ r ≡ editOne one left right gone ⌝ }
+// A change of one arc, two supplies, a node and the constant.
+pub fn edit_one(
+    one: ArcUpdate,
+    left: SupplyUpdate,
+    right: SupplyUpdate,
+    gone: usize,
+    constant: Fraction,
+) -> Edit
+    ensures { λ r. ⌜ r ≡ editOne one left right gone constant ⌝ }
 {
     let z = no_update();
     Edit {
@@ -313,6 +338,7 @@ pub fn edit_one(one: ArcUpdate, left: SupplyUpdate, right: SupplyUpdate, gone: u
         left,
         right,
         gone,
+        constant,
     }
 }
 
@@ -320,5 +346,11 @@ pub fn edit_one(one: ArcUpdate, left: SupplyUpdate, right: SupplyUpdate, gone: u
 pub fn no_edit() -> Edit
     ensures { λ r. ⌜ r ≡ noEdit ⌝ }
 {
-    edit_one(no_update(), no_supply_update(), no_supply_update(), 0)
+    edit_one(
+        no_update(),
+        no_supply_update(),
+        no_supply_update(),
+        0,
+        no_figure(),
+    )
 }

@@ -21,7 +21,8 @@ use Rattle.algebra.proofs.Sum.{range-once, sum-congr, sum-zero}
 use Rattle.presolve.specs.Bounds.{Within}
 use Rattle.presolve.proofs.Bounds.{some-inj, fits-closed}
 use Rattle.presolve.specs.Bounds as Bounds
-use Rattle.presolve.specs.LP.{Column, LP, Solved, InBounds, reduced, brings, total}
+use Rattle.presolve.specs.LP.{Column, LP, Solved, InBounds, reduced, brings}
+use Rattle.presolve.specs.LP as LP
 use Rattle.presolve.proofs.Duality.{weak-duality}
 use Rattle.presolve.proofs.Named.{once-mem}
 use Rattle.presolve.specs.Net.{column, columnAt, rhsAt}
@@ -104,7 +105,7 @@ module _ {net : Net} (g : Legal net) (h : Gapless net) (pair : Pair) (form : (j 
   cost-fits : (j : ℕ) → j < net .m → Proper (figureOf (reducedCost (arcAt net (j + 1)) pair)) × (value (figureOf (reducedCost (arcAt net (j + 1)) pair)) ≡ cost (j + 1))
   cost-fits j l = fit-is _ (cost-exactly g h pair j l) (all-each (costFits net pair) (net .m) (rest-fits .0) j l)
 
-  pub value-fits : Proper (figureOf (valueOf net pair)) × (value (figureOf (valueOf net pair)) ≡ total N flow)
+  value-fits : Proper (figureOf (valueOf net pair)) × (value (figureOf (valueOf net pair)) ≡ LP.value N flow)
   value-fits = fit-is _ (value-exactly g h pair) (rest-fits .1)
 
   -- arc j + 1
@@ -239,8 +240,12 @@ module _ {net : Net} (g : Legal net) (h : Gapless net) (ys : List ℤ) where
   pub exactly-proven : firstNo (pairQuestions net ys) ≡ 0 ↔ Proven net ys
   exactly-proven = (passed-proven, proven-passed)
 
-  -- the flow of a proven pair is of least cost, and the two words are its cost
+  -- the value of a proven pair is in form, and exactly the program's
+  pub proven-value : Proven net ys → Proper (figureOf (valueOf net (pairIn net ys))) × (value (figureOf (valueOf net (pairIn net ys))) ≡ LP.value (programOf net) (exactPair (pairIn net ys) .flow))
+  proven-value v = value-fits g h (pairIn net ys) (form (v .in-form)) (none (v .in-form)) (v .fits)
+
+  -- its flow is of least value, and the two words are its value
   pub proven-least : (room : ℕ) → Proven net ys → Least net ys (twoWords (figureOf (valueOf net (pairIn net ys))) room)
   proven-least room v =
-      let f = value-fits g h (pairIn net ys) (form (v .in-form)) (none (v .in-form)) (v .fits) in
+      let f = proven-value v in
       record { optimal = weak-duality (programOf net) (exactPair (pairIn net ys)) (v .solved); cost = ap value (words-read _ (f .0 .operand .den-in)) ∙ f .1 }

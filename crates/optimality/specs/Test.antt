@@ -7,7 +7,8 @@ use Prim.Native.Nat.{ℕ, zero, suc}
 use lib.Dec.{leb}
 use lib.IntN.{ℤ}
 use Rattle.loops.specs.Loops.{zeros}
-use Rattle.presolve.specs.LP.{Solved, Optimal, total}
+use Rattle.presolve.specs.LP.{Solved, Optimal}
+use Rattle.presolve.specs.LP as LP
 use Rattle.fraction.specs.Exact.{fromWords}
 use Rattle.fraction.specs.Formula.{figureOf}
 use Rattle.fraction.specs.Value.{value}
@@ -69,10 +70,10 @@ pub record Proven (net : Net) (ys : List ℤ) : Type 0 where
   pub fits : allFit net (pairIn net ys) ≡ true
   pub solved : Solved (programOf net) (exactPair (pairIn net ys))
 
--- its flow is feasible, and no feasible flow costs less; the two words are its cost
+-- its flow is feasible, and no feasible flow has a smaller value; the two words are its value, the constant in it
 pub record Least (net : Net) (ys values : List ℤ) : Type 0 where
   pub optimal : Optimal (programOf net) (exactPair (pairIn net ys) .flow)
-  pub cost : value (fromWords (word values 0) (word values 1)) ≡ total (programOf net) (exactPair (pairIn net ys) .flow)
+  pub cost : value (fromWords (word values 0) (word values 1)) ≡ LP.value (programOf net) (exactPair (pairIn net ys) .flow)
 
 -- ---- a call: the words of the network and the pair, the room for values; the result and the words written
 

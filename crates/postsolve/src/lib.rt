@@ -54,6 +54,7 @@ fn old_edit(old: Old) -> Edit
     let three = old.three;
     let four = old.four;
     let none = network::no_supply_update();
+    let constant = network::no_figure();
     Edit {
         one,
         two,
@@ -62,6 +63,7 @@ fn old_edit(old: Old) -> Edit
         left: none,
         right: none,
         gone: 0,
+        constant,
     }
 }
 

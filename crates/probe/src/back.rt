@@ -16,7 +16,7 @@ fn figure_at(pair: Pair, k: usize) -> Fraction {
     network::pair::flow_at(pair, k - 5)
 }
 
-fn put_pair(told: &mut [i32; 60], pair: Pair) {
+fn put_pair(told: &mut [i32; 62], pair: Pair) {
     told[0] = 2;
     for k in 0..15 {
         let f = figure_at(pair, k);
@@ -26,14 +26,14 @@ fn put_pair(told: &mut [i32; 60], pair: Pair) {
     }
 }
 
-fn put_undone(told: &mut [i32; 60], pair: Pair, u: Undone) {
+fn put_undone(told: &mut [i32; 62], pair: Pair, u: Undone) {
     match u {
         Undone::Wide => told[0] = 1,
         Undone::Restores(r) => put_pair(told, step::restore(pair, r)),
     }
 }
 
-fn undo(told: &mut [i32; 60], k: usize, pair: Pair, x: Outcome) {
+fn undo(told: &mut [i32; 62], k: usize, pair: Pair, x: Outcome) {
     match x {
         Outcome::Passes => told[0] = 0,
         Outcome::NoFlow => told[0] = 0,
@@ -41,7 +41,7 @@ fn undo(told: &mut [i32; 60], k: usize, pair: Pair, x: Outcome) {
     }
 }
 
-pub(crate) fn answer(asked: &[i32; 204], told: &mut [i32; 60]) {
+pub(crate) fn answer(asked: &[i32; 204], told: &mut [i32; 62]) {
     let k = crate::words::number(asked[1]);
     let all = &asked[..];
     let pair = records::pair::read_pair(&all[164..], 6, 9);

@@ -91,7 +91,7 @@ fn answered(kind: i32, x: Fraction, y: Fraction) -> Told {
     }
 }
 
-pub(crate) fn answer(asked: &[i32; 204], told: &mut [i32; 60]) {
+pub(crate) fn answer(asked: &[i32; 204], told: &mut [i32; 62]) {
     let x = Fraction::from_words(asked[2], asked[3]);
     let y = Fraction::from_words(asked[4], asked[5]);
     let a = answered(asked[1], x, y);

@@ -1,7 +1,7 @@
 // One rule at one place, as in trial.rt. The first word is 0 where the rule passes, 1 for no flow, 2 for a step, 3 where
 // the record is refused; then comes what a step changes. That is four arcs (a number and seven figures, the ends as one
-// word each), two supplies (a node and a figure) and the node dropped. All of an arc or a supply is 0 where nothing is
-// put, and the figures of an arc dropped are 0.
+// word each), two supplies (a node and a figure), the node dropped, and the constant. All of an arc or a supply is 0 where
+// nothing is put, and the figures of an arc dropped are 0.
 ghost use Prim.Native.Nat.{_<_};
 use crate::trial::Tried;
 use fraction::Fraction;
@@ -10,15 +10,15 @@ use network::Edit;
 use network::SupplyUpdate;
 use step::Outcome;
 
-fn put_figure(told: &mut [i32; 60], at: usize, f: Fraction)
-    requires { ⌜ at < 59 ⌝ }
+fn put_figure(told: &mut [i32; 62], at: usize, f: Fraction)
+    requires { ⌜ at < 61 ⌝ }
 {
     let num = f.num;
     told[at] = num;
     told[at + 1] = f.den_word();
 }
 
-fn put_arc(told: &mut [i32; 60], at: usize, p: ArcUpdate)
+fn put_arc(told: &mut [i32; 62], at: usize, p: ArcUpdate)
     requires { ⌜ at < 48 ⌝ }
 {
     if p.number == 0 {
@@ -35,7 +35,7 @@ fn put_arc(told: &mut [i32; 60], at: usize, p: ArcUpdate)
     put_figure(told, at + 11, t.b);
 }
 
-fn put_supply(told: &mut [i32; 60], at: usize, s: SupplyUpdate)
+fn put_supply(told: &mut [i32; 62], at: usize, s: SupplyUpdate)
     requires { ⌜ at < 58 ⌝ }
 {
     if s.node == 0 {
@@ -45,7 +45,7 @@ fn put_supply(told: &mut [i32; 60], at: usize, s: SupplyUpdate)
     put_figure(told, at + 1, s.supply);
 }
 
-fn put_edit(told: &mut [i32; 60], c: Edit) {
+fn put_edit(told: &mut [i32; 62], c: Edit) {
     told[0] = 2;
     put_arc(told, 1, c.one);
     put_arc(told, 14, c.two);
@@ -54,9 +54,10 @@ fn put_edit(told: &mut [i32; 60], c: Edit) {
     put_supply(told, 53, c.left);
     put_supply(told, 56, c.right);
     told[59] = fraction::words::word_of(c.gone);
+    put_figure(told, 60, c.constant);
 }
 
-fn put_outcome(told: &mut [i32; 60], x: Outcome) {
+fn put_outcome(told: &mut [i32; 62], x: Outcome) {
     match x {
         Outcome::Passes => told[0] = 0,
         Outcome::NoFlow => told[0] = 1,
@@ -64,7 +65,7 @@ fn put_outcome(told: &mut [i32; 60], x: Outcome) {
     }
 }
 
-pub(crate) fn answer(asked: &[i32; 204], told: &mut [i32; 60]) {
+pub(crate) fn answer(asked: &[i32; 204], told: &mut [i32; 62]) {
     match crate::trial::try_rule(asked) {
         Tried::Refused => told[0] = 3,
         Tried::Answers(x) => put_outcome(told, x),

@@ -6,7 +6,7 @@
 ghost use Prim.Native.Nat.{_≤_};
 use optimality::Answer;
 
-fn put(told: &mut [i32; 60], number: i32, values: [i32; 4]) {
+fn put(told: &mut [i32; 62], number: i32, values: [i32; 4]) {
     told[0] = number;
     told[1] = values[0];
     told[2] = values[1];
@@ -21,7 +21,7 @@ fn number_of(a: Answer) -> i32 {
     }
 }
 
-fn test(network: &[i32], pair: &[i32], lent: usize, told: &mut [i32; 60])
+fn test(network: &[i32], pair: &[i32], lent: usize, told: &mut [i32; 62])
     requires { ⌜ lent ≤ 4 ⌝ }
 {
     let mut values = [7i32; 4];
@@ -29,7 +29,7 @@ fn test(network: &[i32], pair: &[i32], lent: usize, told: &mut [i32; 60])
     put(told, number_of(a), values);
 }
 
-pub(crate) fn answer(asked: &[i32; 204], told: &mut [i32; 60]) {
+pub(crate) fn answer(asked: &[i32; 204], told: &mut [i32; 62]) {
     let network = crate::words::number(asked[1]);
     let pair = crate::words::number(asked[2]);
     let lent = crate::words::number(asked[3]);

@@ -52,14 +52,14 @@ fn closed(net: Net, j: usize) -> Outcome {
     let supply = net.supply;
     let left = network::supply_of(supply, t.from);
     let right = network::supply_of(supply, t.to);
-    closed_arc::closed_arc(j, t, left, right)
+    closed_arc::closed_arc(net.constant, j, t, left, right)
 }
 
 // Rule k at node i, which is in use.
 fn at_node(net: Net, k: usize, i: usize) -> Outcome {
     let at = gather(net, i);
     let supply = net.supply;
-    rules::tried::try_node(supply, k, i, at.count, around(net, at))
+    rules::tried::try_node(net.constant, supply, k, i, at.count, around(net, at))
 }
 
 // Rule k at place i; it passes where there is no such rule or place.

@@ -48,8 +48,8 @@ pub(crate) fn read(input: &[u8; 26112], n: usize, asked: &mut [i32; 204])
 }
 
 // The word v from a place on.
-fn put(out: &mut [u8; 7680], at: usize, v: i32)
-    requires { ⌜ at < 7677 ⌝ }
+fn put(out: &mut [u8; 7936], at: usize, v: i32)
+    requires { ⌜ at < 7933 ⌝ }
 {
     let u = bits(v);
     out[at] = (u % 256) as u8;
@@ -59,11 +59,11 @@ fn put(out: &mut [u8; 7680], at: usize, v: i32)
 }
 
 // The words of answer n.
-pub(crate) fn write(told: &[i32; 60], out: &mut [u8; 7680], n: usize)
+pub(crate) fn write(told: &[i32; 62], out: &mut [u8; 7936], n: usize)
     requires { ⌜ n < 32 ⌝ }
 {
-    for i in 0..60 {
-        put(out, 240 * n + 4 * i, told[i]);
+    for i in 0..62 {
+        put(out, 248 * n + 4 * i, told[i]);
     }
 }
 

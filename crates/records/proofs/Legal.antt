@@ -10,7 +10,7 @@ use native.Mathlib.Omega.{arith}
 use lib.Dec.{eqb, leb}
 use lib.IntN.{ℤ}
 use lib.ListN.{length, replicate}
-use borrow.Author.Tests.{le-ltb, lt-ltb, leb-true, eqb-true}
+use borrow.Author.Tests.{le-leb, lt-leb, leb-true, eqb-true}
 use Rattle.loops.specs.Loops.{upto}
 use Rattle.loops.proofs.Laws.{all-each}
 use Rattle.fraction.specs.declared.Fraction.{Fraction}
@@ -21,7 +21,7 @@ use Rattle.network.specs.declared.Arc.{Arc}
 use Rattle.network.specs.declared.Net.{Net}
 use Rattle.network.specs.Network.{noArc, emptyNet, arcAt, supplyAt, isHere, isRoot, withArc, withSupply, withNode}
 use Rattle.records.specs.Arrays.{figureAt}
-use Rattle.records.specs.Network.{figures, roleOf, isPermitted, isInForm, isEnd, hasEnds, arcIn, isWeighted, isWeightedAt, questions, nOf, mOf, sizesRight, nodeTurn, arcTurn, netOf, readOf}
+use Rattle.records.specs.Network.{figures, arcFigure, roleOf, isPermitted, isInForm, isEnd, hasEnds, arcIn, isWeighted, isWeightedAt, questions, nOf, mOf, sizesRight, nodeTurn, arcTurn, netOf, readOf}
 use Rattle.fraction.specs.Words.{naturalOf}
 use Rattle.network.specs.Legal.{Bound, LegalArc, Legal, Gapless}
 use Rattle.records.specs.Questions.{firstNo}
@@ -30,19 +30,19 @@ use Rattle.records.proofs.Questions.{Sized, Formed, sizes-are, all-yes}
 
 -- ---- the network read, list by list
 
-nodes-are : (xs : List ℤ) (t n : ℕ) (net : Net) → n ≤ 32 → upto (nodeTurn xs t) n net ≡ record { n = net .n; m = net .m; here = puts (λ _. true) (net .here) n; supply = puts (figureAt xs t) (net .supply) n; arcs = net .arcs }
+nodes-are : (xs : List ℤ) (t n : ℕ) (net : Net) → n ≤ 32 → upto (nodeTurn xs t) n net ≡ record { n = net .n; m = net .m; constant = net .constant; here = puts (λ _. true) (net .here) n; supply = puts (λ i. figureAt xs t (i + 1)) (net .supply) n; arcs = net .arcs }
 unfolding puts upto withNode withSupply
 nodes-are xs t zero net h = refl
 nodes-are xs t (suc n) net h = rw (nodes-are xs t n net (omega (arith, add-one n)), number 32 n (omega (arith, add-one n)))
 
-arcs-are : (xs : List ℤ) (p t m : ℕ) (net : Net) → m ≤ 96 → upto (arcTurn xs p t) m net ≡ record { n = net .n; m = net .m; here = net .here; supply = net .supply; arcs = puts (arcIn xs p t) (net .arcs) m }
+arcs-are : (xs : List ℤ) (p t m : ℕ) (net : Net) → m ≤ 96 → upto (arcTurn xs p t) m net ≡ record { n = net .n; m = net .m; constant = net .constant; here = net .here; supply = net .supply; arcs = puts (arcIn xs p t) (net .arcs) m }
 unfolding puts upto withArc
 arcs-are xs p t zero net h = refl
 arcs-are xs p t (suc m) net h = rw (arcs-are xs p t m net (omega (arith, add-one m)), number 96 m (omega (arith, add-one m)))
 
-pub net-is : (xs : List ℤ) (n m : ℕ) → n ≤ 32 → m ≤ 96 → netOf xs n m ≡ record { n = n; m = m; here = puts (λ _. true) (replicate 33 false) n; supply = puts (figureAt xs (figures n m)) (replicate 33 noFigure) n; arcs = puts (arcIn xs n (figures n m)) (replicate 97 noArc) m }
+pub net-is : (xs : List ℤ) (n m : ℕ) → n ≤ 32 → m ≤ 96 → netOf xs n m ≡ record { n = n; m = m; constant = figureAt xs (figures n m) 0; here = puts (λ _. true) (replicate 33 false) n; supply = puts (λ i. figureAt xs (figures n m) (i + 1)) (replicate 33 noFigure) n; arcs = puts (arcIn xs n (figures n m)) (replicate 97 noArc) m }
 unfolding netOf
-net-is xs n m h k = rw (nodes-are xs (figures n m) n (emptyNet n m) h, arcs-are xs n (figures n m) m _ k)
+net-is xs n m h k = rw (nodes-are xs (figures n m) n (emptyNet n m _) h, arcs-are xs n (figures n m) m _ k)
 
 -- ---- what stands at each number of the network read
 
@@ -53,8 +53,8 @@ module _ (xs : List ℤ) (n m : ℕ) (h : n ≤ 32) (k : m ≤ 96) where
   pub not-here : (i : ℕ) → (i ≡ 0) ⊎ (n < i) → isHere (netOf xs n m) i ≡ false
   not-here i l = rw (net-is xs n m h k) (puts-out (λ _. true) (replicate 33 false) false n i l ∙ getD-all 33 i false)
 
-  pub supply-read : (i : ℕ) → i < n → supplyAt (netOf xs n m) (i + 1) ≡ figureAt xs (figures n m) i
-  supply-read i l = rw (net-is xs n m h k) (puts-in (figureAt xs (figures n m)) (replicate 33 noFigure) noFigure n i l (omega arith))
+  pub supply-read : (i : ℕ) → i < n → supplyAt (netOf xs n m) (i + 1) ≡ figureAt xs (figures n m) (i + 1)
+  supply-read i l = rw (net-is xs n m h k) (puts-in (λ i. figureAt xs (figures n m) (i + 1)) (replicate 33 noFigure) noFigure n i l (omega arith))
 
   pub arc-read : (j : ℕ) → j < m → arcAt (netOf xs n m) (j + 1) ≡ arcIn xs n (figures n m) j
   arc-read j l = rw (net-is xs n m h k) (puts-in (arcIn xs n (figures n m)) (replicate 97 noArc) noArc m j l (omega arith))
@@ -93,15 +93,15 @@ permitted-proper role a b (inl p) = p
 permitted-proper role a b (inr (inl p)) = absurd (a (p .0))
 permitted-proper role a b (inr (inr p)) = absurd (b (p .0))
 
-role-is : (n j r : ℕ) → r < 7 → roleOf n (n + 7 * j + r) ≡ r
+role-is : (n j r : ℕ) → r < 7 → roleOf n (arcFigure n j + r) ≡ r
 unfolding roleOf
 role-is n j r h =
-    let e : n + 7 * j + r - n ≡ 7 * j + r = omega arith in
-    rw (le-ltb (n + 7 * j + r) n (omega arith), e) (mul-add-mod-self-left 7 j r ∙ mod-eq-of-lt h)
+    let e : arcFigure n j + r - n - 1 ≡ 7 * j + r = omega arith in
+    rw (lt-leb (arcFigure n j + r) n (omega arith), e) (mul-add-mod-self-left 7 j r ∙ mod-eq-of-lt h)
 
-supply-role : (n i : ℕ) → i < n → roleOf n i ≡ 0
+node-role : (n k : ℕ) → k ≤ n → roleOf n k ≡ 0
 unfolding roleOf
-supply-role n i h = rw (lt-ltb i n h)
+node-role n k h = rw (le-leb k n h)
 
 -- ---- questions 4 and 5
 
@@ -126,9 +126,9 @@ weights-are t e = by (isZero (t .a)) refl (isRoot t) refl (isZero (t .b)) refl e
 -- ---- the network read is legal
 
 module _ (xs : List ℤ) (n m : ℕ) (s : Sized xs n m) (g : Formed xs n m) where
-  figure-of-arc : (j r : ℕ) → j < m → r < 7 → Permitted r (figureAt xs (figures n m) (n + 7 * j + r))
+  figure-of-arc : (j r : ℕ) → j < m → r < 7 → Permitted r (figureAt xs (figures n m) (arcFigure n j + r))
   figure-of-arc j r l i =
-      permitted-is r _ (rw (role-is n j r i) at (all-each (isInForm xs n (figures n m)) (figures n m) (g .in-form) (n + 7 * j + r) (omega arith)))
+      permitted-is r _ (rw (role-is n j r i) at (all-each (isInForm xs n (figures n m)) (figures n m) (g .in-form) (arcFigure n j + r) (omega arith)))
 
   node-here : (i : ℕ) → 1 ≤ i → i ≤ n → isHere (netOf xs n m) i ≡ true
   node-here i a b = let e : i - 1 + 1 ≡ i = omega arith in rw e at (here-read xs n m (s .few-nodes) (s .few-arcs) (i - 1) (omega arith))
@@ -136,7 +136,7 @@ module _ (xs : List ℤ) (n m : ℕ) (s : Sized xs n m) (g : Formed xs n m) wher
   arc-legal : (j : ℕ) → j < m → (1 ≤ arcIn xs n (figures n m) j .from) × LegalArc (netOf xs n m) (arcIn xs n (figures n m) j)
   unfolding hasEnds arcIn
   arc-legal j l =
-      let e = and-both (isEnd n (figureAt xs (figures n m) (n + 7 * j))) _ (all-each (hasEnds xs n (figures n m)) m (g .ends) j l) in
+      let e = and-both (isEnd n (figureAt xs (figures n m) (arcFigure n j))) _ (all-each (hasEnds xs n (figures n m)) m (g .ends) j l) in
       let from = end-is n _ (e .0) in
       let to = end-is n _ (e .1) in
       let w = weights-are _ (all-each (isWeightedAt xs n (figures n m)) m (g .weights) j l) in (
@@ -164,13 +164,16 @@ module _ (xs : List ℤ) (n m : ℕ) (s : Sized xs n m) (g : Formed xs n m) wher
       rw e (arc-legal (j - 1) (i .1))))
       (by-number m j)
 
+  -- the constant and the supplies are no marks
+  figure-of-node : (k : ℕ) → k ≤ n → Proper (figureAt xs (figures n m) k)
+  figure-of-node k l = permitted-proper 0 (λ z. omega arith) (λ z. omega arith) (permitted-is 0 _ (rw (node-role n k l) at (all-each (isInForm xs n (figures n m)) (figures n m) (g .in-form) k (omega arith))))
+
   supply-legal : (i : ℕ) → isHere (netOf xs n m) i ≡ true → Proper (supplyAt (netOf xs n m) i)
   supply-legal i e =
       ⊎-elim (λ o. never (let z = sym e ∙ not-here xs n m (s .few-nodes) (s .few-arcs) i o in cc))
       (λ (k : (i - 1 + 1 ≡ i) × (i - 1 < n)).
-      let f : supplyAt (netOf xs n m) i ≡ figureAt xs (figures n m) (i - 1) = rw (k .0) at (supply-read xs n m (s .few-nodes) (s .few-arcs) (i - 1) (k .1)) in
-      let p = rw (supply-role n (i - 1) (k .1)) at (all-each (isInForm xs n (figures n m)) (figures n m) (g .in-form) (i - 1) (omega arith)) in
-      rw f (permitted-proper 0 (λ z. omega arith) (λ z. omega arith) (permitted-is 0 _ p)))
+      let f : supplyAt (netOf xs n m) i ≡ figureAt xs (figures n m) i = rw (k .0) at (supply-read xs n m (s .few-nodes) (s .few-arcs) (i - 1) (k .1)) in
+      rw f (figure-of-node i (omega arith)))
       (by-number n i)
 
   formed-legal : Legal (netOf xs n m)
@@ -178,7 +181,7 @@ module _ (xs : List ℤ) (n m : ℕ) (s : Sized xs n m) (g : Formed xs n m) wher
       let is = net-is xs n m (s .few-nodes) (s .few-arcs) in
       record {
         here-long = ap (λ (t : Net). length (t .here)) is ∙ puts-long (λ _. true) (replicate 33 false) n;
-        supply-long = ap (λ (t : Net). length (t .supply)) is ∙ puts-long (figureAt xs (figures n m)) (replicate 33 noFigure) n;
+        supply-long = ap (λ (t : Net). length (t .supply)) is ∙ puts-long (λ i. figureAt xs (figures n m) (i + 1)) (replicate 33 noFigure) n;
         arcs-long = ap (λ (t : Net). length (t .arcs)) is ∙ puts-long (arcIn xs n (figures n m)) (replicate 97 noArc) m;
         few-nodes = rw is (s .few-nodes);
         few-arcs = rw is (s .few-arcs);
@@ -186,6 +189,7 @@ module _ (xs : List ℤ) (n m : ℕ) (s : Sized xs n m) (g : Formed xs n m) wher
         no-arc = ap (λ (t : Arc). t .from) (no-arc-read xs n m (s .few-nodes) (s .few-arcs) 0 (inl refl));
         nodes-beyond = λ i l. not-here xs n m (s .few-nodes) (s .few-arcs) i (inr (omega (arith, ap (λ (t : Net). t .n) is)));
         arcs-beyond = λ j l. ap (λ (t : Arc). t .from) (no-arc-read xs n m (s .few-nodes) (s .few-arcs) j (inr (omega (arith, ap (λ (t : Net). t .m) is))));
+        constant-proper = rw is (figure-of-node 0 (omega arith));
         supply-proper = supply-legal;
         unused = λ j e. ⊎-elim (λ z. z) (λ w. absurd (omega (arith, w .0))) (arc-at j);
         used = λ j l. ⊎-elim (λ z. absurd (omega (arith, ap (λ (t : Arc). t .from) z))) (λ w. w .1) (arc-at j);

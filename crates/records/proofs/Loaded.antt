@@ -7,11 +7,13 @@ use lib.IntN.{ℤ}
 use lib.ListN.{length, length-replicate}
 use Rattle.loops.specs.Loops.{upto}
 use Rattle.loops.proofs.Laws.{upto-keeps}
+use Rattle.fraction.specs.Exact.{zeroFraction}
 use Rattle.network.specs.declared.Arc.{Arc}
 use Rattle.network.specs.declared.Net.{Net}
 use Rattle.network.specs.Network.{noArc, emptyNet, withNode, withSupply}
 use Rattle.network.specs.ArcList.{noArcs, arcsIn, nodesOf, joined}
 use Rattle.network.proofs.Lists.{length-replaced, arcs-put, arcs-none}
+use Rattle.records.specs.Arrays.{figureAt}
 use Rattle.records.specs.Network.{figures, arcIn, nOf, mOf, sizesRight, nodeTurn, arcTurn, netOf, readOf, loadTurn, loaded}
 
 pub length-turns : (words : List ℤ) (n t m : ℕ) (xs : List Arc) → length (upto (loadTurn words n t) m xs) ≡ length xs
@@ -45,9 +47,9 @@ loaded-net words k l = by (sizesRight words)
     long : 96 ≤ length (noArcs k)
     long = rw (length-replicate k noArc) l
 
-    kept : upto (nodeTurn words (figures (nOf words) (mOf words))) (nOf words) (emptyNet (nOf words) (mOf words)) .arcs ≡ arcsIn (noArcs k)
-    kept = upto-keeps (λ (net : Net). net .arcs ≡ arcsIn (noArcs k)) (nodeTurn words (figures (nOf words) (mOf words))) (λ i net e. e) (nOf words) (emptyNet (nOf words) (mOf words)) (sym (arcs-none k))
+    kept : upto (nodeTurn words (figures (nOf words) (mOf words))) (nOf words) (emptyNet (nOf words) (mOf words) (figureAt words (figures (nOf words) (mOf words)) 0)) .arcs ≡ arcsIn (noArcs k)
+    kept = upto-keeps (λ (net : Net). net .arcs ≡ arcsIn (noArcs k)) (nodeTurn words (figures (nOf words) (mOf words))) (λ i net e. e) (nOf words) (emptyNet (nOf words) (mOf words) (figureAt words (figures (nOf words) (mOf words)) 0)) (sym (arcs-none k))
 
-    by : (b : Bool) → joined (nodesOf (cond b (netOf words (nOf words) (mOf words)) (emptyNet 0 0))) (arcsIn (cond b (upto (loadTurn words (nOf words) (figures (nOf words) (mOf words))) (mOf words) (noArcs k)) (noArcs k))) ≡ cond b (netOf words (nOf words) (mOf words)) (emptyNet 0 0)
-    by true = ap (joined (nodesOf (netOf words (nOf words) (mOf words)))) (sym (load-turns words (nOf words) (figures (nOf words) (mOf words)) (mOf words) (upto (nodeTurn words (figures (nOf words) (mOf words))) (nOf words) (emptyNet (nOf words) (mOf words))) (noArcs k) long kept))
-    by false = ap (joined (nodesOf (emptyNet 0 0))) (arcs-none k)
+    by : (b : Bool) → joined (nodesOf (cond b (netOf words (nOf words) (mOf words)) (emptyNet 0 0 zeroFraction))) (arcsIn (cond b (upto (loadTurn words (nOf words) (figures (nOf words) (mOf words))) (mOf words) (noArcs k)) (noArcs k))) ≡ cond b (netOf words (nOf words) (mOf words)) (emptyNet 0 0 zeroFraction)
+    by true = ap (joined (nodesOf (netOf words (nOf words) (mOf words)))) (sym (load-turns words (nOf words) (figures (nOf words) (mOf words)) (mOf words) (upto (nodeTurn words (figures (nOf words) (mOf words))) (nOf words) (emptyNet (nOf words) (mOf words) (figureAt words (figures (nOf words) (mOf words)) 0))) (noArcs k) long kept))
+    by false = ap (joined (nodesOf (emptyNet 0 0 zeroFraction))) (arcs-none k)

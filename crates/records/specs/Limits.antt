@@ -1,11 +1,11 @@
--- The least words of the lent slices (01, "Records": "network 1410 words, stack 257, .. pair 258, values 4 .., scratch 10240"), named: every other definition uses the names.
+-- The least words of the lent slices (01, "Records": "stack 257, .. pair 258, values 4 .., scratch 10240"; 02, 2026-01: "Lent network slices hold 1412 words"), named: every other definition uses the names.
 use Prim.Native.Nat.{ℕ, _+_, _*_}
 use Rattle.network.specs.Limits.{maxNodes, maxArcs, maxSteps}
 use Rattle.log.specs.Log.{logWords}
 
 -- the most figures of a network's record, and of a pair's
 abbrev pub networkFigures : ℕ
-networkFigures = maxNodes + 7 * maxArcs
+networkFigures = 1 + maxNodes + 7 * maxArcs
 
 abbrev pub pairFigures : ℕ
 pairFigures = maxNodes + maxArcs

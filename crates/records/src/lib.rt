@@ -7,6 +7,7 @@ ghost use Rattle.loops.specs.Loops.{zeros};
 ghost use Rattle.fraction.specs.Exact.{denWord};
 ghost use Rattle.fraction.specs.Words.{word, wordOf, naturalOf};
 ghost use Rattle.network.specs.Limits.{maxNodes};
+ghost use Rattle.records.specs.Limits.{networkFigures};
 ghost use Rattle.records.specs.Arrays.{figureAt, hasRoom};
 ghost use Rattle.records.specs.Network.{sizeOf};
 ghost use Rattle.records.specs.internal.Put.{sized, numsAt, densAt, putFrom};
@@ -21,7 +22,7 @@ pub mod stack;
 pub mod values;
 
 // The most figures of a network's record.
-pub const NETWORK_FIGURES: usize = MAX_NODES + 7 * MAX_ARCS;
+pub const NETWORK_FIGURES: usize = 1 + MAX_NODES + 7 * MAX_ARCS;
 
 // The most figures of a pair's record.
 pub const PAIR_FIGURES: usize = MAX_NODES + MAX_ARCS;
@@ -135,13 +136,19 @@ pub(crate) fn put_figure(f: Fraction, k: usize, out: &mut [i32], dens: &mut [i32
     loops::put(dens, k, f.den_word());
 }
 
-// The figures of the nodes 1 to n, which are the first n of a record.
-pub(crate) fn put_nodes(at: [Fraction; NODE_PLACES], n: usize, out: &mut [i32], dens: &mut [i32])
-    requires { ⌜ n ≤ maxNodes ⌝ }
-    ensures { λ _. ⌜ (now (out .exit) ≡ putFrom (numsAt at) 0 n (now (out .entry))) × (now (dens .exit) ≡ putFrom (densAt at) 0 n (now (dens .entry))) ⌝ }
+// The figures of the nodes 1 to n, from place k on.
+pub(crate) fn put_nodes(
+    at: [Fraction; NODE_PLACES],
+    n: usize,
+    k: usize,
+    out: &mut [i32],
+    dens: &mut [i32],
+)
+    requires { ⌜ (n ≤ maxNodes) × (k ≤ networkFigures) ⌝ }
+    ensures { λ _. ⌜ (now (out .exit) ≡ putFrom (numsAt at) k n (now (out .entry))) × (now (dens .exit) ≡ putFrom (densAt at) k n (now (dens .entry))) ⌝ }
 {
-    for k in 0..n {
-        put_figure(at[k + 1], k, out, dens);
+    for i in 0..n {
+        put_figure(at[i + 1], k + i, out, dens);
     }
 }
 

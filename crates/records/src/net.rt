@@ -14,7 +14,7 @@ ghost use Rattle.network.specs.ArcList.{noArcs, nodesOf, joined};
 ghost use Rattle.records.specs.Limits.{networkFigures};
 ghost use Rattle.records.specs.Arrays.{figureAt, arraysOf};
 ghost use Rattle.records.specs.Questions.{firstNo};
-ghost use Rattle.records.specs.Network.{figures, sizesRight, roleOf, isPermitted, isInForm, isEnd, hasEnds, arcIn, isWeighted, isWeightedAt, questions, nodeTurn, arcTurn, readOf, loadTurn, loaded, roleFigure, figureOf, networkOf};
+ghost use Rattle.records.specs.Network.{figures, arcFigure, sizesRight, roleOf, isPermitted, isInForm, isEnd, hasEnds, arcIn, isWeighted, isWeightedAt, questions, nodeTurn, arcTurn, readOf, loadTurn, loaded, roleFigure, figureOf, networkOf};
 ghost use Rattle.records.specs.internal.Put.{numOf, denOf, numsIn, densIn, putFrom, arcsPut};
 use crate::Size;
 use fraction::Fraction;
@@ -46,16 +46,16 @@ pub(crate) fn has_sizes(xs: &[i32]) -> bool
         Size::Off => false,
         Size::Is(n) => match crate::size_at(xs, 1, MAX_ARCS) {
             Size::Off => false,
-            Size::Is(m) => xs.len() == 2 + 2 * (n + 7 * m),
+            Size::Is(m) => xs.len() == 2 + 2 * (1 + n + 7 * m),
         },
     }
 }
 
-// Which of an arc's seven figures figure k is, from 0; of a supply 0.
+// Which of an arc's seven figures figure k is, from 0; of the constant and of a supply 0.
 fn role_of(n: usize, k: usize) -> usize
     ensures { λ r. ⌜ r ≡ roleOf n k ⌝ }
 {
-    if k < n { 0 } else { (k - n) % 7 }
+    if k <= n { 0 } else { (k - n - 1) % 7 }
 }
 
 // Whether figure k is a fraction in form, or the mark that its place permits.
@@ -100,16 +100,16 @@ fn is_end(n: usize, f: Fraction) -> bool
 
 // Whether both ends of the arc of number j + 1 are right.
 fn has_ends(xs: &[i32], n: usize, t: usize, j: usize) -> bool
-    requires { ⌜ (2 + 2 * t ≤ length (now xs)) × (n + 7 * j + 7 ≤ t) ⌝ }
+    requires { ⌜ (2 + 2 * t ≤ length (now xs)) × (arcFigure n j + 7 ≤ t) ⌝ }
     ensures { λ r. ⌜ r ≡ hasEnds (now (xs .entry)) n t j ⌝ }
 {
-    let k = n + 7 * j;
+    let k = 1 + n + 7 * j;
     is_end(n, figure_in(xs, t, k)) && is_end(n, figure_in(xs, t, k + 1))
 }
 
 // Question 4: whether all ends are whole and from 1 to n.
 fn all_ends(xs: &[i32], n: usize, t: usize, m: usize) -> bool
-    requires { ⌜ (2 + 2 * t ≤ length (now xs)) × (n + 7 * m ≤ t) ⌝ }
+    requires { ⌜ (2 + 2 * t ≤ length (now xs)) × (figures n m ≤ t) ⌝ }
     ensures { λ r. ⌜ r ≡ all (hasEnds (now (xs .entry)) n t) m ⌝ }
 {
     for j in 0..m {
@@ -122,10 +122,10 @@ fn all_ends(xs: &[i32], n: usize, t: usize, m: usize) -> bool
 
 // The arc of number j + 1.
 pub(crate) fn arc_in(xs: &[i32], n: usize, t: usize, j: usize) -> Arc
-    requires { ⌜ (2 + 2 * t ≤ length (now xs)) × (n + 7 * j + 7 ≤ t) ⌝ }
+    requires { ⌜ (2 + 2 * t ≤ length (now xs)) × (arcFigure n j + 7 ≤ t) ⌝ }
     ensures { λ r. ⌜ r ≡ arcIn (now (xs .entry)) n t j ⌝ }
 {
-    let k = n + 7 * j;
+    let k = 1 + n + 7 * j;
     let from = fraction::words::natural_of(figure_in(xs, t, k));
     let to = fraction::words::natural_of(figure_in(xs, t, k + 1));
     let cost = figure_in(xs, t, k + 2);
@@ -160,7 +160,7 @@ fn is_weighted(t: Arc) -> bool
 
 // Question 5: whether every a is nonzero, and b zero exactly where from = to.
 fn all_weighted(xs: &[i32], n: usize, t: usize, m: usize) -> bool
-    requires { ⌜ (2 + 2 * t ≤ length (now xs)) × (n + 7 * m ≤ t) ⌝ }
+    requires { ⌜ (2 + 2 * t ≤ length (now xs)) × (figures n m ≤ t) ⌝ }
     ensures { λ r. ⌜ r ≡ all (isWeightedAt (now (xs .entry)) n t) m ⌝ }
 {
     for j in 0..m {
@@ -180,7 +180,7 @@ pub fn ask(network: &[i32]) -> usize
     }
     let n = crate::number_at(network, 0);
     let m = crate::number_at(network, 1);
-    let t = n + 7 * m;
+    let t = 1 + n + 7 * m;
     if all_in_form(network, n, t) {} else {
         return 3;
     }
@@ -193,28 +193,29 @@ pub fn ask(network: &[i32]) -> usize
     0
 }
 
-// No node in use yet, of n nodes and m arcs.
-fn no_nodes(n: usize, m: usize) -> Nodes
-    ensures { λ r. ⌜ r ≡ nodesOf (emptyNet n m) ⌝ }
+// No node in use yet, of n nodes and m arcs, with a constant.
+fn no_nodes(n: usize, m: usize, constant: Fraction) -> Nodes
+    ensures { λ r. ⌜ r ≡ nodesOf (emptyNet n m constant) ⌝ }
 {
     let f = network::no_figure();
     Nodes {
         n,
         m,
+        constant,
         here: [false; NODE_PLACES],
         supply: [f; NODE_PLACES],
     }
 }
 
-// Nodes 1 to n, with their supplies, whatever the arcs.
+// The constant, and nodes 1 to n with their supplies, whatever the arcs.
 fn read_nodes(xs: &[i32], n: usize, m: usize) -> Nodes
-    requires { ⌜ (n ≤ maxNodes) × (m ≤ maxArcs) × (2 + 2 * (n + 7 * m) ≤ length (now xs)) ⌝ }
-    ensures { λ r. ⌜ ((arcs : List Arc) → joined r arcs ≡ upto (nodeTurn (now (xs .entry)) (n + 7 * m)) n (joined (nodesOf (emptyNet n m)) arcs)) ⌝ }
+    requires { ⌜ (n ≤ maxNodes) × (m ≤ maxArcs) × (2 + 2 * figures n m ≤ length (now xs)) ⌝ }
+    ensures { λ r. ⌜ ((arcs : List Arc) → joined r arcs ≡ upto (nodeTurn (now (xs .entry)) (figures n m)) n (joined (nodesOf (emptyNet n m (figureAt (now (xs .entry)) (figures n m) 0))) arcs)) ⌝ }
 {
-    let t = n + 7 * m;
-    let mut at = no_nodes(n, m);
+    let t = 1 + n + 7 * m;
+    let mut at = no_nodes(n, m, figure_in(xs, t, 0));
     for i in 0..n {
-        let f = figure_in(xs, t, i);
+        let f = figure_in(xs, t, i + 1);
         at.supply[i + 1] = f;
         at.here[i + 1] = true;
     }
@@ -223,7 +224,7 @@ fn read_nodes(xs: &[i32], n: usize, m: usize) -> Nodes
 
 // Arcs 1 to m, whatever the nodes.
 fn read_arcs(xs: &[i32], n: usize, t: usize, m: usize) -> [Arc; ARC_PLACES]
-    requires { ⌜ (m ≤ maxArcs) × (2 + 2 * t ≤ length (now xs)) × (n + 7 * m ≤ t) ⌝ }
+    requires { ⌜ (m ≤ maxArcs) × (2 + 2 * t ≤ length (now xs)) × (figures n m ≤ t) ⌝ }
     ensures { λ r. ⌜ ((nodes : Nodes) → joined nodes r ≡ upto (arcTurn (now (xs .entry)) n t) m (joined nodes (noArcs arcPlaces))) ⌝ }
 {
     let z = network::no_arc();
@@ -244,10 +245,10 @@ pub fn read(network: &[i32]) -> Net
         let m = crate::number_at(network, 1);
         return network::join(
             read_nodes(network, n, m),
-            read_arcs(network, n, n + 7 * m, m),
+            read_arcs(network, n, 1 + n + 7 * m, m),
         );
     }
-    network::empty_net(0, 0)
+    network::empty_net(0, 0, Fraction::ZERO)
 }
 
 // The nodes of a record's network.
@@ -261,14 +262,14 @@ pub fn read_beside(network: &[i32]) -> Nodes
             crate::number_at(network, 1),
         );
     }
-    no_nodes(0, 0)
+    no_nodes(0, 0, Fraction::ZERO)
 }
 
 // ---- reading into the lent list
 
 // The arcs 1 to m of a network's record.
 pub(crate) fn load_arcs(arcs: &mut [Arc], network: &[i32], n: usize, t: usize, m: usize)
-    requires { ⌜ (2 + 2 * t ≤ length (now network)) × (n + 7 * m ≤ t) ⌝ }
+    requires { ⌜ (2 + 2 * t ≤ length (now network)) × (figures n m ≤ t) ⌝ }
     ensures { λ _. ⌜ now (arcs .exit) ≡ upto (loadTurn (now (network .entry)) n t) m (now (arcs .entry)) ⌝ }
 {
     let mut j = 0;
@@ -286,7 +287,7 @@ pub fn load(arcs: &mut [Arc], network: &[i32])
     if has_sizes(network) {
         let n = crate::number_at(network, 0);
         let m = crate::number_at(network, 1);
-        load_arcs(arcs, network, n, n + 7 * m, m);
+        load_arcs(arcs, network, n, 1 + n + 7 * m, m);
     }
 }
 
@@ -316,13 +317,13 @@ fn put_seven(at: [Fraction; 7], k: usize, out: &mut [i32], dens: &mut [i32])
     }
 }
 
-// The figures of the arcs 1 to m, behind those of n nodes.
+// The figures of the arcs 1 to m, behind the constant and n supplies.
 fn put_arcs(arcs: [Arc; ARC_PLACES], n: usize, m: usize, out: &mut [i32], dens: &mut [i32])
     requires { ⌜ (n ≤ maxNodes) × (m ≤ maxArcs) ⌝ }
     ensures { λ _. ⌜ (now (out .exit) ≡ arcsPut numOf arcs n m (now (out .entry))) × (now (dens .exit) ≡ arcsPut denOf arcs n m (now (dens .entry))) ⌝ }
 {
     for j in 0..m {
-        put_seven(figures_of(arcs[j + 1]), n + 7 * j, out, dens);
+        put_seven(figures_of(arcs[j + 1]), 1 + n + 7 * j, out, dens);
     }
 }
 
@@ -332,11 +333,13 @@ fn write_figures(net: Net, out: &mut [i32])
     ensures { λ _. ⌜ now (out .exit) ≡ arraysOf (figureOf net) (figures (net .n) (net .m)) (length (now (out .entry))) ⌝ }
 {
     let mut dens = [0i32; crate::NETWORK_FIGURES];
+    let constant = net.constant;
+    crate::put_figure(constant, 0, out, &mut dens);
     let supply = net.supply;
-    crate::put_nodes(supply, net.n, out, &mut dens);
+    crate::put_nodes(supply, net.n, 1, out, &mut dens);
     let arcs = net.arcs;
     put_arcs(arcs, net.n, net.m, out, &mut dens);
-    let t = net.n + 7 * net.m;
+    let t = 1 + net.n + 7 * net.m;
     crate::write_denominators(&dens[..t], &mut out[t..]);
 }
 

@@ -135,7 +135,7 @@ fn write_figures(n: usize, m: usize, pair: Pair, out: &mut [i32])
 {
     let mut dens = [0i32; crate::PAIR_FIGURES];
     let price = pair.price;
-    crate::put_nodes(price, n, out, &mut dens);
+    crate::put_nodes(price, n, 0, out, &mut dens);
     let flow = pair.flow;
     put_flows(flow, n, m, out, &mut dens);
     let t = n + m;

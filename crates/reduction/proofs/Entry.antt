@@ -66,9 +66,9 @@ module _ (xs : List ℤ) (o s w k : ℕ) where
   run = reduced (readOf xs)
 
   -- room for the outputs, then the questions of the search
-  pub room-is : refusalOf xs o s w k ≡ cond (leb 1410 o && leb 257 s) (Search.refusalOf xs w k) 1
+  pub room-is : refusalOf xs o s w k ≡ cond (leb 1412 o && leb 257 s) (Search.refusalOf xs w k) 1
   unfolding reduceTable isRoomy Search.refusalOf
-  room-is = searched-room (leb 1410 o) (leb 257 s) (leb 10240 w && leb 96 k) (firstNo (questions xs))
+  room-is = searched-room (leb 1412 o) (leb 257 s) (leb 10240 w && leb 96 k) (firstNo (questions xs))
 
   number-of : (q : ℕ) → numberOf (answerOf q run) ≡ q
   number-of zero = ended-number (run .ends)
@@ -79,10 +79,10 @@ module _ (xs : List ℤ) (o s w k : ℕ) where
     number = ap numberOf is ∙ number-of (refusalOf xs o s w k)
 
     -- where nothing is refused, there is room, the record holds a legal network, and the answer is by how its run ended
-    yes : numberOf r ≡ 0 → (1410 ≤ o) × AllYes xs w k
+    yes : numberOf r ≡ 0 → (1412 ≤ o) × AllYes xs w k
     yes z =
-        let a = none-no 0 (leb 1410 o && leb 257 s) (sym room-is ∙ sym number ∙ z) in
-        (leb-true _ _ (and-both (leb 1410 o) _ (a .0) .0), all-yes xs w k (a .1))
+        let a = none-no 0 (leb 1412 o && leb 257 s) (sym room-is ∙ sym number ∙ z) in
+        (leb-true _ _ (and-both (leb 1412 o) _ (a .0) .0), all-yes xs w k (a .1))
 
     legal : numberOf r ≡ 0 → Legal (readOf xs)
     legal z = legal-read (yes z .1)

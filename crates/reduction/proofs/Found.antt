@@ -54,14 +54,14 @@ found {xs} {zs} s none =
 -- ---- the answer and the words, by the questions
 
 module _ (xs : List ℤ) (o s w k : ℕ) where
-  pub no-out : o < 1410 → refusalOf xs o s w k ≡ 1
-  no-out l = room-is xs o s w k ∙ rw (lt-leb 1410 o l)
+  pub no-out : o < 1412 → refusalOf xs o s w k ≡ 1
+  no-out l = room-is xs o s w k ∙ rw (lt-leb 1412 o l)
 
-  pub no-stack : 1410 ≤ o → s < 257 → refusalOf xs o s w k ≡ 1
-  no-stack a l = room-is xs o s w k ∙ rw (le-leb 1410 o a, lt-leb 257 s l)
+  pub no-stack : 1412 ≤ o → s < 257 → refusalOf xs o s w k ≡ 1
+  no-stack a l = room-is xs o s w k ∙ rw (le-leb 1412 o a, lt-leb 257 s l)
 
-  pub has-room : 1410 ≤ o → 257 ≤ s → refusalOf xs o s w k ≡ Search.refusalOf xs w k
-  has-room a b = room-is xs o s w k ∙ rw (le-leb 1410 o a, le-leb 257 s b)
+  pub has-room : 1412 ≤ o → 257 ≤ s → refusalOf xs o s w k ≡ Search.refusalOf xs w k
+  has-room a b = room-is xs o s w k ∙ rw (le-leb 1412 o a, le-leb 257 s b)
 
 pub refused : {run : Run} {out stack : List ℤ} {o s : ℕ} (p q : ℕ) → p ≡ q → (q ≡ 0 → ⊥) → out ≡ zeros o → stack ≡ zeros s → Written p run (Refused q) out stack o s
 refused p zero e n a b = absurd (n refl)

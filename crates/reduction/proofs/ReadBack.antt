@@ -5,11 +5,11 @@ use mathlib.Core.List.{List, _∷_}
 use mathlib.Core.Logic.{_⊎_, inl, inr, ⊎-elim}
 use Prim.Native.Nat.{ℕ, zero, suc, _+_, _-_, _*_, _/_, _%_, _≤_, _<_}
 use native.Mathlib.Omega.{arith}
-use lib.Dec.{ltb}
+use lib.Dec.{eqb, leb}
 use lib.IntN.{ℤ, pos}
 use lib.ListN.{length, getD, take, replicate, length-append, length-replicate}
 use lib.Seq.{length-take-le, getD-take, ext-getD}
-use borrow.Author.Tests.{le-leb, ltb-true, ltb-false, eq-eqb}
+use borrow.Author.Tests.{le-leb, leb-true, leb-false, eq-eqb, eqb-true, eqb-false}
 use Rattle.integer.specs.Gcd.{gcd-pos, gcd-le}
 use Rattle.loops.proofs.Laws.{length-build, each-all}
 use Rattle.fraction.specs.declared.Fraction.{Fraction}
@@ -25,7 +25,7 @@ use Rattle.network.proofs.Kept.{here-within}
 use Rattle.step.proofs.Lines.{split}
 use Rattle.records.specs.Questions.{firstNo}
 use Rattle.records.specs.Arrays.{figureAt, arraysOf}
-use Rattle.records.specs.Network.{figures, sizesRight, roleOf, isPermitted, isInForm, isEnd, hasEnds, arcIn, isWeighted, isWeightedAt, questions, readOf, roleFigure, figureOf, networkOf}
+use Rattle.records.specs.Network.{figures, arcFigure, sizesRight, roleOf, isPermitted, isInForm, isEnd, hasEnds, arcIn, isWeighted, isWeightedAt, questions, readOf, roleFigure, figureOf, networkOf}
 use Rattle.records.specs.Cut.{cutNetwork}
 use Rattle.records.proofs.Questions.{asked}
 use Rattle.records.proofs.Arrays.{with-room}
@@ -142,8 +142,10 @@ module _ {net : Net} (g : Legal net) (u : Gapless net) where
   figure-permitted : (k : ℕ) → k < many → isPermitted (roleOf (net .n) k) (figureOf net k) ≡ true
   unfolding roleOf figureOf
   figure-permitted k l =
-      split (ltb k (net .n)) (λ e. rw e (proper-permitted 0 _ (g .supply-proper (k + 1) (u .node-in (k + 1) (omega arith) (omega (arith, ltb-true k (net .n) e))))))
-      (λ e. rw e (role-permitted (arc-legal ((k - net .n) / 7) (let b = ltb-false k (net .n) e in omega arith)) ((k - net .n) % 7) (omega arith)))
+      split (eqb k 0) (λ z. rw (z, eqb-true k 0 z, le-leb 0 (net .n) (omega arith)) (proper-permitted 0 _ (g .constant-proper)))
+      (λ z. let ne = eqb-false k 0 z in
+      split (leb k (net .n)) (λ e. rw (z, e) (proper-permitted 0 _ (g .supply-proper k (u .node-in k (omega arith) (leb-true k (net .n) e)))))
+      (λ e. rw (z, e) (role-permitted (arc-legal ((k - net .n - 1) / 7) (let b = leb-false k (net .n) e in omega arith)) ((k - net .n - 1) % 7) (omega arith))))
 
   -- ---- words that hold the figures of such a network
 
@@ -155,12 +157,12 @@ module _ {net : Net} (g : Legal net) (u : Gapless net) where
     figure-held : (k : ℕ) → k < many → figureAt xs many k ≡ figureOf net k
     figure-held k l = w .figure k l (permitted-den (permitted-is (roleOf (net .n) k) _ (figure-permitted k l)))
 
-    role-held : (j r : ℕ) → j < net .m → r < 7 → figureAt xs many (net .n + 7 * j + r) ≡ roleFigure (arcAt net (j + 1)) r
-    role-held j r l h = figure-held (net .n + 7 * j + r) (omega arith) ∙ role-figure net j r h
+    role-held : (j r : ℕ) → j < net .m → r < 7 → figureAt xs many (arcFigure (net .n) j + r) ≡ roleFigure (arcAt net (j + 1)) r
+    role-held j r l h = figure-held (arcFigure (net .n) j + r) (omega arith) ∙ role-figure net j r h
 
-    from-held : (j : ℕ) → j < net .m → figureAt xs many (net .n + 7 * j) ≡ wholeOf (arcAt net (j + 1) .from)
+    from-held : (j : ℕ) → j < net .m → figureAt xs many (arcFigure (net .n) j) ≡ wholeOf (arcAt net (j + 1) .from)
     unfolding roleFigure
-    from-held j l = let e : net .n + 7 * j + 0 ≡ net .n + 7 * j = omega arith in rw e at (role-held j 0 l (omega arith))
+    from-held j l = let e : arcFigure (net .n) j + 0 ≡ arcFigure (net .n) j = omega arith in rw e at (role-held j 0 l (omega arith))
 
     arc-held : (j : ℕ) → j < net .m → arcIn xs (net .n) many j ≡ arcAt net (j + 1)
     unfolding arcIn roleFigure
@@ -193,19 +195,24 @@ module _ {net : Net} (g : Legal net) (u : Gapless net) where
 
     -- and they are read as the network
     net-held : ((i : ℕ) → (i ≡ 0) ⊎ (net .n < i) → supplyAt net i ≡ noFigure) → readOf xs ≡ net
+    unfolding figureOf
     net-held bare =
         read-is xs sizes-held
         ∙ rw (
           w .first,
           w .second,
           net-is xs (net .n) (net .m) (g .few-nodes) (g .few-arcs),
+          constant-held,
           puts-back (λ _. true) false (net .here) 33 (net .n) (g .here-long) (omega (arith, g .few-nodes)) (λ i l. u .node-in (i + 1) (omega arith) (omega arith)) no-node,
-          puts-back (figureAt xs many) noFigure (net .supply) 33 (net .n) (g .supply-long) (omega (arith, g .few-nodes)) supply-held bare,
+          puts-back (λ i. figureAt xs many (i + 1)) noFigure (net .supply) 33 (net .n) (g .supply-long) (omega (arith, g .few-nodes)) supply-held bare,
           puts-back (arcIn xs (net .n) many) noArc (net .arcs) 97 (net .m) (g .arcs-long) (omega (arith, g .few-arcs)) (λ j l. sym (arc-held j l)) no-arc,
         )
       where
-        supply-held : (i : ℕ) → i < net .n → supplyAt net (i + 1) ≡ figureAt xs many i
-        supply-held i l = sym (figure-held i (omega arith) ∙ supply-figure net i l)
+        constant-held : figureAt xs many 0 ≡ net .constant
+        constant-held = figure-held 0 (omega arith)
+
+        supply-held : (i : ℕ) → i < net .n → supplyAt net (i + 1) ≡ figureAt xs many (i + 1)
+        supply-held i l = sym (figure-held (i + 1) (omega arith) ∙ supply-figure net i l)
 
         no-node : (i : ℕ) → (i ≡ 0) ⊎ (net .n < i) → isHere net i ≡ false
         no-node i (inl e) = rw e (g .no-node)
@@ -216,11 +223,11 @@ module _ {net : Net} (g : Legal net) (u : Gapless net) where
         no-arc j (inr l) = g .unused j (g .arcs-beyond j l)
 
 -- a network's record
-pub network-back : (net : Net) (room : ℕ) → Legal net → Gapless net → ((i : ℕ) → (i ≡ 0) ⊎ (net .n < i) → supplyAt net i ≡ noFigure) → 1410 ≤ room → (firstNo (questions (cutNetwork net (networkOf net room))) ≡ 0) × (readOf (cutNetwork net (networkOf net room)) ≡ net)
+pub network-back : (net : Net) (room : ℕ) → Legal net → Gapless net → ((i : ℕ) → (i ≡ 0) ⊎ (net .n < i) → supplyAt net i ≡ noFigure) → 1412 ≤ room → (firstNo (questions (cutNetwork net (networkOf net room))) ≡ 0) × (readOf (cutNetwork net (networkOf net room)) ≡ net)
 unfolding networkOf
 network-back net room g u bare l = (none-held g u _ held, net-held g u _ held bare)
   where
     held : Holds (cutNetwork net (networkOf net room)) (net .n) (net .m) (figures (net .n) (net .m)) (figureOf net)
     held =
-        rw (with-room 1410 (net .n) (net .m) (figureOf net) (figures (net .n) (net .m)) room (g .few-nodes) (g .few-arcs) l)
+        rw (with-room 1412 (net .n) (net .m) (figureOf net) (figures (net .n) (net .m)) room (g .few-nodes) (g .few-arcs) l)
         (cut-holds (net .n) (net .m) (figures (net .n) (net .m)) room (figureOf net) (g .few-nodes) (g .few-arcs) (omega (arith, g .few-nodes, g .few-arcs)))

@@ -1,4 +1,5 @@
--- Demand 3: a pair that is restored is written in form and solves the network given, its flow is optimal there, and the value written is its cost.
+-- Demand 3: a pair that is restored is written in form and solves the network given, its flow is optimal there, the value written is its cost,
+-- and the reduced value is the same.
 use mathlib.Core.Path.{_≡_, refl, sym, ap, _∙_, subst}
 use mathlib.Core.Bool.{true, false}
 use mathlib.Core.List.{List, List·Memᴰ}
@@ -16,17 +17,18 @@ use Rattle.algebra.proofs.Rat.{ℚ-ring, ≤ℚ-antisym}
 use Rattle.algebra.proofs.Solver.{_:*_, :0, _:=_, ring2}
 use Rattle.algebra.proofs.Sum.{sum-congr}
 use Rattle.presolve.specs.Bounds as Bounds
-use Rattle.presolve.specs.LP.{Column, LP, Solved, InBounds, PriceRule, worth, brings, total}
+use Rattle.presolve.specs.LP.{Column, LP, Solved, InBounds, PriceRule, worth, brings}
 use Rattle.presolve.proofs.Duality.{weak-duality}
 use Rattle.presolve.proofs.Net.{row-out}
 use Rattle.presolve.specs.LP as LP
 use Rattle.fraction.specs.declared.Fraction.{Fraction}
 use Rattle.fraction.specs.declared.Worked.{Worked}
 use Rattle.fraction.specs.declared.Worked.the-variants.{Fits, Misfit}
-use Rattle.fraction.specs.Exact.{Proper, zeroFraction, fromWords}
+use Rattle.fraction.specs.Exact.{Proper, fromWords, denWord}
 use Rattle.fraction.specs.Formula.{isFit, figureOf}
 use Rattle.fraction.proofs.Laws.{never, and-both, is-proper}
 use Rattle.fraction.specs.Value.{value}
+use Rattle.fraction.proofs.Value.{value-unique}
 use Rattle.network.specs.declared.Net.{Net}
 use Rattle.network.specs.declared.pair.Pair.{Pair}
 use Rattle.fraction.specs.Words.{word}
@@ -48,7 +50,7 @@ use Rattle.rules.proofs.Whole as Whole
 use Rattle.figures.specs.Figures.{valueTurn, valueOf}
 use Rattle.optimality.specs.Test.{pairIn, pairQuestions, Proven}
 use Rattle.figures.proofs.Values.{value-exactly, column-unused}
-use Rattle.optimality.proofs.Exactly.{exactly-proven}
+use Rattle.optimality.proofs.Exactly.{exactly-proven, proven-value}
 use Rattle.search.proofs.Questions.{AllYes, legal-read}
 use Rattle.records.specs.Questions.{firstNo}
 use Rattle.records.proofs.Questions.{none-no}
@@ -61,7 +63,7 @@ use Rattle.records.specs.Cut.{cutPair}
 use Rattle.records.specs.Pair.{hasSizes, isPair, pairFigure, pairWords}
 use Rattle.records.specs.Values.{fourWords}
 use Rattle.restoration.proofs.Parts.{numbered-pair}
-use Rattle.restoration.proofs.Spread.{no-value, read-sized, read-solved}
+use Rattle.restoration.proofs.Spread.{no-value, read-sized, read-solved, read-value}
 use Rattle.records.proofs.Arrays.{with-room}
 use Rattle.records.proofs.Written.{price-written, flow-written, value-written}
 use Rattle.reduction.proofs.ReadBack.{cut-holds}
@@ -92,7 +94,7 @@ fit-some (Fits z) e = refl
 fit-some Misfit e = never cc
 
 -- it is known by the flows of the arcs
-values-same : (net : Net) (p q : Pair) (k : ℕ) → ((j : ℕ) → j < k → flowAt p (j + 1) ≡ flowAt q (j + 1)) → upto (valueTurn net p) k (Fits zeroFraction) ≡ upto (valueTurn net q) k (Fits zeroFraction)
+values-same : (net : Net) (p q : Pair) (k : ℕ) → ((j : ℕ) → j < k → flowAt p (j + 1) ≡ flowAt q (j + 1)) → upto (valueTurn net p) k (Fits (net .constant)) ≡ upto (valueTurn net q) k (Fits (net .constant))
 unfolding upto
 values-same net p q zero h = refl
 values-same net p q (suc k) h = rw (values-same net p q k (λ j l. h j (omega (arith, add-one k))), h k (omega (arith, add-one k)))
@@ -156,7 +158,7 @@ module _ {net : Net} (g : Legal net) (pair : Pair) (z : Sized pair) (o : ℕ) (r
         out-of-use c i k e = rw (row-out (exactOf net) (sane g) c i k (false-not e)) (ring2 ℚ-ring (exactPair pair .price i) (exactPair back .price i) (λ p q. :0 :* p := :0 :* q) refl)
 
     -- and the value read back is the cost of the flow read back
-    cost-written : isFit (valueOf net pair) ≡ true → (x : Fraction) (v : ℕ) → value (fromWords (word (fourWords x (figureOf (valueOf net pair)) v) 2) (word (fourWords x (figureOf (valueOf net pair)) v) 3)) ≡ total (programOf net) (exactPair back .flow)
+    cost-written : isFit (valueOf net pair) ≡ true → (x : Fraction) (v : ℕ) → value (fromWords (word (fourWords x (figureOf (valueOf net pair)) v) 2) (word (fourWords x (figureOf (valueOf net pair)) v) 3)) ≡ LP.value (programOf net) (exactPair back .flow)
     unfolding valueOf
     cost-written fits x v =
         let e = value-exactly g gap back _ (values-same net back pair (net .m) flow-same ∙ fit-some (valueOf net pair) fits) in
@@ -211,8 +213,8 @@ module _ (xs zs ys : List ℤ) (o v w k : ℕ) where
     proven : Proven (reducedNet run) ys
     proven = exactly-proven (packed-legal left-legal) (packed-gapless left-legal) ys .0 (y .tested)
 
-    -- the pair at the end of the way is in form and solves the network given
-    brought : Sized (pairBack way) × Solved (programOf net) (exactPair (pairBack way))
+    -- the pair at the end of the way is in form and solves the network given, at the value that it has in what is left
+    brought : Sized (pairBack way) × Solved (programOf net) (exactPair (pairBack way)) × (LP.value (programOf net) (exactPair (pairBack way) .flow) ≡ LP.value (programOf (run .net)) (exactPair (spreadOf (run .net) (pairIn (reducedNet run) ys)) .flow))
     unfolding broughtBack
     brought =
         Whole.restored net (legal-read (y .asked)) (spreadOf (run .net) (pairIn (reducedNet run) ys)) (read-sized (run .net) left-legal ys (proven .in-form)) (read-solved (run .net) left-legal ys (proven .in-form) (proven .solved)) (arrived net way (y .fits) .0)
@@ -231,6 +233,14 @@ module _ (xs zs ys : List ℤ) (o v w k : ℕ) where
           cost = cost-written g (pairBack way) (brought .0) o (y .room) gap (arrived net way (y .fits) .1) (reducedValue run ys) v;
         }
 
+    -- the reduced value and the original's are one fraction: both are exact and in form
+    same-value : reducedValue run ys ≡ originalValue net way
+    same-value =
+        let g = legal-read (y .asked) in
+        let left = proven-value (packed-legal left-legal) (packed-gapless left-legal) ys proven in
+        let given = value-exactly g (read-gapless xs (y .asked .asked)) (pairBack way) _ (fit-some _ (arrived net way (y .fits) .1)) in
+        value-unique _ _ (left .0) (given .0) (left .1 ∙ sym (read-value (run .net) left-legal ys (proven .in-form)) ∙ sym (brought .2) ∙ sym (given .1))
+
   restored-is : (q : ℕ) → answerOf q ≡ Restored → q ≡ 0
   restored-is zero e = refl
   restored-is (suc q) e = never cc
@@ -240,3 +250,8 @@ module _ (xs zs ys : List ℤ) (o v w k : ℕ) where
   restored-optimum a p =
       let z = restored-is (refusalOf xs zs ys o v w k) (sym (a .result) ∙ p) in
       rw (rw z at (a .out-is), rw z at (a .values-is)) (optimum (restores z))
+
+  pub restored-same : {r : Answer} {out values : List ℤ} → Written (refusalOf xs zs ys o v w k) net run ys r out values o v → r ≡ Restored → (word values 0 ≡ word values 2) × (word values 1 ≡ word values 3)
+  restored-same a p =
+      let z = restored-is (refusalOf xs zs ys o v w k) (sym (a .result) ∙ p) in
+      rw (rw z at (a .values-is)) (let e = same-value (restores z) in (ap (λ (f : Fraction). f .num) e, ap (λ (f : Fraction). denWord (f .den)) e))

@@ -1,5 +1,5 @@
 -- The parts of a call make up the whole.
-use mathlib.Core.Path.{_≡_, refl, sym, ap, ap₂, _∙_, subst}
+use mathlib.Core.Path.{_≡_, refl, sym, ap, ap₂, _∙_, subst, subst₂}
 use mathlib.Core.Bool.{Bool, true, false, cond, _&&_}
 use mathlib.Core.List.{List, _++_}
 use Prim.Native.Nat.{ℕ, zero, suc, _+_, _*_, _≤_, _<_}
@@ -13,11 +13,12 @@ use Rattle.fraction.specs.declared.Fraction.{Fraction}
 use Rattle.fraction.specs.Formula.{isFit, figureOf}
 use Rattle.network.specs.declared.Arc.{Arc}
 use Rattle.network.specs.declared.Net.{Net}
+use Rattle.network.specs.declared.Nodes.{Nodes}
 use Rattle.network.specs.declared.pair.Pair.{Pair}
-use Rattle.network.specs.ArcList.{arcsIn, joined}
+use Rattle.network.specs.ArcList.{arcsIn, nodesOf, joined}
 use Rattle.step.specs.declared.Next.{Next}
 use Rattle.step.specs.Run.{Run, backOf, Way, wide, at, wayBack}
-use Rattle.rules.specs.Table.{rules, nextOf, reduced}
+use Rattle.rules.specs.Table.{rules, reduced}
 use Rattle.records.specs.Questions.{Question, firstNo}
 use Rattle.records.specs.Network.{questions, readOf}
 use Rattle.records.specs.Logged.{stackWord, isStackOf}
@@ -37,7 +38,6 @@ use Rattle.postsolve.specs.Postsolve.{arcsBack}
 use Rattle.postsolve.proofs.Reduced.{arcs-given}
 use Rattle.reduction.proofs.Found.{Found}
 use Rattle.reduction.proofs.Entry.{searched-room}
-use Rattle.reduction.proofs.Sizes.{run-sizes}
 use Rattle.restoration.specs.declared.Answer.{Answer}
 use Rattle.restoration.specs.declared.Answer.the-variants.{Restored, Refused}
 use Rattle.restoration.specs.declared.Offer.{Offer}
@@ -114,32 +114,6 @@ module _ {net : Net} {x : Fraction} {way : Way} {out values : List ℤ} {o v : �
   pub ended-yes : (pair : Pair) → way ≡ at pair → isFit (valueOf net pair) ≡ true → out ≡ pairWords (net .n) (net .m) pair o → values ≡ fourWords x (figureOf (valueOf net pair)) v → Ended net x way Restored out values o v
   ended-yes pair e f a c = rw e (record { result = rw f; out-is = rw f a; values-is = rw f c })
 
--- it asks for the network's sizes and arcs alone
-module _ (p net : Net) (n-is : p .n ≡ net .n) (m-is : p .m ≡ net .m) (arcs-is : p .arcs ≡ net .arcs) where
-  value-on : (pair : Pair) → valueOf p pair ≡ valueOf net pair
-  unfolding valueOf
-  value-on pair = ap₂ (λ (m : ℕ) (arcs : List Arc). valueOf (record { n = net .n; m = m; here = net .here; supply = net .supply; arcs = arcs }) pair) m-is arcs-is
-
-  back-on : (way : Way) → isBack p way ≡ isBack net way
-  back-on wide = refl
-  back-on (at pair) = ap isFit (value-on pair)
-
-  pub ended-on : {x : Fraction} {way : Way} {r : Answer} {out values : List ℤ} {o v : ℕ} → Ended p x way r out values o v → Ended net x way r out values o v
-  ended-on {x} {way} {o = o} {v} e =
-      record {
-        result = e .result ∙ ap (λ b. answerOf (cond b 0 13)) (back-on way);
-        out-is = e .out-is ∙ ap (λ b. outOf (cond b 0 13) p way o) (back-on way) ∙ outs (isBack net way);
-        values-is = e .values-is ∙ ap (λ b. valuesWith (cond b 0 13) x p way v) (back-on way) ∙ values-are (isBack net way);
-      }
-    where
-      outs : (b : Bool) → outOf (cond b 0 13) p way o ≡ outOf (cond b 0 13) net way o
-      outs true = ap₂ (λ n m. pairWords n m (pairBack way) o) n-is m-is
-      outs false = refl
-
-      values-are : (b : Bool) → valuesWith (cond b 0 13) x p way v ≡ valuesWith (cond b 0 13) x net way v
-      values-are true = ap (λ y. fourWords x (figureOf y) v) (value-on (pairBack way))
-      values-are false = refl
-
 -- ---- over a run that was found
 
 module _ {xs log : List ℤ} {ran : Ran} {arcs : List Arc} {w k : ℕ} (f : Found xs ran log arcs w k) where
@@ -162,18 +136,14 @@ module _ {xs log : List ℤ} {ran : Ran} {arcs : List Arc} {w k : ℕ} (f : Foun
       stack-is : isStackOf log (ran .steps) zs ≡ isStack run zs
       stack-is = few-enough log (ran .steps) zs (f .few) ∙ ap (λ n. sameWords zs (build (1 + 2 * n) (stackWord log n))) (sym (f .steps-is)) ∙ ap (sameWords zs) (recorded log (run .steps) (f .holds))
 
-  -- 13, and the words
-  pub went-back : (zs ys : List ℤ) {there : Offer} {way : Way} {p : Net} {r : Answer} {out values : List ℤ} {o v : ℕ} → Offers (run .net) ys (firstNo (earlier run zs ys)) there → there .refused ≡ 0 → way ≡ wayBack (backOf rules) (run .steps) (at (there .pair))
-      → p .n ≡ ran .nodes .n → p .m ≡ ran .nodes .m → p .arcs ≡ readOf xs .arcs → Ended p (there .value) way r out values o v
+  -- 13, and the words; the network given is read from its record beside the arcs, which are put back
+  pub went-back : (zs ys : List ℤ) {there : Offer} {way : Way} {nodes : Nodes} {view : List Arc} {r : Answer} {out values : List ℤ} {o v : ℕ} → Offers (run .net) ys (firstNo (earlier run zs ys)) there → there .refused ≡ 0 → way ≡ wayBack (backOf rules) (run .steps) (at (there .pair))
+      → nodes ≡ nodesOf (readOf xs) → view ≡ readOf xs .arcs → Ended (joined nodes view) (there .value) way r out values o v
       → (q : ℕ) → q ≡ firstNo (runTable (readOf xs) run zs ys) → Written q (readOf xs) run ys r out values o v
   unfolding broughtBack
-  went-back zs ys {there} {way} {p} {r} {out} {values} {o} {v} h z b pn pm pa e q t =
-      rw (t ∙ offer-yes (readOf xs) run zs ys none)
-      (whole (subst (λ (y : Way). Ended (readOf xs) (there .value) y r out values o v) back (ended-on p (readOf xs) (pn ∙ (ap (λ (t : Net). t .n) (f .net-is) ∙ same .0)) (pm ∙ (ap (λ (t : Net). t .m) (f .net-is) ∙ same .1)) pa e)))
+  went-back zs ys {there} {way} {nodes} {view} {r} {out} {values} {o} {v} h z b n a e q t =
+      rw (t ∙ offer-yes (readOf xs) run zs ys none) (whole (subst₂ (λ (net : Net) (y : Way). Ended net (there .value) y r out values o v) (ap₂ joined n a) back e))
     where
-      same : (run .net .n ≡ readOf xs .n) × (run .net .m ≡ readOf xs .m)
-      same = run-sizes nextOf 128 (readOf xs)
-
       none : firstNo (earlier run zs ys) ≡ 0
       none = sym (h .refused-is) ∙ z
 

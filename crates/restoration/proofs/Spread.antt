@@ -15,6 +15,7 @@ use Rattle.algebra.specs.Rat.{ℚ, _*ℚ_, 0ℚ}
 use Rattle.algebra.proofs.Rat.{ℚ-ring, invℚ-zero}
 use Rattle.algebra.specs.Frac.{frac}
 use Rattle.presolve.specs.LP.{Solved}
+use Rattle.presolve.specs.LP as LP
 use Rattle.fraction.specs.declared.Fraction.{Fraction}
 use Rattle.fraction.specs.Exact.{Proper, noFigure, zeroFraction}
 use Rattle.fraction.specs.Value.{value}
@@ -29,7 +30,7 @@ use Rattle.records.specs.Pair.{isPair, pairOf}
 use Rattle.records.proofs.Paired.{price-proper, flow-proper}
 use Rattle.survivors.specs.Survivors.{rankOf, arcRank, packedOf, spreadOf}
 use Rattle.survivors.proofs.Packed.{packed-legal}
-use Rattle.survivors.proofs.Survivors.{spread, survivors-solved, node-number, arc-number}
+use Rattle.survivors.proofs.Survivors.{spread, survivors-sound, node-number, arc-number}
 use Rattle.step.proofs.Figures.{Figured, Sized, pair-is}
 use Rattle.step.proofs.Lines.{split}
 
@@ -74,6 +75,9 @@ module _ (net : Net) (g : Legal net) (ys : List ℤ) (form : isPair ys (packedOf
       pair-is _ _ _ _ (those-value 96 (isUsed net) (λ j. flowAt pair (arcRank net j)) (λ j l. rw (List·getD-eq-default (net .arcs) noArc {n = j} (omega (arith, g .arcs-long)))))
       (those-value 32 (isHere net) (λ i. priceAt pair (rankOf net i)) (λ i l. List·getD-eq-default (net .here) false {n = i} (omega (arith, g .here-long))))
 
-  -- and, where it solves that, solves the whole
+  -- solves the whole, where it solves that, and has the same value there
   pub read-solved : Solved (programOf (packedOf net)) (exactPair pair) → Solved (programOf net) (exactPair (spreadOf net pair))
-  read-solved s = rw spread-is (survivors-solved net g (exactPair pair) s)
+  read-solved s = rw spread-is (survivors-sound g .solved (exactPair pair) s)
+
+  pub read-value : LP.value (programOf net) (exactPair (spreadOf net pair) .flow) ≡ LP.value (programOf (packedOf net)) (exactPair pair .flow)
+  read-value = rw spread-is (survivors-sound g .same-value (exactPair pair))

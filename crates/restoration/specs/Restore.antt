@@ -7,7 +7,7 @@ use Prim.Native.Nat.{ℕ, zero, suc}
 use lib.Dec.{leb}
 use lib.IntN.{ℤ}
 use Rattle.loops.specs.Loops.{zeros}
-use Rattle.presolve.specs.LP.{Solved, Optimal, total}
+use Rattle.presolve.specs.LP.{Solved, Optimal}
 use Rattle.presolve.specs.LP as LP
 use Rattle.fraction.specs.declared.Fraction.{Fraction}
 use Rattle.fraction.specs.Exact.{fromWords}
@@ -138,9 +138,9 @@ pub record Optimum (net : Net) (run : Run) (ys out values : List ℤ) : Type 0 w
   -- the words written are a pair in form of the network's sizes, and the pair solves it: balanced, within bounds, keeping the price rule
   pub in-form : isPair (cutPair net out) (net .n) (net .m) ≡ true
   pub solved : Solved (programOf net) (exactPair (writtenPair net out))
-  -- its flow is feasible, every feasible flow costs at least as much, and the cost written is its cost
+  -- its flow is feasible, every feasible flow costs at least as much, and the value written is its cost, with the network's constant
   pub optimal : Optimal (programOf net) (exactPair (writtenPair net out) .flow)
-  pub cost : value (fromWords (word values 2) (word values 3)) ≡ total (programOf net) (exactPair (writtenPair net out) .flow)
+  pub cost : value (fromWords (word values 2) (word values 3)) ≡ LP.value (programOf net) (exactPair (writtenPair net out) .flow)
 
 -- ---- a call: the words of the network, the stack and the pair, the lengths of the lent pair, values, scratch and arc list; the result, all words written, and the records
 
@@ -157,3 +157,5 @@ pub record Restoration (xs zs ys : List ℤ) (o v w k : ℕ) (r : Answer) (out v
   -- 6 only where the network given has no feasible flow, in fractions of any width
   pub flowless : numberOf r ≡ 6 → LP.NoFlow (programOf (readOf xs))
   pub optimum : r ≡ Restored → Optimum (readOf xs) (reduced (readOf xs)) ys out values
+  -- "The reduced and the restored value are then equal for every pair that restoring brings back" (02, 2026-01): the two values written are the same words
+  pub same-values : r ≡ Restored → (word values 0 ≡ word values 2) × (word values 1 ≡ word values 3)

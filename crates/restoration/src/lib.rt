@@ -165,7 +165,8 @@ fn restore_in(
         if there.refused == 0 {
             let b = postsolve::undo_steps(scratch, ran.steps, there.pair, arcs);
             let first = network::list::view(arcs);
-            return finish_at(ran.nodes, first, there.value, b, out, values);
+            let given = records::net::read_beside(network);
+            return finish_at(given, first, there.value, b, out, values);
         }
         return Answer::Refused(there.refused);
     }

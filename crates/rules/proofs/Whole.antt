@@ -74,6 +74,6 @@ module _ (net : Net) (g : Legal net) where
   pub flowless : (k i : ℕ) → reduced net .ends ≡ Refuted k i → LP.NoFlow (programOf net)
   flowless = whole .flowless
 
-  -- a pair that solves what is left, brought back, is in form and solves the network given
-  pub restored : (pair : Pair) → Sized pair → LP.Solved (programOf (reduced net .net)) (exactPair pair) → {q : Pair} → wayBack (backOf rules) (reduced net .steps) (at pair) ≡ at q → Sized q × LP.Solved (programOf net) (exactPair q)
+  -- a pair that solves what is left, brought back, is in form and solves the network given, at the same value
+  pub restored : (pair : Pair) → Sized pair → LP.Solved (programOf (reduced net .net)) (exactPair pair) → {q : Pair} → wayBack (backOf rules) (reduced net .steps) (at pair) ≡ at q → Sized q × LP.Solved (programOf net) (exactPair q) × (LP.value (programOf net) (exactPair q .flow) ≡ LP.value (programOf (reduced net .net)) (exactPair pair .flow))
   restored = restored-solved whole

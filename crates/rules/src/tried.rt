@@ -43,12 +43,12 @@ pub fn is_closed(t: Arc) -> bool
 }
 
 // Rule 1 at arc j, t.
-pub fn at_arc(supply: [Fraction; NODE_PLACES], j: usize, t: Arc) -> Found
-    ensures { λ r. ⌜ r ≡ foundOf (orElse 1 j (closed j t (getD supply (t .from) noFigure) (getD supply (t .to) noFigure)) Stops) ⌝ }
+pub fn at_arc(constant: Fraction, supply: [Fraction; NODE_PLACES], j: usize, t: Arc) -> Found
+    ensures { λ r. ⌜ r ≡ foundOf (orElse 1 j (closed constant j t (getD supply (t .from) noFigure) (getD supply (t .to) noFigure)) Stops) ⌝ }
 {
     let left = network::supply_of(supply, t.from);
     let right = network::supply_of(supply, t.to);
-    crate::found::answer(1, j, closed_arc::closed_arc(j, t, left, right))
+    crate::found::answer(1, j, closed_arc::closed_arc(constant, j, t, left, right))
 }
 
 // ---- the rules of nodes
@@ -105,34 +105,36 @@ pub fn may_apply(asks: Asks, r: Fraction) -> bool
 
 // Rule k at node i, by its degree and the arcs there: the one place that chooses a step by the rule's number.
 pub fn try_node(
+    constant: Fraction,
     supply: [Fraction; NODE_PLACES],
     k: usize,
     i: usize,
     degree: usize,
     near: Around,
 ) -> Outcome
-    ensures { λ x. ⌜ x ≡ ruleOf rules k .trial .by supply i degree near ⌝ }
+    ensures { λ x. ⌜ x ≡ ruleOf rules k .trial .by constant supply i degree near ⌝ }
 {
     let r = network::supply_of(supply, i);
     match k {
-        2 => bare_node::bare_node(i, degree, r),
-        3 => single_arc::single_arc(supply, i, degree, near.one),
-        5 => two_arcs::two_arcs(supply, i, degree, near.one, near.two),
-        6 => crossing::crossing(i, degree, r, near),
+        2 => bare_node::bare_node(constant, i, degree, r),
+        3 => single_arc::single_arc(constant, supply, i, degree, near.one),
+        5 => two_arcs::two_arcs(constant, supply, i, degree, near.one, near.two),
+        6 => crossing::crossing(constant, i, degree, r, near),
         _ => Outcome::Passes,
     }
 }
 
 pub fn at_node(
+    constant: Fraction,
     supply: [Fraction; NODE_PLACES],
     k: usize,
     i: usize,
     degree: usize,
     near: Around,
 ) -> Found
-    ensures { λ x. ⌜ x ≡ foundOf (orElse k i (ruleOf rules k .trial .by supply i degree near) Stops) ⌝ }
+    ensures { λ x. ⌜ x ≡ foundOf (orElse k i (ruleOf rules k .trial .by constant supply i degree near) Stops) ⌝ }
 {
-    crate::found::answer(k, i, try_node(supply, k, i, degree, near))
+    crate::found::answer(k, i, try_node(constant, supply, k, i, degree, near))
 }
 
 // ---- rule 4

@@ -57,10 +57,10 @@ module _ {net : Net} (g : Legal net) where
   -- rule k of nodes, which asks for `asks`, at node i
   module _ (ds : List ℕ) (are : AreDegreesTo net (net .m) ds) (i : ℕ) (m : i < 33) (k : ℕ) (n : isOfNodes k ≡ true) {asks : Asks} (q : asks ≡ asksOf k) where
     -- it answers by what it is given
-    pub answered : (eqb (getD ds i 0) (asks .degree) && isHere net i) ≡ true → {near : Around} → Near net i (asks .degree) near → {x : Found} → x ≡ foundOf (orElse k i (ruleOf rules k .trial .by (net .supply) i (asks .degree) near) Stops) → x ≡ foundOf (orElse k i (ruleOf rules k .at net i) Stops)
+    pub answered : (eqb (getD ds i 0) (asks .degree) && isHere net i) ≡ true → {near : Around} → Near net i (asks .degree) near → {x : Found} → x ≡ foundOf (orElse k i (ruleOf rules k .trial .by (net .constant) (net .supply) i (asks .degree) near) Stops) → x ≡ foundOf (orElse k i (ruleOf rules k .at net i) Stops)
     answered e {near} a x =
         let b = and-both (eqb (getD ds i 0) (asks .degree)) _ e in
-        let given : Given net (net .supply) i (asks .degree) near = record { legal = g; here = b .1; supplies = refl; degree = sym (degrees-are ds are i (here-number g i (b .1) .0) m) ∙ eqb-true _ _ (b .0); arcs = a } in
+        let given : Given net (net .constant) (net .supply) i (asks .degree) near = record { legal = g; here = b .1; constant-is = refl; supplies = refl; degree = sym (degrees-are ds are i (here-number g i (b .1) .0) m) ∙ eqb-true _ _ (b .0); arcs = a } in
         x ∙ ap (λ o. foundOf (orElse k i o Stops)) (at-nodes k n .given given)
 
     -- where it is not in use or not of that degree, or not of that supply, the rule passes

@@ -6,6 +6,7 @@ use Prim.Native.Nat.{ℕ, _-_, _≤_}
 use lib.Dec.{leb}
 use lib.IntN.{ℤ}
 use lib.ListN.{length, drop}
+use Rattle.fraction.specs.Exact.{zeroFraction}
 use Rattle.network.specs.declared.Arc.{Arc}
 use Rattle.network.specs.declared.Net.{Net}
 use Rattle.network.specs.Limits.{maxArcs}
@@ -27,7 +28,7 @@ unfoldable pub refusalOf : List ℤ → ℕ → ℕ → ℕ
 refusalOf xs log arcs = firstNo (1 asks (leb scratchRoom log && leb maxArcs arcs) ∷ questions xs)
 
 abbrev pub refusedBy : ℕ → Ran
-refusedBy q = record { refused = q; nodes = nodesOf (emptyNet 0 0); steps = 0; ends = Stops }
+refusedBy q = record { refused = q; nodes = nodesOf (emptyNet 0 0 zeroFraction); steps = 0; ends = Stops }
 
 -- what the search finds in what is left
 abbrev pub endsOf : Ends → Next

@@ -13,6 +13,7 @@ ghost use Rattle.search.specs.internal.Progress.{begun, noted, moved, en
 ghost use Rattle.rules.specs.Table.{reduced};
 ghost use Rattle.costly_arc.specs.Seen.{nothingSeen};
 use costly_arc::Seen;
+use fraction::Fraction;
 use network::Arc;
 use network::Edit;
 use network::Nodes;
@@ -177,7 +178,7 @@ fn question(network: &[i32], log: usize, arcs: usize) -> usize
 fn refuse(q: usize) -> Ran
     ensures { λ r. ⌜ r ≡ refusedBy q ⌝ }
 {
-    let nodes = network::nodes_of(network::empty_net(0, 0));
+    let nodes = network::nodes_of(network::empty_net(0, 0, Fraction::ZERO));
     let ends = Ends::Stops;
     Ran {
         refused: q,

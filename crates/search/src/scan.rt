@@ -37,7 +37,7 @@ pub(crate) fn scan_closed(nodes: Nodes, arcs: &[Arc]) -> Found
     while j <= nodes.m {
         if rules::tried::is_closed(network::list::read(arcs, j)) {
             let supply = nodes.supply;
-            let x = rules::tried::at_arc(supply, j, network::list::read(arcs, j));
+            let x = rules::tried::at_arc(nodes.constant, supply, j, network::list::read(arcs, j));
             if x.found {
                 return x;
             }
@@ -125,7 +125,7 @@ pub(crate) fn scan_nodes(nodes: Nodes, arcs: &[Arc], degrees: Degrees, k: usize)
         if has_degree(nodes.here[i], degrees.at[i], d) {
             if rules::tried::may_apply(asks, nodes.supply[i]) {
                 let near = gather(arcs, i, d);
-                let x = rules::tried::at_node(nodes.supply, k, i, d, near);
+                let x = rules::tried::at_node(nodes.constant, nodes.supply, k, i, d, near);
                 if x.found {
                     return x;
                 }

@@ -39,14 +39,14 @@ use Rattle.step.specs.declared.Outcome.{Outcome}
 use Rattle.step.specs.declared.Outcome.the-variants.{Passes, NoFlow, Changes}
 use Rattle.step.specs.declared.Restored.{Restored}
 use Rattle.step.specs.declared.Undone.the-variants.{Restores}
-use Rattle.step.specs.Dropped.{supplyLess, dropping}
+use Rattle.step.specs.Dropped.{supplyLess, costAdded, dropping}
 use Rattle.step.specs.Outcome.{onlyWhere}
 use Rattle.step.specs.Back.{oldOne, restored}
 use Rattle.step.proofs.Frame.{no-level}
 use Rattle.step.proofs.Touch.{touching-first}
 use Rattle.step.proofs.Exactly.{listed-node, rhs-is, spokeOf, alone}
 use Rattle.step.proofs.Lines.{Answers, only-met, flow-met, fits-met, not-shown, not-changed, figure-met, restored-is}
-use Rattle.step.proofs.Removing.{supply-less, dropped-framed, level-less, one-removed, after}
+use Rattle.step.proofs.Removing.{supply-less, cost-added, dropped-framed, level-less, one-removed}
 use Rattle.step.proofs.Node.{AtNode, ArcsAt, arcs-here}
 use Rattle.step.proofs.Figures.{Sized, Holds, itself, flow-put, price-put, over-exactly}
 use Rattle.step.proofs.Laws.{supply-small, no-old, Right, right-of, RuleLaws}
@@ -73,21 +73,23 @@ abbrev Outside : Arc → Fraction → Type 0
 Outside t v = (isLess v (t .lower) ≡ true) ⊎ (isLess (t .upper) v ≡ true)
 
 -- or within them; this is the change
-record Forced (i j : ℕ) (t : Arc) (w : Side) (r r′ v : Fraction) (x : Outcome) : Type 0 where
+record Forced (constant : Fraction) (i j : ℕ) (t : Arc) (w : Side) (r r′ v : Fraction) (x : Outcome) : Type 0 where
   s : Fraction
+  k : Fraction
   not-below : isLess v (t .lower) ≡ false
   not-above : isLess (t .upper) v ≡ false
   supply : supplyLess (w .other) r′ (w .o) v ≡ Fits s
-  is : Changes (record { edit = dropping j (w .other) s 0 noFigure i; old = oldOne i r (record { number = j; arc = t }) }) ≡ x
+  cost : costAdded constant (t .cost) v ≡ Fits k
+  is : Changes (record { edit = dropping j (w .other) s 0 noFigure i k; old = oldOne i r (record { number = j; arc = t }) }) ≡ x
 
-single-met : (net : Net) (i : ℕ) {x : Outcome} → Answers x → singleArc net i ≡ x → (m : Single net i x) × ((Outside (arcAt net (arc net i)) (m .v) × (NoFlow ≡ x)) ⊎ Forced i (arc net i) (arcAt net (arc net i)) (side net i) (supplyAt net i) (supplyAt net (side net i .other)) (m .v) x)
+single-met : (net : Net) (i : ℕ) {x : Outcome} → Answers x → singleArc net i ≡ x → (m : Single net i x) × ((Outside (arcAt net (arc net i)) (m .v) × (NoFlow ≡ x)) ⊎ Forced (net .constant) i (arc net i) (arcAt net (arc net i)) (side net i) (supplyAt net i) (supplyAt net (side net i .other)) (m .v) x)
 unfolding singleArc single forcedOut
 single-met net i a e =
     let h = only-met a _ _ e in
     let d = only-met a _ _ (h .1) in
     let v = fits-met a _ _ (d .1) in (
       record { here = h .0; single = eqb-true _ _ (d .0); v = v .0; flow = v .1 },
-      ⊎-elim (λ o. inl (inl (o .0), o .1)) (λ l. ⊎-elim (λ o. inl (inr (o .0), o .1)) (λ u. let s = fits-met a _ _ (u .1) in inr (record { s = s .0; not-below = l .0; not-above = u .0; supply = s .1; is = s .2 })) (flow-met _ _ (l .1))) (flow-met _ _ (v .2)),
+      ⊎-elim (λ o. inl (inl (o .0), o .1)) (λ l. ⊎-elim (λ o. inl (inr (o .0), o .1)) (λ u. let s = fits-met a _ _ (u .1) in let k = fits-met a _ _ (s .2) in inr (record { s = s .0; k = k .0; not-below = l .0; not-above = u .0; supply = s .1; cost = k .1; is = k .2 })) (flow-met _ _ (l .1))) (flow-met _ _ (v .2)),
     )
 
 -- ---- in exact numbers
@@ -124,9 +126,9 @@ module _ (net : Net) (g : Legal net) (i : ℕ) {x : Outcome} (m : Single net i x
   flow-is : value v ≡ forced N i (spokeOf net i j)
   flow-is = over-gives (given (supplyAt net i)) (given (w .e)) v (m .flow) ∙ ap (λ r. r *ℚ invℚ (value (w .e))) (sym (rhs-is net i (m .here)))
 
-  removed : {x : Fraction} → supplyLess (w .other) (supplyAt net (w .other)) (w .o) v ≡ Fits x → Removed N (after net g j (dropping j (w .other) x 0 noFigure i) (value v)) j (value v)
+  removed : {x z : Fraction} → supplyLess (w .other) (supplyAt net (w .other)) (w .o) v ≡ Fits x → costAdded (net .constant) (t .cost) v ≡ Fits z → Removed N (programOf (applied net (dropping j (w .other) x 0 noFigure i z))) j (value v)
   unfolding applied withArc withSupply without
-  removed {x} q = one-removed net g j (record { node = w .other; supply = x }) (record { node = 0; supply = noFigure }) i (value v) (at .used) stays (λ h. goes)
+  removed {x} {z} q k = one-removed net g j (record { node = w .other; supply = x }) (record { node = 0; supply = noFigure }) i z (value v) (at .used) stays (λ h. goes) (cost-added (net .constant) (t .cost) v k .1)
     where
       ends : (s : ℕ) → (s ≡ i → ⊥) → N .col j .coef s ≡ only (w .other) (value (w .o)) s
       ends s n = single-at .at-j .ends s ∙ ap (λ k. k +ℚ only (w .other) (value (w .o)) s) (only-other i s (value (w .e)) (λ e. n (sym e))) ∙ ring1 ℚ-ring (only (w .other) (value (w .o)) s) (λ o. :0 :+ o := o) refl
@@ -163,11 +165,11 @@ module _ (net : Net) (g : Legal net) (i : ℕ) {x : Outcome} (m : Single net i x
       let a = same (ap (λ r. r *ℚ invℚ (value (w .e))) (sym (rhs-is net i (m .here)))) (over-exactly (given _) (given _)) (v .0) (v .1) in
       rw (restored-is (p .2)) (price-put (flow-put (itself z) j (v .0) (at .number) a) i (p .0) (here-number g i (m .here)) (at .quotes pair (p .0) (p .1)))
 
-  right : {c : Change} → Forced i j t w (supplyAt net i) (supplyAt net (w .other)) v (Changes c) → Right net c (singleBack (c .old))
+  right : {c : Change} → Forced (net .constant) i j t w (supplyAt net i) (supplyAt net (w .other)) v (Changes c) → Right net c (singleBack (c .old))
   right f =
-      right-of g singleBack (f .is) (dropped-framed net j _ _ i (supply-less (w .other) _ _ _ (f .supply)) no-level (λ k l t. ⊎-elim (λ e. e) (λ z. absurd z) (one .all k t))) (inl (m .here))
+      right-of g singleBack (f .is) (dropped-framed net j _ _ i (supply-less (w .other) _ _ _ (f .supply)) no-level (cost-added (net .constant) (t .cost) v (f .cost) .0) (λ k l t. ⊎-elim (λ e. e) (λ z. absurd z) (one .all k t))) (inl (m .here))
       (record { arcs = ((at .number .1, refl), no-old g .1); named = λ x u. u; node = here-number g i (m .here) .1; supply = supply-small g i (m .here); new = omega arith }) (single-back N i (spokeOf net i j))
-      (record { shift = _; sound = single-sound (record { place = single-at; within = within (f .not-below) (f .not-above); removed = subst (λ ξ. Removed N (after net g j (dropping j (w .other) (f .s) 0 noFigure i) ξ) j ξ) flow-is (removed (f .supply)) }) })
+      (single-sound (record { place = single-at; within = within (f .not-below) (f .not-above); removed = subst (Removed N (programOf (applied net (dropping j (w .other) (f .s) 0 noFigure i (f .k)))) j) flow-is (removed (f .supply) (f .cost)) }))
       undone
 
 unused : (net : Net) (i : ℕ) → isHere net i ≡ false → singleArc net i ≡ Passes

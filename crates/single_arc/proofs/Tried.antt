@@ -1,5 +1,5 @@
 -- Rule 3 as it is tried: at a node of another degree it passes, and what it is given is what it reads of the network.
-use mathlib.Core.Path.{_≡_, subst}
+use mathlib.Core.Path.{_≡_, subst₂}
 use mathlib.Core.Bool.{true, false}
 use mathlib.Core.List.{List}
 use Prim.Native.Nat.{ℕ, _≤_}
@@ -20,7 +20,7 @@ pub passes : (net : Net) (i : ℕ) → eqb (degreeOf net i) 1 ≡ false → sing
 unfolding singleArc single onlyWhere
 passes net i e = split (isHere net i) (λ h. rw (h, e)) (λ h. rw h)
 
-pub tried : {net : Net} {supply : List Fraction} {i d : ℕ} {near : Around} → Given net supply i d near → single supply i d (near .one) ≡ singleArc net i
+pub tried : {net : Net} {constant : Fraction} {supply : List Fraction} {i d : ℕ} {near : Around} → Given net constant supply i d near → single constant supply i d (near .one) ≡ singleArc net i
 unfolding singleArc single onlyWhere
 tried {net} {i = i} {d = d} {near} g =
-    subst (λ s. single s i d (near .one) ≡ singleArc net i) (g .supplies) (rw (g .here, g .degree) (split (eqb d 1) (λ e. rw (e, g .arcs .one (omega (arith, eqb-true d 1 e)))) (λ e. rw e)))
+    subst₂ (λ k s. single k s i d (near .one) ≡ singleArc net i) (g .constant-is) (g .supplies) (rw (g .here, g .degree) (split (eqb d 1) (λ e. rw (e, g .arcs .one (omega (arith, eqb-true d 1 e)))) (λ e. rw e)))

@@ -23,8 +23,16 @@ fn forced(r: Fraction, w: Side) -> Worked
 }
 
 // Arc j, t, alone touches node i of supply r, with w its side there; s is the supply at its other end.
-fn force(i: usize, j: usize, t: Arc, w: Side, r: Fraction, s: Fraction) -> Outcome
-    ensures { λ x. ⌜ x ≡ forcedOut i j t w r s ⌝ }
+fn force(
+    constant: Fraction,
+    i: usize,
+    j: usize,
+    t: Arc,
+    w: Side,
+    r: Fraction,
+    s: Fraction,
+) -> Outcome
+    ensures { λ x. ⌜ x ≡ forcedOut constant i j t w r s ⌝ }
 {
     let Worked::Fits(v) = forced(r, w) else {
         return Outcome::Passes;
@@ -38,14 +46,23 @@ fn force(i: usize, j: usize, t: Arc, w: Side, r: Fraction, s: Fraction) -> Outco
     let Worked::Fits(x) = step::supply_less(w.other, s, w.o, v) else {
         return Outcome::Passes;
     };
-    let edit = step::dropping(j, w.other, x, 0, network::no_figure(), i);
+    let Worked::Fits(k) = step::cost_added(constant, t.cost, v) else {
+        return Outcome::Passes;
+    };
+    let edit = step::dropping(j, w.other, x, 0, network::no_figure(), i, k);
     let old = step::old_one(i, r, ArcUpdate { number: j, arc: t });
     Outcome::Changes(Change { edit, old })
 }
 
 // Rule 3 at node i of this degree, where u is the first arc.
-pub fn single_arc(supply: [Fraction; NODE_PLACES], i: usize, degree: usize, u: ArcUpdate) -> Outcome
-    ensures { λ x. ⌜ x ≡ single supply i degree u ⌝ }
+pub fn single_arc(
+    constant: Fraction,
+    supply: [Fraction; NODE_PLACES],
+    i: usize,
+    degree: usize,
+    u: ArcUpdate,
+) -> Outcome
+    ensures { λ x. ⌜ x ≡ single constant supply i degree u ⌝ }
 {
     if degree != 1 {
         return Outcome::Passes;
@@ -53,7 +70,7 @@ pub fn single_arc(supply: [Fraction; NODE_PLACES], i: usize, degree: usize, u: A
     let w = network::side_at(u.arc, i);
     let r = network::supply_of(supply, i);
     let s = network::supply_of(supply, w.other);
-    force(i, u.number, u.arc, w, r, s)
+    force(constant, i, u.number, u.arc, w, r, s)
 }
 
 // Its way back.

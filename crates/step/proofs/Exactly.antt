@@ -1,4 +1,4 @@
--- A legal network in exact numbers: its arcs as they are seen from their nodes, and what a sound change is.
+-- A legal network in exact numbers: its arcs as they are seen from their nodes, and what a change leaves.
 use mathlib.Core.Path.{_≡_, sym, ap, _∙_, subst, refl}
 use mathlib.Core.Bool.{Bool, true, false, cond, not}
 use mathlib.Core.List.{List}
@@ -11,11 +11,10 @@ use Rattle.algebra.specs.Rat.{ℚ, 0ℚ, _+ℚ_, -ℚ_}
 use Rattle.algebra.proofs.Sum.{Absent, Once, range-once}
 use Rattle.algebra.specs.Sum.{only}
 use Rattle.presolve.proofs.Named.{absent-mem}
-use Rattle.presolve.specs.LP.{LP, Pair, Solved, NoFlow}
-use Rattle.presolve.proofs.Step.{SoundStep, with-constant, feasible-constant, solved-constant, stay, then, shifted as moved-by, no-flow}
+use Rattle.presolve.specs.LP.{LP}
 use Rattle.presolve.proofs.Price.{root, only-zero}
 use Rattle.presolve.proofs.Spoke.{Spoke, SpokeAt}
-use Rattle.presolve.specs.Net.{columnAt, Working, rhsAt, lpOf}
+use Rattle.presolve.specs.Net.{columnAt}
 use Rattle.presolve.proofs.Net.{tail-of, head-of, column-in, column-out, column-same, touch-off, rhs-in, rhs-out}
 use Rattle.presolve.specs.Net as Exact
 use Rattle.presolve.proofs.Net as ExactLaws
@@ -195,44 +194,16 @@ pub column-kept : (net : Net) (c : Edit) (j : ℕ) → Unnamed (updatesOf c) j �
 unfolding exactOf
 column-kept net c j u = let e = arc-same net c j u in column-same (exactOf net) (exactOf (applied net c)) j (ap (λ (t : Arc). not (eqb (t .from) 0)) e) (ap exactArc e)
 
--- ---- sound steps between networks, whatever constant they add
-
-pub record SoundTo (net net′ : Net) (back : Pair → Pair) : Type 0 where
-  pub shift : ℚ
-  pub sound : SoundStep (programOf net) (with-constant (programOf net′) shift) back
-
-pub sound-stay : (net : Net) → SoundTo net net (λ s. s)
-sound-stay net = record { shift = programOf net .constant; sound = stay (programOf net) }
-
-pub sound-then : {a b c : Net} {back back′ : Pair → Pair} → SoundTo a b back → SoundTo b c back′ → SoundTo a c (λ s. back (back′ s))
-sound-then x y = record { shift = _; sound = then (x .sound) (moved-by (y .sound) (x .shift)) }
-
--- an optimal pair after it, brought back, is optimal before it
-pub sound-solved : {a b : Net} {back : Pair → Pair} → SoundTo a b back → (s : Pair) → Solved (programOf b) s → Solved (programOf a) (back s)
-sound-solved {b = b} x s h = x .sound .solved s (solved-constant (programOf b) (x .shift) s .0 h)
-
--- no flow after it: none before it
-pub sound-no-flow : {a b : Net} {back : Pair → Pair} → SoundTo a b back → NoFlow (programOf b) → NoFlow (programOf a)
-sound-no-flow {a} {b} x n = no-flow (x .sound) (λ y f. n y (feasible-constant (programOf b) (x .shift) y .1 f))
-
 -- ---- a change that drops a node, as a step between two networks in exact numbers: what rules 5 and 6 share
-
--- a network in exact numbers, read with the constant k
-abbrev pub shifted : Net → ℚ → Working
-shifted net k =
-    record { n = exactOf net .n; m = exactOf net .m; node? = exactOf net .node?; arc? = exactOf net .arc?; constant = k; supply = exactOf net .supply; arc = exactOf net .arc }
-
-pub sound-shifted : (net net′ : Net) (k : ℚ) {back : Pair → Pair} → SoundStep (programOf net) (lpOf (shifted net′ k)) back → SoundTo net net′ back
-unfolding columnAt rhsAt
-sound-shifted net net′ k h = record { shift = k; sound = h }
 
 -- the change c drops a node in use, and whatever it names is among `names`
 module _ (net : Net) (g : Legal net) (c : Edit) (here : isHere net (c .gone) ≡ true) (names : List ℕ) where
   pub rewired : ((j : ℕ) → Absent j names → Unnamed (updatesOf c) j) → (far : ℕ) (v gain : ℚ) → T (isHere net far) ⊎ (v ≡ 0ℚ) →
       ((s : ℕ) → isHere net s ≡ true → value (supplyAt (applied net c) s) ≡ value (supplyAt net s) +ℚ -ℚ only far v s) →
-      Rewired (exactOf net) (shifted (applied net c) (0ℚ +ℚ gain)) (c .gone) names far v gain
-  unfolding exactOf
-  rewired unnamed far v gain f supplies =
+      value (c .constant) ≡ value (net .constant) +ℚ gain →
+      Rewired (exactOf net) (exactOf (applied net c)) (c .gone) names far v gain
+  unfolding exactOf applied
+  rewired unnamed far v gain f supplies gained =
       record {
         n-same = refl;
         m-same = refl;
@@ -243,5 +214,5 @@ module _ (net : Net) (g : Legal net) (c : Edit) (here : isHere net (c .gone) ≡
         supplies = λ s l n t. supplies s (true-is _ t);
         arcs-in = λ j l a. ap (λ t. not (eqb (t .from) 0)) (arc-same net c j (unnamed j a));
         arcs = λ j l a. ap exactArc (arc-same net c j (unnamed j a));
-        constants = refl;
+        constants = gained;
       }

@@ -17,7 +17,7 @@ use Rattle.network.specs.declared.SupplyUpdate.{SupplyUpdate}
 use Rattle.network.specs.declared.Edit.{Edit}
 use Rattle.network.specs.Network.{noArc, arcAt, supplyAt, isHere, isNumber, isTouching, withArc, withSupply, without, noUpdate, noEdit, withUpdate, withUpdates, updatesOf, withSupplyUpdate, applied}
 use Rattle.network.specs.Legal.{Legal, MayPut}
-use Rattle.network.proofs.Kept.{long, used-number, touching-used, moved, arc-either, supply-either, here-either, arc-kept, supply-kept, node-kept}
+use Rattle.network.proofs.Kept.{long, used-number, touching-used, moved, arc-either, supply-either, here-either, arc-kept, supply-kept, constant-kept, node-kept}
 use Rattle.fraction.proofs.Laws.{never}
 use Rattle.step.proofs.Each.{All, Any, all-map, none-any}
 use Rattle.step.proofs.Lines.{split}
@@ -40,6 +40,7 @@ pub record Framed (net : Net) (c : Edit) : Type 0 where
   pub arcs : All (λ p. Puts net (c .gone) p × Tame net p) (updatesOf c)
   pub left : Levels (c .left)
   pub right : Levels (c .right)
+  pub constant : Proper (c .constant)
   pub only : (j : ℕ) → 1 ≤ c .gone → isTouching (arcAt net j) (c .gone) ≡ true → Any (λ p. j ≡ p .number) (updatesOf c)
 
 -- no arc may be put at any number, and no supply is set
@@ -123,7 +124,7 @@ module _ (gone : ℕ) where
 -- such a change keeps a network legal
 pub framed-kept : (net : Net) → Legal net → (c : Edit) → Framed net c → Legal (applied net c)
 unfolding applied withSupply without
-framed-kept net g c f = node-kept (supply-kept (supply-kept now _ _ (f .left)) _ _ (f .right)) (c .gone) free
+framed-kept net g c f = constant-kept (node-kept (supply-kept (supply-kept now _ _ (f .left)) _ _ (f .right)) (c .gone) free) (c .constant) (f .constant)
   where
     puts : All (Puts net (c .gone)) (updatesOf c)
     puts = all-map (λ p (h : Puts net (c .gone) p × Tame net p). h .0) (updatesOf c) (f .arcs)

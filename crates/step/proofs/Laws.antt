@@ -10,6 +10,7 @@ use lib.ListN.{length, getD}
 use lib.Seq.{ext-getD}
 use borrow.Author.Tests.{ltb-true, ltb-false, eqb-true, eqb-false}
 use Rattle.presolve.specs.LP as LP
+use Rattle.presolve.proofs.Step.{SoundStep}
 use Rattle.fraction.specs.declared.Fraction.{Fraction}
 use Rattle.fraction.specs.Exact.{Proper, most, isZero}
 use Rattle.network.specs.declared.Arc.{Arc}
@@ -37,7 +38,6 @@ use Rattle.step.specs.declared.Numbers.{Numbers}
 use Rattle.step.proofs.Lines.{split, change-is}
 use Rattle.step.proofs.Each.{All, all-map}
 use Rattle.step.proofs.Frame.{Unnamed, no-updates, arc-put, arc-left, arc-same, long-put, long-puts, Framed, framed-kept}
-use Rattle.step.proofs.Exactly.{SoundTo}
 use Rattle.step.proofs.Fewer.{Fewer, Lost, fewer}
 use Rattle.step.proofs.Figures.{Sized, Holds}
 
@@ -118,7 +118,7 @@ pub record Right (net : Net) (c : Change) (back : Pair → Undone) : Type 0 wher
   pub handed-on : HandedOn net c
   -- the way back in exact numbers: an optimal pair of what is left, brought back, is optimal
   pub exact : LP.Pair → LP.Pair
-  pub sound : SoundTo net (applied net (c .edit)) exact
+  pub sound : SoundStep (programOf net) (programOf (applied net (c .edit))) exact
   -- the way back in fractions is that one, where its figures fit
   pub agrees : (pair : Pair) → Sized pair → {r : Restored} → back pair ≡ Restores r → Holds (restored pair r) (exact (exactPair pair))
 
@@ -129,7 +129,7 @@ inUse R net i = cond (eqb (R .last) maxNodes) (isHere net i) (isUsed net i)
 -- a rule of nodes passes where degree or supply is not what it asks for, and answers by what it is given
 pub record AtNodes (R : Rule) : Type 0 where
   pub elsewhere : (net : Net) (i : ℕ) → ((not (R .trial .balanced) || isZero (supplyAt net i)) && eqb (degreeOf net i) (R .trial .degree)) ≡ false → R .at net i ≡ Passes
-  pub given : {net : Net} {supply : List Fraction} {i d : ℕ} {near : Around} → Given net supply i d near → R .trial .by supply i d near ≡ R .at net i
+  pub given : {net : Net} {constant : Fraction} {supply : List Fraction} {i d : ℕ} {near : Around} → Given net constant supply i d near → R .trial .by constant supply i d near ≡ R .at net i
 
 -- a rule that is tried on legal networks of which P is known
 pub record RuleLaws (P : Net → Type 0) (R : Rule) : Type 0 where
@@ -141,7 +141,7 @@ pub record RuleLaws (P : Net → Type 0) (R : Rule) : Type 0 where
   pub right : (net : Net) → Legal net → P net → (i : ℕ) {c : Change} → R .at net i ≡ Changes c → Right net c (R .back (c .old))
 
 -- a change whose parts are legal: that network, and those counts
-pub right-of : {net : Net} → Legal net → {c d : Change} (back : Old → Pair → Undone) → Changes d ≡ Changes c → Framed net (d .edit) → Lost net (d .edit) → HandedOn net d → (exact : LP.Pair → LP.Pair) → SoundTo net (applied net (d .edit)) exact
+pub right-of : {net : Net} → Legal net → {c d : Change} (back : Old → Pair → Undone) → Changes d ≡ Changes c → Framed net (d .edit) → Lost net (d .edit) → HandedOn net d → (exact : LP.Pair → LP.Pair) → SoundStep (programOf net) (programOf (applied net (d .edit))) exact
     → ((pair : Pair) → Sized pair → (r : Restored) → back (d .old) pair ≡ Restores r → Holds (restored pair r) (exact (exactPair pair))) → Right net c (back (c .old))
 right-of {net} g back e framed lost handed exact sound agrees =
     subst (λ c. Right net c (back (c .old))) (sym (change-is e))

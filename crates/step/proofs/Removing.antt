@@ -13,9 +13,8 @@ use Rattle.algebra.specs.Rat.{ℚ, _+ℚ_, _*ℚ_, -ℚ_, 0ℚ}
 use Rattle.algebra.proofs.Rat.{ℚ-ring, mulℚ-comm as mul-comm}
 use Rattle.algebra.specs.Sum.{only}
 use Rattle.algebra.proofs.Sum.{only-same, only-other}
-use Rattle.presolve.specs.LP.{LP}
 use Rattle.presolve.proofs.Price.{only-scale}
-use Rattle.presolve.proofs.Step.{SoundStep, with-constant}
+use Rattle.presolve.proofs.Step.{SoundStep}
 use Rattle.presolve.proofs.Named.{once-mem}
 use Rattle.presolve.proofs.Removed.{Removed}
 use Rattle.presolve.proofs.Closed.{closed-back}
@@ -26,7 +25,7 @@ use Rattle.fraction.specs.declared.Worked.the-variants.{Fits}
 use Rattle.fraction.specs.Exact.{Proper, noFigure}
 use Rattle.fraction.specs.Value.{value}
 use Rattle.fraction.specs.Formula.{_⊖_, _⊗_}
-use Rattle.fraction.proofs.Formulas.{Gives, given, minus-gives, times-gives, minus-fits}
+use Rattle.fraction.proofs.Formulas.{Gives, given, plus-gives, minus-gives, times-gives, plus-fits, minus-fits}
 use Rattle.network.specs.declared.Arc.{Arc}
 use Rattle.network.specs.declared.Net.{Net}
 use Rattle.network.specs.declared.SupplyUpdate.{SupplyUpdate}
@@ -41,13 +40,13 @@ use Rattle.step.specs.declared.Change.{Change}
 use Rattle.step.specs.declared.Outcome.{Outcome}
 use Rattle.step.specs.declared.Outcome.the-variants.{NoFlow, Changes}
 use Rattle.step.specs.Back.{oldArc, oldOne, restored}
-use Rattle.step.specs.Dropped.{supplyLess, dropping, dropped, droppedAt, lowerBack}
+use Rattle.step.specs.Dropped.{supplyLess, costAdded, dropping, dropped, droppedAt, lowerBack}
 use Rattle.step.proofs.Frame.{Levels, Framed, no-arc-puts, no-names, arc-stands, supply-put, supply-left, long-supply, here-same, node-gone}
 use Rattle.step.proofs.Touch.{unlike}
 use Rattle.step.proofs.Fewer.{nodes-under}
-use Rattle.step.proofs.Exactly.{false-not, arc-off, listed-arc, rhs-is, spoke-at, column-kept, rhs-off}
+use Rattle.step.proofs.Exactly.{false-not, arc-off, listed-arc, column-is, rhs-is, spoke-at, column-kept, rhs-off}
 use Rattle.step.proofs.Lines.{Answers, fits-met, restored-is, not-shown, split}
-use Rattle.step.proofs.Figures.{itself, flow-put}
+use Rattle.step.proofs.Figures.{Figure, itself, flow-put}
 use Rattle.step.proofs.Laws.{no-old, Right, right-of}
 
 -- ---- what is left is legal
@@ -60,11 +59,16 @@ pub supply-less : (end : ℕ) (s e v : Fraction) {x : Fraction} → supplyLess e
 unfolding supplyLess
 supply-less end s e v q l = less-proper end (Fits s) (Fits e ⊗ Fits v) q l
 
--- arc j dropped, with two supplies, and a node dropped that no other arc touches
-pub dropped-framed : (net : Net) (j : ℕ) (left right : SupplyUpdate) (gone : ℕ) → Levels left → Levels right → ((k : ℕ) → 1 ≤ gone → isTouching (arcAt net k) gone ≡ true → k ≡ j) → Framed net (editOne (record { number = j; arc = noArc }) left right gone)
-dropped-framed net j left right gone a b only =
+-- the constant with the cost of a flow added is in form, and exactly that
+pub cost-added : (k c v : Fraction) {z : Fraction} → costAdded k c v ≡ Fits z → Figure z (value k +ℚ value c *ℚ value v)
+unfolding costAdded
+cost-added k c v e = (plus-fits e .is .proper, plus-gives (given k) (times-gives (given c) (given v)) _ e)
+
+-- arc j dropped, with two supplies, a node dropped that no other arc touches, and a constant
+pub dropped-framed : (net : Net) (j : ℕ) (left right : SupplyUpdate) (gone : ℕ) {k : Fraction} → Levels left → Levels right → Proper k → ((k : ℕ) → 1 ≤ gone → isTouching (arcAt net k) gone ≡ true → k ≡ j) → Framed net (editOne (record { number = j; arc = noArc }) left right gone k)
+dropped-framed net j left right gone a b proper only =
     let none = no-arc-puts net gone in
-    record { arcs = (none j, (none 0, (none 0, (none 0, tt)))); left = a; right = b; only = λ k l t. inl (only k l t) }
+    record { arcs = (none j, (none 0, (none 0, (none 0, tt)))); left = a; right = b; constant = proper; only = λ k l t. inl (only k l t) }
 
 -- ---- in exact numbers
 
@@ -96,17 +100,14 @@ module _ (net : Net) (g : Legal net) where
       by h (no n) = rhs-is (applied net c) s (here-same net c s (λ l. n) ∙ h) ∙ stays s h n
       by h (yes z) = let k = rw z at h in rhs-off (applied net c) s (rw z (node-gone net c g (here-number g (c .gone) k))) ∙ rw z (goes k)
 
-  -- the program after it, where arc j was at the flow ξ
-  abbrev pub after : ℕ → Edit → ℚ → LP
-  after j c ξ = with-constant (programOf (applied net c)) (0ℚ +ℚ programOf net .col j .cost *ℚ ξ)
-
-  -- by the supplies of the nodes that stay, and of the one that is dropped
-  pub one-removed : (j : ℕ) (left right : SupplyUpdate) (gone : ℕ) (ξ : ℚ) → 1 ≤ arcAt net j .from
-      → ((s : ℕ) → isHere net s ≡ true → (s ≡ gone → ⊥) → value (supplyAt (applied net (editOne (record { number = j; arc = noArc }) left right gone)) s) ≡ value (supplyAt net s) +ℚ -ℚ (programOf net .col j .coef s *ℚ ξ))
+  -- arc j at the flow ξ dropped: by the supplies of the nodes that stay, of the one that is dropped, and the constant
+  pub one-removed : (j : ℕ) (left right : SupplyUpdate) (gone : ℕ) (k : Fraction) (ξ : ℚ) → 1 ≤ arcAt net j .from
+      → ((s : ℕ) → isHere net s ≡ true → (s ≡ gone → ⊥) → value (supplyAt (applied net (editOne (record { number = j; arc = noArc }) left right gone k)) s) ≡ value (supplyAt net s) +ℚ -ℚ (programOf net .col j .coef s *ℚ ξ))
       → (isHere net gone ≡ true → 0ℚ ≡ value (supplyAt net gone) +ℚ -ℚ (programOf net .col j .coef gone *ℚ ξ))
-      → Removed (programOf net) (after j (editOne (record { number = j; arc = noArc }) left right gone) ξ) j ξ
-  unfolding exactOf
-  one-removed j left right gone ξ used stays goes =
+      → value k ≡ value (net .constant) +ℚ value (arcAt net j .cost) *ℚ ξ
+      → Removed (programOf net) (programOf (applied net (editOne (record { number = j; arc = noArc }) left right gone k))) j ξ
+  unfolding exactOf applied
+  one-removed j left right gone k ξ used stays goes gained =
       record {
         rows-same = refl;
         cols-same = refl;
@@ -114,11 +115,11 @@ module _ (net : Net) (g : Legal net) where
         same = λ k m n. column-kept net c k ((λ l. n), no-names k .1);
         gone = gone-out (exactOf (applied net c)) j (arc-off (applied net c) j (arc-stands net c g 0 (used-number g j used) (no-names j .1)));
         rhs-is = λ s m. rhs-after c (λ s. programOf net .rhs s +ℚ -ℚ (programOf net .col j .coef s *ℚ ξ)) (λ s h n. stays s h n ∙ before s h) (λ h. goes h ∙ before gone h) off s;
-        constant-is = refl;
+        constant-is = gained ∙ ap (λ t. value (net .constant) +ℚ t .cost *ℚ ξ) (sym (column-is net j used));
       }
     where
       c : Edit
-      c = editOne (record { number = j; arc = noArc }) left right gone
+      c = editOne (record { number = j; arc = noArc }) left right gone k
 
       before : (s : ℕ) → isHere net s ≡ true → value (supplyAt net s) +ℚ -ℚ (programOf net .col j .coef s *ℚ ξ) ≡ programOf net .rhs s +ℚ -ℚ (programOf net .col j .coef s *ℚ ξ)
       before s h = ap (λ r. r +ℚ -ℚ (programOf net .col j .coef s *ℚ ξ)) (sym (rhs-is net s h))
@@ -127,12 +128,13 @@ module _ (net : Net) (g : Legal net) where
       off s h = ring1 ℚ-ring ξ (λ x. :0 := :0 :- :0 :* x) refl ∙ ap₂ (λ r k. r +ℚ -ℚ (k *ℚ ξ)) (sym (rhs-off net s h)) (sym (row-out (exactOf net) (sane g) j s (once-mem (listed-arc net g j used)) (false-not h)))
 
   -- rules 1 and 4: arc j dropped at the flow v
-  pub flow-removed : (j : ℕ) (v : Fraction) {x y : Fraction} → 1 ≤ arcAt net j .from
+  pub flow-removed : (j : ℕ) (v : Fraction) {x y z : Fraction} → 1 ≤ arcAt net j .from
       → supplyLess (arcAt net j .from) (supplyAt net (arcAt net j .from)) (arcAt net j .a) v ≡ Fits x
       → supplyLess (farEnd (arcAt net j)) (supplyAt net (arcAt net j .to)) (arcAt net j .b) v ≡ Fits y
-      → Removed (programOf net) (after j (dropping j (arcAt net j .from) x (farEnd (arcAt net j)) y 0) (value v)) j (value v)
+      → costAdded (net .constant) (arcAt net j .cost) v ≡ Fits z
+      → Removed (programOf net) (programOf (applied net (dropping j (arcAt net j .from) x (farEnd (arcAt net j)) y 0 z))) j (value v)
   unfolding applied withArc withSupply without isTouching sideOf farEnd isRoot
-  flow-removed j v {x} {y} used p q = one-removed j (record { node = t .from; supply = x }) (record { node = farEnd t; supply = y }) 0 (value v) used (λ s h n. stays s h) (λ h. unlike (sym (g .no-node) ∙ h))
+  flow-removed j v {x} {y} {z} used p q e = one-removed j (record { node = t .from; supply = x }) (record { node = farEnd t; supply = y }) 0 z (value v) used (λ s h n. stays s h) (λ h. unlike (sym (g .no-node) ∙ h)) (cost-added (net .constant) (t .cost) v e .1)
     where
       t : Arc
       t = arcAt net j
@@ -155,33 +157,36 @@ module _ (net : Net) (g : Legal net) where
 
 -- ---- rules 1 and 4
 
--- the change that they answer: both supplies fit
+-- the change that they answer: both supplies and the constant fit
 pub record Dropped (net : Net) (j : ℕ) (v : Fraction) (x : Outcome) : Type 0 where
   pub r : Fraction
   pub s : Fraction
+  pub k : Fraction
   pub r-is : supplyLess (arcAt net j .from) (supplyAt net (arcAt net j .from)) (arcAt net j .a) v ≡ Fits r
   pub s-is : supplyLess (farEnd (arcAt net j)) (supplyAt net (arcAt net j .to)) (arcAt net j .b) v ≡ Fits s
-  pub is : Changes (record { edit = dropping j (arcAt net j .from) r (farEnd (arcAt net j)) s 0; old = oldOne 0 noFigure (oldArc net j) }) ≡ x
+  pub k-is : costAdded (net .constant) (arcAt net j .cost) v ≡ Fits k
+  pub is : Changes (record { edit = dropping j (arcAt net j .from) r (farEnd (arcAt net j)) s 0 k; old = oldOne 0 noFigure (oldArc net j) }) ≡ x
 
 dropped-met : (net : Net) (j : ℕ) (v : Fraction) {x : Outcome} → Answers x → droppedAt net j v ≡ x → Dropped net j v x
 unfolding dropped
 dropped-met net j v a e =
     let r = fits-met a _ _ e in
     let s = fits-met a _ _ (r .2) in
-    record { r = r .0; s = s .0; r-is = r .1; s-is = s .1; is = s .2 }
+    let k = fits-met a _ _ (s .2) in
+    record { r = r .0; s = s .0; k = k .0; r-is = r .1; s-is = s .1; k-is = k .1; is = k .2 }
 
 -- arc j dropped at its lower bound is right, if it is a sound step in exact numbers
 pub lower-right : (net : Net) (g : Legal net) (j : ℕ) {c : Change} → 1 ≤ arcAt net j .from → Proper (arcAt net j .lower) → droppedAt net j (arcAt net j .lower) ≡ Changes c
-    → ((e : Edit) → Removed (programOf net) (after net g j e (value (arcAt net j .lower))) j (value (arcAt net j .lower)) → SoundStep (programOf net) (after net g j e (value (arcAt net j .lower))) (closed-back j (value (arcAt net j .lower))))
+    → ((e : Edit) → Removed (programOf net) (programOf (applied net e)) j (value (arcAt net j .lower)) → SoundStep (programOf net) (programOf (applied net e)) (closed-back j (value (arcAt net j .lower))))
     → Right net c (lowerBack (c .old))
 unfolding lowerBack restored withFlow withPrice
 lower-right net g j {c} used proper e sound =
     let t = arcAt net j in
     let d : Dropped net j (t .lower) (Changes c) = dropped-met net j (t .lower) tt e in
-    right-of g lowerBack (d .is) (dropped-framed net j _ _ 0 (supply-less (t .from) _ _ _ (d .r-is)) (supply-less (farEnd t) _ _ _ (d .s-is)) (λ k l. absurd (omega arith)))
+    right-of g lowerBack (d .is) (dropped-framed net j _ _ 0 (supply-less (t .from) _ _ _ (d .r-is)) (supply-less (farEnd t) _ _ _ (d .s-is)) (cost-added (net .constant) (t .cost) (t .lower) (d .k-is) .0) (λ k l. absurd (omega arith)))
     (inr (record { number = j; used = used; dropped = arc-stands net _ g 0 (used-number g j used) (no-names j .1) }))
     (record { arcs = ((used-number g j used .1, refl), no-old g .1); named = λ x u. u; node = omega arith; supply = lit≤ tt; new = omega arith })
-    (closed-back j (value (t .lower))) (record { shift = _; sound = sound _ (flow-removed net g j (t .lower) used (d .r-is) (d .s-is)) })
+    (closed-back j (value (t .lower))) (sound _ (flow-removed net g j (t .lower) used (d .r-is) (d .s-is) (d .k-is)))
     (λ pair z r q. rw (restored-is q) (flow-put (itself z) j (t .lower) (used-number g j used) (proper, refl)))
 
 -- a drop shows nothing

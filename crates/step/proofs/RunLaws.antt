@@ -10,6 +10,7 @@ use lib.Dec.{eqb}
 use lib.ListN.{length}
 use borrow.Author.Tests.{eq-eqb, ne-eqb, eqb-true, eqb-false}
 use Rattle.presolve.specs.LP as LP
+use Rattle.presolve.proofs.Step.{SoundStep, stay, then, no-flow}
 use Rattle.fraction.proofs.Laws.{never}
 use Rattle.network.specs.declared.Net.{Net}
 use Rattle.network.specs.declared.pair.Pair.{Pair}
@@ -30,7 +31,6 @@ use Rattle.step.specs.declared.Next.the-variants.{Stops, Refuted, Takes}
 use Rattle.step.specs.Back.{restored}
 use Rattle.step.specs.Applies.{Passing, NoneApplies}
 use Rattle.step.specs.Run.{Rule, orElse, upward, nextFrom, nextBy, Run, runBy, runOf, ruleFrom, backOf, Way, wide, at, arrived, undo, wayBack}
-use Rattle.step.proofs.Exactly.{SoundTo, sound-stay, sound-then, sound-solved, sound-no-flow}
 use Rattle.step.proofs.Fewer.{leftOf}
 use Rattle.step.proofs.Figures.{Sized, Holds, itself}
 use Rattle.step.proofs.Each.{All}
@@ -165,7 +165,7 @@ pub record RunLaws (net : Net) (back : Step → Pair → Undone) (run : Run) : T
   pub put-back : putBackAll (run .steps) (run .net) .arcs ≡ net .arcs
   -- a sound step in exact numbers, which the way back in fractions follows where it fits
   pub exact : LP.Pair → LP.Pair
-  pub sound : SoundTo net (run .net) exact
+  pub sound : SoundStep (programOf net) (programOf (run .net)) exact
   pub agrees : (pair : Pair) → Sized pair → {q : Pair} → wayBack back (run .steps) (at pair) ≡ at q → Holds q (exact (exactPair pair))
   -- no flow is right
   pub flowless : (k i : ℕ) → run .ends ≡ Refuted k i → LP.NoFlow (programOf net)
@@ -185,7 +185,7 @@ undo-met back (at p) {q} e = by (back p) refl e
 module _ (next : Net → Next) (back : Step → Pair → Undone) (laws : (net : Net) → Legal net → NextLaws net back (next net)) where
   stay-laws : {net : Net} (n : Next) → Legal net → ((k i : ℕ) → n ≡ Refuted k i → LP.NoFlow (programOf net)) → RunLaws net back (record { steps = []; net = net; ends = n })
   unfolding wayBack
-  stay-laws {net} n g f = record { legal = g; few = omega arith; small = tt; put-back = refl; exact = λ s. s; sound = sound-stay net; agrees = λ pair z {q} e. subst (λ q. Holds q (exactPair pair)) (at-is e) (itself z); flowless = f }
+  stay-laws {net} n g f = record { legal = g; few = omega arith; small = tt; put-back = refl; exact = λ s. s; sound = stay (programOf net); agrees = λ pair z {q} e. subst (λ q. Holds q (exactPair pair)) (at-is e) (itself z); flowless = f }
 
   -- A WHOLE RUN
   pub run-laws : (many : ℕ) (net : Net) → Legal net → RunLaws net back (runOf next many net)
@@ -205,12 +205,12 @@ module _ (next : Net → Next) (back : Step → Pair → Undone) (laws : (net : 
             small = (laws net g .small s e, rest .small);
             put-back = put-back g (s .change) (step .legal) (step .handed-on) _ (rest .put-back);
             exact = λ p. step .exact (rest .exact p);
-            sound = sound-then (step .sound) (rest .sound);
+            sound = then (step .sound) (rest .sound);
             agrees = λ pair z {q} w.
                 let u = undo-met (back s) (wayBack back (runOf next many (applied net (s .change .edit)) .steps) (at pair)) w in
                 let h = rest .agrees pair z (u .2) in
                 subst (λ q. Holds q (step .exact (rest .exact (exactPair pair)))) (u .4) (subst (λ x. Holds (restored (u .0) (u .1)) (step .exact x)) (h .exact) (step .agrees (u .0) (h .sized) (u .3)));
-            flowless = λ k i q. sound-no-flow (step .sound) (rest .flowless k i q);
+            flowless = λ k i q. no-flow (step .sound) (rest .flowless k i q);
           }
 
   -- "until none applies": with room for as many steps as there are nodes and arcs, no step is left
@@ -235,9 +235,9 @@ module _ (next : Net → Next) (back : Step → Pair → Undone) (laws : (net : 
       by (Refuted a b) q on = sym q
       by (Takes t) q on = on _
 
--- THE WAY BACK: a pair that solves what is left, brought back, is in form and solves the network given
+-- THE WAY BACK: a pair that solves what is left, brought back, is in form and solves the network given, at the same value
 pub restored-solved : {net : Net} {back : Step → Pair → Undone} {run : Run} → RunLaws net back run → (pair : Pair) → Sized pair → LP.Solved (programOf (run .net)) (exactPair pair)
-    → {q : Pair} → wayBack back (run .steps) (at pair) ≡ at q → Sized q × LP.Solved (programOf net) (exactPair q)
+    → {q : Pair} → wayBack back (run .steps) (at pair) ≡ at q → Sized q × LP.Solved (programOf net) (exactPair q) × (LP.value (programOf net) (exactPair q .flow) ≡ LP.value (programOf (run .net)) (exactPair pair .flow))
 restored-solved {net} r pair z h e =
     let w = r .agrees pair z e in
-    (w .sized, subst (LP.Solved (programOf net)) (sym (w .exact)) (sound-solved (r .sound) (exactPair pair) h))
+    (w .sized, subst (LP.Solved (programOf net)) (sym (w .exact)) (r .sound .solved (exactPair pair) h), ap (λ (s : LP.Pair). LP.value (programOf net) (s .flow)) (w .exact) ∙ r .sound .same-value (exactPair pair))

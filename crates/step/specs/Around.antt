@@ -27,16 +27,16 @@ fourthAt net i = touchingAfter net i (thirdAt net i)
 
 -- ---- for those who try a rule
 
--- how a rule is tried at a node: the degree that it asks for, whether it asks for supply 0, and its answer by the supplies of all nodes,
--- the node's degree and its arcs
+-- how a rule is tried at a node: the degree that it asks for, whether it asks for supply 0, and its answer by the constant,
+-- the supplies of all nodes, the node's degree and its arcs
 pub record Trial : Type 0 where
   pub degree : ℕ
   pub balanced : Bool
-  pub by : List Fraction → ℕ → ℕ → Around → Outcome
+  pub by : Fraction → List Fraction → ℕ → ℕ → Around → Outcome
 
 -- of a rule of arcs
 abbrev pub noTrial : Trial
-noTrial = record { degree = 0; balanced = false; by = λ supply i d near. Passes }
+noTrial = record { degree = 0; balanced = false; by = λ constant supply i d near. Passes }
 
 -- of the arcs that touch node i, as many as d asks for
 pub record Near (net : Net) (i d : ℕ) (near : Around) : Type 0 where
@@ -45,10 +45,11 @@ pub record Near (net : Net) (i d : ℕ) (near : Around) : Type 0 where
   pub three : 3 ≤ d → near .three ≡ oldArc net (thirdAt net i)
   pub four : 4 ≤ d → near .four ≡ oldArc net (fourthAt net i)
 
--- node i, in use, by the supplies of all nodes, its degree and its arcs
-pub record Given (net : Net) (supply : List Fraction) (i d : ℕ) (near : Around) : Type 0 where
+-- node i, in use, by the constant, the supplies of all nodes, its degree and its arcs
+pub record Given (net : Net) (constant : Fraction) (supply : List Fraction) (i d : ℕ) (near : Around) : Type 0 where
   pub legal : Legal net
   pub here : isHere net i ≡ true
+  pub constant-is : net .constant ≡ constant
   pub supplies : net .supply ≡ supply
   pub degree : degreeOf net i ≡ d
   pub arcs : Near net i d near

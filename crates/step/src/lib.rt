@@ -6,7 +6,7 @@ ghost use Rattle.network.specs.Network.{isNumber};
 ghost use Rattle.network.specs.declared.pair.Pair.{Pair};
 ghost use Rattle.step.specs.Back.{oldOne, oldTwo, noFlowUpdate, flowOnly, priceOnly, flowAndPrice, restored, quoteAt};
 ghost use Rattle.step.specs.Figure.{larger as largerOf, smaller as smallerOf};
-ghost use Rattle.step.specs.Dropped.{supplyLess, dropping as droppingOf, dropped, lowerBack};
+ghost use Rattle.step.specs.Dropped.{supplyLess, costAdded, dropping as droppingOf, dropped, lowerBack};
 use fraction::Fraction;
 use fraction::Worked;
 use network::Arc;
@@ -117,7 +117,14 @@ pub fn supply_less(end: usize, s: Fraction, e: Fraction, v: Fraction) -> Worked
     s.fit().minus(e.fit().times(v.fit()))
 }
 
-// Arc j dropped, with supplies for two nodes, and a node dropped.
+// The constant, and the cost c of a flow v.
+pub fn cost_added(constant: Fraction, c: Fraction, v: Fraction) -> Worked
+    ensures { λ r. ⌜ r ≡ costAdded constant c v ⌝ }
+{
+    constant.fit().plus(c.fit().times(v.fit()))
+}
+
+// Arc j dropped, with supplies for two nodes, a node dropped, and the constant.
 pub fn dropping(
     j: usize,
     m: usize,
@@ -125,14 +132,15 @@ pub fn dropping(
     n: usize,
     y: Fraction,
     gone: usize,
+    constant: Fraction,
 ) -> network::Edit
-    ensures { λ r. ⌜ r ≡ droppingOf j m x n y gone ⌝ }
+    ensures { λ r. ⌜ r ≡ droppingOf j m x n y gone constant ⌝ }
 {
     let arc = network::no_arc();
     let put = ArcUpdate { number: j, arc };
     let left = SupplyUpdate { node: m, supply: x };
     let right = SupplyUpdate { node: n, supply: y };
-    network::edit_one(put, left, right, gone)
+    network::edit_one(put, left, right, gone, constant)
 }
 
 // Two old arcs, and the node that is dropped with its supply.
@@ -164,8 +172,15 @@ pub fn old_one(i: usize, r: Fraction, one: ArcUpdate) -> Old
 }
 
 // Arc j, t, dropped at the flow v; left and right are the supplies of its ends.
-pub fn drop_arc(j: usize, t: Arc, v: Fraction, left: Fraction, right: Fraction) -> Outcome
-    ensures { λ x. ⌜ x ≡ dropped j t v left right ⌝ }
+pub fn drop_arc(
+    constant: Fraction,
+    j: usize,
+    t: Arc,
+    v: Fraction,
+    left: Fraction,
+    right: Fraction,
+) -> Outcome
+    ensures { λ x. ⌜ x ≡ dropped constant j t v left right ⌝ }
 {
     let far = network::far_end(t);
     let Worked::Fits(r) = supply_less(t.from, left, t.a, v) else {
@@ -174,7 +189,10 @@ pub fn drop_arc(j: usize, t: Arc, v: Fraction, left: Fraction, right: Fraction) 
     let Worked::Fits(s) = supply_less(far, right, t.b, v) else {
         return Outcome::Passes;
     };
-    let edit = dropping(j, t.from, r, far, s, 0);
+    let Worked::Fits(k) = cost_added(constant, t.cost, v) else {
+        return Outcome::Passes;
+    };
+    let edit = dropping(j, t.from, r, far, s, 0, k);
     let old = old_one(0, network::no_figure(), ArcUpdate { number: j, arc: t });
     Outcome::Changes(Change { edit, old })
 }

@@ -77,8 +77,8 @@ module _ {net : Net} (g : Legal net) where
 
 -- ---- the network so far: legal, with all its numbers up to n
 
-empty-legal : Legal (emptyNet 0 0)
-empty-legal =
+empty-legal : {constant : Fraction} → Proper constant → Legal (emptyNet 0 0 constant)
+empty-legal ok =
     record {
       here-long = refl;
       supply-long = refl;
@@ -89,6 +89,7 @@ empty-legal =
       no-arc = refl;
       nodes-beyond = λ i l. getD-all 33 i false;
       arcs-beyond = λ j l. ap (λ (t : Arc). t .from) (getD-all 97 j noArc);
+      constant-proper = ok;
       supply-proper = λ i e. never (let f = sym e ∙ getD-all 33 i false in cc);
       unused = λ j e. getD-all 97 j noArc;
       used = λ j l. absurd (omega (arith, ap (λ (t : Arc). t .from) (getD-all 97 j noArc)));
@@ -107,6 +108,7 @@ sizes-legal g n m a b h k =
       no-arc = g .no-arc;
       nodes-beyond = λ i l. g .nodes-beyond i (omega (arith, a, l));
       arcs-beyond = λ j l. g .arcs-beyond j (omega (arith, b, l));
+      constant-proper = g .constant-proper;
       supply-proper = g .supply-proper;
       unused = g .unused;
       used = λ j l. let h = g .used j l in moved h (h .from-here) (h .to-here);
@@ -141,6 +143,7 @@ module _ {p : Net} (g : Legal p) (j : ℕ) (r : Fraction) (h : j < 32) where
         no-arc = g .no-arc;
         nodes-beyond = λ i q. here-old i (λ e. omega (arith, l, q, e)) ∙ g .nodes-beyond i q;
         arcs-beyond = g .arcs-beyond;
+        constant-proper = g .constant-proper;
         supply-proper = λ i e. supplied i e (eqb i (j + 1)) refl;
         unused = g .unused;
         used = λ i l. let t = g .used i l in moved t (here-still _ (t .from-here)) (here-still _ (t .to-here));
@@ -190,9 +193,9 @@ module _ {net : Net} (g : Legal net) where
           same : withNode (withSizes p (p .n + 1) (p .m)) (p .n + 1) (supplyAt net (i + 1)) .n ≡ count (λ k. isHere net (k + 1)) i + 1
           same = ap (λ (n : ℕ). n + 1) (k .0)
 
-  nodes-packed : (i : ℕ) → i ≤ 32 → Packed net i (upto (packNode net) i (emptyNet 0 0))
+  nodes-packed : (i : ℕ) → i ≤ 32 → Packed net i (upto (packNode net) i (emptyNet 0 0 (net .constant)))
   unfolding upto count
-  nodes-packed zero h = (refl, record { legal = empty-legal; here = λ k a b. absurd (omega arith) })
+  nodes-packed zero h = (refl, record { legal = empty-legal (g .constant-proper); here = λ k a b. absurd (omega arith) })
   nodes-packed (suc i) h = node-packed i _ (omega (arith, add-one i)) (nodes-packed i (omega (arith, add-one i)))
 
   -- an arc between the new numbers of its ends

@@ -1,4 +1,4 @@
--- What is left of a legal network, at its new numbers; and a pair that is optimal there, read at them, is optimal in the whole.
+-- What is left of a legal network, at its new numbers; and a pair that is optimal there, read at them, is optimal in the whole and has the same value there.
 use mathlib.Core.Path.{_≡_, refl, sym, ap, ap₂, _∙_, subst}
 use mathlib.Core.Bool.{Bool, true, false, cond}
 use mathlib.Core.List.{List}
@@ -13,7 +13,7 @@ use Rattle.loops.proofs.Laws.{count-le, count-shift}
 use Rattle.algebra.specs.Rat.{ℚ, _+ℚ_, 0ℚ}
 use Rattle.algebra.specs.Sum.{range, only}
 use Rattle.algebra.proofs.Sum.{range-mem}
-use Rattle.presolve.specs.LP.{LP, Pair, Solved}
+use Rattle.presolve.specs.LP.{LP, Pair}
 use Rattle.presolve.proofs.Step.{SoundStep, then}
 use Rattle.presolve.proofs.Renumber.{Numbering, Renumbered, survivor, find, renumber-sound}
 use Rattle.presolve.proofs.Spare.{listed, Spare, spare-sound}
@@ -48,14 +48,14 @@ module _ (net : Net) where
 
   -- the nodes up to i
   abbrev nodesTo : ℕ → Net
-  nodesTo i = record { n = nodes i; m = 0; here = packs (isHere net) (λ _. true) (replicate 33 false) i; supply = packs (isHere net) (supplyAt net) (replicate 33 noFigure) i; arcs = replicate 97 noArc }
+  nodesTo i = record { n = nodes i; m = 0; constant = net .constant; here = packs (isHere net) (λ _. true) (replicate 33 false) i; supply = packs (isHere net) (supplyAt net) (replicate 33 noFigure) i; arcs = replicate 97 noArc }
 
   node-more : (i : ℕ) → i < 32 → (b : Bool) → isHere net (i + 1) ≡ b → packNode net i (nodesTo i) ≡ nodesTo (suc i)
   unfolding count packs packNode withNode withSupply
   node-more i h true e = let room : nodes i < 32 = omega (arith, count-le (λ k. isHere net (k + 1)) i) in rw (e, lt-ltb (nodes i) 32 room, number 32 (nodes i) room)
   node-more i h false e = rw e
 
-  nodes-are : (i : ℕ) → i ≤ 32 → upto (packNode net) i (emptyNet 0 0) ≡ nodesTo i
+  nodes-are : (i : ℕ) → i ≤ 32 → upto (packNode net) i (emptyNet 0 0 (net .constant)) ≡ nodesTo i
   unfolding upto count packs
   nodes-are zero h = refl
   nodes-are (suc i) h = rw (nodes-are i (omega (arith, add-one i))) (node-more i (omega (arith, add-one i)) (isHere net (i + 1)) refl)
@@ -63,7 +63,7 @@ module _ (net : Net) where
   module _ (p : Net) where
     -- the arcs up to j, behind the nodes of p
     abbrev arcsTo : ℕ → Net
-    arcsTo j = record { n = p .n; m = arcs j; here = p .here; supply = p .supply; arcs = newArcs (p .arcs) j }
+    arcsTo j = record { n = p .n; m = arcs j; constant = p .constant; here = p .here; supply = p .supply; arcs = newArcs (p .arcs) j }
 
     arc-more : (j : ℕ) → j < 96 → (b : Bool) → isUsed net (j + 1) ≡ b → packArc net j (arcsTo j) ≡ arcsTo (suc j)
     unfolding count packs packArc withArc
@@ -217,7 +217,7 @@ module _ {net : Net} (g : Legal net) where
         lower-is = λ j m k. ap (λ c. c .lower) (column-in (exactOf net) j k) ∙ sym (ap (λ c. c .lower) (column-there j k));
         upper-is = λ j m k. ap (λ c. c .upper) (column-in (exactOf net) j k) ∙ sym (ap (λ c. c .upper) (column-there j k));
         rhs-is = λ i m k. rhs-in (exactOf net) i k ∙ sym (rhs-there i k);
-        constant-is = refl;
+        constant-is = ap (λ (p : Net). value (p .constant)) (sym (packed-is net));
         gone-col = λ j m n. gone-out (exactOf net) j n;
         gone-row = λ j i m mi n. row-out (exactOf net) (sane g) j i m n;
         gone-rhs = λ i m n. rhs-out (exactOf net) i n;
@@ -226,7 +226,3 @@ module _ {net : Net} (g : Legal net) where
   -- taking the survivors alone is a sound step
   pub survivors-sound : SoundStep (programOf net) (programOf (packedOf net)) (spread net)
   survivors-sound = then (renumber-sound renumbers (λ _. 0ℚ)) (spare-sound spare)
-
--- a pair that is optimal among the survivors is optimal in the whole
-pub survivors-solved : (net : Net) → Legal net → (s : Pair) → Solved (programOf (packedOf net)) s → Solved (programOf net) (spread net s)
-survivors-solved net g s h = survivors-sound g .solved s h

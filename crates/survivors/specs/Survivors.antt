@@ -29,7 +29,7 @@ abbrev pub renumbered : Net → Arc → Arc
 renumbered net t = between (rankOf net (t .from)) (rankOf net (t .to)) t
 
 abbrev pub withSizes : Net → ℕ → ℕ → Net
-withSizes p n m = record { n = n; m = m; here = p .here; supply = p .supply; arcs = p .arcs }
+withSizes p n m = record { n = n; m = m; constant = p .constant; here = p .here; supply = p .supply; arcs = p .arcs }
 
 -- node i + 1 of net, where it is left and there is room, behind the nodes of p
 unfoldable pub packNode : Net → ℕ → Net → Net
@@ -39,8 +39,9 @@ packNode net i p = cond (isHere net (i + 1) && ltb (p .n) maxNodes) (withNode (w
 unfoldable pub packArc : Net → ℕ → Net → Net
 packArc net j p = cond (isUsed net (j + 1) && ltb (p .m) maxArcs) (withArc (withSizes p (p .n) (p .m + 1)) (p .m + 1) (renumbered net (arcAt net (j + 1)))) p
 
+-- the survivors, with the constant of the whole
 unfoldable pub packedOf : Net → Net
-packedOf net = upto (packArc net) maxArcs (upto (packNode net) maxNodes (emptyNet 0 0))
+packedOf net = upto (packArc net) maxArcs (upto (packNode net) maxNodes (emptyNet 0 0 (net .constant)))
 
 -- ---- a pair at the original numbers
 

@@ -61,11 +61,12 @@ fn renumber(at: &[usize; NODE_PLACES], t: Arc) -> Arc
     }
 }
 
-// The nodes that are left.
+// The nodes that are left, and the constant.
 fn pack_nodes(net: Net) -> Net
-    ensures { λ r. ⌜ (r ≡ upto (packNode net) maxNodes (emptyNet 0 0)) × (r .m ≡ 0) ⌝ }
+    ensures { λ r. ⌜ (r ≡ upto (packNode net) maxNodes (emptyNet 0 0 (net .constant))) × (r .m ≡ 0) ⌝ }
 {
-    let mut p = network::empty_net(0, 0);
+    let constant = net.constant;
+    let mut p = network::empty_net(0, 0, constant);
     for i in 0..MAX_NODES {
         if net.here[i + 1] {
             let k = p.n + 1;

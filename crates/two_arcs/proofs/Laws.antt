@@ -14,6 +14,7 @@ use Rattle.algebra.proofs.Sum.{Absent}
 use Rattle.algebra.specs.Sum.{only}
 use Rattle.presolve.proofs.Named.{apart, further}
 use Rattle.presolve.specs.LP as LP
+use Rattle.presolve.proofs.Step.{SoundStep}
 use Rattle.presolve.proofs.Bounds.{mapO, mergeL, mergeU, fits-dec}
 use Rattle.presolve.specs.Bounds as Bounds
 use Rattle.presolve.proofs.Price.{only-zero}
@@ -28,7 +29,7 @@ use Rattle.fraction.specs.Formula.{_⊖_, _⊗_, _⊘_, ⊝_}
 use Rattle.fraction.proofs.Laws.{never}
 use Rattle.fraction.specs.Value.{value}
 use Rattle.fraction.proofs.Value.{is-same}
-use Rattle.fraction.proofs.Formulas.{given, minus-gives, times-gives, over-gives, negated-gives, minus-fits, zero-proper, zero-is, unvanishing, times-unvanishing, over-unvanishing, negated-unvanishing}
+use Rattle.fraction.proofs.Formulas.{given, plus-gives, plus-fits, minus-gives, times-gives, over-gives, negated-gives, minus-fits, zero-proper, zero-is, unvanishing, times-unvanishing, over-unvanishing, negated-unvanishing}
 use Rattle.network.specs.declared.Arc.{Arc}
 use Rattle.network.specs.declared.Net.{Net}
 use Rattle.network.specs.declared.Side.{Side}
@@ -54,41 +55,44 @@ use Rattle.step.specs.Figure.{larger, smaller}
 use Rattle.step.proofs.Frame.{Framed, Unnamed, no-arc-puts, no-level, no-names, arc-stands}
 use Rattle.step.proofs.Each.{Any}
 use Rattle.step.proofs.Touch.{touching-first}
-use Rattle.step.proofs.Exactly.{Far, End, no-far, is-true, zero-figure, arc-in, arc-off, rhs-is, spokeOf, alone, SoundTo, shifted, sound-shifted, rewired}
+use Rattle.step.proofs.Exactly.{Far, End, no-far, is-true, zero-figure, arc-in, arc-off, rhs-is, spokeOf, alone, rewired}
 use Rattle.step.proofs.Lines.{split, Answers, only-met, fits-met, not-shown, figure-met, restored-is}
 use Rattle.step.proofs.Removing.{less-proper, level-is}
 use Rattle.step.proofs.Node.{AtNode, ArcsAt, arcs-here}
 use Rattle.step.proofs.Figures.{Sized, Holds, Figure, itself, flow-put, price-put, over-exactly, choose-yes, choose-no}
 use Rattle.step.proofs.Laws.{supply-small, no-old, Right, right-of, RuleLaws}
-use Rattle.two_arcs.specs.TwoArcs.{sameSign, tighter, imageOf, newArc, merging, merged, kept, two, twoArcs, twoBack, rule}
+use Rattle.two_arcs.specs.TwoArcs.{sameSign, tighter, imageOf, gained, newArc, merging, merged, kept, two, twoArcs, twoBack, rule}
 use Rattle.two_arcs.proofs.Figures.{lower-is, upper-is, new-bounds}
 use Rattle.two_arcs.proofs.Tried.{passes, tried}
 
 -- ---- what an answer says
 
--- all figures of j as it is kept, and of the supply at k's other end, fit; this is the change
-record Merged (i j : ℕ) (tj : Arc) (wj : Side) (k : ℕ) (tk : Arc) (wk : Side) (r r′ : Fraction) (x : Outcome) : Type 0 where
+-- all figures of j as it is kept, of the supply at k's other end, and the constant fit; this is the change
+record Merged (constant : Fraction) (i j : ℕ) (tj : Arc) (wj : Side) (k : ℕ) (tk : Arc) (wk : Side) (r r′ : Fraction) (x : Outcome) : Type 0 where
   cost : Fraction
   lower : Fraction
   upper : Fraction
   b : Fraction
   supply : Fraction
+  total : Fraction
   cost-fits : (Fits (tj .cost) ⊖ Fits (tk .cost) ⊗ Fits (wj .e) ⊘ Fits (wk .e)) ≡ Fits cost
   lower-fits : tighter larger (tj .lower) (cond (sameSign (wj .e) (wk .e)) (tk .upper) (tk .lower)) (imageOf r wj wk (cond (sameSign (wj .e) (wk .e)) (tk .upper) (tk .lower))) ≡ Fits lower
   upper-fits : tighter smaller (tj .upper) (cond (sameSign (wj .e) (wk .e)) (tk .lower) (tk .upper)) (imageOf r wj wk (cond (sameSign (wj .e) (wk .e)) (tk .lower) (tk .upper))) ≡ Fits upper
   b-fits : cond (eqb (wk .other) 0) (Fits zeroFraction) (⊝ (Fits (wk .o) ⊗ Fits (wj .e) ⊘ Fits (wk .e))) ≡ Fits b
   supply-fits : cond (eqb (wk .other) 0) (Fits noFigure) (Fits r′ ⊖ Fits (wk .o) ⊗ Fits r ⊘ Fits (wk .e)) ≡ Fits supply
-  is : Changes (record { edit = merging j (newArc wj wk cost lower upper b) k (wk .other) supply i; old = oldTwo i r (record { number = j; arc = tj }) (record { number = k; arc = tk }) }) ≡ x
+  total-fits : gained constant tk wk r ≡ Fits total
+  is : Changes (record { edit = merging j (newArc wj wk cost lower upper b) k (wk .other) supply i total; old = oldTwo i r (record { number = j; arc = tj }) (record { number = k; arc = tk }) }) ≡ x
 
-merged-met : (i j : ℕ) (tj : Arc) (wj : Side) (k : ℕ) (tk : Arc) (wk : Side) (r r′ : Fraction) {x : Outcome} → Answers x → merged i j tj wj k tk wk r r′ ≡ x → Merged i j tj wj k tk wk r r′ x
+merged-met : (constant : Fraction) (i j : ℕ) (tj : Arc) (wj : Side) (k : ℕ) (tk : Arc) (wk : Side) (r r′ : Fraction) {x : Outcome} → Answers x → merged constant i j tj wj k tk wk r r′ ≡ x → Merged constant i j tj wj k tk wk r r′ x
 unfolding merged
-merged-met i j tj wj k tk wk r r′ {x} a e =
+merged-met constant i j tj wj k tk wk r r′ {x} a e =
     let c = fits-met a _ _ e in
     let l = fits-met a _ _ (c .2) in
     let u = fits-met a _ _ (l .2) in
     let b = fits-met a _ _ (u .2) in
     let s = fits-met a _ _ (b .2) in
-    record { cost = c .0; lower = l .0; upper = u .0; b = b .0; supply = s .0; cost-fits = c .1; lower-fits = l .1; upper-fits = u .1; b-fits = b .1; supply-fits = s .1; is = s .2 }
+    let z = fits-met a _ _ (s .2) in
+    record { cost = c .0; lower = l .0; upper = u .0; b = b .0; supply = s .0; total = z .0; cost-fits = c .1; lower-fits = l .1; upper-fits = u .1; b-fits = b .1; supply-fits = s .1; total-fits = z .1; is = z .2 }
 
 -- the two arcs at the node: j is no root arc, and their other ends differ
 record Arcs (net : Net) (i j k : ℕ) : Type 0 where
@@ -115,7 +119,7 @@ two-at net i a b w true e d =
 record Met (net : Net) (i j k : ℕ) (x : Outcome) : Type 0 where
   here : isHere net i ≡ true
   arcs : Arcs net i j k
-  made : Merged i j (arcAt net j) (sideOf (arcAt net j) i) k (arcAt net k) (sideOf (arcAt net k) i) (supplyAt net i) (supplyAt net (sideOf (arcAt net k) i .other)) x
+  made : Merged (net .constant) i j (arcAt net j) (sideOf (arcAt net j) i) k (arcAt net k) (sideOf (arcAt net k) i) (supplyAt net i) (supplyAt net (sideOf (arcAt net k) i .other)) x
 
 two-met : (net : Net) → Legal net → (i : ℕ) {x : Outcome} → Answers x → twoArcs net i ≡ x → (j k : ℕ) × Met net i j k x
 unfolding twoArcs two kept
@@ -130,18 +134,18 @@ two-met net g i {x} a e = (cond root u t, cond root t u, by root refl (d .1))
     root : Bool
     root = isRoot (arcAt net t)
 
-    h : (isHere net i ≡ true) × (two (net .supply) i (degreeOf net i) (oldArc net t) (oldArc net u) ≡ x)
+    h : (isHere net i ≡ true) × (two (net .constant) (net .supply) i (degreeOf net i) (oldArc net t) (oldArc net u) ≡ x)
     h = only-met a _ _ e
 
-    d : (eqb (degreeOf net i) 2 ≡ true) × (cond root (kept (net .supply) i (oldArc net u) (oldArc net t)) (kept (net .supply) i (oldArc net t) (oldArc net u)) ≡ x)
+    d : (eqb (degreeOf net i) 2 ≡ true) × (cond root (kept (net .constant) (net .supply) i (oldArc net u) (oldArc net t)) (kept (net .constant) (net .supply) i (oldArc net t) (oldArc net u)) ≡ x)
     d = only-met a _ _ (h .1)
 
     both : ArcsAt net i (t ∷ u ∷ [])
     both = arcs-here net g i (h .0) (t ∷ u ∷ []) (eqb-true _ _ (d .0)) (touching-first net i 0, (touching-first net i t, tt))
 
-    by : (r : Bool) → isRoot (arcAt net t) ≡ r → cond r (kept (net .supply) i (oldArc net u) (oldArc net t)) (kept (net .supply) i (oldArc net t) (oldArc net u)) ≡ x → Met net i (cond r u t) (cond r t u) x
-    by true q f = let n = only-met a _ _ f in record { here = h .0; arcs = two-at net i t u both true q (eqb-false _ _ (not-true _ (n .0))); made = merged-met _ _ _ _ _ _ _ _ _ a (n .1) }
-    by false q f = let n = only-met a _ _ f in record { here = h .0; arcs = two-at net i t u both false q (eqb-false _ _ (not-true _ (n .0))); made = merged-met _ _ _ _ _ _ _ _ _ a (n .1) }
+    by : (r : Bool) → isRoot (arcAt net t) ≡ r → cond r (kept (net .constant) (net .supply) i (oldArc net u) (oldArc net t)) (kept (net .constant) (net .supply) i (oldArc net t) (oldArc net u)) ≡ x → Met net i (cond r u t) (cond r t u) x
+    by true q f = let n = only-met a _ _ f in record { here = h .0; arcs = two-at net i t u both true q (eqb-false _ _ (not-true _ (n .0))); made = merged-met _ _ _ _ _ _ _ _ _ _ a (n .1) }
+    by false q f = let n = only-met a _ _ f in record { here = h .0; arcs = two-at net i t u both false q (eqb-false _ _ (not-true _ (n .0))); made = merged-met _ _ _ _ _ _ _ _ _ _ a (n .1) }
 
 -- ---- the change
 
@@ -165,7 +169,7 @@ module _ (net : Net) (g : Legal net) (i j k : ℕ) {c : Change} (m : Met net i j
   new = newArc wj wk (m .made .cost) (m .made .lower) (m .made .upper) (m .made .b)
 
   edit : Edit
-  edit = merging j new k (wk .other) (m .made .supply) i
+  edit = merging j new k (wk .other) (m .made .supply) i (m .made .total)
 
   -- the end that j takes over, and its multiplier there: zero exactly where j becomes a root arc
   record Takes (to : ℕ) : Type 0 where
@@ -223,6 +227,17 @@ module _ (net : Net) (g : Legal net) (i j k : ℕ) {c : Change} (m : Met net i j
         b-zero = x .zero;
       }
 
+  -- what k takes of the node's supply to its far end, and of its cost to the constant
+  taken : ℚ
+  taken = value (wk .o) *ℚ value r *ℚ inv (value (wk .e))
+
+  gain : ℚ
+  gain = value (tk .cost) *ℚ value r *ℚ inv (value (wk .e))
+
+  total-is : Figure (m .made .total) (value (net .constant) +ℚ gain)
+  unfolding gained gain
+  total-is = (plus-fits (m .made .total-fits) .is .proper, plus-gives (given (net .constant)) (over-gives (times-gives (given (tk .cost)) (given r)) (given (wk .e))) _ (m .made .total-fits))
+
   framed : Framed net edit
   unfolding edit new isTouching
   framed =
@@ -230,17 +245,11 @@ module _ (net : Net) (g : Legal net) (i j k : ℕ) {c : Change} (m : Met net i j
         arcs = ((record { may = inr (used-within g j (m .arcs .at-j .used) .1, new-legal); clear = λ l. rw (ne-eqb (wj .other) i (m .arcs .far-j .apart), ne-eqb _ i (takes (m .arcs .at-k .end) .apart-i)) }, inr (λ l. m .arcs .at-j .used)), (no-arc-puts net i k, (no-arc-puts net i 0, (no-arc-puts net i 0, tt))));
         left = λ l. less-proper (wk .other) (Fits (supplyAt net (wk .other))) _ (m .made .supply-fits) l;
         right = no-level;
+        constant = total-is .0;
         only = λ x l t. ⊎-elim inl (λ w. inr (⊎-elim inl absurd w)) (m .arcs .all x t);
       }
 
   -- ---- in exact numbers
-
-  -- what k takes of the node's supply to its far end, and of its cost to the constant
-  taken : ℚ
-  taken = value (wk .o) *ℚ value r *ℚ inv (value (wk .e))
-
-  gain : ℚ
-  gain = value (tk .cost) *ℚ value r *ℚ inv (value (wk .e))
 
   far-in : End net i wk → T (isHere net (wk .other)) ⊎ (taken ≡ 𝟘)
   unfolding taken
@@ -254,13 +263,12 @@ module _ (net : Net) (g : Legal net) (i j k : ℕ) {c : Change} (m : Met net i j
   back : LP.Pair → LP.Pair
   back = two-back (programOf net) i (spokeOf net i j) (spokeOf net i k)
 
-  sound : SoundTo net (applied net edit) back
+  sound : SoundStep (programOf net) (programOf (applied net edit)) back
   unfolding edit new back taken gain exactOf
   sound =
-      sound-shifted net (applied net edit) (𝟘 +ℚ gain)
-      (two-sound
-      (two-of (exactOf net) (shifted (applied net edit) (𝟘 +ℚ gain)) i (spokeOf net i j) (spokeOf net i k) (exactArc new)
-      (rewired net g edit (m .here) (j ∷ k ∷ []) unnamed (wk .other) taken gain (far-in (m .arcs .at-k .end)) supplies)
+      two-sound
+      (two-of (exactOf net) (exactOf (applied net edit)) i (spokeOf net i j) (spokeOf net i k) (exactArc new)
+      (rewired net g edit (m .here) (j ∷ k ∷ []) unnamed (wk .other) taken gain (far-in (m .arcs .at-k .end)) supplies (total-is .1))
       (omega (arith, here-number g i (m .here) .1))
       (m .arcs .at-j .spoke)
       (m .arcs .at-k .spoke)
@@ -273,7 +281,7 @@ module _ (net : Net) (g : Legal net) (i j k : ℕ) {c : Change} (m : Met net i j
       (ap exactArc stands-j)
       (λ s. ap (λ v. only (wj .other) (value (wj .o)) s +ℚ v) (takes (m .arcs .at-k .end) .ends s))
       (minus-gives (given (tj .cost)) (over-gives (times-gives (given (tk .cost)) (given (wj .e))) (given (wk .e))) _ (m .made .cost-fits))
-      (new-bounds r wj wk (column (exactArc tj)) (column (exactArc new)) tk (m .arcs .at-j .near) (m .arcs .at-k .near) (lower-now .1) (upper-now .1))))
+      (new-bounds r wj wk (column (exactArc tj)) (column (exactArc new)) tk (m .arcs .at-j .near) (m .arcs .at-k .near) (lower-now .1) (upper-now .1)))
     where
       unnamed : (x : ℕ) → Absent x (j ∷ k ∷ []) → Unnamed (updatesOf edit) x
       unnamed x a = ((λ _. apart a), ((λ _. apart (further a)), no-names x .1 .1))

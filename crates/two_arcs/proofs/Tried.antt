@@ -1,5 +1,5 @@
 -- Rule 5 as it is tried: at a node of another degree it passes, and what it is given is what it reads of the network.
-use mathlib.Core.Path.{_≡_, subst}
+use mathlib.Core.Path.{_≡_, subst₂}
 use mathlib.Core.Bool.{true, false}
 use mathlib.Core.List.{List}
 use Prim.Native.Nat.{ℕ, _≤_}
@@ -20,8 +20,8 @@ pub passes : (net : Net) (i : ℕ) → eqb (degreeOf net i) 2 ≡ false → twoA
 unfolding twoArcs two onlyWhere
 passes net i e = split (isHere net i) (λ h. rw (h, e)) (λ h. rw h)
 
-pub tried : {net : Net} {supply : List Fraction} {i d : ℕ} {near : Around} → Given net supply i d near → two supply i d (near .one) (near .two) ≡ twoArcs net i
+pub tried : {net : Net} {constant : Fraction} {supply : List Fraction} {i d : ℕ} {near : Around} → Given net constant supply i d near → two constant supply i d (near .one) (near .two) ≡ twoArcs net i
 unfolding twoArcs two onlyWhere
 tried {net} {i = i} {d = d} {near} g =
-    subst (λ s. two s i d (near .one) (near .two) ≡ twoArcs net i) (g .supplies)
+    subst₂ (λ k s. two k s i d (near .one) (near .two) ≡ twoArcs net i) (g .constant-is) (g .supplies)
     (rw (g .here, g .degree) (split (eqb d 2) (λ e. let l = eqb-true d 2 e in rw (e, g .arcs .one (omega (arith, l)), g .arcs .two (omega (arith, l)))) (λ e. rw e)))

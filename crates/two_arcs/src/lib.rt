@@ -8,7 +8,7 @@ ghost use Rattle.fraction.specs.Formula.{_⊖_, _⊗_, _⊘_, ⊝_};
 ghost use Rattle.slackness.specs.Slackness.{keepsRule};
 ghost use Rattle.step.specs.Back.{quoteAt};
 ghost use Rattle.step.specs.Figure.{larger, smaller};
-ghost use Rattle.two_arcs.specs.TwoArcs.{sameSign, tighter, imageOf, newArc, merging as mergingOf, merged, kept, two, twoBack};
+ghost use Rattle.two_arcs.specs.TwoArcs.{sameSign, tighter, imageOf, gained as gainedBy, newArc, merging as mergingOf, merged, kept, two, twoBack};
 use fraction::Fraction;
 use fraction::Worked;
 use network::Arc;
@@ -106,6 +106,15 @@ fn far_supply(wk: Side, s: Fraction, r: Fraction) -> Worked
     s.fit().minus(ok.times(r.fit()).over(ek))
 }
 
+// The constant after the step: it gains ck × r ÷ ek.
+fn gained(constant: Fraction, tk: Arc, wk: Side, r: Fraction) -> Worked
+    ensures { λ x. ⌜ x ≡ gainedBy constant tk wk r ⌝ }
+{
+    let ck = tk.cost.fit();
+    let ek = wk.e.fit();
+    constant.fit().plus(ck.times(r.fit()).over(ek))
+}
+
 // Arc j as it is kept: it runs on to k's other end, and becomes a root arc where k is one.
 fn new_arc(wj: Side, wk: Side, c: Fraction, l: Fraction, u: Fraction, b: Fraction) -> Arc
     ensures { λ x. ⌜ x ≡ newArc wj wk c l u b ⌝ }
@@ -133,9 +142,17 @@ fn new_arc(wj: Side, wk: Side, c: Fraction, l: Fraction, u: Fraction, b: Fractio
     }
 }
 
-// Two arcs are put, a supply is set, and a node is dropped.
-fn merging(j: usize, t: Arc, k: usize, node: usize, s: Fraction, gone: usize) -> network::Edit
-    ensures { λ x. ⌜ x ≡ mergingOf j t k node s gone ⌝ }
+// Two arcs are put, a supply is set, a node is dropped, and the constant is set.
+fn merging(
+    j: usize,
+    t: Arc,
+    k: usize,
+    node: usize,
+    s: Fraction,
+    gone: usize,
+    constant: Fraction,
+) -> network::Edit
+    ensures { λ x. ⌜ x ≡ mergingOf j t k node s gone constant ⌝ }
 {
     let none = network::no_update();
     let arc = network::no_arc();
@@ -148,11 +165,13 @@ fn merging(j: usize, t: Arc, k: usize, node: usize, s: Fraction, gone: usize) ->
         left: SupplyUpdate { node, supply: s },
         right,
         gone,
+        constant,
     }
 }
 
 // Arc j, tj, is kept and arc k, tk, goes, at node i of supply r; s is the supply at k's other end.
 fn merge(
+    constant: Fraction,
     i: usize,
     j: usize,
     tj: Arc,
@@ -163,7 +182,7 @@ fn merge(
     r: Fraction,
     s: Fraction,
 ) -> Outcome
-    ensures { λ x. ⌜ x ≡ merged i j tj wj k tk wk r s ⌝ }
+    ensures { λ x. ⌜ x ≡ merged constant i j tj wj k tk wk r s ⌝ }
 {
     let exchanged = same_sign(wj.e, wk.e);
     let lz = either(exchanged, tk.upper, tk.lower);
@@ -183,8 +202,11 @@ fn merge(
     let Worked::Fits(g) = far_supply(wk, s, r) else {
         return Outcome::Passes;
     };
+    let Worked::Fits(z) = gained(constant, tk, wk, r) else {
+        return Outcome::Passes;
+    };
     let new = new_arc(wj, wk, c, l, u, b);
-    let edit = merging(j, new, k, wk.other, g, i);
+    let edit = merging(j, new, k, wk.other, g, i, z);
     let old = step::old_two(
         i,
         r,
@@ -195,8 +217,14 @@ fn merge(
 }
 
 // Arc j is kept and arc k goes, where their other ends differ.
-fn keep(supply: [Fraction; NODE_PLACES], i: usize, j: ArcUpdate, k: ArcUpdate) -> Outcome
-    ensures { λ x. ⌜ x ≡ kept supply i j k ⌝ }
+fn keep(
+    constant: Fraction,
+    supply: [Fraction; NODE_PLACES],
+    i: usize,
+    j: ArcUpdate,
+    k: ArcUpdate,
+) -> Outcome
+    ensures { λ x. ⌜ x ≡ kept constant supply i j k ⌝ }
 {
     let wj = network::side_at(j.arc, i);
     let wk = network::side_at(k.arc, i);
@@ -205,26 +233,27 @@ fn keep(supply: [Fraction; NODE_PLACES], i: usize, j: ArcUpdate, k: ArcUpdate) -
     }
     let r = network::supply_of(supply, i);
     let s = network::supply_of(supply, wk.other);
-    merge(i, j.number, j.arc, wj, k.number, k.arc, wk, r, s)
+    merge(constant, i, j.number, j.arc, wj, k.number, k.arc, wk, r, s)
 }
 
 // Rule 5 at node i of this degree, where t and u are the first two arcs: the lower number is kept unless it is a root arc.
 pub fn two_arcs(
+    constant: Fraction,
     supply: [Fraction; NODE_PLACES],
     i: usize,
     degree: usize,
     t: ArcUpdate,
     u: ArcUpdate,
 ) -> Outcome
-    ensures { λ x. ⌜ x ≡ two supply i degree t u ⌝ }
+    ensures { λ x. ⌜ x ≡ two constant supply i degree t u ⌝ }
 {
     if degree != 2 {
         return Outcome::Passes;
     }
     if network::is_root(t.arc) {
-        return keep(supply, i, u, t);
+        return keep(constant, supply, i, u, t);
     }
-    keep(supply, i, t, u)
+    keep(constant, supply, i, t, u)
 }
 
 // Its way back.

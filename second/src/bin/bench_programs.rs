@@ -3,7 +3,9 @@
 
 use second::bench_networks::{KINDS, SIZES};
 use second::draw::Draw;
+use second::network::Network;
 use second::text::line;
+use second::trips::Trip;
 use std::io::Write;
 use std::process::{Command, Stdio};
 use std::time::{Duration, Instant};
@@ -84,9 +86,9 @@ struct Bench {
 }
 
 impl Bench {
-    fn new(programs: [String; 2], answer: &'static str, empty: &str) -> Bench {
-        let case = |text: &str, expected| Case::new(text.to_string(), 0, &programs, expected);
-        let (empty, refused) = (case(empty, answer), case(REFUSED, "refused"));
+    fn new(programs: [String; 2], answer: &'static str, empty: &[i32]) -> Bench {
+        let case = |text, expected| Case::new(text, 0, &programs, expected);
+        let (empty, refused) = (case(line(empty), answer), case(REFUSED.to_string(), "refused"));
         Bench { programs, answer, cases: vec![], empty, refused }
     }
 
@@ -141,8 +143,9 @@ fn main() {
         eprintln!("bench_programs VERIFIED_REDUCE RUST_REDUCE VERIFIED_RESTORE RUST_RESTORE");
         std::process::exit(2);
     };
-    let mut reducing = Bench::new([verified_reduce, rust_reduce], "reduced", "0 0\n");
-    let mut restoring = Bench::new([verified_restore, rust_restore], "restored", "0 0 0 0 0\n");
+    let empty = Trip::at_rest(Network::default()).words();
+    let mut reducing = Bench::new([verified_reduce, rust_reduce], "reduced", &empty.network);
+    let mut restoring = Bench::new([verified_restore, rust_restore], "restored", &empty.all());
 
     let mut draw = Draw::new(0x5EC0_4D05);
     for (n, m) in SIZES {

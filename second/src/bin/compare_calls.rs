@@ -110,6 +110,7 @@ impl Calls {
     fn restore(&mut self, draw: &mut Draw, Words { network, stack, pair }: &Words) {
         let lengths = lengths(draw, RESTORING_ROOM);
         let told = restore_call(network, stack, pair, lengths);
+        assert!(told.code != 0 || told.records[1][..2] == told.records[1][2..], "both values are the same");
         self.compare(draw, ("restore", lengths), told, &[network, stack, pair], |[out, values, scratch]| {
             patskvime::restore(network, stack, pair, out, values, scratch)
         });

@@ -1,4 +1,4 @@
-//! Compares another restoring program with this one, and checks that what is restored is optimal.
+//! Compares another restoring program with this one, and checks that what is restored is optimal, and the values equal.
 //! Argument 1: the other program; 2: how many texts (3000 if absent); 3: a folder for the differing texts.
 
 use second::compare::{arguments, own_program, Comparison};
@@ -7,10 +7,10 @@ use second::programs::{read_and_restore, restoring};
 use second::trips::{sample, Sample, Ways};
 
 /// Instances A to D of document 01: the network and the stack, the flows offered, and what is printed.
-const INSTANCE: &str = "3 3\n4 -5 2 1 2 1 0 3 1 -1 1 2 2 0 1 1 -1 3 2 7 0 1 1 -1\n\
-                        1 1 1 1 1 1 1 1 1 1 1 1 1 1 0 1 1 1 1 1 1 0 1 2\n1\n3\n3\n2 2\n2 0 ";
+const INSTANCE: &str = "3 3\n0 4 -5 2 1 2 1 0 3 1 -1 1 2 2 0 1 1 -1 3 2 7 0 1 1 -1\n\
+                        1 1 1 1 1 1 1 1 1 1 1 1 1 1 1 0 1 1 1 1 1 1 0 1 2\n1\n3\n3\n2 2\n2 0 ";
 const OFFERED: [(&str, &str); 4] = [
-    ("3 1", "restored\n3 3\n2 0 7 3 1 2\n1 1 1 1 1 1\n5 1\n19 1\n"),
+    ("3 1", "restored\n3 3\n2 0 7 3 1 2\n1 1 1 1 1 1\n19 1\n19 1\n"),
     ("2 2", "refused 12\n"),
     ("4 0", "refused 11\n"),
     ("3 2", "refused 10\n"),
@@ -21,6 +21,7 @@ const OFFERED: [(&str, &str); 4] = [
 struct Checks {
     ways: Ways,
     kinds: usize,
+    values: usize,
     optima: usize,
     complaints: usize,
 }
@@ -29,8 +30,12 @@ impl Checks {
     fn check(&mut self, number: usize, sample: &Sample) {
         let mut complaint = sample.trip.complaint();
         self.kinds += 1;
+        let answer = read_and_restore(&sample.text);
+        if let Ok(restored) = &answer {
+            complaint = complaint.or(restored.complaint());
+            self.values += 1;
+        }
         if sample.whole && sample.trip.pair.is_some() {
-            let answer = read_and_restore(&sample.text);
             complaint = complaint.or(sample.trip.complaint_about(&answer));
             if let Ok(restored) = &answer {
                 self.ways.count(&sample.trip.reduction, restored);
@@ -50,6 +55,7 @@ impl Checks {
         println!("rule 5 with its second price {} times", self.ways.second_prices);
         println!("rule 6 with two different prices {} times", self.ways.different_prices);
         println!("{} originals solved beside their reduced networks", self.kinds);
+        println!("{} restored pairs with the same value before and after", self.values);
         println!("{} restored pairs checked against the independent optimum", self.optima);
         println!("{} checks failed", self.complaints);
     }

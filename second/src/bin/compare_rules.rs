@@ -6,8 +6,8 @@ use second::draw::Draw;
 use second::exact::Exact;
 use second::fraction::{Bound, Fraction};
 use second::network::{Arc, Network};
-use second::rules::{place_is_arc, try_rule, Change, Found};
-use second::sample_texts::damage_network;
+use second::rules::{apart_from_constant, place_is_arc, try_rule, Change, Found};
+use second::sample_texts::{damage_network, drop_constant};
 use second::scenes::{scene, sign};
 use std::process::exit;
 
@@ -15,11 +15,13 @@ use std::process::exit;
 const ROOM: usize = 160;
 /// Rule, place, the record's length, the record and zeros behind it.
 const ASKED: usize = 3 + ROOM;
-/// Kind; four arcs of 13 words; two supplies of 3 words; the node dropped.
-const TOLD: usize = 60;
 /// An arc's number, ends and figures.
 const ARC_WORDS: usize = 13;
+/// Kind; four arcs; two supplies of 3 words; the node dropped; the constant.
 const SUPPLIES_AT: usize = 1 + 4 * ARC_WORDS;
+const NODE_AT: usize = SUPPLIES_AT + 2 * 3;
+const CONSTANT_AT: usize = NODE_AT + 1;
+const TOLD: usize = CONSTANT_AT + 2;
 
 type Question = [i32; ASKED];
 type Answer = [i32; TOLD];
@@ -51,6 +53,7 @@ fn drawn(draw: &mut Draw) -> Question {
         0 | 1 => damage_network(draw, &mut record),
         2 => drop(record.pop()),
         3 => record.push(draw.word()),
+        4 => drop_constant(&mut record),
         _ => {}
     }
     let mut question = question(rule, place, &record);
@@ -99,7 +102,8 @@ fn step_words(change: &Change) -> Answer {
         answer[SUPPLIES_AT + 3 * at] = *node as i32;
         put_figure(&mut answer[SUPPLIES_AT + 3 * at + 1..], supply.words());
     }
-    answer[TOLD - 1] = change.dropped_node.unwrap_or(0) as i32;
+    answer[NODE_AT] = change.dropped_node.unwrap_or(0) as i32;
+    put_figure(&mut answer[CONSTANT_AT..], change.constant.words());
     answer
 }
 
@@ -131,6 +135,7 @@ fn signs(network: &Network) -> Network {
         ..*arc
     };
     Network {
+        constant: sign(network.constant),
         supplies: network.supplies.iter().map(|(&node, &supply)| (node, sign(supply))).collect(),
         arcs: network.arcs.iter().map(|(&number, it)| (number, arc(it))).collect(),
     }
@@ -172,20 +177,22 @@ fn is_wide(answer: &Answer) -> bool {
 /// Prints how often each rule gave each kind here, and how often the width had a say.
 fn print_tally(questions: &[Question], expected: &[Answer]) {
     let mut kinds = [[0usize; 4]; 7];
-    let (mut stopped, mut wide) = ([0usize; 7], [0usize; 7]);
+    let (mut stopped, mut by_constant, mut wide) = ([0usize; 7], [0usize; 7], [0usize; 7]);
     for (question, told) in questions.iter().zip(expected) {
         let (network, rule, place) = asked(question);
         let row = if rule > 6 { 0 } else { rule as usize };
         kinds[row][told[0] as usize] += 1;
         wide[row] += is_wide(told) as usize;
-        let network = network.filter(|_| told[0] == 0 && row > 0);
-        stopped[row] += network.is_some_and(|network| applies_but_for_width(&network, rule, place)) as usize;
+        if let Some(network) = network.filter(|_| told[0] == 0 && row > 0) {
+            stopped[row] += applies_but_for_width(&network, rule, place) as usize;
+            by_constant[row] += apart_from_constant(&network, rule, place).is_some() as usize;
+        }
     }
     for (row, counts) in kinds.iter().enumerate() {
         let counts: Vec<String> = NAMES.iter().zip(counts).map(|(name, count)| format!("{name} {count}")).collect();
         let name = if row == 0 { "no rule".to_string() } else { format!("rule {row}") };
-        let (stopped, wide) = (stopped[row], wide[row]);
-        println!("{name}: {}; stopped by the width alone {stopped}, wide steps {wide}", counts.join(", "));
+        println!("{name}: {}; wide steps {}", counts.join(", "), wide[row]);
+        println!("    stopped by the width alone {}, by that of the constant {}", stopped[row], by_constant[row]);
     }
 }
 

@@ -63,11 +63,11 @@ fn drawn(draw: &mut Draw) -> Question {
 /// The instances A, B, C and D of 01: the same reduced network with four pairs, and their answers.
 fn instances() -> Vec<(Question, Answer)> {
     let words = |text: &str| read_words(text.as_bytes()).expect("words");
-    let network = words("2 2 4 -4 1 2 1 0 3 1 -1 1 2 2 0 1 1 -1 1 1 1 1 1 1 1 1 1 1 1 1 1 0 1 1");
+    let network = words("2 2 14 4 -4 1 2 1 0 3 1 -1 1 2 2 0 1 1 -1 1 1 1 1 1 1 1 1 1 1 1 1 1 1 0 1 1");
     let pair = |flows: &str| words(&format!("2 2 2 0 {flows} 1 1 1 1"));
     let answer = |number, value: [i32; 2]| [number, value[0], value[1], AS_BEFORE, AS_BEFORE];
     vec![
-        (question(&network, &pair("3 1"), 2), answer(0, [5, 1])),
+        (question(&network, &pair("3 1"), 2), answer(0, [19, 1])),
         (question(&network, &pair("2 2"), 2), answer(12, [0, 0])),
         (question(&network, &pair("4 0"), 2), answer(11, [0, 0])),
         (question(&network, &pair("3 2"), 2), answer(10, [0, 0])),
@@ -120,7 +120,7 @@ impl Exactly {
         };
         let mut rest: BTreeMap<usize, Exact> = network.supplies.iter().map(|(&node, &r)| (node, r.into())).collect();
         let mut sums: BTreeMap<usize, Exact> = network.supplies.keys().map(|&node| (node, Exact::zero())).collect();
-        let mut value = Exact::zero();
+        let mut value = Exact::from(network.constant);
         let (mut within, mut kept) = (true, true);
         for (number, arc) in &network.arcs {
             let flow = Exact::from(pair.flows[number]);

@@ -24,13 +24,13 @@ abbrev μ-loop : tie.MeasureT-loop
 long : (c : tie.Start Inv-loop μ-loop) → (length (c .args .t1 .arcs) ≡ 97) × (length (c .args .t2 .flow) ≡ 97)
 long c = (search (length-mapped, needs), search (length-mapped, needs))
 
-t-is : (c : tie.Joined1 Inv-loop μ-loop) → c .if1 .t ≡ arcAt (c .before .before .before .before .before .before .args .t1) (c .before .before .before .before .loop .j + 1)
+t-is : (c : tie.Joined1 Inv-loop μ-loop) → c .if1 .t ≡ arcAt (c .before .before .before .before .before .before .before .args .t1) (c .before .before .before .before .loop .j + 1)
 t-is c =
-    ⊎-elim (λ w. w .3) (λ w. w .1 ∙ c .before .before .no-arc .ensures ∙ past (c .before .before .before .before .before .before .args .t1 .arcs) noArc _ (long (c .before .before .before .before .before .before) .0) (w .0 .left)) (c .if1 .came)
+    ⊎-elim (λ w. w .3) (λ w. w .1 ∙ c .before .before .no-arc .ensures ∙ past (c .before .before .before .before .before .before .before .args .t1 .arcs) noArc _ (long (c .before .before .before .before .before .before .before) .0) (w .0 .left)) (c .if1 .came)
 
-x-is : (c : tie.Joined1 Inv-loop μ-loop) → c .if1 .x ≡ flowAt (c .before .before .before .before .before .before .args .t2) (c .before .before .before .before .loop .j + 1)
+x-is : (c : tie.Joined1 Inv-loop μ-loop) → c .if1 .x ≡ flowAt (c .before .before .before .before .before .before .before .args .t2) (c .before .before .before .before .loop .j + 1)
 x-is c =
-    ⊎-elim (λ w. w .4) (λ w. w .2 ∙ c .before .no-figure .ensures ∙ past (c .before .before .before .before .before .before .args .t2 .flow) noFigure _ (long (c .before .before .before .before .before .before) .1) (w .0 .left)) (c .if1 .came)
+    ⊎-elim (λ w. w .4) (λ w. w .2 ∙ c .before .no-figure .ensures ∙ past (c .before .before .before .before .before .before .before .args .t2 .flow) noFigure _ (long (c .before .before .before .before .before .before .before) .1) (w .0 .left)) (c .if1 .came)
 
 loop-holds : tie.Need-loop-holds Inv-loop μ-loop
 loop-holds c = folded-none _ _ _

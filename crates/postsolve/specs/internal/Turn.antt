@@ -2,6 +2,7 @@
 use mathlib.Core.List.{List}
 use Prim.Native.Nat.{ℕ}
 use lib.IntN.{ℤ}
+use Rattle.fraction.specs.Exact.{noFigure}
 use Rattle.network.specs.declared.Edit.{Edit}
 use Rattle.network.specs.Network.{noSupplyUpdate}
 use Rattle.step.specs.declared.Old.{Old}
@@ -13,6 +14,6 @@ use Rattle.log.specs.Log.{ruleIn, oldIn}
 abbrev pub backTurn : List ℤ → ℕ → Way → Way
 backTurn zs k way = undo (ruleOf rules (ruleIn zs k) .back (oldIn zs k)) way
 
--- the old arcs of a step as an edit
+-- the old arcs of a step as an edit, of which only its arcs are put
 abbrev pub oldEdit : Old → Edit
-oldEdit old = record { one = old .one; two = old .two; three = old .three; four = old .four; left = noSupplyUpdate; right = noSupplyUpdate; gone = 0 }
+oldEdit old = record { one = old .one; two = old .two; three = old .three; four = old .four; left = noSupplyUpdate; right = noSupplyUpdate; gone = 0; constant = noFigure }

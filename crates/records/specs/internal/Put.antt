@@ -1,7 +1,7 @@
 -- The words of figures put over those of a slice: numerators over one, denominators over another.
 use mathlib.Core.Bool.{cond}
 use mathlib.Core.List.{List}
-use Prim.Native.Nat.{ℕ, _+_, _*_}
+use Prim.Native.Nat.{ℕ, _+_}
 use lib.IntN.{ℤ}
 use lib.ListN.{length, getD, set}
 use Rattle.loops.specs.Loops.{upto, zeros}
@@ -11,7 +11,7 @@ use Rattle.fraction.specs.Words.{wordOf}
 use Rattle.network.specs.declared.Arc.{Arc}
 use Rattle.network.specs.Network.{noArc}
 use Rattle.records.specs.Arrays.{hasRoom}
-use Rattle.records.specs.Network.{roleFigure}
+use Rattle.records.specs.Network.{arcFigure, roleFigure}
 
 -- the sizes over the first two words, where there is room; zeros where there is none
 unfoldable pub sized : ℕ → ℕ → ℕ → List ℤ → List ℤ
@@ -42,6 +42,6 @@ densAt fs k = densIn fs (k + 1)
 unfoldable pub putFrom : (ℕ → ℤ) → ℕ → ℕ → List ℤ → List ℤ
 putFrom f k t = upto (λ r s. set s (k + r) (f r)) t
 
--- one word of each of the seven figures of the arcs 1 to m, behind n words
+-- one word of each of the seven figures of the arcs 1 to m, behind the constant and n supplies
 unfoldable pub arcsPut : (Fraction → ℤ) → List Arc → ℕ → ℕ → List ℤ → List ℤ
-arcsPut word arcs n m = upto (λ j. putFrom (λ r. word (roleFigure (getD arcs (j + 1) noArc) r)) (n + 7 * j) 7) m
+arcsPut word arcs n m = upto (λ j. putFrom (λ r. word (roleFigure (getD arcs (j + 1) noArc) r)) (arcFigure n j) 7) m

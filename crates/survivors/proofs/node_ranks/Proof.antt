@@ -1,4 +1,4 @@
--- `network::output::node_ranks` meets its contract.
+-- `survivors::node_ranks` meets its contract.
 use Prim.Native.Nat.{_+_, _-_}
 use Rattle.loops.proofs.Laws.{Counted, Filled, counted-no, counted-none, counted-yes, filled-more, filled-none, filled-whole}
 use Rattle.survivors.proofs.Ranks.{rank-up}

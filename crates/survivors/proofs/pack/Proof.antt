@@ -1,4 +1,4 @@
--- `network::output::pack` meets its contract.
+-- `survivors::pack` meets its contract.
 use Rattle.survivors.specs.Survivors.{packedOf}
 use borrow.Author.Needs.{needs}
 use Rattle.survivors.proofs.pack.Statement.{statement}

@@ -1,4 +1,4 @@
--- `network::output::pack_arcs` meets its contract.
+-- `survivors::pack_arcs` meets its contract.
 use Prim.Native.Nat.{_+_, _-_, _<_, _≤_}
 use Rattle.loops.proofs.Laws.{Folded, folded-all, folded-more, folded-none}
 use Rattle.network.proofs.Numbers.{number}
@@ -6,7 +6,6 @@ use Rattle.survivors.proofs.Packed.{placed-is}
 use Rattle.network.specs.Network.{arcAt, withArc}
 use Rattle.survivors.specs.Survivors.{packArc}
 use Rattle.network.specs.declared.Net.{Net}
-use Rattle.presolve.proofs.Junction.{q}
 use borrow.Author.Needs.{needs}
 use borrow.Author.Tests.{lt-ltb, eq-eqb, ne-eqb}
 use mathlib.Core.Logic.{⊎-elim}

@@ -1,4 +1,4 @@
--- `network::output::pack_nodes` meets its contract.
+-- `survivors::pack_nodes` meets its contract.
 use Prim.Native.Nat.{_+_, _-_, _<_, _≤_}
 use Rattle.loops.proofs.Laws.{Folded, folded-all, folded-more, folded-none}
 use Rattle.network.proofs.Numbers.{number}
@@ -19,7 +19,7 @@ Inv-loop net p₀ i₀ p i = Folded (packNode net) 32 p₀ i p × (p .n ≤ i) �
 abbrev μ-loop : tie.MeasureT-loop
 μ-loop net p₀ i₀ p i = 32 - i
 
-turn : (c : tie.Joined1 Inv-loop μ-loop) → (c .if1 .p ≡ packNode (c .before .before .before .before .before .args .t1) (c .before .before .before .loop .i) (c .before .before .before .loop .p)) × (c .if1 .p .n ≤ c .before .before .before .loop .i + 1) × (c .if1 .p .m ≡ 0)
+turn : (c : tie.Joined1 Inv-loop μ-loop) → (c .if1 .p ≡ packNode (c .before .before .before .before .before .before .args .t1) (c .before .before .before .loop .i) (c .before .before .before .loop .p)) × (c .if1 .p .n ≤ c .before .before .before .loop .i + 1) × (c .if1 .p .m ≡ 0)
 unfolding packNode withNode withSupply
 turn c =
     let room : c .before .before .before .loop .p .n < 32 = omega arith in

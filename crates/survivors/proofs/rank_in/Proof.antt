@@ -1,4 +1,4 @@
--- `network::output::rank_in` meets its contract.
+-- `survivors::rank_in` meets its contract.
 use borrow.Author.Needs.{needs}
 use borrow.Author.Tests.{le-ltb, lt-ltb}
 use Rattle.survivors.proofs.rank_in.Statement.{statement}

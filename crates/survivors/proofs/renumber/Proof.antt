@@ -1,4 +1,4 @@
--- `network::output::renumber` meets its contract.
+-- `survivors::renumber` meets its contract.
 use borrow.Author.Needs.{needs}
 use Rattle.survivors.proofs.renumber.Statement.{statement}
 use Rattle.survivors.proofs.renumber.Tie as tie

@@ -1,4 +1,4 @@
--- `postsolve::spread` meets its contract.
+-- `survivors::spread` meets its contract.
 use Rattle.survivors.specs.Survivors.{spreadOf}
 use borrow.Author.Needs.{needs}
 use Rattle.survivors.proofs.spread.Statement.{statement}

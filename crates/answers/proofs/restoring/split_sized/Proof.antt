@@ -14,4 +14,4 @@ unfolding splitSized
 returns-2 c = rw (lt-leb _ _ (c .if1 .left))
 
 pub split-sized-spec : {M : Type 1} → statement M
-split-sized-spec = tie.close (tie.spec (λ c. search needs) (λ c. search needs) (λ c. search needs) (λ c. search needs) (λ c κs. search needs) returns returns-2)
+split-sized-spec = tie.close (tie.spec (λ c. search needs) (λ c. search needs) (λ c. search needs) (λ c. search needs) (λ c. search needs) (λ c κs. search needs) returns returns-2)

@@ -46,86 +46,89 @@ use prog.Wp
 use types.Kit
 use Rattle.network.proofs.Lent.Rec
 
+abbrev pub q27 : Row.Entry
+q27 = (3, Rows.any-gone Syntax.tyUnit)
+
 abbrev pub q26 : Row.Entry
-q26 = (3, Rows.any-gone Syntax.tyUnit)
+q26 = (0, Rows.any-gone Syntax.tyUnit)
 
-abbrev pub q25 : Row.Entry
-q25 = (0, Rows.any-gone Syntax.tyUnit)
+abbrev pub q25 : Row.Row
+q25 = Rows.whole (Declared.row Edit·.the-type)
 
-abbrev pub q24 : Row.Row
-q24 = Rows.whole (Declared.row Edit·.the-type)
+abbrev pub q24 : Row.Entry
+q24 = (2, Rows.whole (Declared.row Edit·.the-type))
 
-abbrev pub q23 : Row.Entry
-q23 = (2, Rows.whole (Declared.row Edit·.the-type))
+abbrev pub q23 : Syntax.Ty
+q23 = Syntax.tyRef Syntax.erased Syntax.mut Rec.named
 
 abbrev pub q22 : Syntax.Ty
-q22 = Syntax.tyRef Syntax.erased Syntax.mut Rec.named
+q22 = Syntax.tyRef (Syntax.named 0) Syntax.mut Rec.named
 
-abbrev pub q21 : Syntax.Ty
-q21 = Syntax.tyRef (Syntax.named 0) Syntax.mut Rec.named
+abbrev pub q21 : Row.Entry
+q21 = (8, Rows.any-gone q23)
 
 abbrev pub q20 : Row.Entry
-q20 = (8, Rows.any-gone q22)
+q20 = (6, Rows.any-gone q23)
 
 abbrev pub q19 : Row.Entry
-q19 = (6, Rows.any-gone q22)
+q19 = (4, Rows.any-gone q23)
 
 abbrev pub q18 : Row.Entry
-q18 = (4, Rows.any-gone q22)
+q18 = (10, Rows.any-gone q23)
 
-abbrev pub q17 : Row.Entry
-q17 = (10, Rows.any-gone q22)
+abbrev pub q17 : Row.Row
+q17 = Mut.msleft Rec.row q23
 
-abbrev pub q16 : Row.Row
-q16 = Mut.msleft Rec.row q22
+abbrev pub q16 : Row.Entry
+q16 = (9, Mut.msleft Rec.row q23)
 
 abbrev pub q15 : Row.Entry
-q15 = (9, Mut.msleft Rec.row q22)
+q15 = (7, Mut.msleft Rec.row q23)
 
 abbrev pub q14 : Row.Entry
-q14 = (7, Mut.msleft Rec.row q22)
+q14 = (5, Mut.msleft Rec.row q23)
 
 abbrev pub q13 : Row.Entry
-q13 = (5, Mut.msleft Rec.row q22)
+q13 = (11, Mut.msleft Rec.row q23)
 
-abbrev pub q12 : Row.Entry
-q12 = (11, Mut.msleft Rec.row q22)
+abbrev pub q12 : Row.Row
+q12 = Mut.mslice Rec.row q22 0
 
-abbrev pub q11 : Row.Row
-q11 = Mut.mslice Rec.row q21 0
+abbrev pub q11 : Row.Entry
+q11 = (1, Relend.mslice-owed Rec.row q22 0 4 Row.off)
 
 abbrev pub q10 : Row.Entry
-q10 = (1, Relend.mslice-owed Rec.row q21 0 4 Row.off)
+q10 = (1, Relend.mslice-owed Rec.row q22 0 3 Row.off)
 
 abbrev pub q9 : Row.Entry
-q9 = (1, Relend.mslice-owed Rec.row q21 0 3 Row.off)
+q9 = (1, Relend.mslice-owed Rec.row q22 0 2 Row.off)
 
 abbrev pub q8 : Row.Entry
-q8 = (1, Relend.mslice-owed Rec.row q21 0 2 Row.off)
+q8 = (1, Relend.mslice-owed Rec.row q22 0 1 Row.off)
 
-abbrev pub q7 : Row.Entry
-q7 = (1, Relend.mslice-owed Rec.row q21 0 1 Row.off)
+abbrev pub q7 : Syntax.Ty
+q7 = Syntax.tyStruct (L._∷_ 38 (L._∷_ 91 (L._∷_ 93 L.[]))) (Syntax.tcons q23 (Syntax.tcons (Syntax.tyInt Syntax.w64) Syntax.tnil))
 
-abbrev pub q6 : Syntax.Ty
-q6 = Syntax.tyStruct (L._∷_ 38 (L._∷_ 91 (L._∷_ 93 L.[]))) (Syntax.tcons q22 (Syntax.tcons (Syntax.tyInt Syntax.w64) Syntax.tnil))
+abbrev pub q6 : Row.Entry
+q6 = (9, Rows.any-gone q7)
 
 abbrev pub q5 : Row.Entry
-q5 = (9, Rows.any-gone q6)
+q5 = (7, Rows.any-gone q7)
 
 abbrev pub q4 : Row.Entry
-q4 = (7, Rows.any-gone q6)
+q4 = (5, Rows.any-gone q7)
 
 abbrev pub q3 : Row.Entry
-q3 = (5, Rows.any-gone q6)
+q3 = (11, Rows.any-gone q7)
 
-abbrev pub q2 : Row.Entry
-q2 = (11, Rows.any-gone q6)
+abbrev pub q2 : Syntax.Ty
+q2 = Syntax.tyStruct (L._∷_ 110 (L._∷_ 101 (L._∷_ 116 (L._∷_ 119 (L._∷_ 111 (L._∷_ 114 (L._∷_ 107 (L._∷_ 58 (L._∷_ 58 (L._∷_ 65 (L._∷_ 114 (L._∷_ 99 (L._∷_ 85 (L._∷_ 112 (L._∷_ 100 (L._∷_ 97 (L._∷_ 116 (L._∷_ 101 L.[])))))))))))))))))) (Syntax.tcons (Syntax.tyInt Syntax.w64) (Syntax.tcons Rec.by-value Syntax.tnil))
 
 abbrev pub q1 : Syntax.Ty
-q1 = Syntax.tyStruct (L._∷_ 110 (L._∷_ 101 (L._∷_ 116 (L._∷_ 119 (L._∷_ 111 (L._∷_ 114 (L._∷_ 107 (L._∷_ 58 (L._∷_ 58 (L._∷_ 65 (L._∷_ 114 (L._∷_ 99 (L._∷_ 85 (L._∷_ 112 (L._∷_ 100 (L._∷_ 97 (L._∷_ 116 (L._∷_ 101 L.[])))))))))))))))))) (Syntax.tcons (Syntax.tyInt Syntax.w64) (Syntax.tcons Rec.by-value Syntax.tnil))
+q1 = Syntax.tyStruct (L._∷_ 102 (L._∷_ 114 (L._∷_ 97 (L._∷_ 99 (L._∷_ 116 (L._∷_ 105 (L._∷_ 111 (L._∷_ 110 (L._∷_ 58 (L._∷_ 58 (L._∷_ 70 (L._∷_ 114 (L._∷_ 97 (L._∷_ 99 (L._∷_ 116 (L._∷_ 105 (L._∷_ 111 (L._∷_ 110 L.[])))))))))))))))))) (Syntax.tcons (Syntax.tyInt Syntax.w32) (Syntax.tcons (Syntax.tyInt Syntax.w32) Syntax.tnil))
 
 abbrev pub q0 : Syntax.Ty
-q0 = Syntax.tyStruct (L._∷_ 110 (L._∷_ 101 (L._∷_ 116 (L._∷_ 119 (L._∷_ 111 (L._∷_ 114 (L._∷_ 107 (L._∷_ 58 (L._∷_ 58 (L._∷_ 83 (L._∷_ 117 (L._∷_ 112 (L._∷_ 112 (L._∷_ 108 (L._∷_ 121 (L._∷_ 85 (L._∷_ 112 (L._∷_ 100 (L._∷_ 97 (L._∷_ 116 (L._∷_ 101 L.[]))))))))))))))))))))) (Syntax.tcons (Syntax.tyInt Syntax.w64) (Syntax.tcons (Syntax.tyStruct (L._∷_ 102 (L._∷_ 114 (L._∷_ 97 (L._∷_ 99 (L._∷_ 116 (L._∷_ 105 (L._∷_ 111 (L._∷_ 110 (L._∷_ 58 (L._∷_ 58 (L._∷_ 70 (L._∷_ 114 (L._∷_ 97 (L._∷_ 99 (L._∷_ 116 (L._∷_ 105 (L._∷_ 111 (L._∷_ 110 L.[])))))))))))))))))) (Syntax.tcons (Syntax.tyInt Syntax.w32) (Syntax.tcons (Syntax.tyInt Syntax.w32) Syntax.tnil))) Syntax.tnil))
+q0 = Syntax.tyStruct (L._∷_ 110 (L._∷_ 101 (L._∷_ 116 (L._∷_ 119 (L._∷_ 111 (L._∷_ 114 (L._∷_ 107 (L._∷_ 58 (L._∷_ 58 (L._∷_ 83 (L._∷_ 117 (L._∷_ 112 (L._∷_ 112 (L._∷_ 108 (L._∷_ 121 (L._∷_ 85 (L._∷_ 112 (L._∷_ 100 (L._∷_ 97 (L._∷_ 116 (L._∷_ 101 L.[]))))))))))))))))))))) (Syntax.tcons (Syntax.tyInt Syntax.w64) (Syntax.tcons q1 Syntax.tnil))
 
 abbrev pub ps : L.List (FnKinds.PK 1)
 ps = L._∷_ (MutSlice.pMutS Rec.row 0 tt) (L._∷_ (Value.pVal record { ty = Declared.row Edit·.the-type; one = Path.refl; val = StructLaws.val Edit·.the-type Edit-Laws·.the-laws; tells = StructLaws.tells Edit·.the-type Edit-Laws·.the-laws; still = StructLaws.still Edit·.the-type Edit-Laws·.the-copy Exit.yes; row = Rows.whole (Declared.row Edit·.the-type); rd = λ x. x; mk = λ x. x } λ M 𝓤 H A W. record { copies = StructLaws.copy Edit·.the-type Edit-Laws·.the-copy 𝓤 H A W; lawful = StructLaws.lawful Edit·.the-type Edit-Laws·.the-laws 𝓤 H A W; makes = StructLaws.makes Edit·.the-type Edit-Laws·.the-plain 𝓤 H A; in-mem = Local.mem-whole 𝓤 H A W (Declared.row Edit·.the-type); of-mem = Local.whole-mem 𝓤 H A W (Declared.row Edit·.the-type) }) L.[])
@@ -134,7 +137,7 @@ abbrev pub r : FnKinds.RK 1
 r = KUnit.rUnit
 
 abbrev pub xs : L.List Syntax.Ty
-xs = L._∷_ Syntax.tyUnit (L._∷_ q22 (L._∷_ q6 (L._∷_ q22 (L._∷_ q6 (L._∷_ q22 (L._∷_ q6 (L._∷_ q22 (L._∷_ q6 L.[]))))))))
+xs = L._∷_ Syntax.tyUnit (L._∷_ q23 (L._∷_ q7 (L._∷_ q23 (L._∷_ q7 (L._∷_ q23 (L._∷_ q7 (L._∷_ q23 (L._∷_ q7 L.[]))))))))
 
 abbrev pub m : Nat.ℕ
 m = 4
@@ -236,64 +239,64 @@ abbrev pub Claims : Type 1
 Claims = FnKinds.In 1 ps·0 × FnKinds.Out 1 ps·0 r·0
 
 abbrev pub t0 : L.List Row.Entry
-t0 = L._∷_ q25 (L._∷_ (1, Mut.mslice Rec.row q21 0) (L._∷_ q23 (L._∷_ q26 (L._∷_ q18 (L._∷_ q3 (L._∷_ q19 (L._∷_ q4 (L._∷_ q20 (L._∷_ q5 (L._∷_ q17 (L._∷_ q2 L.[])))))))))))
+t0 = L._∷_ q26 (L._∷_ (1, Mut.mslice Rec.row q22 0) (L._∷_ q24 (L._∷_ q27 (L._∷_ q19 (L._∷_ q4 (L._∷_ q20 (L._∷_ q5 (L._∷_ q21 (L._∷_ q6 (L._∷_ q18 (L._∷_ q3 L.[])))))))))))
 
 abbrev pub t1 : L.List Row.Entry
-t1 = L._∷_ (0, Rows.sc-here Row.sUnit) (L._∷_ (1, Mut.mslice Rec.row q21 0) (L._∷_ (2, Rows.any-gone (Syntax.tyStruct (L._∷_ 110 (L._∷_ 101 (L._∷_ 116 (L._∷_ 119 (L._∷_ 111 (L._∷_ 114 (L._∷_ 107 (L._∷_ 58 (L._∷_ 58 (L._∷_ 69 (L._∷_ 100 (L._∷_ 105 (L._∷_ 116 L.[]))))))))))))) (Syntax.tcons q1 (Syntax.tcons q1 (Syntax.tcons q1 (Syntax.tcons q1 (Syntax.tcons q0 (Syntax.tcons q0 (Syntax.tcons (Syntax.tyInt Syntax.w64) Syntax.tnil))))))))) (L._∷_ q26 (L._∷_ q18 (L._∷_ q3 (L._∷_ q19 (L._∷_ q4 (L._∷_ q20 (L._∷_ q5 (L._∷_ q17 (L._∷_ q2 L.[])))))))))))
+t1 = L._∷_ (0, Rows.sc-here Row.sUnit) (L._∷_ (1, Mut.mslice Rec.row q22 0) (L._∷_ (2, Rows.any-gone (Syntax.tyStruct (L._∷_ 110 (L._∷_ 101 (L._∷_ 116 (L._∷_ 119 (L._∷_ 111 (L._∷_ 114 (L._∷_ 107 (L._∷_ 58 (L._∷_ 58 (L._∷_ 69 (L._∷_ 100 (L._∷_ 105 (L._∷_ 116 L.[]))))))))))))) (Syntax.tcons q2 (Syntax.tcons q2 (Syntax.tcons q2 (Syntax.tcons q2 (Syntax.tcons q0 (Syntax.tcons q0 (Syntax.tcons (Syntax.tyInt Syntax.w64) (Syntax.tcons q1 Syntax.tnil)))))))))) (L._∷_ q27 (L._∷_ q19 (L._∷_ q4 (L._∷_ q20 (L._∷_ q5 (L._∷_ q21 (L._∷_ q6 (L._∷_ q18 (L._∷_ q3 L.[])))))))))))
 
 abbrev pub t2 : L.List Row.Entry
-t2 = L._∷_ q25 (L._∷_ q7 (L._∷_ q23 (L._∷_ q26 (L._∷_ (4, Relend.msptr Rec.row q22 1) (L._∷_ q3 (L._∷_ q19 (L._∷_ q4 (L._∷_ q20 (L._∷_ q5 (L._∷_ q17 (L._∷_ q2 L.[])))))))))))
+t2 = L._∷_ q26 (L._∷_ q8 (L._∷_ q24 (L._∷_ q27 (L._∷_ (4, Relend.msptr Rec.row q23 1) (L._∷_ q4 (L._∷_ q20 (L._∷_ q5 (L._∷_ q21 (L._∷_ q6 (L._∷_ q18 (L._∷_ q3 L.[])))))))))))
 
 abbrev pub t3 : L.List Row.Entry
-t3 = L._∷_ q25 (L._∷_ q7 (L._∷_ q23 (L._∷_ q26 (L._∷_ q18 (L._∷_ (5, Mut.mslice Rec.row q22 1) (L._∷_ q19 (L._∷_ q4 (L._∷_ q20 (L._∷_ q5 (L._∷_ q17 (L._∷_ q2 L.[])))))))))))
+t3 = L._∷_ q26 (L._∷_ q8 (L._∷_ q24 (L._∷_ q27 (L._∷_ q19 (L._∷_ (5, Mut.mslice Rec.row q23 1) (L._∷_ q20 (L._∷_ q5 (L._∷_ q21 (L._∷_ q6 (L._∷_ q18 (L._∷_ q3 L.[])))))))))))
 
 abbrev pub t4 : L.List Row.Entry
-t4 = L._∷_ q25 (L._∷_ q7 (L._∷_ q23 (L._∷_ (3, Rows.sc-here Row.sUnit) (L._∷_ q18 (L._∷_ q13 (L._∷_ q19 (L._∷_ q4 (L._∷_ q20 (L._∷_ q5 (L._∷_ q17 (L._∷_ q2 L.[])))))))))))
+t4 = L._∷_ q26 (L._∷_ q8 (L._∷_ q24 (L._∷_ (3, Rows.sc-here Row.sUnit) (L._∷_ q19 (L._∷_ q14 (L._∷_ q20 (L._∷_ q5 (L._∷_ q21 (L._∷_ q6 (L._∷_ q18 (L._∷_ q3 L.[])))))))))))
 
 abbrev pub t5 : L.List Row.Entry
-t5 = L._∷_ q25 (L._∷_ q7 (L._∷_ q23 (L._∷_ q26 (L._∷_ q18 (L._∷_ q13 (L._∷_ q19 (L._∷_ q4 (L._∷_ q20 (L._∷_ q5 (L._∷_ q17 (L._∷_ q2 L.[])))))))))))
+t5 = L._∷_ q26 (L._∷_ q8 (L._∷_ q24 (L._∷_ q27 (L._∷_ q19 (L._∷_ q14 (L._∷_ q20 (L._∷_ q5 (L._∷_ q21 (L._∷_ q6 (L._∷_ q18 (L._∷_ q3 L.[])))))))))))
 
 abbrev pub t6 : L.List Row.Entry
-t6 = L._∷_ q25 (L._∷_ q8 (L._∷_ q23 (L._∷_ q26 (L._∷_ q18 (L._∷_ q3 (L._∷_ (6, Relend.msptr Rec.row q22 2) (L._∷_ q4 (L._∷_ q20 (L._∷_ q5 (L._∷_ q17 (L._∷_ q2 L.[])))))))))))
+t6 = L._∷_ q26 (L._∷_ q9 (L._∷_ q24 (L._∷_ q27 (L._∷_ q19 (L._∷_ q4 (L._∷_ (6, Relend.msptr Rec.row q23 2) (L._∷_ q5 (L._∷_ q21 (L._∷_ q6 (L._∷_ q18 (L._∷_ q3 L.[])))))))))))
 
 abbrev pub t7 : L.List Row.Entry
-t7 = L._∷_ q25 (L._∷_ q8 (L._∷_ q23 (L._∷_ q26 (L._∷_ q18 (L._∷_ q3 (L._∷_ q19 (L._∷_ (7, Mut.mslice Rec.row q22 2) (L._∷_ q20 (L._∷_ q5 (L._∷_ q17 (L._∷_ q2 L.[])))))))))))
+t7 = L._∷_ q26 (L._∷_ q9 (L._∷_ q24 (L._∷_ q27 (L._∷_ q19 (L._∷_ q4 (L._∷_ q20 (L._∷_ (7, Mut.mslice Rec.row q23 2) (L._∷_ q21 (L._∷_ q6 (L._∷_ q18 (L._∷_ q3 L.[])))))))))))
 
 abbrev pub t8 : L.List Row.Entry
-t8 = L._∷_ q25 (L._∷_ q8 (L._∷_ q23 (L._∷_ (3, Rows.sc-here Row.sUnit) (L._∷_ q18 (L._∷_ q3 (L._∷_ q19 (L._∷_ q14 (L._∷_ q20 (L._∷_ q5 (L._∷_ q17 (L._∷_ q2 L.[])))))))))))
+t8 = L._∷_ q26 (L._∷_ q9 (L._∷_ q24 (L._∷_ (3, Rows.sc-here Row.sUnit) (L._∷_ q19 (L._∷_ q4 (L._∷_ q20 (L._∷_ q15 (L._∷_ q21 (L._∷_ q6 (L._∷_ q18 (L._∷_ q3 L.[])))))))))))
 
 abbrev pub t9 : L.List Row.Entry
-t9 = L._∷_ q25 (L._∷_ q8 (L._∷_ q23 (L._∷_ q26 (L._∷_ q18 (L._∷_ q3 (L._∷_ q19 (L._∷_ q14 (L._∷_ q20 (L._∷_ q5 (L._∷_ q17 (L._∷_ q2 L.[])))))))))))
+t9 = L._∷_ q26 (L._∷_ q9 (L._∷_ q24 (L._∷_ q27 (L._∷_ q19 (L._∷_ q4 (L._∷_ q20 (L._∷_ q15 (L._∷_ q21 (L._∷_ q6 (L._∷_ q18 (L._∷_ q3 L.[])))))))))))
 
 abbrev pub t10 : L.List Row.Entry
-t10 = L._∷_ q25 (L._∷_ q9 (L._∷_ q23 (L._∷_ q26 (L._∷_ q18 (L._∷_ q3 (L._∷_ q19 (L._∷_ q4 (L._∷_ (8, Relend.msptr Rec.row q22 3) (L._∷_ q5 (L._∷_ q17 (L._∷_ q2 L.[])))))))))))
+t10 = L._∷_ q26 (L._∷_ q10 (L._∷_ q24 (L._∷_ q27 (L._∷_ q19 (L._∷_ q4 (L._∷_ q20 (L._∷_ q5 (L._∷_ (8, Relend.msptr Rec.row q23 3) (L._∷_ q6 (L._∷_ q18 (L._∷_ q3 L.[])))))))))))
 
 abbrev pub t11 : L.List Row.Entry
-t11 = L._∷_ q25 (L._∷_ q9 (L._∷_ q23 (L._∷_ q26 (L._∷_ q18 (L._∷_ q3 (L._∷_ q19 (L._∷_ q4 (L._∷_ q20 (L._∷_ (9, Mut.mslice Rec.row q22 3) (L._∷_ q17 (L._∷_ q2 L.[])))))))))))
+t11 = L._∷_ q26 (L._∷_ q10 (L._∷_ q24 (L._∷_ q27 (L._∷_ q19 (L._∷_ q4 (L._∷_ q20 (L._∷_ q5 (L._∷_ q21 (L._∷_ (9, Mut.mslice Rec.row q23 3) (L._∷_ q18 (L._∷_ q3 L.[])))))))))))
 
 abbrev pub t12 : L.List Row.Entry
-t12 = L._∷_ q25 (L._∷_ q9 (L._∷_ q23 (L._∷_ (3, Rows.sc-here Row.sUnit) (L._∷_ q18 (L._∷_ q3 (L._∷_ q19 (L._∷_ q4 (L._∷_ q20 (L._∷_ q15 (L._∷_ q17 (L._∷_ q2 L.[])))))))))))
+t12 = L._∷_ q26 (L._∷_ q10 (L._∷_ q24 (L._∷_ (3, Rows.sc-here Row.sUnit) (L._∷_ q19 (L._∷_ q4 (L._∷_ q20 (L._∷_ q5 (L._∷_ q21 (L._∷_ q16 (L._∷_ q18 (L._∷_ q3 L.[])))))))))))
 
 abbrev pub t13 : L.List Row.Entry
-t13 = L._∷_ q25 (L._∷_ q9 (L._∷_ q23 (L._∷_ q26 (L._∷_ q18 (L._∷_ q3 (L._∷_ q19 (L._∷_ q4 (L._∷_ q20 (L._∷_ q15 (L._∷_ q17 (L._∷_ q2 L.[])))))))))))
+t13 = L._∷_ q26 (L._∷_ q10 (L._∷_ q24 (L._∷_ q27 (L._∷_ q19 (L._∷_ q4 (L._∷_ q20 (L._∷_ q5 (L._∷_ q21 (L._∷_ q16 (L._∷_ q18 (L._∷_ q3 L.[])))))))))))
 
 abbrev pub t14 : L.List Row.Entry
-t14 = L._∷_ q25 (L._∷_ q10 (L._∷_ q23 (L._∷_ q26 (L._∷_ q18 (L._∷_ q3 (L._∷_ q19 (L._∷_ q4 (L._∷_ q20 (L._∷_ q5 (L._∷_ (10, Relend.msptr Rec.row q22 4) (L._∷_ q2 L.[])))))))))))
+t14 = L._∷_ q26 (L._∷_ q11 (L._∷_ q24 (L._∷_ q27 (L._∷_ q19 (L._∷_ q4 (L._∷_ q20 (L._∷_ q5 (L._∷_ q21 (L._∷_ q6 (L._∷_ (10, Relend.msptr Rec.row q23 4) (L._∷_ q3 L.[])))))))))))
 
 abbrev pub t15 : L.List Row.Entry
-t15 = L._∷_ q25 (L._∷_ q10 (L._∷_ q23 (L._∷_ q26 (L._∷_ q18 (L._∷_ q3 (L._∷_ q19 (L._∷_ q4 (L._∷_ q20 (L._∷_ q5 (L._∷_ q17 (L._∷_ (11, Mut.mslice Rec.row q22 4) L.[])))))))))))
+t15 = L._∷_ q26 (L._∷_ q11 (L._∷_ q24 (L._∷_ q27 (L._∷_ q19 (L._∷_ q4 (L._∷_ q20 (L._∷_ q5 (L._∷_ q21 (L._∷_ q6 (L._∷_ q18 (L._∷_ (11, Mut.mslice Rec.row q23 4) L.[])))))))))))
 
 abbrev pub t16 : L.List Row.Entry
-t16 = L._∷_ q25 (L._∷_ q10 (L._∷_ q23 (L._∷_ (3, Rows.sc-here Row.sUnit) (L._∷_ q18 (L._∷_ q3 (L._∷_ q19 (L._∷_ q4 (L._∷_ q20 (L._∷_ q5 (L._∷_ q17 (L._∷_ q12 L.[])))))))))))
+t16 = L._∷_ q26 (L._∷_ q11 (L._∷_ q24 (L._∷_ (3, Rows.sc-here Row.sUnit) (L._∷_ q19 (L._∷_ q4 (L._∷_ q20 (L._∷_ q5 (L._∷_ q21 (L._∷_ q6 (L._∷_ q18 (L._∷_ q13 L.[])))))))))))
 
 abbrev pub t17 : L.List Row.Entry
-t17 = L._∷_ q25 (L._∷_ q10 (L._∷_ (2, Rows.any-gone (Syntax.tyStruct (L._∷_ 110 (L._∷_ 101 (L._∷_ 116 (L._∷_ 119 (L._∷_ 111 (L._∷_ 114 (L._∷_ 107 (L._∷_ 58 (L._∷_ 58 (L._∷_ 69 (L._∷_ 100 (L._∷_ 105 (L._∷_ 116 L.[]))))))))))))) (Syntax.tcons q1 (Syntax.tcons q1 (Syntax.tcons q1 (Syntax.tcons q1 (Syntax.tcons q0 (Syntax.tcons q0 (Syntax.tcons (Syntax.tyInt Syntax.w64) Syntax.tnil))))))))) (L._∷_ (3, Rows.sc-here Row.sUnit) (L._∷_ q18 (L._∷_ q3 (L._∷_ q19 (L._∷_ q4 (L._∷_ q20 (L._∷_ q5 (L._∷_ q17 (L._∷_ q12 L.[])))))))))))
+t17 = L._∷_ q26 (L._∷_ q11 (L._∷_ (2, Rows.any-gone (Syntax.tyStruct (L._∷_ 110 (L._∷_ 101 (L._∷_ 116 (L._∷_ 119 (L._∷_ 111 (L._∷_ 114 (L._∷_ 107 (L._∷_ 58 (L._∷_ 58 (L._∷_ 69 (L._∷_ 100 (L._∷_ 105 (L._∷_ 116 L.[]))))))))))))) (Syntax.tcons q2 (Syntax.tcons q2 (Syntax.tcons q2 (Syntax.tcons q2 (Syntax.tcons q0 (Syntax.tcons q0 (Syntax.tcons (Syntax.tyInt Syntax.w64) (Syntax.tcons q1 Syntax.tnil)))))))))) (L._∷_ (3, Rows.sc-here Row.sUnit) (L._∷_ q19 (L._∷_ q4 (L._∷_ q20 (L._∷_ q5 (L._∷_ q21 (L._∷_ q6 (L._∷_ q18 (L._∷_ q13 L.[])))))))))))
 
 abbrev pub t18 : L.List Row.Entry
-t18 = L._∷_ q25 (L._∷_ q10 (L._∷_ (2, Rows.any-gone (Syntax.tyStruct (L._∷_ 110 (L._∷_ 101 (L._∷_ 116 (L._∷_ 119 (L._∷_ 111 (L._∷_ 114 (L._∷_ 107 (L._∷_ 58 (L._∷_ 58 (L._∷_ 69 (L._∷_ 100 (L._∷_ 105 (L._∷_ 116 L.[]))))))))))))) (Syntax.tcons q1 (Syntax.tcons q1 (Syntax.tcons q1 (Syntax.tcons q1 (Syntax.tcons q0 (Syntax.tcons q0 (Syntax.tcons (Syntax.tyInt Syntax.w64) Syntax.tnil))))))))) (L._∷_ q26 (L._∷_ q18 (L._∷_ q3 (L._∷_ q19 (L._∷_ q4 (L._∷_ q20 (L._∷_ q5 (L._∷_ q17 (L._∷_ q12 L.[])))))))))))
+t18 = L._∷_ q26 (L._∷_ q11 (L._∷_ (2, Rows.any-gone (Syntax.tyStruct (L._∷_ 110 (L._∷_ 101 (L._∷_ 116 (L._∷_ 119 (L._∷_ 111 (L._∷_ 114 (L._∷_ 107 (L._∷_ 58 (L._∷_ 58 (L._∷_ 69 (L._∷_ 100 (L._∷_ 105 (L._∷_ 116 L.[]))))))))))))) (Syntax.tcons q2 (Syntax.tcons q2 (Syntax.tcons q2 (Syntax.tcons q2 (Syntax.tcons q0 (Syntax.tcons q0 (Syntax.tcons (Syntax.tyInt Syntax.w64) (Syntax.tcons q1 Syntax.tnil)))))))))) (L._∷_ q27 (L._∷_ q19 (L._∷_ q4 (L._∷_ q20 (L._∷_ q5 (L._∷_ q21 (L._∷_ q6 (L._∷_ q18 (L._∷_ q13 L.[])))))))))))
 
 abbrev pub t19 : L.List Row.Entry
-t19 = L._∷_ q25 (L._∷_ (1, Mut.mslice Rec.row q21 0) (L._∷_ (2, Rows.any-gone (Syntax.tyStruct (L._∷_ 110 (L._∷_ 101 (L._∷_ 116 (L._∷_ 119 (L._∷_ 111 (L._∷_ 114 (L._∷_ 107 (L._∷_ 58 (L._∷_ 58 (L._∷_ 69 (L._∷_ 100 (L._∷_ 105 (L._∷_ 116 L.[]))))))))))))) (Syntax.tcons q1 (Syntax.tcons q1 (Syntax.tcons q1 (Syntax.tcons q1 (Syntax.tcons q0 (Syntax.tcons q0 (Syntax.tcons (Syntax.tyInt Syntax.w64) Syntax.tnil))))))))) (L._∷_ q26 (L._∷_ q18 (L._∷_ q3 (L._∷_ q19 (L._∷_ q4 (L._∷_ q20 (L._∷_ q5 (L._∷_ q17 (L._∷_ q2 L.[])))))))))))
+t19 = L._∷_ q26 (L._∷_ (1, Mut.mslice Rec.row q22 0) (L._∷_ (2, Rows.any-gone (Syntax.tyStruct (L._∷_ 110 (L._∷_ 101 (L._∷_ 116 (L._∷_ 119 (L._∷_ 111 (L._∷_ 114 (L._∷_ 107 (L._∷_ 58 (L._∷_ 58 (L._∷_ 69 (L._∷_ 100 (L._∷_ 105 (L._∷_ 116 L.[]))))))))))))) (Syntax.tcons q2 (Syntax.tcons q2 (Syntax.tcons q2 (Syntax.tcons q2 (Syntax.tcons q0 (Syntax.tcons q0 (Syntax.tcons (Syntax.tyInt Syntax.w64) (Syntax.tcons q1 Syntax.tnil)))))))))) (L._∷_ q27 (L._∷_ q19 (L._∷_ q4 (L._∷_ q20 (L._∷_ q5 (L._∷_ q21 (L._∷_ q6 (L._∷_ q18 (L._∷_ q3 L.[])))))))))))
 
 abbrev pub T0 : Row.Cx
 T0 = record { locals = t0; slots = L.[] }
@@ -372,10 +375,10 @@ O0 = record { next = Option.none; exits = L.[]; returns = Option.some T1 }
 
 module _ (claims· : Claims) where
   abbrev s1 : Typed.Gives T0 T3
-  s1 = Relend.k-sl-relend Rec.row T0 1 4 0 1 q21 q22 Row.off λ x. x
+  s1 = Relend.k-sl-relend Rec.row T0 1 4 0 1 q22 q23 Row.off λ x. x
 
   abbrev s2 : Typed.Asks T3 T4
-  s2 = Relend.k-sl-aggregate Rec.row (Relend.asMut Rec.row) T3 4 5 1 q22 q22 (λ x. x) (Scalar.oFld 1 (L._∷_ (Syntax.field 1) L.[]) (Syntax.tyInt Syntax.w64) 8 λ v. Shared.lenV (v .0))
+  s2 = Relend.k-sl-aggregate Rec.row (Relend.asMut Rec.row) T3 4 5 1 q23 q23 (λ x. x) (Scalar.oFld 1 (L._∷_ (Syntax.field 1) L.[]) (Syntax.tyInt Syntax.w64) 8 λ v. Shared.lenV (v .0))
 
   abbrev s3 : Typed.Both T4 T5
   s3 = Call.callB ps·0 r·0 (claims· .0) (claims· .1) T4 (record { pos = 5; ty = Syntax.tyRef Syntax.erased Syntax.mut Rec.named; ref = λ x. x }, (record { pos = 2; st = L._∷_ (Syntax.field 0) L.[]; d = 0; at = λ x. Edit·.struct .as-values x .0 }, tt)) 3 (L._∷_ 1 L.[]) Syntax.tyUnit
@@ -384,13 +387,13 @@ module _ (claims· : Claims) where
   s4 = Scalar.n-room T5 3 Syntax.tyUnit
 
   abbrev s6 : Typed.Both T6 T8
-  s6 = Relend.k-back-sl Rec.row T6 5 1 0 1 q21 q22 Row.off (λ x. x) λ x. x
+  s6 = Relend.k-back-sl Rec.row T6 5 1 0 1 q22 q23 Row.off (λ x. x) λ x. x
 
   abbrev s9 : Typed.Gives T8 T11
-  s9 = Relend.k-sl-relend Rec.row T8 1 6 0 2 q21 q22 Row.off λ x. x
+  s9 = Relend.k-sl-relend Rec.row T8 1 6 0 2 q22 q23 Row.off λ x. x
 
   abbrev s10 : Typed.Asks T11 T12
-  s10 = Relend.k-sl-aggregate Rec.row (Relend.asMut Rec.row) T11 6 7 2 q22 q22 (λ x. x) (Scalar.oFld 1 (L._∷_ (Syntax.field 1) L.[]) (Syntax.tyInt Syntax.w64) 8 λ v. Shared.lenV (v .0))
+  s10 = Relend.k-sl-aggregate Rec.row (Relend.asMut Rec.row) T11 6 7 2 q23 q23 (λ x. x) (Scalar.oFld 1 (L._∷_ (Syntax.field 1) L.[]) (Syntax.tyInt Syntax.w64) 8 λ v. Shared.lenV (v .0))
 
   abbrev s11 : Typed.Both T12 T13
   s11 = Call.callB ps·0 r·0 (claims· .0) (claims· .1) T12 (record { pos = 7; ty = Syntax.tyRef Syntax.erased Syntax.mut Rec.named; ref = λ x. x }, (record { pos = 2; st = L._∷_ (Syntax.field 1) L.[]; d = 64; at = λ x. Edit·.struct .as-values x .1 .0 }, tt)) 3 (L._∷_ 2 L.[]) Syntax.tyUnit
@@ -399,13 +402,13 @@ module _ (claims· : Claims) where
   s12 = Scalar.n-room T13 3 Syntax.tyUnit
 
   abbrev s14 : Typed.Both T14 T16
-  s14 = Relend.k-back-sl Rec.row T14 7 1 0 2 q21 q22 Row.off (λ x. x) λ x. x
+  s14 = Relend.k-back-sl Rec.row T14 7 1 0 2 q22 q23 Row.off (λ x. x) λ x. x
 
   abbrev s17 : Typed.Gives T16 T19
-  s17 = Relend.k-sl-relend Rec.row T16 1 8 0 3 q21 q22 Row.off λ x. x
+  s17 = Relend.k-sl-relend Rec.row T16 1 8 0 3 q22 q23 Row.off λ x. x
 
   abbrev s18 : Typed.Asks T19 T20
-  s18 = Relend.k-sl-aggregate Rec.row (Relend.asMut Rec.row) T19 8 9 3 q22 q22 (λ x. x) (Scalar.oFld 1 (L._∷_ (Syntax.field 1) L.[]) (Syntax.tyInt Syntax.w64) 8 λ v. Shared.lenV (v .0))
+  s18 = Relend.k-sl-aggregate Rec.row (Relend.asMut Rec.row) T19 8 9 3 q23 q23 (λ x. x) (Scalar.oFld 1 (L._∷_ (Syntax.field 1) L.[]) (Syntax.tyInt Syntax.w64) 8 λ v. Shared.lenV (v .0))
 
   abbrev s19 : Typed.Both T20 T21
   s19 = Call.callB ps·0 r·0 (claims· .0) (claims· .1) T20 (record { pos = 9; ty = Syntax.tyRef Syntax.erased Syntax.mut Rec.named; ref = λ x. x }, (record { pos = 2; st = L._∷_ (Syntax.field 2) L.[]; d = 128; at = λ x. Edit·.struct .as-values x .1 .1 .0 }, tt)) 3 (L._∷_ 3 L.[]) Syntax.tyUnit
@@ -414,25 +417,25 @@ module _ (claims· : Claims) where
   s20 = Scalar.n-room T21 3 Syntax.tyUnit
 
   abbrev s22 : Typed.Both T22 T24
-  s22 = Relend.k-back-sl Rec.row T22 9 1 0 3 q21 q22 Row.off (λ x. x) λ x. x
+  s22 = Relend.k-back-sl Rec.row T22 9 1 0 3 q22 q23 Row.off (λ x. x) λ x. x
 
   abbrev s25 : Typed.Gives T24 T27
-  s25 = Relend.k-sl-relend Rec.row T24 1 10 0 4 q21 q22 Row.off λ x. x
+  s25 = Relend.k-sl-relend Rec.row T24 1 10 0 4 q22 q23 Row.off λ x. x
 
   abbrev s26 : Typed.Asks T27 T28
-  s26 = Relend.k-sl-aggregate Rec.row (Relend.asMut Rec.row) T27 10 11 4 q22 q22 (λ x. x) (Scalar.oFld 1 (L._∷_ (Syntax.field 1) L.[]) (Syntax.tyInt Syntax.w64) 8 λ v. Shared.lenV (v .0))
+  s26 = Relend.k-sl-aggregate Rec.row (Relend.asMut Rec.row) T27 10 11 4 q23 q23 (λ x. x) (Scalar.oFld 1 (L._∷_ (Syntax.field 1) L.[]) (Syntax.tyInt Syntax.w64) 8 λ v. Shared.lenV (v .0))
 
   abbrev s27 : Typed.Both T28 T29
   s27 = Call.callB ps·0 r·0 (claims· .0) (claims· .1) T28 (record { pos = 11; ty = Syntax.tyRef Syntax.erased Syntax.mut Rec.named; ref = λ x. x }, (record { pos = 2; st = L._∷_ (Syntax.field 3) L.[]; d = 192; at = λ x. Edit·.struct .as-values x .1 .1 .1 .0 }, tt)) 3 (L._∷_ 4 L.[]) Syntax.tyUnit
 
   abbrev s28 : Typed.Mo T29 → Typed.Mo T30
-  s28 = Scalar.n-room T29 2 (Syntax.tyStruct (L._∷_ 110 (L._∷_ 101 (L._∷_ 116 (L._∷_ 119 (L._∷_ 111 (L._∷_ 114 (L._∷_ 107 (L._∷_ 58 (L._∷_ 58 (L._∷_ 69 (L._∷_ 100 (L._∷_ 105 (L._∷_ 116 L.[]))))))))))))) (Syntax.tcons q1 (Syntax.tcons q1 (Syntax.tcons q1 (Syntax.tcons q1 (Syntax.tcons q0 (Syntax.tcons q0 (Syntax.tcons (Syntax.tyInt Syntax.w64) Syntax.tnil))))))))
+  s28 = Scalar.n-room T29 2 (Syntax.tyStruct (L._∷_ 110 (L._∷_ 101 (L._∷_ 116 (L._∷_ 119 (L._∷_ 111 (L._∷_ 114 (L._∷_ 107 (L._∷_ 58 (L._∷_ 58 (L._∷_ 69 (L._∷_ 100 (L._∷_ 105 (L._∷_ 116 L.[]))))))))))))) (Syntax.tcons q2 (Syntax.tcons q2 (Syntax.tcons q2 (Syntax.tcons q2 (Syntax.tcons q0 (Syntax.tcons q0 (Syntax.tcons (Syntax.tyInt Syntax.w64) (Syntax.tcons q1 Syntax.tnil)))))))))
 
   abbrev s29 : Typed.Mo T30 → Typed.Mo T31
   s29 = Scalar.n-room T30 3 Syntax.tyUnit
 
   abbrev s31 : Typed.Both T31 T33
-  s31 = Relend.k-back-sl Rec.row T31 11 1 0 4 q21 q22 Row.off (λ x. x) λ x. x
+  s31 = Relend.k-back-sl Rec.row T31 11 1 0 4 q22 q23 Row.off (λ x. x) λ x. x
 
   abbrev s33 : Typed.Mo T33 → Typed.Mo T35
   s33 = Scalar.n-use T33 Scalar.oUnit 0 (Rows.sc-here Row.sUnit) (Row.sUnit .of)
@@ -557,55 +560,55 @@ module _ (claims· : Claims) where
 
       module _ (κs : Lifetimes.Lfts 1) (qs : Lifetimes.Shares 1) where
         abbrev g2 : L.List Row.Entry
-        g2 = L._∷_ q25 (L._∷_ (1, Relend.mslice-owed Rec.row q21 0 1 (Row.lease (κs .0) (qs .0))) (L._∷_ q23 (L._∷_ q26 (L._∷_ (4, Relend.msptr Rec.row q22 1) (L._∷_ q3 (L._∷_ q19 (L._∷_ q4 (L._∷_ q20 (L._∷_ q5 (L._∷_ q17 (L._∷_ q2 L.[])))))))))))
+        g2 = L._∷_ q26 (L._∷_ (1, Relend.mslice-owed Rec.row q22 0 1 (Row.lease (κs .0) (qs .0))) (L._∷_ q24 (L._∷_ q27 (L._∷_ (4, Relend.msptr Rec.row q23 1) (L._∷_ q4 (L._∷_ q20 (L._∷_ q5 (L._∷_ q21 (L._∷_ q6 (L._∷_ q18 (L._∷_ q3 L.[])))))))))))
 
         abbrev g3 : L.List Row.Entry
-        g3 = L._∷_ q25 (L._∷_ (1, Relend.mslice-owed Rec.row q21 0 1 (Row.lease (κs .0) (qs .0))) (L._∷_ q23 (L._∷_ q26 (L._∷_ q18 (L._∷_ (5, Mut.mslice Rec.row q22 1) (L._∷_ q19 (L._∷_ q4 (L._∷_ q20 (L._∷_ q5 (L._∷_ q17 (L._∷_ q2 L.[])))))))))))
+        g3 = L._∷_ q26 (L._∷_ (1, Relend.mslice-owed Rec.row q22 0 1 (Row.lease (κs .0) (qs .0))) (L._∷_ q24 (L._∷_ q27 (L._∷_ q19 (L._∷_ (5, Mut.mslice Rec.row q23 1) (L._∷_ q20 (L._∷_ q5 (L._∷_ q21 (L._∷_ q6 (L._∷_ q18 (L._∷_ q3 L.[])))))))))))
 
         abbrev g4 : L.List Row.Entry
-        g4 = L._∷_ q25 (L._∷_ (1, Relend.mslice-owed Rec.row q21 0 1 (Row.lease (κs .0) (qs .0))) (L._∷_ q23 (L._∷_ (3, Rows.sc-here Row.sUnit) (L._∷_ q18 (L._∷_ q13 (L._∷_ q19 (L._∷_ q4 (L._∷_ q20 (L._∷_ q5 (L._∷_ q17 (L._∷_ q2 L.[])))))))))))
+        g4 = L._∷_ q26 (L._∷_ (1, Relend.mslice-owed Rec.row q22 0 1 (Row.lease (κs .0) (qs .0))) (L._∷_ q24 (L._∷_ (3, Rows.sc-here Row.sUnit) (L._∷_ q19 (L._∷_ q14 (L._∷_ q20 (L._∷_ q5 (L._∷_ q21 (L._∷_ q6 (L._∷_ q18 (L._∷_ q3 L.[])))))))))))
 
         abbrev g5 : L.List Row.Entry
-        g5 = L._∷_ q25 (L._∷_ (1, Relend.mslice-owed Rec.row q21 0 1 (Row.lease (κs .0) (qs .0))) (L._∷_ q23 (L._∷_ q26 (L._∷_ q18 (L._∷_ q13 (L._∷_ q19 (L._∷_ q4 (L._∷_ q20 (L._∷_ q5 (L._∷_ q17 (L._∷_ q2 L.[])))))))))))
+        g5 = L._∷_ q26 (L._∷_ (1, Relend.mslice-owed Rec.row q22 0 1 (Row.lease (κs .0) (qs .0))) (L._∷_ q24 (L._∷_ q27 (L._∷_ q19 (L._∷_ q14 (L._∷_ q20 (L._∷_ q5 (L._∷_ q21 (L._∷_ q6 (L._∷_ q18 (L._∷_ q3 L.[])))))))))))
 
         abbrev g6 : L.List Row.Entry
-        g6 = L._∷_ q25 (L._∷_ (1, Relend.mslice-owed Rec.row q21 0 2 (Row.lease (κs .0) (qs .0))) (L._∷_ q23 (L._∷_ q26 (L._∷_ q18 (L._∷_ q3 (L._∷_ (6, Relend.msptr Rec.row q22 2) (L._∷_ q4 (L._∷_ q20 (L._∷_ q5 (L._∷_ q17 (L._∷_ q2 L.[])))))))))))
+        g6 = L._∷_ q26 (L._∷_ (1, Relend.mslice-owed Rec.row q22 0 2 (Row.lease (κs .0) (qs .0))) (L._∷_ q24 (L._∷_ q27 (L._∷_ q19 (L._∷_ q4 (L._∷_ (6, Relend.msptr Rec.row q23 2) (L._∷_ q5 (L._∷_ q21 (L._∷_ q6 (L._∷_ q18 (L._∷_ q3 L.[])))))))))))
 
         abbrev g7 : L.List Row.Entry
-        g7 = L._∷_ q25 (L._∷_ (1, Relend.mslice-owed Rec.row q21 0 2 (Row.lease (κs .0) (qs .0))) (L._∷_ q23 (L._∷_ q26 (L._∷_ q18 (L._∷_ q3 (L._∷_ q19 (L._∷_ (7, Mut.mslice Rec.row q22 2) (L._∷_ q20 (L._∷_ q5 (L._∷_ q17 (L._∷_ q2 L.[])))))))))))
+        g7 = L._∷_ q26 (L._∷_ (1, Relend.mslice-owed Rec.row q22 0 2 (Row.lease (κs .0) (qs .0))) (L._∷_ q24 (L._∷_ q27 (L._∷_ q19 (L._∷_ q4 (L._∷_ q20 (L._∷_ (7, Mut.mslice Rec.row q23 2) (L._∷_ q21 (L._∷_ q6 (L._∷_ q18 (L._∷_ q3 L.[])))))))))))
 
         abbrev g8 : L.List Row.Entry
-        g8 = L._∷_ q25 (L._∷_ (1, Relend.mslice-owed Rec.row q21 0 2 (Row.lease (κs .0) (qs .0))) (L._∷_ q23 (L._∷_ (3, Rows.sc-here Row.sUnit) (L._∷_ q18 (L._∷_ q3 (L._∷_ q19 (L._∷_ q14 (L._∷_ q20 (L._∷_ q5 (L._∷_ q17 (L._∷_ q2 L.[])))))))))))
+        g8 = L._∷_ q26 (L._∷_ (1, Relend.mslice-owed Rec.row q22 0 2 (Row.lease (κs .0) (qs .0))) (L._∷_ q24 (L._∷_ (3, Rows.sc-here Row.sUnit) (L._∷_ q19 (L._∷_ q4 (L._∷_ q20 (L._∷_ q15 (L._∷_ q21 (L._∷_ q6 (L._∷_ q18 (L._∷_ q3 L.[])))))))))))
 
         abbrev g9 : L.List Row.Entry
-        g9 = L._∷_ q25 (L._∷_ (1, Relend.mslice-owed Rec.row q21 0 2 (Row.lease (κs .0) (qs .0))) (L._∷_ q23 (L._∷_ q26 (L._∷_ q18 (L._∷_ q3 (L._∷_ q19 (L._∷_ q14 (L._∷_ q20 (L._∷_ q5 (L._∷_ q17 (L._∷_ q2 L.[])))))))))))
+        g9 = L._∷_ q26 (L._∷_ (1, Relend.mslice-owed Rec.row q22 0 2 (Row.lease (κs .0) (qs .0))) (L._∷_ q24 (L._∷_ q27 (L._∷_ q19 (L._∷_ q4 (L._∷_ q20 (L._∷_ q15 (L._∷_ q21 (L._∷_ q6 (L._∷_ q18 (L._∷_ q3 L.[])))))))))))
 
         abbrev g10 : L.List Row.Entry
-        g10 = L._∷_ q25 (L._∷_ (1, Relend.mslice-owed Rec.row q21 0 3 (Row.lease (κs .0) (qs .0))) (L._∷_ q23 (L._∷_ q26 (L._∷_ q18 (L._∷_ q3 (L._∷_ q19 (L._∷_ q4 (L._∷_ (8, Relend.msptr Rec.row q22 3) (L._∷_ q5 (L._∷_ q17 (L._∷_ q2 L.[])))))))))))
+        g10 = L._∷_ q26 (L._∷_ (1, Relend.mslice-owed Rec.row q22 0 3 (Row.lease (κs .0) (qs .0))) (L._∷_ q24 (L._∷_ q27 (L._∷_ q19 (L._∷_ q4 (L._∷_ q20 (L._∷_ q5 (L._∷_ (8, Relend.msptr Rec.row q23 3) (L._∷_ q6 (L._∷_ q18 (L._∷_ q3 L.[])))))))))))
 
         abbrev g11 : L.List Row.Entry
-        g11 = L._∷_ q25 (L._∷_ (1, Relend.mslice-owed Rec.row q21 0 3 (Row.lease (κs .0) (qs .0))) (L._∷_ q23 (L._∷_ q26 (L._∷_ q18 (L._∷_ q3 (L._∷_ q19 (L._∷_ q4 (L._∷_ q20 (L._∷_ (9, Mut.mslice Rec.row q22 3) (L._∷_ q17 (L._∷_ q2 L.[])))))))))))
+        g11 = L._∷_ q26 (L._∷_ (1, Relend.mslice-owed Rec.row q22 0 3 (Row.lease (κs .0) (qs .0))) (L._∷_ q24 (L._∷_ q27 (L._∷_ q19 (L._∷_ q4 (L._∷_ q20 (L._∷_ q5 (L._∷_ q21 (L._∷_ (9, Mut.mslice Rec.row q23 3) (L._∷_ q18 (L._∷_ q3 L.[])))))))))))
 
         abbrev g12 : L.List Row.Entry
-        g12 = L._∷_ q25 (L._∷_ (1, Relend.mslice-owed Rec.row q21 0 3 (Row.lease (κs .0) (qs .0))) (L._∷_ q23 (L._∷_ (3, Rows.sc-here Row.sUnit) (L._∷_ q18 (L._∷_ q3 (L._∷_ q19 (L._∷_ q4 (L._∷_ q20 (L._∷_ q15 (L._∷_ q17 (L._∷_ q2 L.[])))))))))))
+        g12 = L._∷_ q26 (L._∷_ (1, Relend.mslice-owed Rec.row q22 0 3 (Row.lease (κs .0) (qs .0))) (L._∷_ q24 (L._∷_ (3, Rows.sc-here Row.sUnit) (L._∷_ q19 (L._∷_ q4 (L._∷_ q20 (L._∷_ q5 (L._∷_ q21 (L._∷_ q16 (L._∷_ q18 (L._∷_ q3 L.[])))))))))))
 
         abbrev g13 : L.List Row.Entry
-        g13 = L._∷_ q25 (L._∷_ (1, Relend.mslice-owed Rec.row q21 0 3 (Row.lease (κs .0) (qs .0))) (L._∷_ q23 (L._∷_ q26 (L._∷_ q18 (L._∷_ q3 (L._∷_ q19 (L._∷_ q4 (L._∷_ q20 (L._∷_ q15 (L._∷_ q17 (L._∷_ q2 L.[])))))))))))
+        g13 = L._∷_ q26 (L._∷_ (1, Relend.mslice-owed Rec.row q22 0 3 (Row.lease (κs .0) (qs .0))) (L._∷_ q24 (L._∷_ q27 (L._∷_ q19 (L._∷_ q4 (L._∷_ q20 (L._∷_ q5 (L._∷_ q21 (L._∷_ q16 (L._∷_ q18 (L._∷_ q3 L.[])))))))))))
 
         abbrev g14 : L.List Row.Entry
-        g14 = L._∷_ q25 (L._∷_ (1, Relend.mslice-owed Rec.row q21 0 4 (Row.lease (κs .0) (qs .0))) (L._∷_ q23 (L._∷_ q26 (L._∷_ q18 (L._∷_ q3 (L._∷_ q19 (L._∷_ q4 (L._∷_ q20 (L._∷_ q5 (L._∷_ (10, Relend.msptr Rec.row q22 4) (L._∷_ q2 L.[])))))))))))
+        g14 = L._∷_ q26 (L._∷_ (1, Relend.mslice-owed Rec.row q22 0 4 (Row.lease (κs .0) (qs .0))) (L._∷_ q24 (L._∷_ q27 (L._∷_ q19 (L._∷_ q4 (L._∷_ q20 (L._∷_ q5 (L._∷_ q21 (L._∷_ q6 (L._∷_ (10, Relend.msptr Rec.row q23 4) (L._∷_ q3 L.[])))))))))))
 
         abbrev g15 : L.List Row.Entry
-        g15 = L._∷_ q25 (L._∷_ (1, Relend.mslice-owed Rec.row q21 0 4 (Row.lease (κs .0) (qs .0))) (L._∷_ q23 (L._∷_ q26 (L._∷_ q18 (L._∷_ q3 (L._∷_ q19 (L._∷_ q4 (L._∷_ q20 (L._∷_ q5 (L._∷_ q17 (L._∷_ (11, Mut.mslice Rec.row q22 4) L.[])))))))))))
+        g15 = L._∷_ q26 (L._∷_ (1, Relend.mslice-owed Rec.row q22 0 4 (Row.lease (κs .0) (qs .0))) (L._∷_ q24 (L._∷_ q27 (L._∷_ q19 (L._∷_ q4 (L._∷_ q20 (L._∷_ q5 (L._∷_ q21 (L._∷_ q6 (L._∷_ q18 (L._∷_ (11, Mut.mslice Rec.row q23 4) L.[])))))))))))
 
         abbrev g16 : L.List Row.Entry
-        g16 = L._∷_ q25 (L._∷_ (1, Relend.mslice-owed Rec.row q21 0 4 (Row.lease (κs .0) (qs .0))) (L._∷_ q23 (L._∷_ (3, Rows.sc-here Row.sUnit) (L._∷_ q18 (L._∷_ q3 (L._∷_ q19 (L._∷_ q4 (L._∷_ q20 (L._∷_ q5 (L._∷_ q17 (L._∷_ q12 L.[])))))))))))
+        g16 = L._∷_ q26 (L._∷_ (1, Relend.mslice-owed Rec.row q22 0 4 (Row.lease (κs .0) (qs .0))) (L._∷_ q24 (L._∷_ (3, Rows.sc-here Row.sUnit) (L._∷_ q19 (L._∷_ q4 (L._∷_ q20 (L._∷_ q5 (L._∷_ q21 (L._∷_ q6 (L._∷_ q18 (L._∷_ q13 L.[])))))))))))
 
         abbrev g17 : L.List Row.Entry
-        g17 = L._∷_ q25 (L._∷_ (1, Relend.mslice-owed Rec.row q21 0 4 (Row.lease (κs .0) (qs .0))) (L._∷_ (2, Rows.any-gone (Syntax.tyStruct (L._∷_ 110 (L._∷_ 101 (L._∷_ 116 (L._∷_ 119 (L._∷_ 111 (L._∷_ 114 (L._∷_ 107 (L._∷_ 58 (L._∷_ 58 (L._∷_ 69 (L._∷_ 100 (L._∷_ 105 (L._∷_ 116 L.[]))))))))))))) (Syntax.tcons q1 (Syntax.tcons q1 (Syntax.tcons q1 (Syntax.tcons q1 (Syntax.tcons q0 (Syntax.tcons q0 (Syntax.tcons (Syntax.tyInt Syntax.w64) Syntax.tnil))))))))) (L._∷_ (3, Rows.sc-here Row.sUnit) (L._∷_ q18 (L._∷_ q3 (L._∷_ q19 (L._∷_ q4 (L._∷_ q20 (L._∷_ q5 (L._∷_ q17 (L._∷_ q12 L.[])))))))))))
+        g17 = L._∷_ q26 (L._∷_ (1, Relend.mslice-owed Rec.row q22 0 4 (Row.lease (κs .0) (qs .0))) (L._∷_ (2, Rows.any-gone (Syntax.tyStruct (L._∷_ 110 (L._∷_ 101 (L._∷_ 116 (L._∷_ 119 (L._∷_ 111 (L._∷_ 114 (L._∷_ 107 (L._∷_ 58 (L._∷_ 58 (L._∷_ 69 (L._∷_ 100 (L._∷_ 105 (L._∷_ 116 L.[]))))))))))))) (Syntax.tcons q2 (Syntax.tcons q2 (Syntax.tcons q2 (Syntax.tcons q2 (Syntax.tcons q0 (Syntax.tcons q0 (Syntax.tcons (Syntax.tyInt Syntax.w64) (Syntax.tcons q1 Syntax.tnil)))))))))) (L._∷_ (3, Rows.sc-here Row.sUnit) (L._∷_ q19 (L._∷_ q4 (L._∷_ q20 (L._∷_ q5 (L._∷_ q21 (L._∷_ q6 (L._∷_ q18 (L._∷_ q13 L.[])))))))))))
 
         abbrev g18 : L.List Row.Entry
-        g18 = L._∷_ q25 (L._∷_ (1, Relend.mslice-owed Rec.row q21 0 4 (Row.lease (κs .0) (qs .0))) (L._∷_ (2, Rows.any-gone (Syntax.tyStruct (L._∷_ 110 (L._∷_ 101 (L._∷_ 116 (L._∷_ 119 (L._∷_ 111 (L._∷_ 114 (L._∷_ 107 (L._∷_ 58 (L._∷_ 58 (L._∷_ 69 (L._∷_ 100 (L._∷_ 105 (L._∷_ 116 L.[]))))))))))))) (Syntax.tcons q1 (Syntax.tcons q1 (Syntax.tcons q1 (Syntax.tcons q1 (Syntax.tcons q0 (Syntax.tcons q0 (Syntax.tcons (Syntax.tyInt Syntax.w64) Syntax.tnil))))))))) (L._∷_ q26 (L._∷_ q18 (L._∷_ q3 (L._∷_ q19 (L._∷_ q4 (L._∷_ q20 (L._∷_ q5 (L._∷_ q17 (L._∷_ q12 L.[])))))))))))
+        g18 = L._∷_ q26 (L._∷_ (1, Relend.mslice-owed Rec.row q22 0 4 (Row.lease (κs .0) (qs .0))) (L._∷_ (2, Rows.any-gone (Syntax.tyStruct (L._∷_ 110 (L._∷_ 101 (L._∷_ 116 (L._∷_ 119 (L._∷_ 111 (L._∷_ 114 (L._∷_ 107 (L._∷_ 58 (L._∷_ 58 (L._∷_ 69 (L._∷_ 100 (L._∷_ 105 (L._∷_ 116 L.[]))))))))))))) (Syntax.tcons q2 (Syntax.tcons q2 (Syntax.tcons q2 (Syntax.tcons q2 (Syntax.tcons q0 (Syntax.tcons q0 (Syntax.tcons (Syntax.tyInt Syntax.w64) (Syntax.tcons q1 Syntax.tnil)))))))))) (L._∷_ q27 (L._∷_ q19 (L._∷_ q4 (L._∷_ q20 (L._∷_ q5 (L._∷_ q21 (L._∷_ q6 (L._∷_ q18 (L._∷_ q13 L.[])))))))))))
 
         abbrev G0 : Row.Cx
         G0 = record { locals = t0; slots = L._∷_ (Row.lease (κs .0) (qs .0)) (L._∷_ Row.off (L._∷_ Row.off (L._∷_ Row.off (L._∷_ Row.off L.[])))) }
@@ -732,7 +735,7 @@ module _ (claims· : Claims) where
           d2 = Typed.g-pre 𝓤 H A W 𝓣 E G33 G34 b14 Δ0 (λ Ψ. Ψ) at1 (Lifetime.g-forget 𝓤 H A W E G33 4 Row.dead Path.refl) d1
 
           d3 : Typed.Typed 𝓤 H A 𝓣 E G32 b14 Δ0 at3
-          d3 = Typed.g-pre 𝓤 H A W 𝓣 E G32 G33 b14 Δ0 (Typed.both s31) at2 (Relend.g-back-sl 𝓤 H A W E Rec.row G32 11 1 0 4 q21 q22 (Row.lease (κs .0) (qs .0)) (λ x. x) (λ x. x) (TReads.as-is 𝓤 H A q16) (TReads.as-is 𝓤 H A (Relend.mslice-owed Rec.row q21 0 4 (Row.lease (κs .0) (qs .0)))) Path.refl Path.refl) d2
+          d3 = Typed.g-pre 𝓤 H A W 𝓣 E G32 G33 b14 Δ0 (Typed.both s31) at2 (Relend.g-back-sl 𝓤 H A W E Rec.row G32 11 1 0 4 q22 q23 (Row.lease (κs .0) (qs .0)) (λ x. x) (λ x. x) (TReads.as-is 𝓤 H A q17) (TReads.as-is 𝓤 H A (Relend.mslice-owed Rec.row q22 0 4 (Row.lease (κs .0) (qs .0)))) Path.refl Path.refl) d2
 
           d4 : Typed.Typed 𝓤 H A 𝓣 E G31 b14 Δ0 at4
           d4 = Typed.g-pre 𝓤 H A W 𝓣 E G31 G32 b14 Δ0 (λ Ψ. Ψ) at3 (Lifetime.g-end 𝓤 H A W E G31 4 Path.refl) d3
@@ -741,16 +744,16 @@ module _ (claims· : Claims) where
           d5 = Typed.g-pre 𝓤 H A W 𝓣 E G30 G31 b14 Δ0 (Typed.pass T30 T31 s29) at4 (Scalar.g-room 𝓤 H A W E G30 3 Syntax.tyUnit (Scalar.room-sc 𝓤 H A W Row.sUnit)) d4
 
           d6 : Typed.Typed 𝓤 H A 𝓣 E G29 b14 Δ0 at6
-          d6 = Typed.g-pre 𝓤 H A W 𝓣 E G29 G30 b14 Δ0 (Typed.pass T29 T30 s28) at5 (Scalar.g-room 𝓤 H A W E G29 2 (Syntax.tyStruct (L._∷_ 110 (L._∷_ 101 (L._∷_ 116 (L._∷_ 119 (L._∷_ 111 (L._∷_ 114 (L._∷_ 107 (L._∷_ 58 (L._∷_ 58 (L._∷_ 69 (L._∷_ 100 (L._∷_ 105 (L._∷_ 116 L.[]))))))))))))) (Syntax.tcons q1 (Syntax.tcons q1 (Syntax.tcons q1 (Syntax.tcons q1 (Syntax.tcons q0 (Syntax.tcons q0 (Syntax.tcons (Syntax.tyInt Syntax.w64) Syntax.tnil)))))))) (Local.room-whole 𝓤 H A W (Declared.row Edit·.the-type) (Syntax.tyStruct (L._∷_ 110 (L._∷_ 101 (L._∷_ 116 (L._∷_ 119 (L._∷_ 111 (L._∷_ 114 (L._∷_ 107 (L._∷_ 58 (L._∷_ 58 (L._∷_ 69 (L._∷_ 100 (L._∷_ 105 (L._∷_ 116 L.[]))))))))))))) (Syntax.tcons q1 (Syntax.tcons q1 (Syntax.tcons q1 (Syntax.tcons q1 (Syntax.tcons q0 (Syntax.tcons q0 (Syntax.tcons (Syntax.tyInt Syntax.w64) Syntax.tnil)))))))) Path.refl)) d5
+          d6 = Typed.g-pre 𝓤 H A W 𝓣 E G29 G30 b14 Δ0 (Typed.pass T29 T30 s28) at5 (Scalar.g-room 𝓤 H A W E G29 2 (Syntax.tyStruct (L._∷_ 110 (L._∷_ 101 (L._∷_ 116 (L._∷_ 119 (L._∷_ 111 (L._∷_ 114 (L._∷_ 107 (L._∷_ 58 (L._∷_ 58 (L._∷_ 69 (L._∷_ 100 (L._∷_ 105 (L._∷_ 116 L.[]))))))))))))) (Syntax.tcons q2 (Syntax.tcons q2 (Syntax.tcons q2 (Syntax.tcons q2 (Syntax.tcons q0 (Syntax.tcons q0 (Syntax.tcons (Syntax.tyInt Syntax.w64) (Syntax.tcons q1 Syntax.tnil))))))))) (Local.room-whole 𝓤 H A W (Declared.row Edit·.the-type) (Syntax.tyStruct (L._∷_ 110 (L._∷_ 101 (L._∷_ 116 (L._∷_ 119 (L._∷_ 111 (L._∷_ 114 (L._∷_ 107 (L._∷_ 58 (L._∷_ 58 (L._∷_ 69 (L._∷_ 100 (L._∷_ 105 (L._∷_ 116 L.[]))))))))))))) (Syntax.tcons q2 (Syntax.tcons q2 (Syntax.tcons q2 (Syntax.tcons q2 (Syntax.tcons q0 (Syntax.tcons q0 (Syntax.tcons (Syntax.tyInt Syntax.w64) (Syntax.tcons q1 Syntax.tnil))))))))) Path.refl)) d5
 
           d7 : Typed.Typed 𝓤 H A 𝓣 E G28 b15 Δ0 at7
-          d7 = Typed.s-seq 𝓤 H A W 𝓣 E G28 G29 b11 b14 Δ0 (Typed.both s27) at6 (Plain.t-call-plain 𝓤 H A W 𝓣 1 ps·0 r·0 (claims· .0) (claims· .1) "network::list::put_update" known E (λ pos β. β) G28 (record { pos = 11; ty = Syntax.tyRef Syntax.erased Syntax.mut Rec.named; ref = λ x. x }, (record { pos = 2; st = L._∷_ (Syntax.field 3) L.[]; d = 192; at = λ x. Edit·.struct .as-values x .1 .1 .1 .0 }, tt)) 3 (L._∷_ 4 L.[]) (Call.sub-id 𝓤 H A W (G28 .slots)) (TReads.as-is 𝓤 H A (Mut.mslice Rec.row q22 4), Mut.reads-mslice 𝓤 H A W Rec.row q22 4, Path.refl, ((Yields.yields-acc 𝓤 H A W q24 (Declared.row ArcUpdate·.the-type) 192 (λ x. Edit·.struct .as-values x .1 .1 .1 .0) Path.refl (Copies.cStruct ArcUpdate·.the-type ArcUpdate-Laws·.the-laws ArcUpdate-Laws·.the-copy .copy 𝓤 H A W) (Yields.acc-record 𝓤 H A W q24 ArcUpdate·.the-type 192 (λ x. Edit·.struct .as-values x .1 .1 .1 .0) (Yields.acc-part 𝓤 H A W q24 (Declared.row Edit·.the-type) (Struct.Struct (Declared.shape ArcUpdate·.the-type)) 0 192 (λ x. x) (λ y. ArcUpdate·.the-type .to (Edit·.struct .as-values y .1 .1 .1 .0)) (Yields.acc-whole 𝓤 H A W (Declared.row Edit·.the-type)) λ y a. Behind.look-at 𝓤 H A W TreeShare.fullShare Edit·.the-type Edit-Laws·.the-laws 3 192 Path.refl Path.refl a y (Edit·.struct .as-values y) Path.refl)), Path.refl), tt)) (TReads.room-gone 𝓤 H A Syntax.tyUnit) (tt, tt) Path.refl) d6
+          d7 = Typed.s-seq 𝓤 H A W 𝓣 E G28 G29 b11 b14 Δ0 (Typed.both s27) at6 (Plain.t-call-plain 𝓤 H A W 𝓣 1 ps·0 r·0 (claims· .0) (claims· .1) "network::list::put_update" known E (λ pos β. β) G28 (record { pos = 11; ty = Syntax.tyRef Syntax.erased Syntax.mut Rec.named; ref = λ x. x }, (record { pos = 2; st = L._∷_ (Syntax.field 3) L.[]; d = 192; at = λ x. Edit·.struct .as-values x .1 .1 .1 .0 }, tt)) 3 (L._∷_ 4 L.[]) (Call.sub-id 𝓤 H A W (G28 .slots)) (TReads.as-is 𝓤 H A (Mut.mslice Rec.row q23 4), Mut.reads-mslice 𝓤 H A W Rec.row q23 4, Path.refl, ((Yields.yields-acc 𝓤 H A W q25 (Declared.row ArcUpdate·.the-type) 192 (λ x. Edit·.struct .as-values x .1 .1 .1 .0) Path.refl (Copies.cStruct ArcUpdate·.the-type ArcUpdate-Laws·.the-laws ArcUpdate-Laws·.the-copy .copy 𝓤 H A W) (Yields.acc-record 𝓤 H A W q25 ArcUpdate·.the-type 192 (λ x. Edit·.struct .as-values x .1 .1 .1 .0) (Yields.acc-part 𝓤 H A W q25 (Declared.row Edit·.the-type) (Struct.Struct (Declared.shape ArcUpdate·.the-type)) 0 192 (λ x. x) (λ y. ArcUpdate·.the-type .to (Edit·.struct .as-values y .1 .1 .1 .0)) (Yields.acc-whole 𝓤 H A W (Declared.row Edit·.the-type)) λ y a. Behind.look-at 𝓤 H A W TreeShare.fullShare Edit·.the-type Edit-Laws·.the-laws 3 192 Path.refl Path.refl a y (Edit·.struct .as-values y) Path.refl)), Path.refl), tt)) (TReads.room-gone 𝓤 H A Syntax.tyUnit) (tt, tt) Path.refl) d6
 
           d8 : Typed.Typed 𝓤 H A 𝓣 E G27 b16 Δ0 at8
-          d8 = Typed.s-seq 𝓤 H A W 𝓣 E G27 G28 b10 b15 Δ0 (Typed.ask s26) at7 (Relend.t-sl-aggregate 𝓤 H A W E Rec.row 𝓣 (Relend.asMut Rec.row) G27 10 11 4 q22 q22 (λ x. x) (Scalar.oFld 1 (L._∷_ (Syntax.field 1) L.[]) (Syntax.tyInt Syntax.w64) 8 λ v. Shared.lenV (v .0)) (TReads.as-is 𝓤 H A (Relend.msptr Rec.row q22 4)) (TReads.room-gone 𝓤 H A q6) (Relend.reads-owed-len 𝓤 H A W Rec.row q21 0 4 (Row.lease (κs .0) (qs .0)) 8 Path.refl, Path.refl) Path.refl Path.refl λ b o k. tt) d7
+          d8 = Typed.s-seq 𝓤 H A W 𝓣 E G27 G28 b10 b15 Δ0 (Typed.ask s26) at7 (Relend.t-sl-aggregate 𝓤 H A W E Rec.row 𝓣 (Relend.asMut Rec.row) G27 10 11 4 q23 q23 (λ x. x) (Scalar.oFld 1 (L._∷_ (Syntax.field 1) L.[]) (Syntax.tyInt Syntax.w64) 8 λ v. Shared.lenV (v .0)) (TReads.as-is 𝓤 H A (Relend.msptr Rec.row q23 4)) (TReads.room-gone 𝓤 H A q7) (Relend.reads-owed-len 𝓤 H A W Rec.row q22 0 4 (Row.lease (κs .0) (qs .0)) 8 Path.refl, Path.refl) Path.refl Path.refl λ b o k. tt) d7
 
           d9 : Typed.Typed 𝓤 H A 𝓣 E G26 b17 Δ0 at9
-          d9 = Typed.s-seq 𝓤 H A W 𝓣 E G26 G27 b9 b16 Δ0 (Typed.give s25) at8 (Relend.t-sl-relend 𝓤 H A W E Rec.row 𝓣 G26 1 10 0 4 q21 q22 (Row.lease (κs .0) (qs .0)) 0 (λ x. x) (TReads.as-is 𝓤 H A q11) (TReads.room-gone 𝓤 H A q22) Path.refl tt Path.refl Path.refl Path.refl λ b o. tt) d8
+          d9 = Typed.s-seq 𝓤 H A W 𝓣 E G26 G27 b9 b16 Δ0 (Typed.give s25) at8 (Relend.t-sl-relend 𝓤 H A W E Rec.row 𝓣 G26 1 10 0 4 q22 q23 (Row.lease (κs .0) (qs .0)) 0 (λ x. x) (TReads.as-is 𝓤 H A q12) (TReads.room-gone 𝓤 H A q23) Path.refl tt Path.refl Path.refl Path.refl λ b o. tt) d8
 
           d10 : Typed.Typed 𝓤 H A 𝓣 E G25 b17 Δ0 at10
           d10 = Typed.g-pre 𝓤 H A W 𝓣 E G25 G26 b17 Δ0 (λ Ψ. Ψ) at9 (Lifetime.g-begin 𝓤 H A W E G25 4 (tt, (tt, (tt, (tt, (tt, (tt, (tt, (tt, (tt, (tt, (tt, (tt, tt))))))))))))) d9
@@ -759,7 +762,7 @@ module _ (claims· : Claims) where
           d11 = Typed.g-pre 𝓤 H A W 𝓣 E G24 G25 b17 Δ0 (λ Ψ. Ψ) at10 (Lifetime.g-forget 𝓤 H A W E G24 3 Row.dead Path.refl) d10
 
           d12 : Typed.Typed 𝓤 H A 𝓣 E G23 b17 Δ0 at12
-          d12 = Typed.g-pre 𝓤 H A W 𝓣 E G23 G24 b17 Δ0 (Typed.both s22) at11 (Relend.g-back-sl 𝓤 H A W E Rec.row G23 9 1 0 3 q21 q22 (Row.lease (κs .0) (qs .0)) (λ x. x) (λ x. x) (TReads.as-is 𝓤 H A q16) (TReads.as-is 𝓤 H A (Relend.mslice-owed Rec.row q21 0 3 (Row.lease (κs .0) (qs .0)))) Path.refl Path.refl) d11
+          d12 = Typed.g-pre 𝓤 H A W 𝓣 E G23 G24 b17 Δ0 (Typed.both s22) at11 (Relend.g-back-sl 𝓤 H A W E Rec.row G23 9 1 0 3 q22 q23 (Row.lease (κs .0) (qs .0)) (λ x. x) (λ x. x) (TReads.as-is 𝓤 H A q17) (TReads.as-is 𝓤 H A (Relend.mslice-owed Rec.row q22 0 3 (Row.lease (κs .0) (qs .0)))) Path.refl Path.refl) d11
 
           d13 : Typed.Typed 𝓤 H A 𝓣 E G22 b17 Δ0 at13
           d13 = Typed.g-pre 𝓤 H A W 𝓣 E G22 G23 b17 Δ0 (λ Ψ. Ψ) at12 (Lifetime.g-end 𝓤 H A W E G22 3 Path.refl) d12
@@ -768,13 +771,13 @@ module _ (claims· : Claims) where
           d14 = Typed.g-pre 𝓤 H A W 𝓣 E G21 G22 b17 Δ0 (Typed.pass T21 T22 s20) at13 (Scalar.g-room 𝓤 H A W E G21 3 Syntax.tyUnit (Scalar.room-sc 𝓤 H A W Row.sUnit)) d13
 
           d15 : Typed.Typed 𝓤 H A 𝓣 E G20 b18 Δ0 at15
-          d15 = Typed.s-seq 𝓤 H A W 𝓣 E G20 G21 b8 b17 Δ0 (Typed.both s19) at14 (Plain.t-call-plain 𝓤 H A W 𝓣 1 ps·0 r·0 (claims· .0) (claims· .1) "network::list::put_update" known E (λ pos β. β) G20 (record { pos = 9; ty = Syntax.tyRef Syntax.erased Syntax.mut Rec.named; ref = λ x. x }, (record { pos = 2; st = L._∷_ (Syntax.field 2) L.[]; d = 128; at = λ x. Edit·.struct .as-values x .1 .1 .0 }, tt)) 3 (L._∷_ 3 L.[]) (Call.sub-id 𝓤 H A W (G20 .slots)) (TReads.as-is 𝓤 H A (Mut.mslice Rec.row q22 3), Mut.reads-mslice 𝓤 H A W Rec.row q22 3, Path.refl, ((Yields.yields-acc 𝓤 H A W q24 (Declared.row ArcUpdate·.the-type) 128 (λ x. Edit·.struct .as-values x .1 .1 .0) Path.refl (Copies.cStruct ArcUpdate·.the-type ArcUpdate-Laws·.the-laws ArcUpdate-Laws·.the-copy .copy 𝓤 H A W) (Yields.acc-record 𝓤 H A W q24 ArcUpdate·.the-type 128 (λ x. Edit·.struct .as-values x .1 .1 .0) (Yields.acc-part 𝓤 H A W q24 (Declared.row Edit·.the-type) (Struct.Struct (Declared.shape ArcUpdate·.the-type)) 0 128 (λ x. x) (λ y. ArcUpdate·.the-type .to (Edit·.struct .as-values y .1 .1 .0)) (Yields.acc-whole 𝓤 H A W (Declared.row Edit·.the-type)) λ y a. Behind.look-at 𝓤 H A W TreeShare.fullShare Edit·.the-type Edit-Laws·.the-laws 2 128 Path.refl Path.refl a y (Edit·.struct .as-values y) Path.refl)), Path.refl), tt)) (TReads.room-gone 𝓤 H A Syntax.tyUnit) (tt, tt) Path.refl) d14
+          d15 = Typed.s-seq 𝓤 H A W 𝓣 E G20 G21 b8 b17 Δ0 (Typed.both s19) at14 (Plain.t-call-plain 𝓤 H A W 𝓣 1 ps·0 r·0 (claims· .0) (claims· .1) "network::list::put_update" known E (λ pos β. β) G20 (record { pos = 9; ty = Syntax.tyRef Syntax.erased Syntax.mut Rec.named; ref = λ x. x }, (record { pos = 2; st = L._∷_ (Syntax.field 2) L.[]; d = 128; at = λ x. Edit·.struct .as-values x .1 .1 .0 }, tt)) 3 (L._∷_ 3 L.[]) (Call.sub-id 𝓤 H A W (G20 .slots)) (TReads.as-is 𝓤 H A (Mut.mslice Rec.row q23 3), Mut.reads-mslice 𝓤 H A W Rec.row q23 3, Path.refl, ((Yields.yields-acc 𝓤 H A W q25 (Declared.row ArcUpdate·.the-type) 128 (λ x. Edit·.struct .as-values x .1 .1 .0) Path.refl (Copies.cStruct ArcUpdate·.the-type ArcUpdate-Laws·.the-laws ArcUpdate-Laws·.the-copy .copy 𝓤 H A W) (Yields.acc-record 𝓤 H A W q25 ArcUpdate·.the-type 128 (λ x. Edit·.struct .as-values x .1 .1 .0) (Yields.acc-part 𝓤 H A W q25 (Declared.row Edit·.the-type) (Struct.Struct (Declared.shape ArcUpdate·.the-type)) 0 128 (λ x. x) (λ y. ArcUpdate·.the-type .to (Edit·.struct .as-values y .1 .1 .0)) (Yields.acc-whole 𝓤 H A W (Declared.row Edit·.the-type)) λ y a. Behind.look-at 𝓤 H A W TreeShare.fullShare Edit·.the-type Edit-Laws·.the-laws 2 128 Path.refl Path.refl a y (Edit·.struct .as-values y) Path.refl)), Path.refl), tt)) (TReads.room-gone 𝓤 H A Syntax.tyUnit) (tt, tt) Path.refl) d14
 
           d16 : Typed.Typed 𝓤 H A 𝓣 E G19 b19 Δ0 at16
-          d16 = Typed.s-seq 𝓤 H A W 𝓣 E G19 G20 b7 b18 Δ0 (Typed.ask s18) at15 (Relend.t-sl-aggregate 𝓤 H A W E Rec.row 𝓣 (Relend.asMut Rec.row) G19 8 9 3 q22 q22 (λ x. x) (Scalar.oFld 1 (L._∷_ (Syntax.field 1) L.[]) (Syntax.tyInt Syntax.w64) 8 λ v. Shared.lenV (v .0)) (TReads.as-is 𝓤 H A (Relend.msptr Rec.row q22 3)) (TReads.room-gone 𝓤 H A q6) (Relend.reads-owed-len 𝓤 H A W Rec.row q21 0 3 (Row.lease (κs .0) (qs .0)) 8 Path.refl, Path.refl) Path.refl Path.refl λ b o k. tt) d15
+          d16 = Typed.s-seq 𝓤 H A W 𝓣 E G19 G20 b7 b18 Δ0 (Typed.ask s18) at15 (Relend.t-sl-aggregate 𝓤 H A W E Rec.row 𝓣 (Relend.asMut Rec.row) G19 8 9 3 q23 q23 (λ x. x) (Scalar.oFld 1 (L._∷_ (Syntax.field 1) L.[]) (Syntax.tyInt Syntax.w64) 8 λ v. Shared.lenV (v .0)) (TReads.as-is 𝓤 H A (Relend.msptr Rec.row q23 3)) (TReads.room-gone 𝓤 H A q7) (Relend.reads-owed-len 𝓤 H A W Rec.row q22 0 3 (Row.lease (κs .0) (qs .0)) 8 Path.refl, Path.refl) Path.refl Path.refl λ b o k. tt) d15
 
           d17 : Typed.Typed 𝓤 H A 𝓣 E G18 b20 Δ0 at17
-          d17 = Typed.s-seq 𝓤 H A W 𝓣 E G18 G19 b6 b19 Δ0 (Typed.give s17) at16 (Relend.t-sl-relend 𝓤 H A W E Rec.row 𝓣 G18 1 8 0 3 q21 q22 (Row.lease (κs .0) (qs .0)) 0 (λ x. x) (TReads.as-is 𝓤 H A q11) (TReads.room-gone 𝓤 H A q22) Path.refl tt Path.refl Path.refl Path.refl λ b o. tt) d16
+          d17 = Typed.s-seq 𝓤 H A W 𝓣 E G18 G19 b6 b19 Δ0 (Typed.give s17) at16 (Relend.t-sl-relend 𝓤 H A W E Rec.row 𝓣 G18 1 8 0 3 q22 q23 (Row.lease (κs .0) (qs .0)) 0 (λ x. x) (TReads.as-is 𝓤 H A q12) (TReads.room-gone 𝓤 H A q23) Path.refl tt Path.refl Path.refl Path.refl λ b o. tt) d16
 
           d18 : Typed.Typed 𝓤 H A 𝓣 E G17 b20 Δ0 at18
           d18 = Typed.g-pre 𝓤 H A W 𝓣 E G17 G18 b20 Δ0 (λ Ψ. Ψ) at17 (Lifetime.g-begin 𝓤 H A W E G17 3 (tt, (tt, (tt, (tt, (tt, (tt, (tt, (tt, (tt, (tt, (tt, (tt, tt))))))))))))) d17
@@ -783,7 +786,7 @@ module _ (claims· : Claims) where
           d19 = Typed.g-pre 𝓤 H A W 𝓣 E G16 G17 b20 Δ0 (λ Ψ. Ψ) at18 (Lifetime.g-forget 𝓤 H A W E G16 2 Row.dead Path.refl) d18
 
           d20 : Typed.Typed 𝓤 H A 𝓣 E G15 b20 Δ0 at20
-          d20 = Typed.g-pre 𝓤 H A W 𝓣 E G15 G16 b20 Δ0 (Typed.both s14) at19 (Relend.g-back-sl 𝓤 H A W E Rec.row G15 7 1 0 2 q21 q22 (Row.lease (κs .0) (qs .0)) (λ x. x) (λ x. x) (TReads.as-is 𝓤 H A q16) (TReads.as-is 𝓤 H A (Relend.mslice-owed Rec.row q21 0 2 (Row.lease (κs .0) (qs .0)))) Path.refl Path.refl) d19
+          d20 = Typed.g-pre 𝓤 H A W 𝓣 E G15 G16 b20 Δ0 (Typed.both s14) at19 (Relend.g-back-sl 𝓤 H A W E Rec.row G15 7 1 0 2 q22 q23 (Row.lease (κs .0) (qs .0)) (λ x. x) (λ x. x) (TReads.as-is 𝓤 H A q17) (TReads.as-is 𝓤 H A (Relend.mslice-owed Rec.row q22 0 2 (Row.lease (κs .0) (qs .0)))) Path.refl Path.refl) d19
 
           d21 : Typed.Typed 𝓤 H A 𝓣 E G14 b20 Δ0 at21
           d21 = Typed.g-pre 𝓤 H A W 𝓣 E G14 G15 b20 Δ0 (λ Ψ. Ψ) at20 (Lifetime.g-end 𝓤 H A W E G14 2 Path.refl) d20
@@ -792,13 +795,13 @@ module _ (claims· : Claims) where
           d22 = Typed.g-pre 𝓤 H A W 𝓣 E G13 G14 b20 Δ0 (Typed.pass T13 T14 s12) at21 (Scalar.g-room 𝓤 H A W E G13 3 Syntax.tyUnit (Scalar.room-sc 𝓤 H A W Row.sUnit)) d21
 
           d23 : Typed.Typed 𝓤 H A 𝓣 E G12 b21 Δ0 at23
-          d23 = Typed.s-seq 𝓤 H A W 𝓣 E G12 G13 b5 b20 Δ0 (Typed.both s11) at22 (Plain.t-call-plain 𝓤 H A W 𝓣 1 ps·0 r·0 (claims· .0) (claims· .1) "network::list::put_update" known E (λ pos β. β) G12 (record { pos = 7; ty = Syntax.tyRef Syntax.erased Syntax.mut Rec.named; ref = λ x. x }, (record { pos = 2; st = L._∷_ (Syntax.field 1) L.[]; d = 64; at = λ x. Edit·.struct .as-values x .1 .0 }, tt)) 3 (L._∷_ 2 L.[]) (Call.sub-id 𝓤 H A W (G12 .slots)) (TReads.as-is 𝓤 H A (Mut.mslice Rec.row q22 2), Mut.reads-mslice 𝓤 H A W Rec.row q22 2, Path.refl, ((Yields.yields-acc 𝓤 H A W q24 (Declared.row ArcUpdate·.the-type) 64 (λ x. Edit·.struct .as-values x .1 .0) Path.refl (Copies.cStruct ArcUpdate·.the-type ArcUpdate-Laws·.the-laws ArcUpdate-Laws·.the-copy .copy 𝓤 H A W) (Yields.acc-record 𝓤 H A W q24 ArcUpdate·.the-type 64 (λ x. Edit·.struct .as-values x .1 .0) (Yields.acc-part 𝓤 H A W q24 (Declared.row Edit·.the-type) (Struct.Struct (Declared.shape ArcUpdate·.the-type)) 0 64 (λ x. x) (λ y. ArcUpdate·.the-type .to (Edit·.struct .as-values y .1 .0)) (Yields.acc-whole 𝓤 H A W (Declared.row Edit·.the-type)) λ y a. Behind.look-at 𝓤 H A W TreeShare.fullShare Edit·.the-type Edit-Laws·.the-laws 1 64 Path.refl Path.refl a y (Edit·.struct .as-values y) Path.refl)), Path.refl), tt)) (TReads.room-gone 𝓤 H A Syntax.tyUnit) (tt, tt) Path.refl) d22
+          d23 = Typed.s-seq 𝓤 H A W 𝓣 E G12 G13 b5 b20 Δ0 (Typed.both s11) at22 (Plain.t-call-plain 𝓤 H A W 𝓣 1 ps·0 r·0 (claims· .0) (claims· .1) "network::list::put_update" known E (λ pos β. β) G12 (record { pos = 7; ty = Syntax.tyRef Syntax.erased Syntax.mut Rec.named; ref = λ x. x }, (record { pos = 2; st = L._∷_ (Syntax.field 1) L.[]; d = 64; at = λ x. Edit·.struct .as-values x .1 .0 }, tt)) 3 (L._∷_ 2 L.[]) (Call.sub-id 𝓤 H A W (G12 .slots)) (TReads.as-is 𝓤 H A (Mut.mslice Rec.row q23 2), Mut.reads-mslice 𝓤 H A W Rec.row q23 2, Path.refl, ((Yields.yields-acc 𝓤 H A W q25 (Declared.row ArcUpdate·.the-type) 64 (λ x. Edit·.struct .as-values x .1 .0) Path.refl (Copies.cStruct ArcUpdate·.the-type ArcUpdate-Laws·.the-laws ArcUpdate-Laws·.the-copy .copy 𝓤 H A W) (Yields.acc-record 𝓤 H A W q25 ArcUpdate·.the-type 64 (λ x. Edit·.struct .as-values x .1 .0) (Yields.acc-part 𝓤 H A W q25 (Declared.row Edit·.the-type) (Struct.Struct (Declared.shape ArcUpdate·.the-type)) 0 64 (λ x. x) (λ y. ArcUpdate·.the-type .to (Edit·.struct .as-values y .1 .0)) (Yields.acc-whole 𝓤 H A W (Declared.row Edit·.the-type)) λ y a. Behind.look-at 𝓤 H A W TreeShare.fullShare Edit·.the-type Edit-Laws·.the-laws 1 64 Path.refl Path.refl a y (Edit·.struct .as-values y) Path.refl)), Path.refl), tt)) (TReads.room-gone 𝓤 H A Syntax.tyUnit) (tt, tt) Path.refl) d22
 
           d24 : Typed.Typed 𝓤 H A 𝓣 E G11 b22 Δ0 at24
-          d24 = Typed.s-seq 𝓤 H A W 𝓣 E G11 G12 b4 b21 Δ0 (Typed.ask s10) at23 (Relend.t-sl-aggregate 𝓤 H A W E Rec.row 𝓣 (Relend.asMut Rec.row) G11 6 7 2 q22 q22 (λ x. x) (Scalar.oFld 1 (L._∷_ (Syntax.field 1) L.[]) (Syntax.tyInt Syntax.w64) 8 λ v. Shared.lenV (v .0)) (TReads.as-is 𝓤 H A (Relend.msptr Rec.row q22 2)) (TReads.room-gone 𝓤 H A q6) (Relend.reads-owed-len 𝓤 H A W Rec.row q21 0 2 (Row.lease (κs .0) (qs .0)) 8 Path.refl, Path.refl) Path.refl Path.refl λ b o k. tt) d23
+          d24 = Typed.s-seq 𝓤 H A W 𝓣 E G11 G12 b4 b21 Δ0 (Typed.ask s10) at23 (Relend.t-sl-aggregate 𝓤 H A W E Rec.row 𝓣 (Relend.asMut Rec.row) G11 6 7 2 q23 q23 (λ x. x) (Scalar.oFld 1 (L._∷_ (Syntax.field 1) L.[]) (Syntax.tyInt Syntax.w64) 8 λ v. Shared.lenV (v .0)) (TReads.as-is 𝓤 H A (Relend.msptr Rec.row q23 2)) (TReads.room-gone 𝓤 H A q7) (Relend.reads-owed-len 𝓤 H A W Rec.row q22 0 2 (Row.lease (κs .0) (qs .0)) 8 Path.refl, Path.refl) Path.refl Path.refl λ b o k. tt) d23
 
           d25 : Typed.Typed 𝓤 H A 𝓣 E G10 b23 Δ0 at25
-          d25 = Typed.s-seq 𝓤 H A W 𝓣 E G10 G11 b3 b22 Δ0 (Typed.give s9) at24 (Relend.t-sl-relend 𝓤 H A W E Rec.row 𝓣 G10 1 6 0 2 q21 q22 (Row.lease (κs .0) (qs .0)) 0 (λ x. x) (TReads.as-is 𝓤 H A q11) (TReads.room-gone 𝓤 H A q22) Path.refl tt Path.refl Path.refl Path.refl λ b o. tt) d24
+          d25 = Typed.s-seq 𝓤 H A W 𝓣 E G10 G11 b3 b22 Δ0 (Typed.give s9) at24 (Relend.t-sl-relend 𝓤 H A W E Rec.row 𝓣 G10 1 6 0 2 q22 q23 (Row.lease (κs .0) (qs .0)) 0 (λ x. x) (TReads.as-is 𝓤 H A q12) (TReads.room-gone 𝓤 H A q23) Path.refl tt Path.refl Path.refl Path.refl λ b o. tt) d24
 
           d26 : Typed.Typed 𝓤 H A 𝓣 E G9 b23 Δ0 at26
           d26 = Typed.g-pre 𝓤 H A W 𝓣 E G9 G10 b23 Δ0 (λ Ψ. Ψ) at25 (Lifetime.g-begin 𝓤 H A W E G9 2 (tt, (tt, (tt, (tt, (tt, (tt, (tt, (tt, (tt, (tt, (tt, (tt, tt))))))))))))) d25
@@ -807,7 +810,7 @@ module _ (claims· : Claims) where
           d27 = Typed.g-pre 𝓤 H A W 𝓣 E G8 G9 b23 Δ0 (λ Ψ. Ψ) at26 (Lifetime.g-forget 𝓤 H A W E G8 1 Row.dead Path.refl) d26
 
           d28 : Typed.Typed 𝓤 H A 𝓣 E G7 b23 Δ0 at28
-          d28 = Typed.g-pre 𝓤 H A W 𝓣 E G7 G8 b23 Δ0 (Typed.both s6) at27 (Relend.g-back-sl 𝓤 H A W E Rec.row G7 5 1 0 1 q21 q22 (Row.lease (κs .0) (qs .0)) (λ x. x) (λ x. x) (TReads.as-is 𝓤 H A q16) (TReads.as-is 𝓤 H A (Relend.mslice-owed Rec.row q21 0 1 (Row.lease (κs .0) (qs .0)))) Path.refl Path.refl) d27
+          d28 = Typed.g-pre 𝓤 H A W 𝓣 E G7 G8 b23 Δ0 (Typed.both s6) at27 (Relend.g-back-sl 𝓤 H A W E Rec.row G7 5 1 0 1 q22 q23 (Row.lease (κs .0) (qs .0)) (λ x. x) (λ x. x) (TReads.as-is 𝓤 H A q17) (TReads.as-is 𝓤 H A (Relend.mslice-owed Rec.row q22 0 1 (Row.lease (κs .0) (qs .0)))) Path.refl Path.refl) d27
 
           d29 : Typed.Typed 𝓤 H A 𝓣 E G6 b23 Δ0 at29
           d29 = Typed.g-pre 𝓤 H A W 𝓣 E G6 G7 b23 Δ0 (λ Ψ. Ψ) at28 (Lifetime.g-end 𝓤 H A W E G6 1 Path.refl) d28
@@ -816,13 +819,13 @@ module _ (claims· : Claims) where
           d30 = Typed.g-pre 𝓤 H A W 𝓣 E G5 G6 b23 Δ0 (Typed.pass T5 T6 s4) at29 (Scalar.g-room 𝓤 H A W E G5 3 Syntax.tyUnit (Scalar.room-sc 𝓤 H A W Row.sUnit)) d29
 
           d31 : Typed.Typed 𝓤 H A 𝓣 E G4 b24 Δ0 at31
-          d31 = Typed.s-seq 𝓤 H A W 𝓣 E G4 G5 b2 b23 Δ0 (Typed.both s3) at30 (Plain.t-call-plain 𝓤 H A W 𝓣 1 ps·0 r·0 (claims· .0) (claims· .1) "network::list::put_update" known E (λ pos β. β) G4 (record { pos = 5; ty = Syntax.tyRef Syntax.erased Syntax.mut Rec.named; ref = λ x. x }, (record { pos = 2; st = L._∷_ (Syntax.field 0) L.[]; d = 0; at = λ x. Edit·.struct .as-values x .0 }, tt)) 3 (L._∷_ 1 L.[]) (Call.sub-id 𝓤 H A W (G4 .slots)) (TReads.as-is 𝓤 H A (Mut.mslice Rec.row q22 1), Mut.reads-mslice 𝓤 H A W Rec.row q22 1, Path.refl, ((Yields.yields-acc 𝓤 H A W q24 (Declared.row ArcUpdate·.the-type) 0 (λ x. Edit·.struct .as-values x .0) Path.refl (Copies.cStruct ArcUpdate·.the-type ArcUpdate-Laws·.the-laws ArcUpdate-Laws·.the-copy .copy 𝓤 H A W) (Yields.acc-record 𝓤 H A W q24 ArcUpdate·.the-type 0 (λ x. Edit·.struct .as-values x .0) (Yields.acc-part 𝓤 H A W q24 (Declared.row Edit·.the-type) (Struct.Struct (Declared.shape ArcUpdate·.the-type)) 0 0 (λ x. x) (λ y. ArcUpdate·.the-type .to (Edit·.struct .as-values y .0)) (Yields.acc-whole 𝓤 H A W (Declared.row Edit·.the-type)) λ y a. Behind.look-at 𝓤 H A W TreeShare.fullShare Edit·.the-type Edit-Laws·.the-laws 0 0 Path.refl Path.refl a y (Edit·.struct .as-values y) Path.refl)), Path.refl), tt)) (TReads.room-gone 𝓤 H A Syntax.tyUnit) (tt, tt) Path.refl) d30
+          d31 = Typed.s-seq 𝓤 H A W 𝓣 E G4 G5 b2 b23 Δ0 (Typed.both s3) at30 (Plain.t-call-plain 𝓤 H A W 𝓣 1 ps·0 r·0 (claims· .0) (claims· .1) "network::list::put_update" known E (λ pos β. β) G4 (record { pos = 5; ty = Syntax.tyRef Syntax.erased Syntax.mut Rec.named; ref = λ x. x }, (record { pos = 2; st = L._∷_ (Syntax.field 0) L.[]; d = 0; at = λ x. Edit·.struct .as-values x .0 }, tt)) 3 (L._∷_ 1 L.[]) (Call.sub-id 𝓤 H A W (G4 .slots)) (TReads.as-is 𝓤 H A (Mut.mslice Rec.row q23 1), Mut.reads-mslice 𝓤 H A W Rec.row q23 1, Path.refl, ((Yields.yields-acc 𝓤 H A W q25 (Declared.row ArcUpdate·.the-type) 0 (λ x. Edit·.struct .as-values x .0) Path.refl (Copies.cStruct ArcUpdate·.the-type ArcUpdate-Laws·.the-laws ArcUpdate-Laws·.the-copy .copy 𝓤 H A W) (Yields.acc-record 𝓤 H A W q25 ArcUpdate·.the-type 0 (λ x. Edit·.struct .as-values x .0) (Yields.acc-part 𝓤 H A W q25 (Declared.row Edit·.the-type) (Struct.Struct (Declared.shape ArcUpdate·.the-type)) 0 0 (λ x. x) (λ y. ArcUpdate·.the-type .to (Edit·.struct .as-values y .0)) (Yields.acc-whole 𝓤 H A W (Declared.row Edit·.the-type)) λ y a. Behind.look-at 𝓤 H A W TreeShare.fullShare Edit·.the-type Edit-Laws·.the-laws 0 0 Path.refl Path.refl a y (Edit·.struct .as-values y) Path.refl)), Path.refl), tt)) (TReads.room-gone 𝓤 H A Syntax.tyUnit) (tt, tt) Path.refl) d30
 
           d32 : Typed.Typed 𝓤 H A 𝓣 E G3 b25 Δ0 at32
-          d32 = Typed.s-seq 𝓤 H A W 𝓣 E G3 G4 b1 b24 Δ0 (Typed.ask s2) at31 (Relend.t-sl-aggregate 𝓤 H A W E Rec.row 𝓣 (Relend.asMut Rec.row) G3 4 5 1 q22 q22 (λ x. x) (Scalar.oFld 1 (L._∷_ (Syntax.field 1) L.[]) (Syntax.tyInt Syntax.w64) 8 λ v. Shared.lenV (v .0)) (TReads.as-is 𝓤 H A (Relend.msptr Rec.row q22 1)) (TReads.room-gone 𝓤 H A q6) (Relend.reads-owed-len 𝓤 H A W Rec.row q21 0 1 (Row.lease (κs .0) (qs .0)) 8 Path.refl, Path.refl) Path.refl Path.refl λ b o k. tt) d31
+          d32 = Typed.s-seq 𝓤 H A W 𝓣 E G3 G4 b1 b24 Δ0 (Typed.ask s2) at31 (Relend.t-sl-aggregate 𝓤 H A W E Rec.row 𝓣 (Relend.asMut Rec.row) G3 4 5 1 q23 q23 (λ x. x) (Scalar.oFld 1 (L._∷_ (Syntax.field 1) L.[]) (Syntax.tyInt Syntax.w64) 8 λ v. Shared.lenV (v .0)) (TReads.as-is 𝓤 H A (Relend.msptr Rec.row q23 1)) (TReads.room-gone 𝓤 H A q7) (Relend.reads-owed-len 𝓤 H A W Rec.row q22 0 1 (Row.lease (κs .0) (qs .0)) 8 Path.refl, Path.refl) Path.refl Path.refl λ b o k. tt) d31
 
           d33 : Typed.Typed 𝓤 H A 𝓣 E G2 b26 Δ0 at33
-          d33 = Typed.s-seq 𝓤 H A W 𝓣 E G2 G3 b0 b25 Δ0 (Typed.give s1) at32 (Relend.t-sl-relend 𝓤 H A W E Rec.row 𝓣 G2 1 4 0 1 q21 q22 (Row.lease (κs .0) (qs .0)) 0 (λ x. x) (TReads.as-is 𝓤 H A q11) (TReads.room-gone 𝓤 H A q22) Path.refl tt Path.refl Path.refl Path.refl λ b o. tt) d32
+          d33 = Typed.s-seq 𝓤 H A W 𝓣 E G2 G3 b0 b25 Δ0 (Typed.give s1) at32 (Relend.t-sl-relend 𝓤 H A W E Rec.row 𝓣 G2 1 4 0 1 q22 q23 (Row.lease (κs .0) (qs .0)) 0 (λ x. x) (TReads.as-is 𝓤 H A q12) (TReads.room-gone 𝓤 H A q23) Path.refl tt Path.refl Path.refl Path.refl λ b o. tt) d32
 
           d34 : Typed.Typed 𝓤 H A 𝓣 E G0 b26 Δ0 at34
           d34 = Typed.g-pre 𝓤 H A W 𝓣 E G0 G2 b26 Δ0 (λ Ψ. Ψ) at33 (Lifetime.g-begin 𝓤 H A W E G0 1 (tt, (tt, (tt, (tt, (tt, (tt, (tt, (tt, (tt, (tt, (tt, (tt, tt))))))))))))) d33

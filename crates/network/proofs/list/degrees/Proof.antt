@@ -4,6 +4,7 @@ use Prim.Native.Nat.{_-_}
 use Rattle.network.proofs.Lists.{arc-is}
 use Rattle.network.proofs.Tally.{TalliedTo, tallied-le, tallied-more, tallied-none, tallied-to}
 use Rattle.network.specs.ArcList.{netIn, nodesOf}
+use Rattle.fraction.specs.Exact.{noFigure}
 use Rattle.network.specs.Network.{emptyNet}
 use Rattle.network.specs.declared.Nodes.{Nodes}
 use mathlib.Core.Logic.{inl, inr}
@@ -26,7 +27,7 @@ returns : tie.Need-returns Inv-loop μ-loop
 returns c = λ nodes. tallied-to (c .before .before .loop .inv nodes) (inl (c .if1 .taken))
 
 count-ends-requires : tie.Need-count-ends-requires Inv-loop μ-loop
-count-ends-requires c κs = record { few = tallied-le (c .before .before .before .before .loop .inv (nodesOf (emptyNet 0 0)) .tallied) }
+count-ends-requires c κs = record { few = tallied-le (c .before .before .before .before .loop .inv (nodesOf (emptyNet 0 0 noFigure)) .tallied) }
 
 loop-again : tie.Need-loop-again Inv-loop μ-loop
 loop-again c = λ nodes. record { tallied = tallied-more (c .before .before .before .before .before .loop .inv nodes .tallied) (c .before .before .before .before .loop-test .taken) (c .before .before .read .ensures ∙ arc-is nodes _ _ (c .before .before .before .before .loop-test .taken)) (c .count-ends .ensures); few = omega (arith, c .before .before .before .if1 .left) }

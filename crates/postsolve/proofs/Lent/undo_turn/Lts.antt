@@ -128,7 +128,7 @@ abbrev pub r : FnKinds.RK 2
 r = Value.rVal record { ty = Declared.row Back·.the-type; one = Path.refl; val = StructLaws.val Back·.the-type Back-Laws·.the-laws; tells = StructLaws.tells Back·.the-type Back-Laws·.the-laws; still = StructLaws.still Back·.the-type Back-Laws·.the-copy Exit.yes; row = Rows.whole (Declared.row Back·.the-type); rd = λ x. x; mk = λ x. x } λ M 𝓤 H A W. record { copies = StructLaws.copy Back·.the-type Back-Laws·.the-copy 𝓤 H A W; lawful = StructLaws.lawful Back·.the-type Back-Laws·.the-laws 𝓤 H A W; makes = StructLaws.makes Back·.the-type Back-Laws·.the-plain 𝓤 H A; in-mem = Local.mem-whole 𝓤 H A W (Declared.row Back·.the-type); of-mem = Local.whole-mem 𝓤 H A W (Declared.row Back·.the-type) }
 
 abbrev pub xs : L.List Syntax.Ty
-xs = L._∷_ (Syntax.tyStruct (L._∷_ 115 (L._∷_ 116 (L._∷_ 101 (L._∷_ 112 (L._∷_ 58 (L._∷_ 58 (L._∷_ 79 (L._∷_ 108 (L._∷_ 100 L.[]))))))))) (Syntax.tcons (Syntax.tyInt Syntax.w64) (Syntax.tcons q3 (Syntax.tcons q4 (Syntax.tcons q4 (Syntax.tcons q4 (Syntax.tcons q4 (Syntax.tcons q2 Syntax.tnil)))))))) (L._∷_ Syntax.tyUnit (L._∷_ q17 (L._∷_ q6 (L._∷_ (Syntax.tyStruct (L._∷_ 110 (L._∷_ 101 (L._∷_ 116 (L._∷_ 119 (L._∷_ 111 (L._∷_ 114 (L._∷_ 107 (L._∷_ 58 (L._∷_ 58 (L._∷_ 69 (L._∷_ 100 (L._∷_ 105 (L._∷_ 116 L.[]))))))))))))) (Syntax.tcons q4 (Syntax.tcons q4 (Syntax.tcons q4 (Syntax.tcons q4 (Syntax.tcons q1 (Syntax.tcons q1 (Syntax.tcons (Syntax.tyInt Syntax.w64) Syntax.tnil)))))))) (L._∷_ (Syntax.tyInt Syntax.w64) L.[])))))
+xs = L._∷_ (Syntax.tyStruct (L._∷_ 115 (L._∷_ 116 (L._∷_ 101 (L._∷_ 112 (L._∷_ 58 (L._∷_ 58 (L._∷_ 79 (L._∷_ 108 (L._∷_ 100 L.[]))))))))) (Syntax.tcons (Syntax.tyInt Syntax.w64) (Syntax.tcons q3 (Syntax.tcons q4 (Syntax.tcons q4 (Syntax.tcons q4 (Syntax.tcons q4 (Syntax.tcons q2 Syntax.tnil)))))))) (L._∷_ Syntax.tyUnit (L._∷_ q17 (L._∷_ q6 (L._∷_ (Syntax.tyStruct (L._∷_ 110 (L._∷_ 101 (L._∷_ 116 (L._∷_ 119 (L._∷_ 111 (L._∷_ 114 (L._∷_ 107 (L._∷_ 58 (L._∷_ 58 (L._∷_ 69 (L._∷_ 100 (L._∷_ 105 (L._∷_ 116 L.[]))))))))))))) (Syntax.tcons q4 (Syntax.tcons q4 (Syntax.tcons q4 (Syntax.tcons q4 (Syntax.tcons q1 (Syntax.tcons q1 (Syntax.tcons (Syntax.tyInt Syntax.w64) (Syntax.tcons q3 Syntax.tnil))))))))) (L._∷_ (Syntax.tyInt Syntax.w64) L.[])))))
 
 abbrev pub m : Nat.ℕ
 m = 1
@@ -218,19 +218,19 @@ abbrev pub Claims : Type 1
 Claims = FnKinds.In 1 ps·0 × FnKinds.Out 1 ps·0 r·0 × FnKinds.In 0 ps·1 × FnKinds.Out 0 ps·1 r·1 × FnKinds.In 1 ps·2 × FnKinds.Out 1 ps·2 r·2 × FnKinds.In 1 ps·3 × FnKinds.Out 1 ps·3 r·3 × FnKinds.In 0 ps·4 × FnKinds.Out 0 ps·4 r·4
 
 abbrev pub t0 : L.List Row.Entry
-t0 = L._∷_ (0, Rows.any-gone (Syntax.tyStruct (L._∷_ 112 (L._∷_ 111 (L._∷_ 115 (L._∷_ 116 (L._∷_ 115 (L._∷_ 111 (L._∷_ 108 (L._∷_ 118 (L._∷_ 101 (L._∷_ 58 (L._∷_ 58 (L._∷_ 66 (L._∷_ 97 (L._∷_ 99 (L._∷_ 107 L.[]))))))))))))))) (Syntax.tcons Syntax.tyBool (Syntax.tcons q0 Syntax.tnil)))) (L._∷_ q7 (L._∷_ q22 (L._∷_ q18 (L._∷_ q9 (L._∷_ (5, Rows.any-gone (Syntax.tyStruct (L._∷_ 115 (L._∷_ 116 (L._∷_ 101 (L._∷_ 112 (L._∷_ 58 (L._∷_ 58 (L._∷_ 79 (L._∷_ 108 (L._∷_ 100 L.[]))))))))) (Syntax.tcons (Syntax.tyInt Syntax.w64) (Syntax.tcons q3 (Syntax.tcons q4 (Syntax.tcons q4 (Syntax.tcons q4 (Syntax.tcons q4 (Syntax.tcons q2 Syntax.tnil))))))))) (L._∷_ q23 (L._∷_ q13 (L._∷_ q5 (L._∷_ (9, Rows.any-gone (Syntax.tyStruct (L._∷_ 110 (L._∷_ 101 (L._∷_ 116 (L._∷_ 119 (L._∷_ 111 (L._∷_ 114 (L._∷_ 107 (L._∷_ 58 (L._∷_ 58 (L._∷_ 69 (L._∷_ 100 (L._∷_ 105 (L._∷_ 116 L.[]))))))))))))) (Syntax.tcons q4 (Syntax.tcons q4 (Syntax.tcons q4 (Syntax.tcons q4 (Syntax.tcons q1 (Syntax.tcons q1 (Syntax.tcons (Syntax.tyInt Syntax.w64) Syntax.tnil))))))))) (L._∷_ q19 L.[]))))))))))
+t0 = L._∷_ (0, Rows.any-gone (Syntax.tyStruct (L._∷_ 112 (L._∷_ 111 (L._∷_ 115 (L._∷_ 116 (L._∷_ 115 (L._∷_ 111 (L._∷_ 108 (L._∷_ 118 (L._∷_ 101 (L._∷_ 58 (L._∷_ 58 (L._∷_ 66 (L._∷_ 97 (L._∷_ 99 (L._∷_ 107 L.[]))))))))))))))) (Syntax.tcons Syntax.tyBool (Syntax.tcons q0 Syntax.tnil)))) (L._∷_ q7 (L._∷_ q22 (L._∷_ q18 (L._∷_ q9 (L._∷_ (5, Rows.any-gone (Syntax.tyStruct (L._∷_ 115 (L._∷_ 116 (L._∷_ 101 (L._∷_ 112 (L._∷_ 58 (L._∷_ 58 (L._∷_ 79 (L._∷_ 108 (L._∷_ 100 L.[]))))))))) (Syntax.tcons (Syntax.tyInt Syntax.w64) (Syntax.tcons q3 (Syntax.tcons q4 (Syntax.tcons q4 (Syntax.tcons q4 (Syntax.tcons q4 (Syntax.tcons q2 Syntax.tnil))))))))) (L._∷_ q23 (L._∷_ q13 (L._∷_ q5 (L._∷_ (9, Rows.any-gone (Syntax.tyStruct (L._∷_ 110 (L._∷_ 101 (L._∷_ 116 (L._∷_ 119 (L._∷_ 111 (L._∷_ 114 (L._∷_ 107 (L._∷_ 58 (L._∷_ 58 (L._∷_ 69 (L._∷_ 100 (L._∷_ 105 (L._∷_ 116 L.[]))))))))))))) (Syntax.tcons q4 (Syntax.tcons q4 (Syntax.tcons q4 (Syntax.tcons q4 (Syntax.tcons q1 (Syntax.tcons q1 (Syntax.tcons (Syntax.tyInt Syntax.w64) (Syntax.tcons q3 Syntax.tnil)))))))))) (L._∷_ q19 L.[]))))))))))
 
 abbrev pub t1 : L.List Row.Entry
-t1 = L._∷_ q20 (L._∷_ q7 (L._∷_ (2, Rows.any-gone (Syntax.tyInt Syntax.w64)) (L._∷_ (3, Rows.any-gone (Syntax.tyStruct (L._∷_ 112 (L._∷_ 111 (L._∷_ 115 (L._∷_ 116 (L._∷_ 115 (L._∷_ 111 (L._∷_ 108 (L._∷_ 118 (L._∷_ 101 (L._∷_ 58 (L._∷_ 58 (L._∷_ 66 (L._∷_ 97 (L._∷_ 99 (L._∷_ 107 L.[]))))))))))))))) (Syntax.tcons Syntax.tyBool (Syntax.tcons q0 Syntax.tnil)))) (L._∷_ q9 (L._∷_ (5, Rows.any-gone (Syntax.tyStruct (L._∷_ 115 (L._∷_ 116 (L._∷_ 101 (L._∷_ 112 (L._∷_ 58 (L._∷_ 58 (L._∷_ 79 (L._∷_ 108 (L._∷_ 100 L.[]))))))))) (Syntax.tcons (Syntax.tyInt Syntax.w64) (Syntax.tcons q3 (Syntax.tcons q4 (Syntax.tcons q4 (Syntax.tcons q4 (Syntax.tcons q4 (Syntax.tcons q2 Syntax.tnil))))))))) (L._∷_ q23 (L._∷_ q13 (L._∷_ q5 (L._∷_ (9, Rows.any-gone (Syntax.tyStruct (L._∷_ 110 (L._∷_ 101 (L._∷_ 116 (L._∷_ 119 (L._∷_ 111 (L._∷_ 114 (L._∷_ 107 (L._∷_ 58 (L._∷_ 58 (L._∷_ 69 (L._∷_ 100 (L._∷_ 105 (L._∷_ 116 L.[]))))))))))))) (Syntax.tcons q4 (Syntax.tcons q4 (Syntax.tcons q4 (Syntax.tcons q4 (Syntax.tcons q1 (Syntax.tcons q1 (Syntax.tcons (Syntax.tyInt Syntax.w64) Syntax.tnil))))))))) (L._∷_ q19 L.[]))))))))))
+t1 = L._∷_ q20 (L._∷_ q7 (L._∷_ (2, Rows.any-gone (Syntax.tyInt Syntax.w64)) (L._∷_ (3, Rows.any-gone (Syntax.tyStruct (L._∷_ 112 (L._∷_ 111 (L._∷_ 115 (L._∷_ 116 (L._∷_ 115 (L._∷_ 111 (L._∷_ 108 (L._∷_ 118 (L._∷_ 101 (L._∷_ 58 (L._∷_ 58 (L._∷_ 66 (L._∷_ 97 (L._∷_ 99 (L._∷_ 107 L.[]))))))))))))))) (Syntax.tcons Syntax.tyBool (Syntax.tcons q0 Syntax.tnil)))) (L._∷_ q9 (L._∷_ (5, Rows.any-gone (Syntax.tyStruct (L._∷_ 115 (L._∷_ 116 (L._∷_ 101 (L._∷_ 112 (L._∷_ 58 (L._∷_ 58 (L._∷_ 79 (L._∷_ 108 (L._∷_ 100 L.[]))))))))) (Syntax.tcons (Syntax.tyInt Syntax.w64) (Syntax.tcons q3 (Syntax.tcons q4 (Syntax.tcons q4 (Syntax.tcons q4 (Syntax.tcons q4 (Syntax.tcons q2 Syntax.tnil))))))))) (L._∷_ q23 (L._∷_ q13 (L._∷_ q5 (L._∷_ (9, Rows.any-gone (Syntax.tyStruct (L._∷_ 110 (L._∷_ 101 (L._∷_ 116 (L._∷_ 119 (L._∷_ 111 (L._∷_ 114 (L._∷_ 107 (L._∷_ 58 (L._∷_ 58 (L._∷_ 69 (L._∷_ 100 (L._∷_ 105 (L._∷_ 116 L.[]))))))))))))) (Syntax.tcons q4 (Syntax.tcons q4 (Syntax.tcons q4 (Syntax.tcons q4 (Syntax.tcons q1 (Syntax.tcons q1 (Syntax.tcons (Syntax.tyInt Syntax.w64) (Syntax.tcons q3 Syntax.tnil)))))))))) (L._∷_ q19 L.[]))))))))))
 
 abbrev pub t2 : L.List Row.Entry
-t2 = L._∷_ (0, Rows.any-gone (Syntax.tyStruct (L._∷_ 112 (L._∷_ 111 (L._∷_ 115 (L._∷_ 116 (L._∷_ 115 (L._∷_ 111 (L._∷_ 108 (L._∷_ 118 (L._∷_ 101 (L._∷_ 58 (L._∷_ 58 (L._∷_ 66 (L._∷_ 97 (L._∷_ 99 (L._∷_ 107 L.[]))))))))))))))) (Syntax.tcons Syntax.tyBool (Syntax.tcons q0 Syntax.tnil)))) (L._∷_ q7 (L._∷_ q22 (L._∷_ q18 (L._∷_ q9 (L._∷_ q15 (L._∷_ q23 (L._∷_ q13 (L._∷_ q5 (L._∷_ (9, Rows.any-gone (Syntax.tyStruct (L._∷_ 110 (L._∷_ 101 (L._∷_ 116 (L._∷_ 119 (L._∷_ 111 (L._∷_ 114 (L._∷_ 107 (L._∷_ 58 (L._∷_ 58 (L._∷_ 69 (L._∷_ 100 (L._∷_ 105 (L._∷_ 116 L.[]))))))))))))) (Syntax.tcons q4 (Syntax.tcons q4 (Syntax.tcons q4 (Syntax.tcons q4 (Syntax.tcons q1 (Syntax.tcons q1 (Syntax.tcons (Syntax.tyInt Syntax.w64) Syntax.tnil))))))))) (L._∷_ q19 L.[]))))))))))
+t2 = L._∷_ (0, Rows.any-gone (Syntax.tyStruct (L._∷_ 112 (L._∷_ 111 (L._∷_ 115 (L._∷_ 116 (L._∷_ 115 (L._∷_ 111 (L._∷_ 108 (L._∷_ 118 (L._∷_ 101 (L._∷_ 58 (L._∷_ 58 (L._∷_ 66 (L._∷_ 97 (L._∷_ 99 (L._∷_ 107 L.[]))))))))))))))) (Syntax.tcons Syntax.tyBool (Syntax.tcons q0 Syntax.tnil)))) (L._∷_ q7 (L._∷_ q22 (L._∷_ q18 (L._∷_ q9 (L._∷_ q15 (L._∷_ q23 (L._∷_ q13 (L._∷_ q5 (L._∷_ (9, Rows.any-gone (Syntax.tyStruct (L._∷_ 110 (L._∷_ 101 (L._∷_ 116 (L._∷_ 119 (L._∷_ 111 (L._∷_ 114 (L._∷_ 107 (L._∷_ 58 (L._∷_ 58 (L._∷_ 69 (L._∷_ 100 (L._∷_ 105 (L._∷_ 116 L.[]))))))))))))) (Syntax.tcons q4 (Syntax.tcons q4 (Syntax.tcons q4 (Syntax.tcons q4 (Syntax.tcons q1 (Syntax.tcons q1 (Syntax.tcons (Syntax.tyInt Syntax.w64) (Syntax.tcons q3 Syntax.tnil)))))))))) (L._∷_ q19 L.[]))))))))))
 
 abbrev pub t3 : L.List Row.Entry
-t3 = L._∷_ (0, Rows.any-gone (Syntax.tyStruct (L._∷_ 112 (L._∷_ 111 (L._∷_ 115 (L._∷_ 116 (L._∷_ 115 (L._∷_ 111 (L._∷_ 108 (L._∷_ 118 (L._∷_ 101 (L._∷_ 58 (L._∷_ 58 (L._∷_ 66 (L._∷_ 97 (L._∷_ 99 (L._∷_ 107 L.[]))))))))))))))) (Syntax.tcons Syntax.tyBool (Syntax.tcons q0 Syntax.tnil)))) (L._∷_ q7 (L._∷_ q22 (L._∷_ q18 (L._∷_ q8 (L._∷_ q15 (L._∷_ q23 (L._∷_ (7, Relend.msptr Rec.row q17 2) (L._∷_ q5 (L._∷_ (9, Rows.any-gone (Syntax.tyStruct (L._∷_ 110 (L._∷_ 101 (L._∷_ 116 (L._∷_ 119 (L._∷_ 111 (L._∷_ 114 (L._∷_ 107 (L._∷_ 58 (L._∷_ 58 (L._∷_ 69 (L._∷_ 100 (L._∷_ 105 (L._∷_ 116 L.[]))))))))))))) (Syntax.tcons q4 (Syntax.tcons q4 (Syntax.tcons q4 (Syntax.tcons q4 (Syntax.tcons q1 (Syntax.tcons q1 (Syntax.tcons (Syntax.tyInt Syntax.w64) Syntax.tnil))))))))) (L._∷_ q19 L.[]))))))))))
+t3 = L._∷_ (0, Rows.any-gone (Syntax.tyStruct (L._∷_ 112 (L._∷_ 111 (L._∷_ 115 (L._∷_ 116 (L._∷_ 115 (L._∷_ 111 (L._∷_ 108 (L._∷_ 118 (L._∷_ 101 (L._∷_ 58 (L._∷_ 58 (L._∷_ 66 (L._∷_ 97 (L._∷_ 99 (L._∷_ 107 L.[]))))))))))))))) (Syntax.tcons Syntax.tyBool (Syntax.tcons q0 Syntax.tnil)))) (L._∷_ q7 (L._∷_ q22 (L._∷_ q18 (L._∷_ q8 (L._∷_ q15 (L._∷_ q23 (L._∷_ (7, Relend.msptr Rec.row q17 2) (L._∷_ q5 (L._∷_ (9, Rows.any-gone (Syntax.tyStruct (L._∷_ 110 (L._∷_ 101 (L._∷_ 116 (L._∷_ 119 (L._∷_ 111 (L._∷_ 114 (L._∷_ 107 (L._∷_ 58 (L._∷_ 58 (L._∷_ 69 (L._∷_ 100 (L._∷_ 105 (L._∷_ 116 L.[]))))))))))))) (Syntax.tcons q4 (Syntax.tcons q4 (Syntax.tcons q4 (Syntax.tcons q4 (Syntax.tcons q1 (Syntax.tcons q1 (Syntax.tcons (Syntax.tyInt Syntax.w64) (Syntax.tcons q3 Syntax.tnil)))))))))) (L._∷_ q19 L.[]))))))))))
 
 abbrev pub t4 : L.List Row.Entry
-t4 = L._∷_ (0, Rows.any-gone (Syntax.tyStruct (L._∷_ 112 (L._∷_ 111 (L._∷_ 115 (L._∷_ 116 (L._∷_ 115 (L._∷_ 111 (L._∷_ 108 (L._∷_ 118 (L._∷_ 101 (L._∷_ 58 (L._∷_ 58 (L._∷_ 66 (L._∷_ 97 (L._∷_ 99 (L._∷_ 107 L.[]))))))))))))))) (Syntax.tcons Syntax.tyBool (Syntax.tcons q0 Syntax.tnil)))) (L._∷_ q7 (L._∷_ q22 (L._∷_ q18 (L._∷_ q8 (L._∷_ q15 (L._∷_ q23 (L._∷_ q13 (L._∷_ q10 (L._∷_ (9, Rows.any-gone (Syntax.tyStruct (L._∷_ 110 (L._∷_ 101 (L._∷_ 116 (L._∷_ 119 (L._∷_ 111 (L._∷_ 114 (L._∷_ 107 (L._∷_ 58 (L._∷_ 58 (L._∷_ 69 (L._∷_ 100 (L._∷_ 105 (L._∷_ 116 L.[]))))))))))))) (Syntax.tcons q4 (Syntax.tcons q4 (Syntax.tcons q4 (Syntax.tcons q4 (Syntax.tcons q1 (Syntax.tcons q1 (Syntax.tcons (Syntax.tyInt Syntax.w64) Syntax.tnil))))))))) (L._∷_ q19 L.[]))))))))))
+t4 = L._∷_ (0, Rows.any-gone (Syntax.tyStruct (L._∷_ 112 (L._∷_ 111 (L._∷_ 115 (L._∷_ 116 (L._∷_ 115 (L._∷_ 111 (L._∷_ 108 (L._∷_ 118 (L._∷_ 101 (L._∷_ 58 (L._∷_ 58 (L._∷_ 66 (L._∷_ 97 (L._∷_ 99 (L._∷_ 107 L.[]))))))))))))))) (Syntax.tcons Syntax.tyBool (Syntax.tcons q0 Syntax.tnil)))) (L._∷_ q7 (L._∷_ q22 (L._∷_ q18 (L._∷_ q8 (L._∷_ q15 (L._∷_ q23 (L._∷_ q13 (L._∷_ q10 (L._∷_ (9, Rows.any-gone (Syntax.tyStruct (L._∷_ 110 (L._∷_ 101 (L._∷_ 116 (L._∷_ 119 (L._∷_ 111 (L._∷_ 114 (L._∷_ 107 (L._∷_ 58 (L._∷_ 58 (L._∷_ 69 (L._∷_ 100 (L._∷_ 105 (L._∷_ 116 L.[]))))))))))))) (Syntax.tcons q4 (Syntax.tcons q4 (Syntax.tcons q4 (Syntax.tcons q4 (Syntax.tcons q1 (Syntax.tcons q1 (Syntax.tcons (Syntax.tyInt Syntax.w64) (Syntax.tcons q3 Syntax.tnil)))))))))) (L._∷_ q19 L.[]))))))))))
 
 abbrev pub t5 : L.List Row.Entry
 t5 = L._∷_ (0, Rows.any-gone (Syntax.tyStruct (L._∷_ 112 (L._∷_ 111 (L._∷_ 115 (L._∷_ 116 (L._∷_ 115 (L._∷_ 111 (L._∷_ 108 (L._∷_ 118 (L._∷_ 101 (L._∷_ 58 (L._∷_ 58 (L._∷_ 66 (L._∷_ 97 (L._∷_ 99 (L._∷_ 107 L.[]))))))))))))))) (Syntax.tcons Syntax.tyBool (Syntax.tcons q0 Syntax.tnil)))) (L._∷_ q7 (L._∷_ q22 (L._∷_ q18 (L._∷_ q8 (L._∷_ q15 (L._∷_ q23 (L._∷_ q13 (L._∷_ q10 (L._∷_ q14 (L._∷_ q19 L.[]))))))))))
@@ -242,22 +242,22 @@ abbrev pub t7 : L.List Row.Entry
 t7 = L._∷_ (0, Rows.any-gone (Syntax.tyStruct (L._∷_ 112 (L._∷_ 111 (L._∷_ 115 (L._∷_ 116 (L._∷_ 115 (L._∷_ 111 (L._∷_ 108 (L._∷_ 118 (L._∷_ 101 (L._∷_ 58 (L._∷_ 58 (L._∷_ 66 (L._∷_ 97 (L._∷_ 99 (L._∷_ 107 L.[]))))))))))))))) (Syntax.tcons Syntax.tyBool (Syntax.tcons q0 Syntax.tnil)))) (L._∷_ q7 (L._∷_ q22 (L._∷_ q18 (L._∷_ q8 (L._∷_ q15 (L._∷_ q23 (L._∷_ q13 (L._∷_ q11 (L._∷_ q14 (L._∷_ q19 L.[]))))))))))
 
 abbrev pub t8 : L.List Row.Entry
-t8 = L._∷_ (0, Rows.any-gone (Syntax.tyStruct (L._∷_ 112 (L._∷_ 111 (L._∷_ 115 (L._∷_ 116 (L._∷_ 115 (L._∷_ 111 (L._∷_ 108 (L._∷_ 118 (L._∷_ 101 (L._∷_ 58 (L._∷_ 58 (L._∷_ 66 (L._∷_ 97 (L._∷_ 99 (L._∷_ 107 L.[]))))))))))))))) (Syntax.tcons Syntax.tyBool (Syntax.tcons q0 Syntax.tnil)))) (L._∷_ q7 (L._∷_ q22 (L._∷_ q18 (L._∷_ q8 (L._∷_ q15 (L._∷_ q23 (L._∷_ q13 (L._∷_ q11 (L._∷_ (9, Rows.any-gone (Syntax.tyStruct (L._∷_ 110 (L._∷_ 101 (L._∷_ 116 (L._∷_ 119 (L._∷_ 111 (L._∷_ 114 (L._∷_ 107 (L._∷_ 58 (L._∷_ 58 (L._∷_ 69 (L._∷_ 100 (L._∷_ 105 (L._∷_ 116 L.[]))))))))))))) (Syntax.tcons q4 (Syntax.tcons q4 (Syntax.tcons q4 (Syntax.tcons q4 (Syntax.tcons q1 (Syntax.tcons q1 (Syntax.tcons (Syntax.tyInt Syntax.w64) Syntax.tnil))))))))) (L._∷_ q19 L.[]))))))))))
+t8 = L._∷_ (0, Rows.any-gone (Syntax.tyStruct (L._∷_ 112 (L._∷_ 111 (L._∷_ 115 (L._∷_ 116 (L._∷_ 115 (L._∷_ 111 (L._∷_ 108 (L._∷_ 118 (L._∷_ 101 (L._∷_ 58 (L._∷_ 58 (L._∷_ 66 (L._∷_ 97 (L._∷_ 99 (L._∷_ 107 L.[]))))))))))))))) (Syntax.tcons Syntax.tyBool (Syntax.tcons q0 Syntax.tnil)))) (L._∷_ q7 (L._∷_ q22 (L._∷_ q18 (L._∷_ q8 (L._∷_ q15 (L._∷_ q23 (L._∷_ q13 (L._∷_ q11 (L._∷_ (9, Rows.any-gone (Syntax.tyStruct (L._∷_ 110 (L._∷_ 101 (L._∷_ 116 (L._∷_ 119 (L._∷_ 111 (L._∷_ 114 (L._∷_ 107 (L._∷_ 58 (L._∷_ 58 (L._∷_ 69 (L._∷_ 100 (L._∷_ 105 (L._∷_ 116 L.[]))))))))))))) (Syntax.tcons q4 (Syntax.tcons q4 (Syntax.tcons q4 (Syntax.tcons q4 (Syntax.tcons q1 (Syntax.tcons q1 (Syntax.tcons (Syntax.tyInt Syntax.w64) (Syntax.tcons q3 Syntax.tnil)))))))))) (L._∷_ q19 L.[]))))))))))
 
 abbrev pub t9 : L.List Row.Entry
-t9 = L._∷_ (0, Rows.any-gone (Syntax.tyStruct (L._∷_ 112 (L._∷_ 111 (L._∷_ 115 (L._∷_ 116 (L._∷_ 115 (L._∷_ 111 (L._∷_ 108 (L._∷_ 118 (L._∷_ 101 (L._∷_ 58 (L._∷_ 58 (L._∷_ 66 (L._∷_ 97 (L._∷_ 99 (L._∷_ 107 L.[]))))))))))))))) (Syntax.tcons Syntax.tyBool (Syntax.tcons q0 Syntax.tnil)))) (L._∷_ q7 (L._∷_ q22 (L._∷_ q18 (L._∷_ q9 (L._∷_ q15 (L._∷_ q23 (L._∷_ q13 (L._∷_ q5 (L._∷_ (9, Rows.any-gone (Syntax.tyStruct (L._∷_ 110 (L._∷_ 101 (L._∷_ 116 (L._∷_ 119 (L._∷_ 111 (L._∷_ 114 (L._∷_ 107 (L._∷_ 58 (L._∷_ 58 (L._∷_ 69 (L._∷_ 100 (L._∷_ 105 (L._∷_ 116 L.[]))))))))))))) (Syntax.tcons q4 (Syntax.tcons q4 (Syntax.tcons q4 (Syntax.tcons q4 (Syntax.tcons q1 (Syntax.tcons q1 (Syntax.tcons (Syntax.tyInt Syntax.w64) Syntax.tnil))))))))) (L._∷_ q21 L.[]))))))))))
+t9 = L._∷_ (0, Rows.any-gone (Syntax.tyStruct (L._∷_ 112 (L._∷_ 111 (L._∷_ 115 (L._∷_ 116 (L._∷_ 115 (L._∷_ 111 (L._∷_ 108 (L._∷_ 118 (L._∷_ 101 (L._∷_ 58 (L._∷_ 58 (L._∷_ 66 (L._∷_ 97 (L._∷_ 99 (L._∷_ 107 L.[]))))))))))))))) (Syntax.tcons Syntax.tyBool (Syntax.tcons q0 Syntax.tnil)))) (L._∷_ q7 (L._∷_ q22 (L._∷_ q18 (L._∷_ q9 (L._∷_ q15 (L._∷_ q23 (L._∷_ q13 (L._∷_ q5 (L._∷_ (9, Rows.any-gone (Syntax.tyStruct (L._∷_ 110 (L._∷_ 101 (L._∷_ 116 (L._∷_ 119 (L._∷_ 111 (L._∷_ 114 (L._∷_ 107 (L._∷_ 58 (L._∷_ 58 (L._∷_ 69 (L._∷_ 100 (L._∷_ 105 (L._∷_ 116 L.[]))))))))))))) (Syntax.tcons q4 (Syntax.tcons q4 (Syntax.tcons q4 (Syntax.tcons q4 (Syntax.tcons q1 (Syntax.tcons q1 (Syntax.tcons (Syntax.tyInt Syntax.w64) (Syntax.tcons q3 Syntax.tnil)))))))))) (L._∷_ q21 L.[]))))))))))
 
 abbrev pub t10 : L.List Row.Entry
-t10 = L._∷_ q20 (L._∷_ q7 (L._∷_ q22 (L._∷_ q18 (L._∷_ q9 (L._∷_ q15 (L._∷_ q23 (L._∷_ q13 (L._∷_ q5 (L._∷_ (9, Rows.any-gone (Syntax.tyStruct (L._∷_ 110 (L._∷_ 101 (L._∷_ 116 (L._∷_ 119 (L._∷_ 111 (L._∷_ 114 (L._∷_ 107 (L._∷_ 58 (L._∷_ 58 (L._∷_ 69 (L._∷_ 100 (L._∷_ 105 (L._∷_ 116 L.[]))))))))))))) (Syntax.tcons q4 (Syntax.tcons q4 (Syntax.tcons q4 (Syntax.tcons q4 (Syntax.tcons q1 (Syntax.tcons q1 (Syntax.tcons (Syntax.tyInt Syntax.w64) Syntax.tnil))))))))) (L._∷_ q21 L.[]))))))))))
+t10 = L._∷_ q20 (L._∷_ q7 (L._∷_ q22 (L._∷_ q18 (L._∷_ q9 (L._∷_ q15 (L._∷_ q23 (L._∷_ q13 (L._∷_ q5 (L._∷_ (9, Rows.any-gone (Syntax.tyStruct (L._∷_ 110 (L._∷_ 101 (L._∷_ 116 (L._∷_ 119 (L._∷_ 111 (L._∷_ 114 (L._∷_ 107 (L._∷_ 58 (L._∷_ 58 (L._∷_ 69 (L._∷_ 100 (L._∷_ 105 (L._∷_ 116 L.[]))))))))))))) (Syntax.tcons q4 (Syntax.tcons q4 (Syntax.tcons q4 (Syntax.tcons q4 (Syntax.tcons q1 (Syntax.tcons q1 (Syntax.tcons (Syntax.tyInt Syntax.w64) (Syntax.tcons q3 Syntax.tnil)))))))))) (L._∷_ q21 L.[]))))))))))
 
 abbrev pub t11 : L.List Row.Entry
-t11 = L._∷_ q20 (L._∷_ q7 (L._∷_ q22 (L._∷_ (3, Rows.any-gone (Syntax.tyStruct (L._∷_ 112 (L._∷_ 111 (L._∷_ 115 (L._∷_ 116 (L._∷_ 115 (L._∷_ 111 (L._∷_ 108 (L._∷_ 118 (L._∷_ 101 (L._∷_ 58 (L._∷_ 58 (L._∷_ 66 (L._∷_ 97 (L._∷_ 99 (L._∷_ 107 L.[]))))))))))))))) (Syntax.tcons Syntax.tyBool (Syntax.tcons q0 Syntax.tnil)))) (L._∷_ q9 (L._∷_ q15 (L._∷_ q23 (L._∷_ q13 (L._∷_ q5 (L._∷_ (9, Rows.any-gone (Syntax.tyStruct (L._∷_ 110 (L._∷_ 101 (L._∷_ 116 (L._∷_ 119 (L._∷_ 111 (L._∷_ 114 (L._∷_ 107 (L._∷_ 58 (L._∷_ 58 (L._∷_ 69 (L._∷_ 100 (L._∷_ 105 (L._∷_ 116 L.[]))))))))))))) (Syntax.tcons q4 (Syntax.tcons q4 (Syntax.tcons q4 (Syntax.tcons q4 (Syntax.tcons q1 (Syntax.tcons q1 (Syntax.tcons (Syntax.tyInt Syntax.w64) Syntax.tnil))))))))) (L._∷_ q21 L.[]))))))))))
+t11 = L._∷_ q20 (L._∷_ q7 (L._∷_ q22 (L._∷_ (3, Rows.any-gone (Syntax.tyStruct (L._∷_ 112 (L._∷_ 111 (L._∷_ 115 (L._∷_ 116 (L._∷_ 115 (L._∷_ 111 (L._∷_ 108 (L._∷_ 118 (L._∷_ 101 (L._∷_ 58 (L._∷_ 58 (L._∷_ 66 (L._∷_ 97 (L._∷_ 99 (L._∷_ 107 L.[]))))))))))))))) (Syntax.tcons Syntax.tyBool (Syntax.tcons q0 Syntax.tnil)))) (L._∷_ q9 (L._∷_ q15 (L._∷_ q23 (L._∷_ q13 (L._∷_ q5 (L._∷_ (9, Rows.any-gone (Syntax.tyStruct (L._∷_ 110 (L._∷_ 101 (L._∷_ 116 (L._∷_ 119 (L._∷_ 111 (L._∷_ 114 (L._∷_ 107 (L._∷_ 58 (L._∷_ 58 (L._∷_ 69 (L._∷_ 100 (L._∷_ 105 (L._∷_ 116 L.[]))))))))))))) (Syntax.tcons q4 (Syntax.tcons q4 (Syntax.tcons q4 (Syntax.tcons q4 (Syntax.tcons q1 (Syntax.tcons q1 (Syntax.tcons (Syntax.tyInt Syntax.w64) (Syntax.tcons q3 Syntax.tnil)))))))))) (L._∷_ q21 L.[]))))))))))
 
 abbrev pub t12 : L.List Row.Entry
-t12 = L._∷_ q20 (L._∷_ q7 (L._∷_ q22 (L._∷_ (3, Rows.any-gone (Syntax.tyStruct (L._∷_ 112 (L._∷_ 111 (L._∷_ 115 (L._∷_ 116 (L._∷_ 115 (L._∷_ 111 (L._∷_ 108 (L._∷_ 118 (L._∷_ 101 (L._∷_ 58 (L._∷_ 58 (L._∷_ 66 (L._∷_ 97 (L._∷_ 99 (L._∷_ 107 L.[]))))))))))))))) (Syntax.tcons Syntax.tyBool (Syntax.tcons q0 Syntax.tnil)))) (L._∷_ q9 (L._∷_ (5, Rows.any-gone (Syntax.tyStruct (L._∷_ 115 (L._∷_ 116 (L._∷_ 101 (L._∷_ 112 (L._∷_ 58 (L._∷_ 58 (L._∷_ 79 (L._∷_ 108 (L._∷_ 100 L.[]))))))))) (Syntax.tcons (Syntax.tyInt Syntax.w64) (Syntax.tcons q3 (Syntax.tcons q4 (Syntax.tcons q4 (Syntax.tcons q4 (Syntax.tcons q4 (Syntax.tcons q2 Syntax.tnil))))))))) (L._∷_ q23 (L._∷_ q13 (L._∷_ q5 (L._∷_ (9, Rows.any-gone (Syntax.tyStruct (L._∷_ 110 (L._∷_ 101 (L._∷_ 116 (L._∷_ 119 (L._∷_ 111 (L._∷_ 114 (L._∷_ 107 (L._∷_ 58 (L._∷_ 58 (L._∷_ 69 (L._∷_ 100 (L._∷_ 105 (L._∷_ 116 L.[]))))))))))))) (Syntax.tcons q4 (Syntax.tcons q4 (Syntax.tcons q4 (Syntax.tcons q4 (Syntax.tcons q1 (Syntax.tcons q1 (Syntax.tcons (Syntax.tyInt Syntax.w64) Syntax.tnil))))))))) (L._∷_ q21 L.[]))))))))))
+t12 = L._∷_ q20 (L._∷_ q7 (L._∷_ q22 (L._∷_ (3, Rows.any-gone (Syntax.tyStruct (L._∷_ 112 (L._∷_ 111 (L._∷_ 115 (L._∷_ 116 (L._∷_ 115 (L._∷_ 111 (L._∷_ 108 (L._∷_ 118 (L._∷_ 101 (L._∷_ 58 (L._∷_ 58 (L._∷_ 66 (L._∷_ 97 (L._∷_ 99 (L._∷_ 107 L.[]))))))))))))))) (Syntax.tcons Syntax.tyBool (Syntax.tcons q0 Syntax.tnil)))) (L._∷_ q9 (L._∷_ (5, Rows.any-gone (Syntax.tyStruct (L._∷_ 115 (L._∷_ 116 (L._∷_ 101 (L._∷_ 112 (L._∷_ 58 (L._∷_ 58 (L._∷_ 79 (L._∷_ 108 (L._∷_ 100 L.[]))))))))) (Syntax.tcons (Syntax.tyInt Syntax.w64) (Syntax.tcons q3 (Syntax.tcons q4 (Syntax.tcons q4 (Syntax.tcons q4 (Syntax.tcons q4 (Syntax.tcons q2 Syntax.tnil))))))))) (L._∷_ q23 (L._∷_ q13 (L._∷_ q5 (L._∷_ (9, Rows.any-gone (Syntax.tyStruct (L._∷_ 110 (L._∷_ 101 (L._∷_ 116 (L._∷_ 119 (L._∷_ 111 (L._∷_ 114 (L._∷_ 107 (L._∷_ 58 (L._∷_ 58 (L._∷_ 69 (L._∷_ 100 (L._∷_ 105 (L._∷_ 116 L.[]))))))))))))) (Syntax.tcons q4 (Syntax.tcons q4 (Syntax.tcons q4 (Syntax.tcons q4 (Syntax.tcons q1 (Syntax.tcons q1 (Syntax.tcons (Syntax.tyInt Syntax.w64) (Syntax.tcons q3 Syntax.tnil)))))))))) (L._∷_ q21 L.[]))))))))))
 
 abbrev pub t13 : L.List Row.Entry
-t13 = L._∷_ q20 (L._∷_ q7 (L._∷_ q22 (L._∷_ (3, Rows.any-gone (Syntax.tyStruct (L._∷_ 112 (L._∷_ 111 (L._∷_ 115 (L._∷_ 116 (L._∷_ 115 (L._∷_ 111 (L._∷_ 108 (L._∷_ 118 (L._∷_ 101 (L._∷_ 58 (L._∷_ 58 (L._∷_ 66 (L._∷_ 97 (L._∷_ 99 (L._∷_ 107 L.[]))))))))))))))) (Syntax.tcons Syntax.tyBool (Syntax.tcons q0 Syntax.tnil)))) (L._∷_ q9 (L._∷_ (5, Rows.any-gone (Syntax.tyStruct (L._∷_ 115 (L._∷_ 116 (L._∷_ 101 (L._∷_ 112 (L._∷_ 58 (L._∷_ 58 (L._∷_ 79 (L._∷_ 108 (L._∷_ 100 L.[]))))))))) (Syntax.tcons (Syntax.tyInt Syntax.w64) (Syntax.tcons q3 (Syntax.tcons q4 (Syntax.tcons q4 (Syntax.tcons q4 (Syntax.tcons q4 (Syntax.tcons q2 Syntax.tnil))))))))) (L._∷_ q23 (L._∷_ q13 (L._∷_ q5 (L._∷_ (9, Rows.any-gone (Syntax.tyStruct (L._∷_ 110 (L._∷_ 101 (L._∷_ 116 (L._∷_ 119 (L._∷_ 111 (L._∷_ 114 (L._∷_ 107 (L._∷_ 58 (L._∷_ 58 (L._∷_ 69 (L._∷_ 100 (L._∷_ 105 (L._∷_ 116 L.[]))))))))))))) (Syntax.tcons q4 (Syntax.tcons q4 (Syntax.tcons q4 (Syntax.tcons q4 (Syntax.tcons q1 (Syntax.tcons q1 (Syntax.tcons (Syntax.tyInt Syntax.w64) Syntax.tnil))))))))) (L._∷_ q19 L.[]))))))))))
+t13 = L._∷_ q20 (L._∷_ q7 (L._∷_ q22 (L._∷_ (3, Rows.any-gone (Syntax.tyStruct (L._∷_ 112 (L._∷_ 111 (L._∷_ 115 (L._∷_ 116 (L._∷_ 115 (L._∷_ 111 (L._∷_ 108 (L._∷_ 118 (L._∷_ 101 (L._∷_ 58 (L._∷_ 58 (L._∷_ 66 (L._∷_ 97 (L._∷_ 99 (L._∷_ 107 L.[]))))))))))))))) (Syntax.tcons Syntax.tyBool (Syntax.tcons q0 Syntax.tnil)))) (L._∷_ q9 (L._∷_ (5, Rows.any-gone (Syntax.tyStruct (L._∷_ 115 (L._∷_ 116 (L._∷_ 101 (L._∷_ 112 (L._∷_ 58 (L._∷_ 58 (L._∷_ 79 (L._∷_ 108 (L._∷_ 100 L.[]))))))))) (Syntax.tcons (Syntax.tyInt Syntax.w64) (Syntax.tcons q3 (Syntax.tcons q4 (Syntax.tcons q4 (Syntax.tcons q4 (Syntax.tcons q4 (Syntax.tcons q2 Syntax.tnil))))))))) (L._∷_ q23 (L._∷_ q13 (L._∷_ q5 (L._∷_ (9, Rows.any-gone (Syntax.tyStruct (L._∷_ 110 (L._∷_ 101 (L._∷_ 116 (L._∷_ 119 (L._∷_ 111 (L._∷_ 114 (L._∷_ 107 (L._∷_ 58 (L._∷_ 58 (L._∷_ 69 (L._∷_ 100 (L._∷_ 105 (L._∷_ 116 L.[]))))))))))))) (Syntax.tcons q4 (Syntax.tcons q4 (Syntax.tcons q4 (Syntax.tcons q4 (Syntax.tcons q1 (Syntax.tcons q1 (Syntax.tcons (Syntax.tyInt Syntax.w64) (Syntax.tcons q3 Syntax.tnil)))))))))) (L._∷_ q19 L.[]))))))))))
 
 abbrev pub T0 : Row.Cx
 T0 = record { locals = t0; slots = L.[] }
@@ -321,7 +321,7 @@ module _ (claims· : Claims) where
   s3 = Relend.k-sl-aggregate Rec.row (Relend.asMut Rec.row) T4 7 8 2 q17 q17 (λ x. x) (Scalar.oFld 4 (L._∷_ (Syntax.field 1) L.[]) (Syntax.tyInt Syntax.w64) 8 λ v. Shared.lenV (v .0))
 
   abbrev s4 : Typed.Both T5 T6
-  s4 = Call.callB ps·1 r·1 (claims· .2) (claims· .3) T5 (record { pos = 5; st = L.[]; d = 0; at = λ x. x }, tt) 9 L.[] (Syntax.tyStruct (L._∷_ 110 (L._∷_ 101 (L._∷_ 116 (L._∷_ 119 (L._∷_ 111 (L._∷_ 114 (L._∷_ 107 (L._∷_ 58 (L._∷_ 58 (L._∷_ 69 (L._∷_ 100 (L._∷_ 105 (L._∷_ 116 L.[]))))))))))))) (Syntax.tcons q4 (Syntax.tcons q4 (Syntax.tcons q4 (Syntax.tcons q4 (Syntax.tcons q1 (Syntax.tcons q1 (Syntax.tcons (Syntax.tyInt Syntax.w64) Syntax.tnil))))))))
+  s4 = Call.callB ps·1 r·1 (claims· .2) (claims· .3) T5 (record { pos = 5; st = L.[]; d = 0; at = λ x. x }, tt) 9 L.[] (Syntax.tyStruct (L._∷_ 110 (L._∷_ 101 (L._∷_ 116 (L._∷_ 119 (L._∷_ 111 (L._∷_ 114 (L._∷_ 107 (L._∷_ 58 (L._∷_ 58 (L._∷_ 69 (L._∷_ 100 (L._∷_ 105 (L._∷_ 116 L.[]))))))))))))) (Syntax.tcons q4 (Syntax.tcons q4 (Syntax.tcons q4 (Syntax.tcons q4 (Syntax.tcons q1 (Syntax.tcons q1 (Syntax.tcons (Syntax.tyInt Syntax.w64) (Syntax.tcons q3 Syntax.tnil)))))))))
 
   abbrev s5 : Typed.Both T6 T7
   s5 = Call.callB ps·2 r·2 (claims· .4) (claims· .5) T6 (record { pos = 8; ty = Syntax.tyRef Syntax.erased Syntax.mut Rec.named; ref = λ x. x }, (record { pos = 9; st = L.[]; d = 0; at = λ x. x }, tt)) 6 (L._∷_ 2 L.[]) Syntax.tyUnit
@@ -330,7 +330,7 @@ module _ (claims· : Claims) where
   s6 = Scalar.n-room T7 6 Syntax.tyUnit
 
   abbrev s7 : Typed.Mo T8 → Typed.Mo T9
-  s7 = Scalar.n-room T8 9 (Syntax.tyStruct (L._∷_ 110 (L._∷_ 101 (L._∷_ 116 (L._∷_ 119 (L._∷_ 111 (L._∷_ 114 (L._∷_ 107 (L._∷_ 58 (L._∷_ 58 (L._∷_ 69 (L._∷_ 100 (L._∷_ 105 (L._∷_ 116 L.[]))))))))))))) (Syntax.tcons q4 (Syntax.tcons q4 (Syntax.tcons q4 (Syntax.tcons q4 (Syntax.tcons q1 (Syntax.tcons q1 (Syntax.tcons (Syntax.tyInt Syntax.w64) Syntax.tnil))))))))
+  s7 = Scalar.n-room T8 9 (Syntax.tyStruct (L._∷_ 110 (L._∷_ 101 (L._∷_ 116 (L._∷_ 119 (L._∷_ 111 (L._∷_ 114 (L._∷_ 107 (L._∷_ 58 (L._∷_ 58 (L._∷_ 69 (L._∷_ 100 (L._∷_ 105 (L._∷_ 116 L.[]))))))))))))) (Syntax.tcons q4 (Syntax.tcons q4 (Syntax.tcons q4 (Syntax.tcons q4 (Syntax.tcons q1 (Syntax.tcons q1 (Syntax.tcons (Syntax.tyInt Syntax.w64) (Syntax.tcons q3 Syntax.tnil)))))))))
 
   abbrev s9 : Typed.Both T9 T11
   s9 = Relend.k-back-sl Rec.row T9 8 4 1 2 q16 q17 Row.off (λ x. x) λ x. x
@@ -422,10 +422,10 @@ module _ (claims· : Claims) where
 
       module _ (κs : Lifetimes.Lfts 2) (qs : Lifetimes.Shares 2) where
         abbrev g3 : L.List Row.Entry
-        g3 = L._∷_ (0, Rows.any-gone (Syntax.tyStruct (L._∷_ 112 (L._∷_ 111 (L._∷_ 115 (L._∷_ 116 (L._∷_ 115 (L._∷_ 111 (L._∷_ 108 (L._∷_ 118 (L._∷_ 101 (L._∷_ 58 (L._∷_ 58 (L._∷_ 66 (L._∷_ 97 (L._∷_ 99 (L._∷_ 107 L.[]))))))))))))))) (Syntax.tcons Syntax.tyBool (Syntax.tcons q0 Syntax.tnil)))) (L._∷_ q7 (L._∷_ q22 (L._∷_ q18 (L._∷_ (4, Relend.mslice-owed Rec.row q16 1 2 (Row.lease (κs .1 .0) (qs .1 .0))) (L._∷_ q15 (L._∷_ q23 (L._∷_ (7, Relend.msptr Rec.row q17 2) (L._∷_ q5 (L._∷_ (9, Rows.any-gone (Syntax.tyStruct (L._∷_ 110 (L._∷_ 101 (L._∷_ 116 (L._∷_ 119 (L._∷_ 111 (L._∷_ 114 (L._∷_ 107 (L._∷_ 58 (L._∷_ 58 (L._∷_ 69 (L._∷_ 100 (L._∷_ 105 (L._∷_ 116 L.[]))))))))))))) (Syntax.tcons q4 (Syntax.tcons q4 (Syntax.tcons q4 (Syntax.tcons q4 (Syntax.tcons q1 (Syntax.tcons q1 (Syntax.tcons (Syntax.tyInt Syntax.w64) Syntax.tnil))))))))) (L._∷_ q19 L.[]))))))))))
+        g3 = L._∷_ (0, Rows.any-gone (Syntax.tyStruct (L._∷_ 112 (L._∷_ 111 (L._∷_ 115 (L._∷_ 116 (L._∷_ 115 (L._∷_ 111 (L._∷_ 108 (L._∷_ 118 (L._∷_ 101 (L._∷_ 58 (L._∷_ 58 (L._∷_ 66 (L._∷_ 97 (L._∷_ 99 (L._∷_ 107 L.[]))))))))))))))) (Syntax.tcons Syntax.tyBool (Syntax.tcons q0 Syntax.tnil)))) (L._∷_ q7 (L._∷_ q22 (L._∷_ q18 (L._∷_ (4, Relend.mslice-owed Rec.row q16 1 2 (Row.lease (κs .1 .0) (qs .1 .0))) (L._∷_ q15 (L._∷_ q23 (L._∷_ (7, Relend.msptr Rec.row q17 2) (L._∷_ q5 (L._∷_ (9, Rows.any-gone (Syntax.tyStruct (L._∷_ 110 (L._∷_ 101 (L._∷_ 116 (L._∷_ 119 (L._∷_ 111 (L._∷_ 114 (L._∷_ 107 (L._∷_ 58 (L._∷_ 58 (L._∷_ 69 (L._∷_ 100 (L._∷_ 105 (L._∷_ 116 L.[]))))))))))))) (Syntax.tcons q4 (Syntax.tcons q4 (Syntax.tcons q4 (Syntax.tcons q4 (Syntax.tcons q1 (Syntax.tcons q1 (Syntax.tcons (Syntax.tyInt Syntax.w64) (Syntax.tcons q3 Syntax.tnil)))))))))) (L._∷_ q19 L.[]))))))))))
 
         abbrev g4 : L.List Row.Entry
-        g4 = L._∷_ (0, Rows.any-gone (Syntax.tyStruct (L._∷_ 112 (L._∷_ 111 (L._∷_ 115 (L._∷_ 116 (L._∷_ 115 (L._∷_ 111 (L._∷_ 108 (L._∷_ 118 (L._∷_ 101 (L._∷_ 58 (L._∷_ 58 (L._∷_ 66 (L._∷_ 97 (L._∷_ 99 (L._∷_ 107 L.[]))))))))))))))) (Syntax.tcons Syntax.tyBool (Syntax.tcons q0 Syntax.tnil)))) (L._∷_ q7 (L._∷_ q22 (L._∷_ q18 (L._∷_ (4, Relend.mslice-owed Rec.row q16 1 2 (Row.lease (κs .1 .0) (qs .1 .0))) (L._∷_ q15 (L._∷_ q23 (L._∷_ q13 (L._∷_ q10 (L._∷_ (9, Rows.any-gone (Syntax.tyStruct (L._∷_ 110 (L._∷_ 101 (L._∷_ 116 (L._∷_ 119 (L._∷_ 111 (L._∷_ 114 (L._∷_ 107 (L._∷_ 58 (L._∷_ 58 (L._∷_ 69 (L._∷_ 100 (L._∷_ 105 (L._∷_ 116 L.[]))))))))))))) (Syntax.tcons q4 (Syntax.tcons q4 (Syntax.tcons q4 (Syntax.tcons q4 (Syntax.tcons q1 (Syntax.tcons q1 (Syntax.tcons (Syntax.tyInt Syntax.w64) Syntax.tnil))))))))) (L._∷_ q19 L.[]))))))))))
+        g4 = L._∷_ (0, Rows.any-gone (Syntax.tyStruct (L._∷_ 112 (L._∷_ 111 (L._∷_ 115 (L._∷_ 116 (L._∷_ 115 (L._∷_ 111 (L._∷_ 108 (L._∷_ 118 (L._∷_ 101 (L._∷_ 58 (L._∷_ 58 (L._∷_ 66 (L._∷_ 97 (L._∷_ 99 (L._∷_ 107 L.[]))))))))))))))) (Syntax.tcons Syntax.tyBool (Syntax.tcons q0 Syntax.tnil)))) (L._∷_ q7 (L._∷_ q22 (L._∷_ q18 (L._∷_ (4, Relend.mslice-owed Rec.row q16 1 2 (Row.lease (κs .1 .0) (qs .1 .0))) (L._∷_ q15 (L._∷_ q23 (L._∷_ q13 (L._∷_ q10 (L._∷_ (9, Rows.any-gone (Syntax.tyStruct (L._∷_ 110 (L._∷_ 101 (L._∷_ 116 (L._∷_ 119 (L._∷_ 111 (L._∷_ 114 (L._∷_ 107 (L._∷_ 58 (L._∷_ 58 (L._∷_ 69 (L._∷_ 100 (L._∷_ 105 (L._∷_ 116 L.[]))))))))))))) (Syntax.tcons q4 (Syntax.tcons q4 (Syntax.tcons q4 (Syntax.tcons q4 (Syntax.tcons q1 (Syntax.tcons q1 (Syntax.tcons (Syntax.tyInt Syntax.w64) (Syntax.tcons q3 Syntax.tnil)))))))))) (L._∷_ q19 L.[]))))))))))
 
         abbrev g5 : L.List Row.Entry
         g5 = L._∷_ (0, Rows.any-gone (Syntax.tyStruct (L._∷_ 112 (L._∷_ 111 (L._∷_ 115 (L._∷_ 116 (L._∷_ 115 (L._∷_ 111 (L._∷_ 108 (L._∷_ 118 (L._∷_ 101 (L._∷_ 58 (L._∷_ 58 (L._∷_ 66 (L._∷_ 97 (L._∷_ 99 (L._∷_ 107 L.[]))))))))))))))) (Syntax.tcons Syntax.tyBool (Syntax.tcons q0 Syntax.tnil)))) (L._∷_ q7 (L._∷_ q22 (L._∷_ q18 (L._∷_ (4, Relend.mslice-owed Rec.row q16 1 2 (Row.lease (κs .1 .0) (qs .1 .0))) (L._∷_ q15 (L._∷_ q23 (L._∷_ q13 (L._∷_ q10 (L._∷_ q14 (L._∷_ q19 L.[]))))))))))
@@ -437,7 +437,7 @@ module _ (claims· : Claims) where
         g7 = L._∷_ (0, Rows.any-gone (Syntax.tyStruct (L._∷_ 112 (L._∷_ 111 (L._∷_ 115 (L._∷_ 116 (L._∷_ 115 (L._∷_ 111 (L._∷_ 108 (L._∷_ 118 (L._∷_ 101 (L._∷_ 58 (L._∷_ 58 (L._∷_ 66 (L._∷_ 97 (L._∷_ 99 (L._∷_ 107 L.[]))))))))))))))) (Syntax.tcons Syntax.tyBool (Syntax.tcons q0 Syntax.tnil)))) (L._∷_ q7 (L._∷_ q22 (L._∷_ q18 (L._∷_ (4, Relend.mslice-owed Rec.row q16 1 2 (Row.lease (κs .1 .0) (qs .1 .0))) (L._∷_ q15 (L._∷_ q23 (L._∷_ q13 (L._∷_ q11 (L._∷_ q14 (L._∷_ q19 L.[]))))))))))
 
         abbrev g8 : L.List Row.Entry
-        g8 = L._∷_ (0, Rows.any-gone (Syntax.tyStruct (L._∷_ 112 (L._∷_ 111 (L._∷_ 115 (L._∷_ 116 (L._∷_ 115 (L._∷_ 111 (L._∷_ 108 (L._∷_ 118 (L._∷_ 101 (L._∷_ 58 (L._∷_ 58 (L._∷_ 66 (L._∷_ 97 (L._∷_ 99 (L._∷_ 107 L.[]))))))))))))))) (Syntax.tcons Syntax.tyBool (Syntax.tcons q0 Syntax.tnil)))) (L._∷_ q7 (L._∷_ q22 (L._∷_ q18 (L._∷_ (4, Relend.mslice-owed Rec.row q16 1 2 (Row.lease (κs .1 .0) (qs .1 .0))) (L._∷_ q15 (L._∷_ q23 (L._∷_ q13 (L._∷_ q11 (L._∷_ (9, Rows.any-gone (Syntax.tyStruct (L._∷_ 110 (L._∷_ 101 (L._∷_ 116 (L._∷_ 119 (L._∷_ 111 (L._∷_ 114 (L._∷_ 107 (L._∷_ 58 (L._∷_ 58 (L._∷_ 69 (L._∷_ 100 (L._∷_ 105 (L._∷_ 116 L.[]))))))))))))) (Syntax.tcons q4 (Syntax.tcons q4 (Syntax.tcons q4 (Syntax.tcons q4 (Syntax.tcons q1 (Syntax.tcons q1 (Syntax.tcons (Syntax.tyInt Syntax.w64) Syntax.tnil))))))))) (L._∷_ q19 L.[]))))))))))
+        g8 = L._∷_ (0, Rows.any-gone (Syntax.tyStruct (L._∷_ 112 (L._∷_ 111 (L._∷_ 115 (L._∷_ 116 (L._∷_ 115 (L._∷_ 111 (L._∷_ 108 (L._∷_ 118 (L._∷_ 101 (L._∷_ 58 (L._∷_ 58 (L._∷_ 66 (L._∷_ 97 (L._∷_ 99 (L._∷_ 107 L.[]))))))))))))))) (Syntax.tcons Syntax.tyBool (Syntax.tcons q0 Syntax.tnil)))) (L._∷_ q7 (L._∷_ q22 (L._∷_ q18 (L._∷_ (4, Relend.mslice-owed Rec.row q16 1 2 (Row.lease (κs .1 .0) (qs .1 .0))) (L._∷_ q15 (L._∷_ q23 (L._∷_ q13 (L._∷_ q11 (L._∷_ (9, Rows.any-gone (Syntax.tyStruct (L._∷_ 110 (L._∷_ 101 (L._∷_ 116 (L._∷_ 119 (L._∷_ 111 (L._∷_ 114 (L._∷_ 107 (L._∷_ 58 (L._∷_ 58 (L._∷_ 69 (L._∷_ 100 (L._∷_ 105 (L._∷_ 116 L.[]))))))))))))) (Syntax.tcons q4 (Syntax.tcons q4 (Syntax.tcons q4 (Syntax.tcons q4 (Syntax.tcons q1 (Syntax.tcons q1 (Syntax.tcons (Syntax.tyInt Syntax.w64) (Syntax.tcons q3 Syntax.tnil)))))))))) (L._∷_ q19 L.[]))))))))))
 
         abbrev G0 : Row.Cx
         G0 = record { locals = t0; slots = L._∷_ (Row.lease (κs .0) (qs .0)) (L._∷_ (Row.lease (κs .1 .0) (qs .1 .0)) (L._∷_ Row.off L.[])) }
@@ -534,7 +534,7 @@ module _ (claims· : Claims) where
           d9 = Typed.g-pre 𝓤 H A W 𝓣 E G9 G10 b9 Δ0 (λ Ψ. Ψ) at8 (Lifetime.g-end 𝓤 H A W E G9 2 Path.refl) d8
 
           d10 : Typed.Typed 𝓤 H A 𝓣 E G8 b9 Δ0 at10
-          d10 = Typed.g-pre 𝓤 H A W 𝓣 E G8 G9 b9 Δ0 (Typed.pass T8 T9 s7) at9 (Scalar.g-room 𝓤 H A W E G8 9 (Syntax.tyStruct (L._∷_ 110 (L._∷_ 101 (L._∷_ 116 (L._∷_ 119 (L._∷_ 111 (L._∷_ 114 (L._∷_ 107 (L._∷_ 58 (L._∷_ 58 (L._∷_ 69 (L._∷_ 100 (L._∷_ 105 (L._∷_ 116 L.[]))))))))))))) (Syntax.tcons q4 (Syntax.tcons q4 (Syntax.tcons q4 (Syntax.tcons q4 (Syntax.tcons q1 (Syntax.tcons q1 (Syntax.tcons (Syntax.tyInt Syntax.w64) Syntax.tnil)))))))) (Local.room-whole 𝓤 H A W (Declared.row network-proofs-Edit·.the-type) (Syntax.tyStruct (L._∷_ 110 (L._∷_ 101 (L._∷_ 116 (L._∷_ 119 (L._∷_ 111 (L._∷_ 114 (L._∷_ 107 (L._∷_ 58 (L._∷_ 58 (L._∷_ 69 (L._∷_ 100 (L._∷_ 105 (L._∷_ 116 L.[]))))))))))))) (Syntax.tcons q4 (Syntax.tcons q4 (Syntax.tcons q4 (Syntax.tcons q4 (Syntax.tcons q1 (Syntax.tcons q1 (Syntax.tcons (Syntax.tyInt Syntax.w64) Syntax.tnil)))))))) Path.refl)) d9
+          d10 = Typed.g-pre 𝓤 H A W 𝓣 E G8 G9 b9 Δ0 (Typed.pass T8 T9 s7) at9 (Scalar.g-room 𝓤 H A W E G8 9 (Syntax.tyStruct (L._∷_ 110 (L._∷_ 101 (L._∷_ 116 (L._∷_ 119 (L._∷_ 111 (L._∷_ 114 (L._∷_ 107 (L._∷_ 58 (L._∷_ 58 (L._∷_ 69 (L._∷_ 100 (L._∷_ 105 (L._∷_ 116 L.[]))))))))))))) (Syntax.tcons q4 (Syntax.tcons q4 (Syntax.tcons q4 (Syntax.tcons q4 (Syntax.tcons q1 (Syntax.tcons q1 (Syntax.tcons (Syntax.tyInt Syntax.w64) (Syntax.tcons q3 Syntax.tnil))))))))) (Local.room-whole 𝓤 H A W (Declared.row network-proofs-Edit·.the-type) (Syntax.tyStruct (L._∷_ 110 (L._∷_ 101 (L._∷_ 116 (L._∷_ 119 (L._∷_ 111 (L._∷_ 114 (L._∷_ 107 (L._∷_ 58 (L._∷_ 58 (L._∷_ 69 (L._∷_ 100 (L._∷_ 105 (L._∷_ 116 L.[]))))))))))))) (Syntax.tcons q4 (Syntax.tcons q4 (Syntax.tcons q4 (Syntax.tcons q4 (Syntax.tcons q1 (Syntax.tcons q1 (Syntax.tcons (Syntax.tyInt Syntax.w64) (Syntax.tcons q3 Syntax.tnil))))))))) Path.refl)) d9
 
           d11 : Typed.Typed 𝓤 H A 𝓣 E G7 b9 Δ0 at11
           d11 = Typed.g-pre 𝓤 H A W 𝓣 E G7 G8 b9 Δ0 (Typed.pass T7 T8 s6) at10 (Scalar.g-room 𝓤 H A W E G7 6 Syntax.tyUnit (Scalar.room-sc 𝓤 H A W Row.sUnit)) d10
@@ -543,7 +543,7 @@ module _ (claims· : Claims) where
           d12 = Typed.s-seq 𝓤 H A W 𝓣 E G6 G7 b4 b9 Δ0 (Typed.both s5) at11 (Plain.t-call-plain 𝓤 H A W 𝓣 1 ps·2 r·2 (claims· .4) (claims· .5) "network::list::put_edit" (known .2) E (λ pos β. β) G6 (record { pos = 8; ty = Syntax.tyRef Syntax.erased Syntax.mut Rec.named; ref = λ x. x }, (record { pos = 9; st = L.[]; d = 0; at = λ x. x }, tt)) 6 (L._∷_ 2 L.[]) (Call.sub-id 𝓤 H A W (G6 .slots)) (TReads.as-is 𝓤 H A (Mut.mslice Rec.row q17 2), Mut.reads-mslice 𝓤 H A W Rec.row q17 2, Path.refl, ((Yields.yields-copy 𝓤 H A W (λ ρ. Unit) (Declared.row network-proofs-Edit·.the-type) Path.refl (Copies.cStruct network-proofs-Edit·.the-type network-proofs-Edit-Laws·.the-laws network-proofs-Edit-Laws·.the-copy .copy 𝓤 H A W) (Rows.whole (Declared.row network-proofs-Edit·.the-type)) (λ x. x) (λ x. x) (λ ρ told. Local.mem-whole 𝓤 H A W (Declared.row network-proofs-Edit·.the-type) ρ) λ ρ told. Local.whole-mem 𝓤 H A W (Declared.row network-proofs-Edit·.the-type) ρ, Path.refl), tt)) (TReads.room-gone 𝓤 H A Syntax.tyUnit) (tt, tt) Path.refl) d11
 
           d13 : Typed.Typed 𝓤 H A 𝓣 E G5 b11 Δ0 at13
-          d13 = Typed.s-seq 𝓤 H A W 𝓣 E G5 G6 b3 b10 Δ0 (Typed.both s4) at12 (Plain.t-call-plain 𝓤 H A W 𝓣 0 ps·1 r·1 (claims· .2) (claims· .3) "postsolve::old_edit" (known .1) E (λ pos β. β) G5 (record { pos = 5; st = L.[]; d = 0; at = λ x. x }, tt) 9 L.[] (Call.sub-id 𝓤 H A W (G5 .slots)) ((Yields.yields-copy 𝓤 H A W (λ ρ. Unit) (Declared.row step-proofs-Old·.the-type) Path.refl (Copies.cStruct step-proofs-Old·.the-type step-proofs-Old-Laws·.the-laws step-proofs-Old-Laws·.the-copy .copy 𝓤 H A W) (Rows.whole (Declared.row step-proofs-Old·.the-type)) (λ x. x) (λ x. x) (λ ρ told. Local.mem-whole 𝓤 H A W (Declared.row step-proofs-Old·.the-type) ρ) λ ρ told. Local.whole-mem 𝓤 H A W (Declared.row step-proofs-Old·.the-type) ρ, Path.refl), tt) (TReads.room-gone 𝓤 H A (Syntax.tyStruct (L._∷_ 110 (L._∷_ 101 (L._∷_ 116 (L._∷_ 119 (L._∷_ 111 (L._∷_ 114 (L._∷_ 107 (L._∷_ 58 (L._∷_ 58 (L._∷_ 69 (L._∷_ 100 (L._∷_ 105 (L._∷_ 116 L.[]))))))))))))) (Syntax.tcons q4 (Syntax.tcons q4 (Syntax.tcons q4 (Syntax.tcons q4 (Syntax.tcons q1 (Syntax.tcons q1 (Syntax.tcons (Syntax.tyInt Syntax.w64) Syntax.tnil))))))))) tt Path.refl) d12
+          d13 = Typed.s-seq 𝓤 H A W 𝓣 E G5 G6 b3 b10 Δ0 (Typed.both s4) at12 (Plain.t-call-plain 𝓤 H A W 𝓣 0 ps·1 r·1 (claims· .2) (claims· .3) "postsolve::old_edit" (known .1) E (λ pos β. β) G5 (record { pos = 5; st = L.[]; d = 0; at = λ x. x }, tt) 9 L.[] (Call.sub-id 𝓤 H A W (G5 .slots)) ((Yields.yields-copy 𝓤 H A W (λ ρ. Unit) (Declared.row step-proofs-Old·.the-type) Path.refl (Copies.cStruct step-proofs-Old·.the-type step-proofs-Old-Laws·.the-laws step-proofs-Old-Laws·.the-copy .copy 𝓤 H A W) (Rows.whole (Declared.row step-proofs-Old·.the-type)) (λ x. x) (λ x. x) (λ ρ told. Local.mem-whole 𝓤 H A W (Declared.row step-proofs-Old·.the-type) ρ) λ ρ told. Local.whole-mem 𝓤 H A W (Declared.row step-proofs-Old·.the-type) ρ, Path.refl), tt) (TReads.room-gone 𝓤 H A (Syntax.tyStruct (L._∷_ 110 (L._∷_ 101 (L._∷_ 116 (L._∷_ 119 (L._∷_ 111 (L._∷_ 114 (L._∷_ 107 (L._∷_ 58 (L._∷_ 58 (L._∷_ 69 (L._∷_ 100 (L._∷_ 105 (L._∷_ 116 L.[]))))))))))))) (Syntax.tcons q4 (Syntax.tcons q4 (Syntax.tcons q4 (Syntax.tcons q4 (Syntax.tcons q1 (Syntax.tcons q1 (Syntax.tcons (Syntax.tyInt Syntax.w64) (Syntax.tcons q3 Syntax.tnil)))))))))) tt Path.refl) d12
 
           d14 : Typed.Typed 𝓤 H A 𝓣 E G4 b12 Δ0 at14
           d14 = Typed.s-seq 𝓤 H A W 𝓣 E G4 G5 b2 b11 Δ0 (Typed.ask s3) at13 (Relend.t-sl-aggregate 𝓤 H A W E Rec.row 𝓣 (Relend.asMut Rec.row) G4 7 8 2 q17 q17 (λ x. x) (Scalar.oFld 4 (L._∷_ (Syntax.field 1) L.[]) (Syntax.tyInt Syntax.w64) 8 λ v. Shared.lenV (v .0)) (TReads.as-is 𝓤 H A (Relend.msptr Rec.row q17 2)) (TReads.room-gone 𝓤 H A q6) (Relend.reads-owed-len 𝓤 H A W Rec.row q16 1 2 (Row.lease (κs .1 .0) (qs .1 .0)) 8 Path.refl, Path.refl) Path.refl Path.refl λ b o k. tt) d13

@@ -12,11 +12,14 @@ few c = rw (c .before .number-at .ensures, c .number-at2 .ensures) (sizes-are _ 
 returns : tie.Need-returns
 returns c = not-asked _ (sym (c .before .has-sizes .ensures) ∙ c .if1 .left)
 
+add-t : tie.Need-add-t
+add-t c = let h = few c in let a = h .few-nodes in search needs
+
 mul-t : tie.Need-mul-t
 mul-t c = let h = few c in let b = h .few-arcs in search needs
 
-add-t : tie.Need-add-t
-add-t c = let h = few c in let a = h .few-nodes in let b = h .few-arcs in search needs
+add-t-2 : tie.Need-add-t-2
+add-t-2 c = let h = few c in let a = h .few-nodes in let b = h .few-arcs in search needs
 
 all-in-form-requires : tie.Need-all-in-form-requires
 all-in-form-requires c κs = let h = few c in omega (arith, h .long)
@@ -40,4 +43,4 @@ returns-5 : tie.Need-returns-5
 returns-5 c = asked _ _ _ (sym (c .before .before .before .before .before .before .before .before .before .has-sizes .ensures) ∙ c .before .before .before .before .before .before .before .before .if1 .taken) (c .before .before .before .before .before .before .before .number-at .ensures) (c .before .before .before .before .before .before .number-at2 .ensures) (sym (c .before .before .before .before .before .all-in-form .ensures) ∙ c .before .before .before .before .if2 .taken) (sym (c .before .before .before .all-ends .ensures) ∙ c .before .before .if3 .taken) (sym (c .before .all-weighted .ensures) ∙ c .if4 .taken)
 
 pub ask-spec : {M : Type 1} → statement M
-ask-spec = tie.close (tie.spec (λ c κs. search needs) returns (λ c κs. search needs) (λ c κs. search needs) mul-t add-t all-in-form-requires returns-2 all-ends-requires returns-3 all-weighted-requires returns-4 returns-5)
+ask-spec = tie.close (tie.spec (λ c κs. search needs) returns (λ c κs. search needs) (λ c κs. search needs) add-t mul-t add-t-2 all-in-form-requires returns-2 all-ends-requires returns-3 all-weighted-requires returns-4 returns-5)

@@ -21,4 +21,4 @@ returns-3 : tie.Need-returns-3
 returns-3 c = by-length _ _ _ (sym (c .before .before .before .before .before .before .before .size-at .ensures) ∙ c .before .before .before .before .before .n .given .1) (sym (c .before .before .before .size-at2 .ensures) ∙ c .before .m .given .1)
 
 pub has-sizes-spec : {M : Type 1} → statement M
-has-sizes-spec = tie.close (tie.spec (λ c κs. search needs) (λ c. search needs) (λ c. search needs) (λ c κs. search needs) (λ c. search needs) (λ c. search needs) (λ c. record { fits = omega (arith, few c .0, few c .1) }) (λ c. record { fits = omega (arith, few c .0, few c .1) }) (λ c. record { fits = omega (arith, few c .0, few c .1) }) (λ c. record { fits = omega (arith, few c .0, few c .1) }) returns returns-2 returns-3)
+has-sizes-spec = tie.close (tie.spec (λ c κs. search needs) (λ c. search needs) (λ c. search needs) (λ c κs. search needs) (λ c. search needs) (λ c. search needs) (λ c. record { fits = omega (arith, few c .0, few c .1) }) (λ c. record { fits = omega (arith, few c .0, few c .1) }) (λ c. record { fits = omega (arith, few c .0, few c .1) }) (λ c. record { fits = omega (arith, few c .0, few c .1) }) (λ c. record { fits = omega (arith, few c .0, few c .1) }) returns returns-2 returns-3)

@@ -11,11 +11,14 @@ use Rattle.records.proofs.net.load.Proof.Tie as tie
 few : (c : tie.After-number-at2) → Sized (c .before .before .before .before .args .network .now) (c .before .number-at .result) (c .number-at2 .result)
 few c = rw (c .before .number-at .ensures, c .number-at2 .ensures) (sizes-are _ (sym (c .before .before .before .has-sizes .ensures) ∙ c .before .before .if1 .taken))
 
+add-load-arcs : tie.Need-add-load-arcs
+add-load-arcs c = let h = few (c .before) in let a = h .few-nodes in search needs
+
 mul-load-arcs : tie.Need-mul-load-arcs
 mul-load-arcs c = let h = few (c .before) in let b = h .few-arcs in search needs
 
-add-load-arcs : tie.Need-add-load-arcs
-add-load-arcs c = let h = few (c .before) in let a = h .few-nodes in let b = h .few-arcs in search needs
+add-load-arcs-2 : tie.Need-add-load-arcs-2
+add-load-arcs-2 c = let h = few (c .before) in let a = h .few-nodes in let b = h .few-arcs in search needs
 
 load-arcs-requires : tie.Need-load-arcs-requires
 load-arcs-requires c κs = let h = few (c .before) in (omega (arith, h .long), omega arith)
@@ -29,4 +32,4 @@ unfolding loaded
 returns-2 c = rw (← c .before .has-sizes .ensures, c .if1 .left)
 
 pub load-spec : {M : Type 1} → statement M
-load-spec = tie.close (tie.spec (λ c κs. search needs) (λ c κs. search needs) (λ c κs. search needs) mul-load-arcs add-load-arcs load-arcs-requires (λ c. search needs) returns returns-2)
+load-spec = tie.close (tie.spec (λ c κs. search needs) (λ c κs. search needs) (λ c κs. search needs) add-load-arcs mul-load-arcs add-load-arcs-2 load-arcs-requires (λ c. search needs) returns returns-2)

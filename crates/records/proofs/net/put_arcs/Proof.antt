@@ -1,10 +1,10 @@
 -- `records::net::put_arcs` meets its contract.
-use Prim.Native.Nat.{_+_, _-_, _*_}
+use Prim.Native.Nat.{_+_, _-_}
 use mathlib.Core.Path.{_∙_, ap}
 use lib.ListN.{getD}
 use native.Mathlib.Omega.{arith}
 use Rattle.network.specs.Network.{noArc}
-use Rattle.records.specs.Network.{roleFigure}
+use Rattle.records.specs.Network.{arcFigure, roleFigure}
 use Rattle.records.specs.internal.Put.{arcsPut, denOf, densIn, numOf, numsIn, putFrom}
 use Rattle.records.proofs.Put.{Turned, put-built, turned-all, turned-more, turned-none}
 use Rattle.records.proofs.Turns.{turn-less}
@@ -13,7 +13,7 @@ use Rattle.records.proofs.net.put_arcs.Statement.{statement}
 use Rattle.records.proofs.net.put_arcs.Tie as tie
 
 abbrev Inv-loop : tie.InvT-loop
-Inv-loop n m out₀ dens₀ arcs j₀ out dens j = Turned (λ j. putFrom (λ r. numOf (roleFigure (getD arcs (j + 1) noArc) r)) (n + 7 * j) 7) m out₀ out j × Turned (λ j. putFrom (λ r. denOf (roleFigure (getD arcs (j + 1) noArc) r)) (n + 7 * j) 7) m dens₀ dens j
+Inv-loop n m out₀ dens₀ arcs j₀ out dens j = Turned (λ j. putFrom (λ r. numOf (roleFigure (getD arcs (j + 1) noArc) r)) (arcFigure n j) 7) m out₀ out j × Turned (λ j. putFrom (λ r. denOf (roleFigure (getD arcs (j + 1) noArc) r)) (arcFigure n j) 7) m dens₀ dens j
 
 abbrev μ-loop : tie.MeasureT-loop
 μ-loop n m out₀ dens₀ arcs j₀ out dens j = m - j
@@ -30,4 +30,4 @@ unfolding arcsPut
 returns c = let i = c .before .loop .inv in (turned-all (i .0) (c .loop-test .left), turned-all (i .1) (c .loop-test .left))
 
 pub put-arcs-spec : {M : Type 1} → statement M
-put-arcs-spec = tie.close (tie.spec Inv-loop μ-loop (λ c. (turned-none, turned-none)) (λ c. search needs) (λ c. search needs) (λ c. search needs) (λ c κs. search needs) (λ c. search needs) (λ c. search needs) (λ c κs. search needs) (λ c. search needs) (λ c. turn-less (c .before .before .before .before .before .before .before .loop-test .taken)) loop-again (λ c. c .before .loop .inv .0 .long) (λ c. c .before .loop .inv .1 .long) returns)
+put-arcs-spec = tie.close (tie.spec Inv-loop μ-loop (λ c. (turned-none, turned-none)) (λ c. search needs) (λ c. search needs) (λ c. search needs) (λ c κs. search needs) (λ c. search needs) (λ c. search needs) (λ c. search needs) (λ c κs. search needs) (λ c. search needs) (λ c. turn-less (c .before .before .before .before .before .before .before .loop-test .taken)) loop-again (λ c. c .before .loop .inv .0 .long) (λ c. c .before .loop .inv .1 .long) returns)

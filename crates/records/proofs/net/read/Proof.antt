@@ -26,4 +26,4 @@ unfolding readOf
 returns-2 c = rw (← c .before .before .has-sizes .ensures, c .before .if1 .left) (c .empty-net .ensures)
 
 pub read-spec : {M : Type 1} → statement M
-read-spec = tie.close (tie.spec (λ c κs. search needs) (λ c κs. search needs) (λ c κs. search needs) read-nodes-requires (λ c. let h = few (c .before) in record { fits = omega (arith, h .few-arcs) }) (λ c. let h = few (c .before) in record { fits = omega (arith, h .few-nodes, h .few-arcs) }) read-arcs-requires (λ c κs. search needs) returns (λ c κs. search needs) returns-2)
+read-spec = tie.close (tie.spec (λ c κs. search needs) (λ c κs. search needs) (λ c κs. search needs) read-nodes-requires (λ c. let h = few (c .before) in record { fits = omega (arith, h .few-nodes) }) (λ c. let h = few (c .before) in record { fits = omega (arith, h .few-arcs) }) (λ c. let h = few (c .before) in record { fits = omega (arith, h .few-nodes, h .few-arcs) }) read-arcs-requires (λ c κs. search needs) returns (λ c κs. search needs) returns-2)

@@ -11,6 +11,7 @@ use Rattle.network.specs.declared.Net.{Net}
 use Rattle.network.specs.declared.Nodes.{Nodes}
 use Rattle.network.specs.Network.{emptyNet, withArc}
 use Rattle.network.specs.ArcList.{joined, noArcs, nodesOf}
+use Rattle.records.specs.Arrays.{figureAt}
 use Rattle.records.specs.Network.{arcTurn, figures, netOf, nodeTurn, readOf}
 use Rattle.records.proofs.Questions.{Sized, sizes-are}
 use borrow.Author.Needs.{needs}
@@ -18,7 +19,7 @@ use Rattle.records.proofs.net.read_beside.Statement.{statement}
 use Rattle.records.proofs.net.read_beside.Tie as tie
 
 -- the arcs' turns leave the nodes alone
-nodes-of : (xs : List ℤ) (n m : ℕ) (r : Nodes) → ((arcs : List Arc) → joined r arcs ≡ upto (nodeTurn xs (figures n m)) n (joined (nodesOf (emptyNet n m)) arcs)) → r ≡ nodesOf (netOf xs n m)
+nodes-of : (xs : List ℤ) (n m : ℕ) (r : Nodes) → ((arcs : List Arc) → joined r arcs ≡ upto (nodeTurn xs (figures n m)) n (joined (nodesOf (emptyNet n m (figureAt xs (figures n m) 0))) arcs)) → r ≡ nodesOf (netOf xs n m)
 unfolding netOf withArc
 nodes-of xs n m r e = upto-keeps (λ (net : Net). r ≡ nodesOf net) (arcTurn xs n (figures n m)) (λ j net h. h) m _ (ap nodesOf (e (noArcs 97)))
 

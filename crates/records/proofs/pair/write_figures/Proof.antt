@@ -9,25 +9,25 @@ array-share-prefix-dens : tie.Need-array-share-prefix-dens
 array-share-prefix-dens c =
     let a = c .before .before .before .before .before .before .before .before .before .before .before .before .args in
     let h = c .before .before .before .before .before .before .before .before .before .before .before .before .pre in
-    figures-long (pair-most (a .n) (a .m) (h .0) (h .1)) refl (c .before .before .before .before .before .before .before .before .put-nodes .kept .1 .1 .1 .0) (c .before .before .put-flows .kept .1 .1 .1 .1 .0)
+    figures-long (pair-most (a .n) (a .m) (h .0) (h .1)) refl (c .before .before .before .before .before .before .before .before .put-nodes .kept .1 .1 .1 .1 .0) (c .before .before .put-flows .kept .1 .1 .1 .1 .0)
 
 slice-aggregate-write-denominators : tie.Need-slice-aggregate-write-denominators
 slice-aggregate-write-denominators c =
     let a = c .before .before .before .before .before .before .before .before .before .before .before .before .before .args in
     let h = c .before .before .before .before .before .before .before .before .before .before .before .before .before .pre in
-    figures-sized (pair-most (a .n) (a .m) (h .0) (h .1)) _ refl (c .before .before .before .before .before .before .before .before .before .put-nodes .kept .1 .1 .1 .0) (c .before .before .before .put-flows .kept .1 .1 .1 .1 .0)
+    figures-sized (pair-most (a .n) (a .m) (h .0) (h .1)) _ refl (c .before .before .before .before .before .before .before .before .before .put-nodes .kept .1 .1 .1 .1 .0) (c .before .before .before .put-flows .kept .1 .1 .1 .1 .0)
 
 sub-write-denominators : tie.Need-sub-write-denominators
 sub-write-denominators c =
     let a = c .before .before .before .before .before .before .before .before .before .before .before .before .before .args in
     let h = c .before .before .before .before .before .before .before .before .before .before .before .before .before .pre in
-    figures-within (pair-most (a .n) (a .m) (h .0) (h .1)) (h .2) (c .before .before .before .before .before .before .before .before .before .put-nodes .kept .1 .1 .0) (c .before .before .before .put-flows .kept .1 .1 .1 .0)
+    figures-within (pair-most (a .n) (a .m) (h .0) (h .1)) (h .2) (c .before .before .before .before .before .before .before .before .before .put-nodes .kept .1 .1 .1 .0) (c .before .before .before .put-flows .kept .1 .1 .1 .0)
 
 write-denominators-requires : tie.Need-write-denominators-requires
 write-denominators-requires c κs =
     let a = c .before .before .before .before .before .before .before .before .before .before .before .before .before .before .args in
     let h = c .before .before .before .before .before .before .before .before .before .before .before .before .before .before .pre in
-    let p = c .before .before .before .before .before .before .before .before .before .before .put-nodes .kept .1 .1 in
+    let p = c .before .before .before .before .before .before .before .before .before .before .put-nodes .kept .1 .1 .1 in
     let q = c .before .before .before .before .put-flows .kept .1 .1 .1 in
     let w = c .before .before .before .before .put-flows .last .1 .1 .1 in
     figures-fit (pair-most (a .n) (a .m) (h .0) (h .1)) (w .0) _ (h .2) (p .0) (q .0) refl (p .1 .0) (q .1 .0)

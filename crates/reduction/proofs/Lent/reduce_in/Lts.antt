@@ -210,7 +210,7 @@ abbrev pub q1 : Row.Entry
 q1 = (0, Rows.any-gone q2)
 
 abbrev pub q0 : Syntax.Ty
-q0 = Syntax.tyStruct (L._∷_ 110 (L._∷_ 101 (L._∷_ 116 (L._∷_ 119 (L._∷_ 111 (L._∷_ 114 (L._∷_ 107 (L._∷_ 58 (L._∷_ 58 (L._∷_ 78 (L._∷_ 111 (L._∷_ 100 (L._∷_ 101 (L._∷_ 115 L.[])))))))))))))) (Syntax.tcons (Syntax.tyInt Syntax.w64) (Syntax.tcons (Syntax.tyInt Syntax.w64) (Syntax.tcons (Syntax.tyArray Syntax.tyBool 33) (Syntax.tcons (Syntax.tyArray (Syntax.tyStruct (L._∷_ 102 (L._∷_ 114 (L._∷_ 97 (L._∷_ 99 (L._∷_ 116 (L._∷_ 105 (L._∷_ 111 (L._∷_ 110 (L._∷_ 58 (L._∷_ 58 (L._∷_ 70 (L._∷_ 114 (L._∷_ 97 (L._∷_ 99 (L._∷_ 116 (L._∷_ 105 (L._∷_ 111 (L._∷_ 110 L.[])))))))))))))))))) (Syntax.tcons (Syntax.tyInt Syntax.w32) (Syntax.tcons (Syntax.tyInt Syntax.w32) Syntax.tnil))) 33) Syntax.tnil))))
+q0 = Syntax.tyStruct (L._∷_ 110 (L._∷_ 101 (L._∷_ 116 (L._∷_ 119 (L._∷_ 111 (L._∷_ 114 (L._∷_ 107 (L._∷_ 58 (L._∷_ 58 (L._∷_ 78 (L._∷_ 111 (L._∷_ 100 (L._∷_ 101 (L._∷_ 115 L.[])))))))))))))) (Syntax.tcons (Syntax.tyInt Syntax.w64) (Syntax.tcons (Syntax.tyInt Syntax.w64) (Syntax.tcons (Syntax.tyStruct (L._∷_ 102 (L._∷_ 114 (L._∷_ 97 (L._∷_ 99 (L._∷_ 116 (L._∷_ 105 (L._∷_ 111 (L._∷_ 110 (L._∷_ 58 (L._∷_ 58 (L._∷_ 70 (L._∷_ 114 (L._∷_ 97 (L._∷_ 99 (L._∷_ 116 (L._∷_ 105 (L._∷_ 111 (L._∷_ 110 L.[])))))))))))))))))) (Syntax.tcons (Syntax.tyInt Syntax.w32) (Syntax.tcons (Syntax.tyInt Syntax.w32) Syntax.tnil))) (Syntax.tcons (Syntax.tyArray Syntax.tyBool 33) (Syntax.tcons (Syntax.tyArray (Syntax.tyStruct (L._∷_ 102 (L._∷_ 114 (L._∷_ 97 (L._∷_ 99 (L._∷_ 116 (L._∷_ 105 (L._∷_ 111 (L._∷_ 110 (L._∷_ 58 (L._∷_ 58 (L._∷_ 70 (L._∷_ 114 (L._∷_ 97 (L._∷_ 99 (L._∷_ 116 (L._∷_ 105 (L._∷_ 111 (L._∷_ 110 L.[])))))))))))))))))) (Syntax.tcons (Syntax.tyInt Syntax.w32) (Syntax.tcons (Syntax.tyInt Syntax.w32) Syntax.tnil))) 33) Syntax.tnil)))))
 
 abbrev pub ps : L.List (FnKinds.PK 5)
 ps = L._∷_ (ShrSlice.pShrS (Signed.SInt Syntax.w32) 0 tt) (L._∷_ (MutSlice.pMutS (Signed.SInt Syntax.w32) 1 tt) (L._∷_ (MutSlice.pMutS (Signed.SInt Syntax.w32) 2 tt) (L._∷_ (MutSlice.pMutS (Signed.SInt Syntax.w32) 3 tt) (L._∷_ (MutSlice.pMutS Rec.row 4 tt) L.[]))))
@@ -249,7 +249,7 @@ abbrev b0 : Syntax.Body
 b0 = Syntax.assign (Syntax.place 8 L.[]) (Syntax.rvOpd (Syntax.copy (Syntax.place 2 (L._∷_ (Syntax.field 1) L.[]))))
 
 abbrev b1 : Syntax.Body
-b1 = Syntax.assign (Syntax.place 9 L.[]) (Syntax.op2 (Syntax.lt Syntax.unsigned) (Syntax.copy (Syntax.place 8 L.[])) (Syntax.intBig Syntax.w64 1410))
+b1 = Syntax.assign (Syntax.place 9 L.[]) (Syntax.op2 (Syntax.lt Syntax.unsigned) (Syntax.copy (Syntax.place 8 L.[])) (Syntax.intBig Syntax.w64 1412))
 
 abbrev b2 : Syntax.Body
 b2 = Syntax.assign (Syntax.place 0 L.[]) (Syntax.aggregate (L._∷_ (Syntax.int Syntax.w8 2) (L._∷_ (Syntax.int Syntax.w64 1) L.[])))
@@ -700,7 +700,7 @@ module _ (claims· : Claims) where
   s0 = Scalar.n-use T0 (Scalar.oFld 2 (L._∷_ (Syntax.field 1) L.[]) (Syntax.tyInt Syntax.w64) 8 Shared.lenV) 8 q48 (Row.sInt Syntax.w64 .of)
 
   abbrev s1 : Typed.Asks T2 T3
-  s1 = Scalar.k-op2 T2 (Syntax.lt Syntax.unsigned) (Scalar.oAt 8 (Syntax.tyInt Syntax.w64) (Row.valS (Row.sInt Syntax.w64))) (Scalar.oBig Syntax.w64 1410) 9 (Rows.sc-here Row.sBool) (Row.sBool .of)
+  s1 = Scalar.k-op2 T2 (Syntax.lt Syntax.unsigned) (Scalar.oAt 8 (Syntax.tyInt Syntax.w64) (Row.valS (Row.sInt Syntax.w64))) (Scalar.oBig Syntax.w64 1412) 9 (Rows.sc-here Row.sBool) (Row.sBool .of)
 
   abbrev s2 : Typed.Mo T3 → Typed.Mo T5
   s2 = Scalar.n-room T3 8 (Syntax.tyInt Syntax.w64)
@@ -1546,7 +1546,7 @@ module _ (claims· : Claims) where
           d71 = Typed.t-seq 𝓤 H A W 𝓣 E G3 G4 b6 b55 Δ0 at6 at70 d6 d70
 
           d72 : Typed.Typed 𝓤 H A 𝓣 E G2 b57 Δ0 at72
-          d72 = Typed.s-seq 𝓤 H A W 𝓣 E G2 G3 b1 b56 Δ0 (Typed.ask s1) at71 (Scalar.t-op2 𝓤 H A W E 𝓣 G2 (Syntax.lt Syntax.unsigned) (Scalar.oAt 8 (Syntax.tyInt Syntax.w64) (Row.valS (Row.sInt Syntax.w64))) (Scalar.oBig Syntax.w64 1410) 9 (Rows.sc-here Row.sBool) Syntax.tyBool (Row.valS Row.sBool) (Row.sBool .of) (Scalar.reads-sc 𝓤 H A W (Row.sInt Syntax.w64), Path.refl) record { lower = record { fits = Dec.lit< tt } } (TReads.room-gone 𝓤 H A Syntax.tyBool) (Scalar.holds-sc 𝓤 H A W Row.sBool) Path.refl (λ u. Path.refl) λ u. tt) d71
+          d72 = Typed.s-seq 𝓤 H A W 𝓣 E G2 G3 b1 b56 Δ0 (Typed.ask s1) at71 (Scalar.t-op2 𝓤 H A W E 𝓣 G2 (Syntax.lt Syntax.unsigned) (Scalar.oAt 8 (Syntax.tyInt Syntax.w64) (Row.valS (Row.sInt Syntax.w64))) (Scalar.oBig Syntax.w64 1412) 9 (Rows.sc-here Row.sBool) Syntax.tyBool (Row.valS Row.sBool) (Row.sBool .of) (Scalar.reads-sc 𝓤 H A W (Row.sInt Syntax.w64), Path.refl) record { lower = record { fits = Dec.lit< tt } } (TReads.room-gone 𝓤 H A Syntax.tyBool) (Scalar.holds-sc 𝓤 H A W Row.sBool) Path.refl (λ u. Path.refl) λ u. tt) d71
 
           d73 : Typed.Typed 𝓤 H A 𝓣 E G0 b58 Δ0 at73
           d73 = Typed.s-seq 𝓤 H A W 𝓣 E G0 G2 b0 b57 Δ0 (Typed.pass T0 T2 s0) at72 (Scalar.t-use 𝓤 H A W E 𝓣 G0 (Scalar.oFld 2 (L._∷_ (Syntax.field 1) L.[]) (Syntax.tyInt Syntax.w64) 8 Shared.lenV) 8 q48 (Syntax.tyInt Syntax.w64) (Row.valS (Row.sInt Syntax.w64)) (Row.sInt Syntax.w64 .of) (Mut.reads-mslice-len 𝓤 H A W (Signed.SInt Syntax.w32) q36 1 8 Path.refl, Path.refl) (TReads.room-gone 𝓤 H A (Syntax.tyInt Syntax.w64)) (Scalar.holds-sc 𝓤 H A W (Row.sInt Syntax.w64)) Path.refl (λ u. Path.refl) λ u. tt) d72
@@ -1591,7 +1591,7 @@ module _ (claims· : Claims) where
 
       module _ (before· : Start) where
         pub record Then1·own : Type 0 where
-          pub taken : Nat._<_ (Row.get 8 (T2 .locals) (m1 (before· .κs) (before· .args))) 1410
+          pub taken : Nat._<_ (Row.get 8 (T2 .locals) (m1 (before· .κs) (before· .args))) 1412
 
       pub record Then1 : Type 0 where
         pub before : Start
@@ -1608,7 +1608,7 @@ module _ (claims· : Claims) where
 
       module _ (before· : Start) where
         pub record Else1·own : Type 0 where
-          pub left : Nat._≤_ 1410 (Row.get 8 (T2 .locals) (m1 (before· .κs) (before· .args)))
+          pub left : Nat._≤_ 1412 (Row.get 8 (T2 .locals) (m1 (before· .κs) (before· .args)))
 
       pub record Else1 : Type 0 where
         pub before : Start
@@ -1961,7 +1961,7 @@ module _ (claims· : Claims) where
         lay1 = λ c. ((Path.refl, (Path.refl, (Path.refl, (Path.refl, (Path.refl, tt))))), returns record { before = c .before; if1 = c .if1 })
 
         pub laid : (c : Start) → at73 (W0 (c .κs) (c .args)) (m0 (c .κs) (c .args))
-        laid = λ c. (tt, (λ taken. lay1 record { before = c; if1 = record { taken = Tests.ltb-true (Row.get 8 (T2 .locals) (m1 (c .κs) (c .args))) 1410 taken } }, λ left. lay2 record { before = c; if1 = record { left = Tests.ltb-false (Row.get 8 (T2 .locals) (m1 (c .κs) (c .args))) 1410 left } }))
+        laid = λ c. (tt, (λ taken. lay1 record { before = c; if1 = record { taken = Tests.ltb-true (Row.get 8 (T2 .locals) (m1 (c .κs) (c .args))) 1412 taken } }, λ left. lay2 record { before = c; if1 = record { left = Tests.ltb-false (Row.get 8 (T2 .locals) (m1 (c .κs) (c .args))) 1412 left } }))
 
         module _ (κs : Lifetimes.Lfts 5) (qs : Lifetimes.Shares 5) where
           pub asked : (a : FnKinds.Dens κs ps) → (good : FnKinds.GoodsP κs ps a) → (pre : Pre· κs a) → (bs : L.List Nat.ℕ) → Φ (Any.wantQ 5 ps r xs m κs qs a (Post· κs a)) (Function.init 5 ps r xs m κs qs a)

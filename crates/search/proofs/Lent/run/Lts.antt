@@ -171,7 +171,7 @@ abbrev pub q2 : Syntax.Ty
 q2 = Syntax.tyStruct (L._∷_ 99 (L._∷_ 111 (L._∷_ 115 (L._∷_ 116 (L._∷_ 108 (L._∷_ 121 (L._∷_ 95 (L._∷_ 97 (L._∷_ 114 (L._∷_ 99 (L._∷_ 58 (L._∷_ 58 (L._∷_ 83 (L._∷_ 101 (L._∷_ 101 (L._∷_ 110 L.[])))))))))))))))) (Syntax.tcons (Syntax.tyArray (Syntax.tyInt Syntax.w8) 97) (Syntax.tcons (Syntax.tyArray (Syntax.tyInt Syntax.w8) 97) Syntax.tnil))
 
 abbrev pub q1 : Syntax.Ty
-q1 = Syntax.tyStruct (L._∷_ 110 (L._∷_ 101 (L._∷_ 116 (L._∷_ 119 (L._∷_ 111 (L._∷_ 114 (L._∷_ 107 (L._∷_ 58 (L._∷_ 58 (L._∷_ 78 (L._∷_ 111 (L._∷_ 100 (L._∷_ 101 (L._∷_ 115 L.[])))))))))))))) (Syntax.tcons (Syntax.tyInt Syntax.w64) (Syntax.tcons (Syntax.tyInt Syntax.w64) (Syntax.tcons (Syntax.tyArray Syntax.tyBool 33) (Syntax.tcons (Syntax.tyArray (Syntax.tyStruct (L._∷_ 102 (L._∷_ 114 (L._∷_ 97 (L._∷_ 99 (L._∷_ 116 (L._∷_ 105 (L._∷_ 111 (L._∷_ 110 (L._∷_ 58 (L._∷_ 58 (L._∷_ 70 (L._∷_ 114 (L._∷_ 97 (L._∷_ 99 (L._∷_ 116 (L._∷_ 105 (L._∷_ 111 (L._∷_ 110 L.[])))))))))))))))))) (Syntax.tcons (Syntax.tyInt Syntax.w32) (Syntax.tcons (Syntax.tyInt Syntax.w32) Syntax.tnil))) 33) Syntax.tnil))))
+q1 = Syntax.tyStruct (L._∷_ 110 (L._∷_ 101 (L._∷_ 116 (L._∷_ 119 (L._∷_ 111 (L._∷_ 114 (L._∷_ 107 (L._∷_ 58 (L._∷_ 58 (L._∷_ 78 (L._∷_ 111 (L._∷_ 100 (L._∷_ 101 (L._∷_ 115 L.[])))))))))))))) (Syntax.tcons (Syntax.tyInt Syntax.w64) (Syntax.tcons (Syntax.tyInt Syntax.w64) (Syntax.tcons (Syntax.tyStruct (L._∷_ 102 (L._∷_ 114 (L._∷_ 97 (L._∷_ 99 (L._∷_ 116 (L._∷_ 105 (L._∷_ 111 (L._∷_ 110 (L._∷_ 58 (L._∷_ 58 (L._∷_ 70 (L._∷_ 114 (L._∷_ 97 (L._∷_ 99 (L._∷_ 116 (L._∷_ 105 (L._∷_ 111 (L._∷_ 110 L.[])))))))))))))))))) (Syntax.tcons (Syntax.tyInt Syntax.w32) (Syntax.tcons (Syntax.tyInt Syntax.w32) Syntax.tnil))) (Syntax.tcons (Syntax.tyArray Syntax.tyBool 33) (Syntax.tcons (Syntax.tyArray (Syntax.tyStruct (L._∷_ 102 (L._∷_ 114 (L._∷_ 97 (L._∷_ 99 (L._∷_ 116 (L._∷_ 105 (L._∷_ 111 (L._∷_ 110 (L._∷_ 58 (L._∷_ 58 (L._∷_ 70 (L._∷_ 114 (L._∷_ 97 (L._∷_ 99 (L._∷_ 116 (L._∷_ 105 (L._∷_ 111 (L._∷_ 110 L.[])))))))))))))))))) (Syntax.tcons (Syntax.tyInt Syntax.w32) (Syntax.tcons (Syntax.tyInt Syntax.w32) Syntax.tnil))) 33) Syntax.tnil)))))
 
 abbrev pub q0 : Row.Entry
 q0 = (5, Rows.any-gone q1)

@@ -108,7 +108,7 @@ abbrev pub q2 : Syntax.Ty
 q2 = Syntax.tyStruct (L._∷_ 99 (L._∷_ 111 (L._∷_ 115 (L._∷_ 116 (L._∷_ 108 (L._∷_ 121 (L._∷_ 95 (L._∷_ 97 (L._∷_ 114 (L._∷_ 99 (L._∷_ 58 (L._∷_ 58 (L._∷_ 83 (L._∷_ 101 (L._∷_ 101 (L._∷_ 110 L.[])))))))))))))))) (Syntax.tcons (Syntax.tyArray (Syntax.tyInt Syntax.w8) 97) (Syntax.tcons (Syntax.tyArray (Syntax.tyInt Syntax.w8) 97) Syntax.tnil))
 
 abbrev pub q1 : Syntax.Ty
-q1 = Syntax.tyStruct (L._∷_ 110 (L._∷_ 101 (L._∷_ 116 (L._∷_ 119 (L._∷_ 111 (L._∷_ 114 (L._∷_ 107 (L._∷_ 58 (L._∷_ 58 (L._∷_ 78 (L._∷_ 111 (L._∷_ 100 (L._∷_ 101 (L._∷_ 115 L.[])))))))))))))) (Syntax.tcons (Syntax.tyInt Syntax.w64) (Syntax.tcons (Syntax.tyInt Syntax.w64) (Syntax.tcons (Syntax.tyArray Syntax.tyBool 33) (Syntax.tcons (Syntax.tyArray (Syntax.tyStruct (L._∷_ 102 (L._∷_ 114 (L._∷_ 97 (L._∷_ 99 (L._∷_ 116 (L._∷_ 105 (L._∷_ 111 (L._∷_ 110 (L._∷_ 58 (L._∷_ 58 (L._∷_ 70 (L._∷_ 114 (L._∷_ 97 (L._∷_ 99 (L._∷_ 116 (L._∷_ 105 (L._∷_ 111 (L._∷_ 110 L.[])))))))))))))))))) (Syntax.tcons (Syntax.tyInt Syntax.w32) (Syntax.tcons (Syntax.tyInt Syntax.w32) Syntax.tnil))) 33) Syntax.tnil))))
+q1 = Syntax.tyStruct (L._∷_ 110 (L._∷_ 101 (L._∷_ 116 (L._∷_ 119 (L._∷_ 111 (L._∷_ 114 (L._∷_ 107 (L._∷_ 58 (L._∷_ 58 (L._∷_ 78 (L._∷_ 111 (L._∷_ 100 (L._∷_ 101 (L._∷_ 115 L.[])))))))))))))) (Syntax.tcons (Syntax.tyInt Syntax.w64) (Syntax.tcons (Syntax.tyInt Syntax.w64) (Syntax.tcons (Syntax.tyStruct (L._∷_ 102 (L._∷_ 114 (L._∷_ 97 (L._∷_ 99 (L._∷_ 116 (L._∷_ 105 (L._∷_ 111 (L._∷_ 110 (L._∷_ 58 (L._∷_ 58 (L._∷_ 70 (L._∷_ 114 (L._∷_ 97 (L._∷_ 99 (L._∷_ 116 (L._∷_ 105 (L._∷_ 111 (L._∷_ 110 L.[])))))))))))))))))) (Syntax.tcons (Syntax.tyInt Syntax.w32) (Syntax.tcons (Syntax.tyInt Syntax.w32) Syntax.tnil))) (Syntax.tcons (Syntax.tyArray Syntax.tyBool 33) (Syntax.tcons (Syntax.tyArray (Syntax.tyStruct (L._∷_ 102 (L._∷_ 114 (L._∷_ 97 (L._∷_ 99 (L._∷_ 116 (L._∷_ 105 (L._∷_ 111 (L._∷_ 110 (L._∷_ 58 (L._∷_ 58 (L._∷_ 70 (L._∷_ 114 (L._∷_ 97 (L._∷_ 99 (L._∷_ 116 (L._∷_ 105 (L._∷_ 111 (L._∷_ 110 L.[])))))))))))))))))) (Syntax.tcons (Syntax.tyInt Syntax.w32) (Syntax.tcons (Syntax.tyInt Syntax.w32) Syntax.tnil))) 33) Syntax.tnil)))))
 
 abbrev pub q0 : Row.Entry
 q0 = (1, Rows.any-gone q1)
@@ -334,7 +334,7 @@ module _ (claims· : Claims) where
   s1 = Scalar.n-room T2 1 q1
 
   abbrev s2 : Typed.Mo T4 → Typed.Mo T5
-  s2 = Scalar.n-use T4 (Scalar.oFld 4 (L._∷_ (Syntax.field 3) L.[]) Syntax.tyBool 522 (Reads.fieldV Progress·.the-type Progress-Laws·.the-laws 3)) 5 (Rows.sc-here Row.sBool) (Row.sBool .of)
+  s2 = Scalar.n-use T4 (Scalar.oFld 4 (L._∷_ (Syntax.field 3) L.[]) Syntax.tyBool 530 (Reads.fieldV Progress·.the-type Progress-Laws·.the-laws 3)) 5 (Rows.sc-here Row.sBool) (Row.sBool .of)
 
   abbrev s3 : Typed.Mo T5 → Typed.Mo T7
   s3 = Scalar.n-room T5 5 Syntax.tyBool
@@ -601,7 +601,7 @@ module _ (claims· : Claims) where
           d12 = Typed.t-seq 𝓤 H A W 𝓣 E G5 G6 b4 b13 Δ3 at4 at11 d4 d11
 
           d13 : Typed.Typed 𝓤 H A 𝓣 E G4 b15 Δ3 at13
-          d13 = Typed.s-seq 𝓤 H A W 𝓣 E G4 G5 b1 b14 Δ3 (Typed.pass T4 T5 s2) at12 (Scalar.t-use 𝓤 H A W E 𝓣 G4 (Scalar.oFld 4 (L._∷_ (Syntax.field 3) L.[]) Syntax.tyBool 522 (Reads.fieldV Progress·.the-type Progress-Laws·.the-laws 3)) 5 (Rows.sc-here Row.sBool) Syntax.tyBool (Row.valS Row.sBool) (Row.sBool .of) (Reads.reads-field 𝓤 H A W Progress·.the-type Progress-Laws·.the-laws 3 Syntax.tyBool 522 Path.refl, Path.refl) (TReads.room-gone 𝓤 H A Syntax.tyBool) (Scalar.holds-sc 𝓤 H A W Row.sBool) Path.refl (λ u. Path.refl) λ u. tt) d12
+          d13 = Typed.s-seq 𝓤 H A W 𝓣 E G4 G5 b1 b14 Δ3 (Typed.pass T4 T5 s2) at12 (Scalar.t-use 𝓤 H A W E 𝓣 G4 (Scalar.oFld 4 (L._∷_ (Syntax.field 3) L.[]) Syntax.tyBool 530 (Reads.fieldV Progress·.the-type Progress-Laws·.the-laws 3)) 5 (Rows.sc-here Row.sBool) Syntax.tyBool (Row.valS Row.sBool) (Row.sBool .of) (Reads.reads-field 𝓤 H A W Progress·.the-type Progress-Laws·.the-laws 3 Syntax.tyBool 530 Path.refl, Path.refl) (TReads.room-gone 𝓤 H A Syntax.tyBool) (Scalar.holds-sc 𝓤 H A W Row.sBool) Path.refl (λ u. Path.refl) λ u. tt) d12
 
           d14 : Typed.Typed 𝓤 H A 𝓣 E G4 b16 Δ2 at14
           d14 = Typed.t-loop-by 𝓤 H A W 𝓣 E G4 b15 Δ2 put0 (λ u vs. Inv·0 (Row.get 2 (T4 .locals) u .now) (Row.get 3 (T4 .locals) u .now) (Row.get 4 (T4 .locals) u) (vs .0) (vs .1) (vs .2)) (λ u vs. μ·0 (Row.get 2 (T4 .locals) u .now) (Row.get 3 (T4 .locals) u .now) (Row.get 4 (T4 .locals) u) (vs .0) (vs .1) (vs .2)) at13 d13

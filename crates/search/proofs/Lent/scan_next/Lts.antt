@@ -160,7 +160,7 @@ abbrev pub q2 : Syntax.Ty
 q2 = Syntax.tyStruct (L._∷_ 110 (L._∷_ 101 (L._∷_ 116 (L._∷_ 119 (L._∷_ 111 (L._∷_ 114 (L._∷_ 107 (L._∷_ 58 (L._∷_ 58 (L._∷_ 83 (L._∷_ 117 (L._∷_ 112 (L._∷_ 112 (L._∷_ 108 (L._∷_ 121 (L._∷_ 85 (L._∷_ 112 (L._∷_ 100 (L._∷_ 97 (L._∷_ 116 (L._∷_ 101 L.[]))))))))))))))))))))) (Syntax.tcons (Syntax.tyInt Syntax.w64) (Syntax.tcons q6 Syntax.tnil))
 
 abbrev pub q1 : Syntax.Ty
-q1 = Syntax.tyStruct (L._∷_ 110 (L._∷_ 101 (L._∷_ 116 (L._∷_ 119 (L._∷_ 111 (L._∷_ 114 (L._∷_ 107 (L._∷_ 58 (L._∷_ 58 (L._∷_ 78 (L._∷_ 111 (L._∷_ 100 (L._∷_ 101 (L._∷_ 115 L.[])))))))))))))) (Syntax.tcons (Syntax.tyInt Syntax.w64) (Syntax.tcons (Syntax.tyInt Syntax.w64) (Syntax.tcons (Syntax.tyArray Syntax.tyBool 33) (Syntax.tcons (Syntax.tyArray q6 33) Syntax.tnil))))
+q1 = Syntax.tyStruct (L._∷_ 110 (L._∷_ 101 (L._∷_ 116 (L._∷_ 119 (L._∷_ 111 (L._∷_ 114 (L._∷_ 107 (L._∷_ 58 (L._∷_ 58 (L._∷_ 78 (L._∷_ 111 (L._∷_ 100 (L._∷_ 101 (L._∷_ 115 L.[])))))))))))))) (Syntax.tcons (Syntax.tyInt Syntax.w64) (Syntax.tcons (Syntax.tyInt Syntax.w64) (Syntax.tcons q6 (Syntax.tcons (Syntax.tyArray Syntax.tyBool 33) (Syntax.tcons (Syntax.tyArray q6 33) Syntax.tnil)))))
 
 abbrev pub q0 : Row.Entry
 q0 = (1, Rows.any-gone q1)
@@ -172,7 +172,7 @@ abbrev pub r : FnKinds.RK 1
 r = Value.rVal record { ty = Declared.row rules-proofs-tried-Looked·.the-type; one = Path.refl; val = StructLaws.val rules-proofs-tried-Looked·.the-type rules-proofs-tried-Looked-Laws·.the-laws; tells = StructLaws.tells rules-proofs-tried-Looked·.the-type rules-proofs-tried-Looked-Laws·.the-laws; still = StructLaws.still rules-proofs-tried-Looked·.the-type rules-proofs-tried-Looked-Laws·.the-copy Exit.yes; row = Rows.whole (Declared.row rules-proofs-tried-Looked·.the-type); rd = λ x. x; mk = λ x. x } λ M 𝓤 H A W. record { copies = StructLaws.copy rules-proofs-tried-Looked·.the-type rules-proofs-tried-Looked-Laws·.the-copy 𝓤 H A W; lawful = StructLaws.lawful rules-proofs-tried-Looked·.the-type rules-proofs-tried-Looked-Laws·.the-laws 𝓤 H A W; makes = StructLaws.makes rules-proofs-tried-Looked·.the-type rules-proofs-tried-Looked-Laws·.the-plain 𝓤 H A; in-mem = Local.mem-whole 𝓤 H A W (Declared.row rules-proofs-tried-Looked·.the-type); of-mem = Local.whole-mem 𝓤 H A W (Declared.row rules-proofs-tried-Looked·.the-type) }
 
 abbrev pub xs : L.List Syntax.Ty
-xs = L._∷_ (Syntax.tyStruct (L._∷_ 114 (L._∷_ 117 (L._∷_ 108 (L._∷_ 101 (L._∷_ 115 (L._∷_ 58 (L._∷_ 58 (L._∷_ 102 (L._∷_ 111 (L._∷_ 117 (L._∷_ 110 (L._∷_ 100 (L._∷_ 58 (L._∷_ 58 (L._∷_ 70 (L._∷_ 111 (L._∷_ 117 (L._∷_ 110 (L._∷_ 100 L.[]))))))))))))))))))) (Syntax.tcons Syntax.tyBool (Syntax.tcons Syntax.tyBool (Syntax.tcons (Syntax.tyStruct (L._∷_ 115 (L._∷_ 116 (L._∷_ 101 (L._∷_ 112 (L._∷_ 58 (L._∷_ 58 (L._∷_ 83 (L._∷_ 116 (L._∷_ 101 (L._∷_ 112 L.[])))))))))) (Syntax.tcons (Syntax.tyInt Syntax.w64) (Syntax.tcons (Syntax.tyInt Syntax.w64) (Syntax.tcons (Syntax.tyStruct (L._∷_ 115 (L._∷_ 116 (L._∷_ 101 (L._∷_ 112 (L._∷_ 58 (L._∷_ 58 (L._∷_ 67 (L._∷_ 104 (L._∷_ 97 (L._∷_ 110 (L._∷_ 103 (L._∷_ 101 L.[])))))))))))) (Syntax.tcons (Syntax.tyStruct (L._∷_ 110 (L._∷_ 101 (L._∷_ 116 (L._∷_ 119 (L._∷_ 111 (L._∷_ 114 (L._∷_ 107 (L._∷_ 58 (L._∷_ 58 (L._∷_ 69 (L._∷_ 100 (L._∷_ 105 (L._∷_ 116 L.[]))))))))))))) (Syntax.tcons q7 (Syntax.tcons q7 (Syntax.tcons q7 (Syntax.tcons q7 (Syntax.tcons q2 (Syntax.tcons q2 (Syntax.tcons (Syntax.tyInt Syntax.w64) Syntax.tnil)))))))) (Syntax.tcons (Syntax.tyStruct (L._∷_ 115 (L._∷_ 116 (L._∷_ 101 (L._∷_ 112 (L._∷_ 58 (L._∷_ 58 (L._∷_ 79 (L._∷_ 108 (L._∷_ 100 L.[]))))))))) (Syntax.tcons (Syntax.tyInt Syntax.w64) (Syntax.tcons q6 (Syntax.tcons q7 (Syntax.tcons q7 (Syntax.tcons q7 (Syntax.tcons q7 (Syntax.tcons q4 Syntax.tnil)))))))) Syntax.tnil))) Syntax.tnil)))) Syntax.tnil)))) (L._∷_ q9 (L._∷_ (Syntax.tyInt Syntax.w64) (L._∷_ Syntax.tyBool (L._∷_ (Syntax.tyStruct (L._∷_ 114 (L._∷_ 117 (L._∷_ 108 (L._∷_ 101 (L._∷_ 115 (L._∷_ 58 (L._∷_ 58 (L._∷_ 116 (L._∷_ 114 (L._∷_ 105 (L._∷_ 101 (L._∷_ 100 (L._∷_ 58 (L._∷_ 58 (L._∷_ 76 (L._∷_ 111 (L._∷_ 111 (L._∷_ 107 (L._∷_ 101 (L._∷_ 100 L.[])))))))))))))))))))) (Syntax.tcons (Syntax.tyStruct (L._∷_ 114 (L._∷_ 117 (L._∷_ 108 (L._∷_ 101 (L._∷_ 115 (L._∷_ 58 (L._∷_ 58 (L._∷_ 102 (L._∷_ 111 (L._∷_ 117 (L._∷_ 110 (L._∷_ 100 (L._∷_ 58 (L._∷_ 58 (L._∷_ 70 (L._∷_ 111 (L._∷_ 117 (L._∷_ 110 (L._∷_ 100 L.[]))))))))))))))))))) (Syntax.tcons Syntax.tyBool (Syntax.tcons Syntax.tyBool (Syntax.tcons (Syntax.tyStruct (L._∷_ 115 (L._∷_ 116 (L._∷_ 101 (L._∷_ 112 (L._∷_ 58 (L._∷_ 58 (L._∷_ 83 (L._∷_ 116 (L._∷_ 101 (L._∷_ 112 L.[])))))))))) (Syntax.tcons (Syntax.tyInt Syntax.w64) (Syntax.tcons (Syntax.tyInt Syntax.w64) (Syntax.tcons (Syntax.tyStruct (L._∷_ 115 (L._∷_ 116 (L._∷_ 101 (L._∷_ 112 (L._∷_ 58 (L._∷_ 58 (L._∷_ 67 (L._∷_ 104 (L._∷_ 97 (L._∷_ 110 (L._∷_ 103 (L._∷_ 101 L.[])))))))))))) (Syntax.tcons (Syntax.tyStruct (L._∷_ 110 (L._∷_ 101 (L._∷_ 116 (L._∷_ 119 (L._∷_ 111 (L._∷_ 114 (L._∷_ 107 (L._∷_ 58 (L._∷_ 58 (L._∷_ 69 (L._∷_ 100 (L._∷_ 105 (L._∷_ 116 L.[]))))))))))))) (Syntax.tcons q7 (Syntax.tcons q7 (Syntax.tcons q7 (Syntax.tcons q7 (Syntax.tcons q2 (Syntax.tcons q2 (Syntax.tcons (Syntax.tyInt Syntax.w64) Syntax.tnil)))))))) (Syntax.tcons (Syntax.tyStruct (L._∷_ 115 (L._∷_ 116 (L._∷_ 101 (L._∷_ 112 (L._∷_ 58 (L._∷_ 58 (L._∷_ 79 (L._∷_ 108 (L._∷_ 100 L.[]))))))))) (Syntax.tcons (Syntax.tyInt Syntax.w64) (Syntax.tcons q6 (Syntax.tcons q7 (Syntax.tcons q7 (Syntax.tcons q7 (Syntax.tcons q7 (Syntax.tcons q4 Syntax.tnil)))))))) Syntax.tnil))) Syntax.tnil)))) Syntax.tnil)))) (Syntax.tcons q5 Syntax.tnil))) (L._∷_ (Syntax.tyStruct (L._∷_ 114 (L._∷_ 117 (L._∷_ 108 (L._∷_ 101 (L._∷_ 115 (L._∷_ 58 (L._∷_ 58 (L._∷_ 102 (L._∷_ 111 (L._∷_ 117 (L._∷_ 110 (L._∷_ 100 (L._∷_ 58 (L._∷_ 58 (L._∷_ 70 (L._∷_ 111 (L._∷_ 117 (L._∷_ 110 (L._∷_ 100 L.[]))))))))))))))))))) (Syntax.tcons Syntax.tyBool (Syntax.tcons Syntax.tyBool (Syntax.tcons (Syntax.tyStruct (L._∷_ 115 (L._∷_ 116 (L._∷_ 101 (L._∷_ 112 (L._∷_ 58 (L._∷_ 58 (L._∷_ 83 (L._∷_ 116 (L._∷_ 101 (L._∷_ 112 L.[])))))))))) (Syntax.tcons (Syntax.tyInt Syntax.w64) (Syntax.tcons (Syntax.tyInt Syntax.w64) (Syntax.tcons (Syntax.tyStruct (L._∷_ 115 (L._∷_ 116 (L._∷_ 101 (L._∷_ 112 (L._∷_ 58 (L._∷_ 58 (L._∷_ 67 (L._∷_ 104 (L._∷_ 97 (L._∷_ 110 (L._∷_ 103 (L._∷_ 101 L.[])))))))))))) (Syntax.tcons (Syntax.tyStruct (L._∷_ 110 (L._∷_ 101 (L._∷_ 116 (L._∷_ 119 (L._∷_ 111 (L._∷_ 114 (L._∷_ 107 (L._∷_ 58 (L._∷_ 58 (L._∷_ 69 (L._∷_ 100 (L._∷_ 105 (L._∷_ 116 L.[]))))))))))))) (Syntax.tcons q7 (Syntax.tcons q7 (Syntax.tcons q7 (Syntax.tcons q7 (Syntax.tcons q2 (Syntax.tcons q2 (Syntax.tcons (Syntax.tyInt Syntax.w64) Syntax.tnil)))))))) (Syntax.tcons (Syntax.tyStruct (L._∷_ 115 (L._∷_ 116 (L._∷_ 101 (L._∷_ 112 (L._∷_ 58 (L._∷_ 58 (L._∷_ 79 (L._∷_ 108 (L._∷_ 100 L.[]))))))))) (Syntax.tcons (Syntax.tyInt Syntax.w64) (Syntax.tcons q6 (Syntax.tcons q7 (Syntax.tcons q7 (Syntax.tcons q7 (Syntax.tcons q7 (Syntax.tcons q4 Syntax.tnil)))))))) Syntax.tnil))) Syntax.tnil)))) Syntax.tnil)))) (L._∷_ (Syntax.tyStruct (L._∷_ 114 (L._∷_ 117 (L._∷_ 108 (L._∷_ 101 (L._∷_ 115 (L._∷_ 58 (L._∷_ 58 (L._∷_ 102 (L._∷_ 111 (L._∷_ 117 (L._∷_ 110 (L._∷_ 100 (L._∷_ 58 (L._∷_ 58 (L._∷_ 70 (L._∷_ 111 (L._∷_ 117 (L._∷_ 110 (L._∷_ 100 L.[]))))))))))))))))))) (Syntax.tcons Syntax.tyBool (Syntax.tcons Syntax.tyBool (Syntax.tcons (Syntax.tyStruct (L._∷_ 115 (L._∷_ 116 (L._∷_ 101 (L._∷_ 112 (L._∷_ 58 (L._∷_ 58 (L._∷_ 83 (L._∷_ 116 (L._∷_ 101 (L._∷_ 112 L.[])))))))))) (Syntax.tcons (Syntax.tyInt Syntax.w64) (Syntax.tcons (Syntax.tyInt Syntax.w64) (Syntax.tcons (Syntax.tyStruct (L._∷_ 115 (L._∷_ 116 (L._∷_ 101 (L._∷_ 112 (L._∷_ 58 (L._∷_ 58 (L._∷_ 67 (L._∷_ 104 (L._∷_ 97 (L._∷_ 110 (L._∷_ 103 (L._∷_ 101 L.[])))))))))))) (Syntax.tcons (Syntax.tyStruct (L._∷_ 110 (L._∷_ 101 (L._∷_ 116 (L._∷_ 119 (L._∷_ 111 (L._∷_ 114 (L._∷_ 107 (L._∷_ 58 (L._∷_ 58 (L._∷_ 69 (L._∷_ 100 (L._∷_ 105 (L._∷_ 116 L.[]))))))))))))) (Syntax.tcons q7 (Syntax.tcons q7 (Syntax.tcons q7 (Syntax.tcons q7 (Syntax.tcons q2 (Syntax.tcons q2 (Syntax.tcons (Syntax.tyInt Syntax.w64) Syntax.tnil)))))))) (Syntax.tcons (Syntax.tyStruct (L._∷_ 115 (L._∷_ 116 (L._∷_ 101 (L._∷_ 112 (L._∷_ 58 (L._∷_ 58 (L._∷_ 79 (L._∷_ 108 (L._∷_ 100 L.[]))))))))) (Syntax.tcons (Syntax.tyInt Syntax.w64) (Syntax.tcons q6 (Syntax.tcons q7 (Syntax.tcons q7 (Syntax.tcons q7 (Syntax.tcons q7 (Syntax.tcons q4 Syntax.tnil)))))))) Syntax.tnil))) Syntax.tnil)))) Syntax.tnil)))) (L._∷_ Syntax.tyBool (L._∷_ Syntax.tyBool (L._∷_ Syntax.tyBool (L._∷_ Syntax.tyBool L.[]))))))))))
+xs = L._∷_ (Syntax.tyStruct (L._∷_ 114 (L._∷_ 117 (L._∷_ 108 (L._∷_ 101 (L._∷_ 115 (L._∷_ 58 (L._∷_ 58 (L._∷_ 102 (L._∷_ 111 (L._∷_ 117 (L._∷_ 110 (L._∷_ 100 (L._∷_ 58 (L._∷_ 58 (L._∷_ 70 (L._∷_ 111 (L._∷_ 117 (L._∷_ 110 (L._∷_ 100 L.[]))))))))))))))))))) (Syntax.tcons Syntax.tyBool (Syntax.tcons Syntax.tyBool (Syntax.tcons (Syntax.tyStruct (L._∷_ 115 (L._∷_ 116 (L._∷_ 101 (L._∷_ 112 (L._∷_ 58 (L._∷_ 58 (L._∷_ 83 (L._∷_ 116 (L._∷_ 101 (L._∷_ 112 L.[])))))))))) (Syntax.tcons (Syntax.tyInt Syntax.w64) (Syntax.tcons (Syntax.tyInt Syntax.w64) (Syntax.tcons (Syntax.tyStruct (L._∷_ 115 (L._∷_ 116 (L._∷_ 101 (L._∷_ 112 (L._∷_ 58 (L._∷_ 58 (L._∷_ 67 (L._∷_ 104 (L._∷_ 97 (L._∷_ 110 (L._∷_ 103 (L._∷_ 101 L.[])))))))))))) (Syntax.tcons (Syntax.tyStruct (L._∷_ 110 (L._∷_ 101 (L._∷_ 116 (L._∷_ 119 (L._∷_ 111 (L._∷_ 114 (L._∷_ 107 (L._∷_ 58 (L._∷_ 58 (L._∷_ 69 (L._∷_ 100 (L._∷_ 105 (L._∷_ 116 L.[]))))))))))))) (Syntax.tcons q7 (Syntax.tcons q7 (Syntax.tcons q7 (Syntax.tcons q7 (Syntax.tcons q2 (Syntax.tcons q2 (Syntax.tcons (Syntax.tyInt Syntax.w64) (Syntax.tcons q6 Syntax.tnil))))))))) (Syntax.tcons (Syntax.tyStruct (L._∷_ 115 (L._∷_ 116 (L._∷_ 101 (L._∷_ 112 (L._∷_ 58 (L._∷_ 58 (L._∷_ 79 (L._∷_ 108 (L._∷_ 100 L.[]))))))))) (Syntax.tcons (Syntax.tyInt Syntax.w64) (Syntax.tcons q6 (Syntax.tcons q7 (Syntax.tcons q7 (Syntax.tcons q7 (Syntax.tcons q7 (Syntax.tcons q4 Syntax.tnil)))))))) Syntax.tnil))) Syntax.tnil)))) Syntax.tnil)))) (L._∷_ q9 (L._∷_ (Syntax.tyInt Syntax.w64) (L._∷_ Syntax.tyBool (L._∷_ (Syntax.tyStruct (L._∷_ 114 (L._∷_ 117 (L._∷_ 108 (L._∷_ 101 (L._∷_ 115 (L._∷_ 58 (L._∷_ 58 (L._∷_ 116 (L._∷_ 114 (L._∷_ 105 (L._∷_ 101 (L._∷_ 100 (L._∷_ 58 (L._∷_ 58 (L._∷_ 76 (L._∷_ 111 (L._∷_ 111 (L._∷_ 107 (L._∷_ 101 (L._∷_ 100 L.[])))))))))))))))))))) (Syntax.tcons (Syntax.tyStruct (L._∷_ 114 (L._∷_ 117 (L._∷_ 108 (L._∷_ 101 (L._∷_ 115 (L._∷_ 58 (L._∷_ 58 (L._∷_ 102 (L._∷_ 111 (L._∷_ 117 (L._∷_ 110 (L._∷_ 100 (L._∷_ 58 (L._∷_ 58 (L._∷_ 70 (L._∷_ 111 (L._∷_ 117 (L._∷_ 110 (L._∷_ 100 L.[]))))))))))))))))))) (Syntax.tcons Syntax.tyBool (Syntax.tcons Syntax.tyBool (Syntax.tcons (Syntax.tyStruct (L._∷_ 115 (L._∷_ 116 (L._∷_ 101 (L._∷_ 112 (L._∷_ 58 (L._∷_ 58 (L._∷_ 83 (L._∷_ 116 (L._∷_ 101 (L._∷_ 112 L.[])))))))))) (Syntax.tcons (Syntax.tyInt Syntax.w64) (Syntax.tcons (Syntax.tyInt Syntax.w64) (Syntax.tcons (Syntax.tyStruct (L._∷_ 115 (L._∷_ 116 (L._∷_ 101 (L._∷_ 112 (L._∷_ 58 (L._∷_ 58 (L._∷_ 67 (L._∷_ 104 (L._∷_ 97 (L._∷_ 110 (L._∷_ 103 (L._∷_ 101 L.[])))))))))))) (Syntax.tcons (Syntax.tyStruct (L._∷_ 110 (L._∷_ 101 (L._∷_ 116 (L._∷_ 119 (L._∷_ 111 (L._∷_ 114 (L._∷_ 107 (L._∷_ 58 (L._∷_ 58 (L._∷_ 69 (L._∷_ 100 (L._∷_ 105 (L._∷_ 116 L.[]))))))))))))) (Syntax.tcons q7 (Syntax.tcons q7 (Syntax.tcons q7 (Syntax.tcons q7 (Syntax.tcons q2 (Syntax.tcons q2 (Syntax.tcons (Syntax.tyInt Syntax.w64) (Syntax.tcons q6 Syntax.tnil))))))))) (Syntax.tcons (Syntax.tyStruct (L._∷_ 115 (L._∷_ 116 (L._∷_ 101 (L._∷_ 112 (L._∷_ 58 (L._∷_ 58 (L._∷_ 79 (L._∷_ 108 (L._∷_ 100 L.[]))))))))) (Syntax.tcons (Syntax.tyInt Syntax.w64) (Syntax.tcons q6 (Syntax.tcons q7 (Syntax.tcons q7 (Syntax.tcons q7 (Syntax.tcons q7 (Syntax.tcons q4 Syntax.tnil)))))))) Syntax.tnil))) Syntax.tnil)))) Syntax.tnil)))) (Syntax.tcons q5 Syntax.tnil))) (L._∷_ (Syntax.tyStruct (L._∷_ 114 (L._∷_ 117 (L._∷_ 108 (L._∷_ 101 (L._∷_ 115 (L._∷_ 58 (L._∷_ 58 (L._∷_ 102 (L._∷_ 111 (L._∷_ 117 (L._∷_ 110 (L._∷_ 100 (L._∷_ 58 (L._∷_ 58 (L._∷_ 70 (L._∷_ 111 (L._∷_ 117 (L._∷_ 110 (L._∷_ 100 L.[]))))))))))))))))))) (Syntax.tcons Syntax.tyBool (Syntax.tcons Syntax.tyBool (Syntax.tcons (Syntax.tyStruct (L._∷_ 115 (L._∷_ 116 (L._∷_ 101 (L._∷_ 112 (L._∷_ 58 (L._∷_ 58 (L._∷_ 83 (L._∷_ 116 (L._∷_ 101 (L._∷_ 112 L.[])))))))))) (Syntax.tcons (Syntax.tyInt Syntax.w64) (Syntax.tcons (Syntax.tyInt Syntax.w64) (Syntax.tcons (Syntax.tyStruct (L._∷_ 115 (L._∷_ 116 (L._∷_ 101 (L._∷_ 112 (L._∷_ 58 (L._∷_ 58 (L._∷_ 67 (L._∷_ 104 (L._∷_ 97 (L._∷_ 110 (L._∷_ 103 (L._∷_ 101 L.[])))))))))))) (Syntax.tcons (Syntax.tyStruct (L._∷_ 110 (L._∷_ 101 (L._∷_ 116 (L._∷_ 119 (L._∷_ 111 (L._∷_ 114 (L._∷_ 107 (L._∷_ 58 (L._∷_ 58 (L._∷_ 69 (L._∷_ 100 (L._∷_ 105 (L._∷_ 116 L.[]))))))))))))) (Syntax.tcons q7 (Syntax.tcons q7 (Syntax.tcons q7 (Syntax.tcons q7 (Syntax.tcons q2 (Syntax.tcons q2 (Syntax.tcons (Syntax.tyInt Syntax.w64) (Syntax.tcons q6 Syntax.tnil))))))))) (Syntax.tcons (Syntax.tyStruct (L._∷_ 115 (L._∷_ 116 (L._∷_ 101 (L._∷_ 112 (L._∷_ 58 (L._∷_ 58 (L._∷_ 79 (L._∷_ 108 (L._∷_ 100 L.[]))))))))) (Syntax.tcons (Syntax.tyInt Syntax.w64) (Syntax.tcons q6 (Syntax.tcons q7 (Syntax.tcons q7 (Syntax.tcons q7 (Syntax.tcons q7 (Syntax.tcons q4 Syntax.tnil)))))))) Syntax.tnil))) Syntax.tnil)))) Syntax.tnil)))) (L._∷_ (Syntax.tyStruct (L._∷_ 114 (L._∷_ 117 (L._∷_ 108 (L._∷_ 101 (L._∷_ 115 (L._∷_ 58 (L._∷_ 58 (L._∷_ 102 (L._∷_ 111 (L._∷_ 117 (L._∷_ 110 (L._∷_ 100 (L._∷_ 58 (L._∷_ 58 (L._∷_ 70 (L._∷_ 111 (L._∷_ 117 (L._∷_ 110 (L._∷_ 100 L.[]))))))))))))))))))) (Syntax.tcons Syntax.tyBool (Syntax.tcons Syntax.tyBool (Syntax.tcons (Syntax.tyStruct (L._∷_ 115 (L._∷_ 116 (L._∷_ 101 (L._∷_ 112 (L._∷_ 58 (L._∷_ 58 (L._∷_ 83 (L._∷_ 116 (L._∷_ 101 (L._∷_ 112 L.[])))))))))) (Syntax.tcons (Syntax.tyInt Syntax.w64) (Syntax.tcons (Syntax.tyInt Syntax.w64) (Syntax.tcons (Syntax.tyStruct (L._∷_ 115 (L._∷_ 116 (L._∷_ 101 (L._∷_ 112 (L._∷_ 58 (L._∷_ 58 (L._∷_ 67 (L._∷_ 104 (L._∷_ 97 (L._∷_ 110 (L._∷_ 103 (L._∷_ 101 L.[])))))))))))) (Syntax.tcons (Syntax.tyStruct (L._∷_ 110 (L._∷_ 101 (L._∷_ 116 (L._∷_ 119 (L._∷_ 111 (L._∷_ 114 (L._∷_ 107 (L._∷_ 58 (L._∷_ 58 (L._∷_ 69 (L._∷_ 100 (L._∷_ 105 (L._∷_ 116 L.[]))))))))))))) (Syntax.tcons q7 (Syntax.tcons q7 (Syntax.tcons q7 (Syntax.tcons q7 (Syntax.tcons q2 (Syntax.tcons q2 (Syntax.tcons (Syntax.tyInt Syntax.w64) (Syntax.tcons q6 Syntax.tnil))))))))) (Syntax.tcons (Syntax.tyStruct (L._∷_ 115 (L._∷_ 116 (L._∷_ 101 (L._∷_ 112 (L._∷_ 58 (L._∷_ 58 (L._∷_ 79 (L._∷_ 108 (L._∷_ 100 L.[]))))))))) (Syntax.tcons (Syntax.tyInt Syntax.w64) (Syntax.tcons q6 (Syntax.tcons q7 (Syntax.tcons q7 (Syntax.tcons q7 (Syntax.tcons q7 (Syntax.tcons q4 Syntax.tnil)))))))) Syntax.tnil))) Syntax.tnil)))) Syntax.tnil)))) (L._∷_ Syntax.tyBool (L._∷_ Syntax.tyBool (L._∷_ Syntax.tyBool (L._∷_ Syntax.tyBool L.[]))))))))))
 
 abbrev pub m : Nat.ℕ
 m = 0
@@ -394,148 +394,148 @@ abbrev pub Claims : Type 1
 Claims = FnKinds.In 1 ps·0 × FnKinds.Out 1 ps·0 r·0 × FnKinds.In 1 ps·1 × FnKinds.Out 1 ps·1 r·1 × FnKinds.In 0 ps·2 × FnKinds.Out 0 ps·2 r·2 × FnKinds.In 1 ps·3 × FnKinds.Out 1 ps·3 r·3 × FnKinds.In 1 ps·4 × FnKinds.Out 1 ps·4 r·4 × FnKinds.In 0 ps·5 × FnKinds.Out 0 ps·5 r·5
 
 abbrev pub t0 : L.List Row.Entry
-t0 = L._∷_ (0, Rows.any-gone (Syntax.tyStruct (L._∷_ 114 (L._∷_ 117 (L._∷_ 108 (L._∷_ 101 (L._∷_ 115 (L._∷_ 58 (L._∷_ 58 (L._∷_ 116 (L._∷_ 114 (L._∷_ 105 (L._∷_ 101 (L._∷_ 100 (L._∷_ 58 (L._∷_ 58 (L._∷_ 76 (L._∷_ 111 (L._∷_ 111 (L._∷_ 107 (L._∷_ 101 (L._∷_ 100 L.[])))))))))))))))))))) (Syntax.tcons (Syntax.tyStruct (L._∷_ 114 (L._∷_ 117 (L._∷_ 108 (L._∷_ 101 (L._∷_ 115 (L._∷_ 58 (L._∷_ 58 (L._∷_ 102 (L._∷_ 111 (L._∷_ 117 (L._∷_ 110 (L._∷_ 100 (L._∷_ 58 (L._∷_ 58 (L._∷_ 70 (L._∷_ 111 (L._∷_ 117 (L._∷_ 110 (L._∷_ 100 L.[]))))))))))))))))))) (Syntax.tcons Syntax.tyBool (Syntax.tcons Syntax.tyBool (Syntax.tcons (Syntax.tyStruct (L._∷_ 115 (L._∷_ 116 (L._∷_ 101 (L._∷_ 112 (L._∷_ 58 (L._∷_ 58 (L._∷_ 83 (L._∷_ 116 (L._∷_ 101 (L._∷_ 112 L.[])))))))))) (Syntax.tcons (Syntax.tyInt Syntax.w64) (Syntax.tcons (Syntax.tyInt Syntax.w64) (Syntax.tcons (Syntax.tyStruct (L._∷_ 115 (L._∷_ 116 (L._∷_ 101 (L._∷_ 112 (L._∷_ 58 (L._∷_ 58 (L._∷_ 67 (L._∷_ 104 (L._∷_ 97 (L._∷_ 110 (L._∷_ 103 (L._∷_ 101 L.[])))))))))))) (Syntax.tcons (Syntax.tyStruct (L._∷_ 110 (L._∷_ 101 (L._∷_ 116 (L._∷_ 119 (L._∷_ 111 (L._∷_ 114 (L._∷_ 107 (L._∷_ 58 (L._∷_ 58 (L._∷_ 69 (L._∷_ 100 (L._∷_ 105 (L._∷_ 116 L.[]))))))))))))) (Syntax.tcons q7 (Syntax.tcons q7 (Syntax.tcons q7 (Syntax.tcons q7 (Syntax.tcons q2 (Syntax.tcons q2 (Syntax.tcons (Syntax.tyInt Syntax.w64) Syntax.tnil)))))))) (Syntax.tcons (Syntax.tyStruct (L._∷_ 115 (L._∷_ 116 (L._∷_ 101 (L._∷_ 112 (L._∷_ 58 (L._∷_ 58 (L._∷_ 79 (L._∷_ 108 (L._∷_ 100 L.[]))))))))) (Syntax.tcons (Syntax.tyInt Syntax.w64) (Syntax.tcons q6 (Syntax.tcons q7 (Syntax.tcons q7 (Syntax.tcons q7 (Syntax.tcons q7 (Syntax.tcons q4 Syntax.tnil)))))))) Syntax.tnil))) Syntax.tnil)))) Syntax.tnil)))) (Syntax.tcons q5 Syntax.tnil)))) (L._∷_ q20 (L._∷_ q11 (L._∷_ q17 (L._∷_ q26 (L._∷_ (5, Rows.any-gone (Syntax.tyStruct (L._∷_ 114 (L._∷_ 117 (L._∷_ 108 (L._∷_ 101 (L._∷_ 115 (L._∷_ 58 (L._∷_ 58 (L._∷_ 102 (L._∷_ 111 (L._∷_ 117 (L._∷_ 110 (L._∷_ 100 (L._∷_ 58 (L._∷_ 58 (L._∷_ 70 (L._∷_ 111 (L._∷_ 117 (L._∷_ 110 (L._∷_ 100 L.[]))))))))))))))))))) (Syntax.tcons Syntax.tyBool (Syntax.tcons Syntax.tyBool (Syntax.tcons (Syntax.tyStruct (L._∷_ 115 (L._∷_ 116 (L._∷_ 101 (L._∷_ 112 (L._∷_ 58 (L._∷_ 58 (L._∷_ 83 (L._∷_ 116 (L._∷_ 101 (L._∷_ 112 L.[])))))))))) (Syntax.tcons (Syntax.tyInt Syntax.w64) (Syntax.tcons (Syntax.tyInt Syntax.w64) (Syntax.tcons (Syntax.tyStruct (L._∷_ 115 (L._∷_ 116 (L._∷_ 101 (L._∷_ 112 (L._∷_ 58 (L._∷_ 58 (L._∷_ 67 (L._∷_ 104 (L._∷_ 97 (L._∷_ 110 (L._∷_ 103 (L._∷_ 101 L.[])))))))))))) (Syntax.tcons (Syntax.tyStruct (L._∷_ 110 (L._∷_ 101 (L._∷_ 116 (L._∷_ 119 (L._∷_ 111 (L._∷_ 114 (L._∷_ 107 (L._∷_ 58 (L._∷_ 58 (L._∷_ 69 (L._∷_ 100 (L._∷_ 105 (L._∷_ 116 L.[]))))))))))))) (Syntax.tcons q7 (Syntax.tcons q7 (Syntax.tcons q7 (Syntax.tcons q7 (Syntax.tcons q2 (Syntax.tcons q2 (Syntax.tcons (Syntax.tyInt Syntax.w64) Syntax.tnil)))))))) (Syntax.tcons (Syntax.tyStruct (L._∷_ 115 (L._∷_ 116 (L._∷_ 101 (L._∷_ 112 (L._∷_ 58 (L._∷_ 58 (L._∷_ 79 (L._∷_ 108 (L._∷_ 100 L.[]))))))))) (Syntax.tcons (Syntax.tyInt Syntax.w64) (Syntax.tcons q6 (Syntax.tcons q7 (Syntax.tcons q7 (Syntax.tcons q7 (Syntax.tcons q7 (Syntax.tcons q4 Syntax.tnil)))))))) Syntax.tnil))) Syntax.tnil)))) Syntax.tnil))))) (L._∷_ q8 (L._∷_ q23 (L._∷_ q32 (L._∷_ (9, Rows.any-gone (Syntax.tyStruct (L._∷_ 114 (L._∷_ 117 (L._∷_ 108 (L._∷_ 101 (L._∷_ 115 (L._∷_ 58 (L._∷_ 58 (L._∷_ 116 (L._∷_ 114 (L._∷_ 105 (L._∷_ 101 (L._∷_ 100 (L._∷_ 58 (L._∷_ 58 (L._∷_ 76 (L._∷_ 111 (L._∷_ 111 (L._∷_ 107 (L._∷_ 101 (L._∷_ 100 L.[])))))))))))))))))))) (Syntax.tcons (Syntax.tyStruct (L._∷_ 114 (L._∷_ 117 (L._∷_ 108 (L._∷_ 101 (L._∷_ 115 (L._∷_ 58 (L._∷_ 58 (L._∷_ 102 (L._∷_ 111 (L._∷_ 117 (L._∷_ 110 (L._∷_ 100 (L._∷_ 58 (L._∷_ 58 (L._∷_ 70 (L._∷_ 111 (L._∷_ 117 (L._∷_ 110 (L._∷_ 100 L.[]))))))))))))))))))) (Syntax.tcons Syntax.tyBool (Syntax.tcons Syntax.tyBool (Syntax.tcons (Syntax.tyStruct (L._∷_ 115 (L._∷_ 116 (L._∷_ 101 (L._∷_ 112 (L._∷_ 58 (L._∷_ 58 (L._∷_ 83 (L._∷_ 116 (L._∷_ 101 (L._∷_ 112 L.[])))))))))) (Syntax.tcons (Syntax.tyInt Syntax.w64) (Syntax.tcons (Syntax.tyInt Syntax.w64) (Syntax.tcons (Syntax.tyStruct (L._∷_ 115 (L._∷_ 116 (L._∷_ 101 (L._∷_ 112 (L._∷_ 58 (L._∷_ 58 (L._∷_ 67 (L._∷_ 104 (L._∷_ 97 (L._∷_ 110 (L._∷_ 103 (L._∷_ 101 L.[])))))))))))) (Syntax.tcons (Syntax.tyStruct (L._∷_ 110 (L._∷_ 101 (L._∷_ 116 (L._∷_ 119 (L._∷_ 111 (L._∷_ 114 (L._∷_ 107 (L._∷_ 58 (L._∷_ 58 (L._∷_ 69 (L._∷_ 100 (L._∷_ 105 (L._∷_ 116 L.[]))))))))))))) (Syntax.tcons q7 (Syntax.tcons q7 (Syntax.tcons q7 (Syntax.tcons q7 (Syntax.tcons q2 (Syntax.tcons q2 (Syntax.tcons (Syntax.tyInt Syntax.w64) Syntax.tnil)))))))) (Syntax.tcons (Syntax.tyStruct (L._∷_ 115 (L._∷_ 116 (L._∷_ 101 (L._∷_ 112 (L._∷_ 58 (L._∷_ 58 (L._∷_ 79 (L._∷_ 108 (L._∷_ 100 L.[]))))))))) (Syntax.tcons (Syntax.tyInt Syntax.w64) (Syntax.tcons q6 (Syntax.tcons q7 (Syntax.tcons q7 (Syntax.tcons q7 (Syntax.tcons q7 (Syntax.tcons q4 Syntax.tnil)))))))) Syntax.tnil))) Syntax.tnil)))) Syntax.tnil)))) (Syntax.tcons q5 Syntax.tnil)))) (L._∷_ (10, Rows.any-gone (Syntax.tyStruct (L._∷_ 114 (L._∷_ 117 (L._∷_ 108 (L._∷_ 101 (L._∷_ 115 (L._∷_ 58 (L._∷_ 58 (L._∷_ 102 (L._∷_ 111 (L._∷_ 117 (L._∷_ 110 (L._∷_ 100 (L._∷_ 58 (L._∷_ 58 (L._∷_ 70 (L._∷_ 111 (L._∷_ 117 (L._∷_ 110 (L._∷_ 100 L.[]))))))))))))))))))) (Syntax.tcons Syntax.tyBool (Syntax.tcons Syntax.tyBool (Syntax.tcons (Syntax.tyStruct (L._∷_ 115 (L._∷_ 116 (L._∷_ 101 (L._∷_ 112 (L._∷_ 58 (L._∷_ 58 (L._∷_ 83 (L._∷_ 116 (L._∷_ 101 (L._∷_ 112 L.[])))))))))) (Syntax.tcons (Syntax.tyInt Syntax.w64) (Syntax.tcons (Syntax.tyInt Syntax.w64) (Syntax.tcons (Syntax.tyStruct (L._∷_ 115 (L._∷_ 116 (L._∷_ 101 (L._∷_ 112 (L._∷_ 58 (L._∷_ 58 (L._∷_ 67 (L._∷_ 104 (L._∷_ 97 (L._∷_ 110 (L._∷_ 103 (L._∷_ 101 L.[])))))))))))) (Syntax.tcons (Syntax.tyStruct (L._∷_ 110 (L._∷_ 101 (L._∷_ 116 (L._∷_ 119 (L._∷_ 111 (L._∷_ 114 (L._∷_ 107 (L._∷_ 58 (L._∷_ 58 (L._∷_ 69 (L._∷_ 100 (L._∷_ 105 (L._∷_ 116 L.[]))))))))))))) (Syntax.tcons q7 (Syntax.tcons q7 (Syntax.tcons q7 (Syntax.tcons q7 (Syntax.tcons q2 (Syntax.tcons q2 (Syntax.tcons (Syntax.tyInt Syntax.w64) Syntax.tnil)))))))) (Syntax.tcons (Syntax.tyStruct (L._∷_ 115 (L._∷_ 116 (L._∷_ 101 (L._∷_ 112 (L._∷_ 58 (L._∷_ 58 (L._∷_ 79 (L._∷_ 108 (L._∷_ 100 L.[]))))))))) (Syntax.tcons (Syntax.tyInt Syntax.w64) (Syntax.tcons q6 (Syntax.tcons q7 (Syntax.tcons q7 (Syntax.tcons q7 (Syntax.tcons q7 (Syntax.tcons q4 Syntax.tnil)))))))) Syntax.tnil))) Syntax.tnil)))) Syntax.tnil))))) (L._∷_ (11, Rows.any-gone (Syntax.tyStruct (L._∷_ 114 (L._∷_ 117 (L._∷_ 108 (L._∷_ 101 (L._∷_ 115 (L._∷_ 58 (L._∷_ 58 (L._∷_ 102 (L._∷_ 111 (L._∷_ 117 (L._∷_ 110 (L._∷_ 100 (L._∷_ 58 (L._∷_ 58 (L._∷_ 70 (L._∷_ 111 (L._∷_ 117 (L._∷_ 110 (L._∷_ 100 L.[]))))))))))))))))))) (Syntax.tcons Syntax.tyBool (Syntax.tcons Syntax.tyBool (Syntax.tcons (Syntax.tyStruct (L._∷_ 115 (L._∷_ 116 (L._∷_ 101 (L._∷_ 112 (L._∷_ 58 (L._∷_ 58 (L._∷_ 83 (L._∷_ 116 (L._∷_ 101 (L._∷_ 112 L.[])))))))))) (Syntax.tcons (Syntax.tyInt Syntax.w64) (Syntax.tcons (Syntax.tyInt Syntax.w64) (Syntax.tcons (Syntax.tyStruct (L._∷_ 115 (L._∷_ 116 (L._∷_ 101 (L._∷_ 112 (L._∷_ 58 (L._∷_ 58 (L._∷_ 67 (L._∷_ 104 (L._∷_ 97 (L._∷_ 110 (L._∷_ 103 (L._∷_ 101 L.[])))))))))))) (Syntax.tcons (Syntax.tyStruct (L._∷_ 110 (L._∷_ 101 (L._∷_ 116 (L._∷_ 119 (L._∷_ 111 (L._∷_ 114 (L._∷_ 107 (L._∷_ 58 (L._∷_ 58 (L._∷_ 69 (L._∷_ 100 (L._∷_ 105 (L._∷_ 116 L.[]))))))))))))) (Syntax.tcons q7 (Syntax.tcons q7 (Syntax.tcons q7 (Syntax.tcons q7 (Syntax.tcons q2 (Syntax.tcons q2 (Syntax.tcons (Syntax.tyInt Syntax.w64) Syntax.tnil)))))))) (Syntax.tcons (Syntax.tyStruct (L._∷_ 115 (L._∷_ 116 (L._∷_ 101 (L._∷_ 112 (L._∷_ 58 (L._∷_ 58 (L._∷_ 79 (L._∷_ 108 (L._∷_ 100 L.[]))))))))) (Syntax.tcons (Syntax.tyInt Syntax.w64) (Syntax.tcons q6 (Syntax.tcons q7 (Syntax.tcons q7 (Syntax.tcons q7 (Syntax.tcons q7 (Syntax.tcons q4 Syntax.tnil)))))))) Syntax.tnil))) Syntax.tnil)))) Syntax.tnil))))) (L._∷_ q28 (L._∷_ q29 (L._∷_ q30 (L._∷_ q31 L.[])))))))))))))))
+t0 = L._∷_ (0, Rows.any-gone (Syntax.tyStruct (L._∷_ 114 (L._∷_ 117 (L._∷_ 108 (L._∷_ 101 (L._∷_ 115 (L._∷_ 58 (L._∷_ 58 (L._∷_ 116 (L._∷_ 114 (L._∷_ 105 (L._∷_ 101 (L._∷_ 100 (L._∷_ 58 (L._∷_ 58 (L._∷_ 76 (L._∷_ 111 (L._∷_ 111 (L._∷_ 107 (L._∷_ 101 (L._∷_ 100 L.[])))))))))))))))))))) (Syntax.tcons (Syntax.tyStruct (L._∷_ 114 (L._∷_ 117 (L._∷_ 108 (L._∷_ 101 (L._∷_ 115 (L._∷_ 58 (L._∷_ 58 (L._∷_ 102 (L._∷_ 111 (L._∷_ 117 (L._∷_ 110 (L._∷_ 100 (L._∷_ 58 (L._∷_ 58 (L._∷_ 70 (L._∷_ 111 (L._∷_ 117 (L._∷_ 110 (L._∷_ 100 L.[]))))))))))))))))))) (Syntax.tcons Syntax.tyBool (Syntax.tcons Syntax.tyBool (Syntax.tcons (Syntax.tyStruct (L._∷_ 115 (L._∷_ 116 (L._∷_ 101 (L._∷_ 112 (L._∷_ 58 (L._∷_ 58 (L._∷_ 83 (L._∷_ 116 (L._∷_ 101 (L._∷_ 112 L.[])))))))))) (Syntax.tcons (Syntax.tyInt Syntax.w64) (Syntax.tcons (Syntax.tyInt Syntax.w64) (Syntax.tcons (Syntax.tyStruct (L._∷_ 115 (L._∷_ 116 (L._∷_ 101 (L._∷_ 112 (L._∷_ 58 (L._∷_ 58 (L._∷_ 67 (L._∷_ 104 (L._∷_ 97 (L._∷_ 110 (L._∷_ 103 (L._∷_ 101 L.[])))))))))))) (Syntax.tcons (Syntax.tyStruct (L._∷_ 110 (L._∷_ 101 (L._∷_ 116 (L._∷_ 119 (L._∷_ 111 (L._∷_ 114 (L._∷_ 107 (L._∷_ 58 (L._∷_ 58 (L._∷_ 69 (L._∷_ 100 (L._∷_ 105 (L._∷_ 116 L.[]))))))))))))) (Syntax.tcons q7 (Syntax.tcons q7 (Syntax.tcons q7 (Syntax.tcons q7 (Syntax.tcons q2 (Syntax.tcons q2 (Syntax.tcons (Syntax.tyInt Syntax.w64) (Syntax.tcons q6 Syntax.tnil))))))))) (Syntax.tcons (Syntax.tyStruct (L._∷_ 115 (L._∷_ 116 (L._∷_ 101 (L._∷_ 112 (L._∷_ 58 (L._∷_ 58 (L._∷_ 79 (L._∷_ 108 (L._∷_ 100 L.[]))))))))) (Syntax.tcons (Syntax.tyInt Syntax.w64) (Syntax.tcons q6 (Syntax.tcons q7 (Syntax.tcons q7 (Syntax.tcons q7 (Syntax.tcons q7 (Syntax.tcons q4 Syntax.tnil)))))))) Syntax.tnil))) Syntax.tnil)))) Syntax.tnil)))) (Syntax.tcons q5 Syntax.tnil)))) (L._∷_ q20 (L._∷_ q11 (L._∷_ q17 (L._∷_ q26 (L._∷_ (5, Rows.any-gone (Syntax.tyStruct (L._∷_ 114 (L._∷_ 117 (L._∷_ 108 (L._∷_ 101 (L._∷_ 115 (L._∷_ 58 (L._∷_ 58 (L._∷_ 102 (L._∷_ 111 (L._∷_ 117 (L._∷_ 110 (L._∷_ 100 (L._∷_ 58 (L._∷_ 58 (L._∷_ 70 (L._∷_ 111 (L._∷_ 117 (L._∷_ 110 (L._∷_ 100 L.[]))))))))))))))))))) (Syntax.tcons Syntax.tyBool (Syntax.tcons Syntax.tyBool (Syntax.tcons (Syntax.tyStruct (L._∷_ 115 (L._∷_ 116 (L._∷_ 101 (L._∷_ 112 (L._∷_ 58 (L._∷_ 58 (L._∷_ 83 (L._∷_ 116 (L._∷_ 101 (L._∷_ 112 L.[])))))))))) (Syntax.tcons (Syntax.tyInt Syntax.w64) (Syntax.tcons (Syntax.tyInt Syntax.w64) (Syntax.tcons (Syntax.tyStruct (L._∷_ 115 (L._∷_ 116 (L._∷_ 101 (L._∷_ 112 (L._∷_ 58 (L._∷_ 58 (L._∷_ 67 (L._∷_ 104 (L._∷_ 97 (L._∷_ 110 (L._∷_ 103 (L._∷_ 101 L.[])))))))))))) (Syntax.tcons (Syntax.tyStruct (L._∷_ 110 (L._∷_ 101 (L._∷_ 116 (L._∷_ 119 (L._∷_ 111 (L._∷_ 114 (L._∷_ 107 (L._∷_ 58 (L._∷_ 58 (L._∷_ 69 (L._∷_ 100 (L._∷_ 105 (L._∷_ 116 L.[]))))))))))))) (Syntax.tcons q7 (Syntax.tcons q7 (Syntax.tcons q7 (Syntax.tcons q7 (Syntax.tcons q2 (Syntax.tcons q2 (Syntax.tcons (Syntax.tyInt Syntax.w64) (Syntax.tcons q6 Syntax.tnil))))))))) (Syntax.tcons (Syntax.tyStruct (L._∷_ 115 (L._∷_ 116 (L._∷_ 101 (L._∷_ 112 (L._∷_ 58 (L._∷_ 58 (L._∷_ 79 (L._∷_ 108 (L._∷_ 100 L.[]))))))))) (Syntax.tcons (Syntax.tyInt Syntax.w64) (Syntax.tcons q6 (Syntax.tcons q7 (Syntax.tcons q7 (Syntax.tcons q7 (Syntax.tcons q7 (Syntax.tcons q4 Syntax.tnil)))))))) Syntax.tnil))) Syntax.tnil)))) Syntax.tnil))))) (L._∷_ q8 (L._∷_ q23 (L._∷_ q32 (L._∷_ (9, Rows.any-gone (Syntax.tyStruct (L._∷_ 114 (L._∷_ 117 (L._∷_ 108 (L._∷_ 101 (L._∷_ 115 (L._∷_ 58 (L._∷_ 58 (L._∷_ 116 (L._∷_ 114 (L._∷_ 105 (L._∷_ 101 (L._∷_ 100 (L._∷_ 58 (L._∷_ 58 (L._∷_ 76 (L._∷_ 111 (L._∷_ 111 (L._∷_ 107 (L._∷_ 101 (L._∷_ 100 L.[])))))))))))))))))))) (Syntax.tcons (Syntax.tyStruct (L._∷_ 114 (L._∷_ 117 (L._∷_ 108 (L._∷_ 101 (L._∷_ 115 (L._∷_ 58 (L._∷_ 58 (L._∷_ 102 (L._∷_ 111 (L._∷_ 117 (L._∷_ 110 (L._∷_ 100 (L._∷_ 58 (L._∷_ 58 (L._∷_ 70 (L._∷_ 111 (L._∷_ 117 (L._∷_ 110 (L._∷_ 100 L.[]))))))))))))))))))) (Syntax.tcons Syntax.tyBool (Syntax.tcons Syntax.tyBool (Syntax.tcons (Syntax.tyStruct (L._∷_ 115 (L._∷_ 116 (L._∷_ 101 (L._∷_ 112 (L._∷_ 58 (L._∷_ 58 (L._∷_ 83 (L._∷_ 116 (L._∷_ 101 (L._∷_ 112 L.[])))))))))) (Syntax.tcons (Syntax.tyInt Syntax.w64) (Syntax.tcons (Syntax.tyInt Syntax.w64) (Syntax.tcons (Syntax.tyStruct (L._∷_ 115 (L._∷_ 116 (L._∷_ 101 (L._∷_ 112 (L._∷_ 58 (L._∷_ 58 (L._∷_ 67 (L._∷_ 104 (L._∷_ 97 (L._∷_ 110 (L._∷_ 103 (L._∷_ 101 L.[])))))))))))) (Syntax.tcons (Syntax.tyStruct (L._∷_ 110 (L._∷_ 101 (L._∷_ 116 (L._∷_ 119 (L._∷_ 111 (L._∷_ 114 (L._∷_ 107 (L._∷_ 58 (L._∷_ 58 (L._∷_ 69 (L._∷_ 100 (L._∷_ 105 (L._∷_ 116 L.[]))))))))))))) (Syntax.tcons q7 (Syntax.tcons q7 (Syntax.tcons q7 (Syntax.tcons q7 (Syntax.tcons q2 (Syntax.tcons q2 (Syntax.tcons (Syntax.tyInt Syntax.w64) (Syntax.tcons q6 Syntax.tnil))))))))) (Syntax.tcons (Syntax.tyStruct (L._∷_ 115 (L._∷_ 116 (L._∷_ 101 (L._∷_ 112 (L._∷_ 58 (L._∷_ 58 (L._∷_ 79 (L._∷_ 108 (L._∷_ 100 L.[]))))))))) (Syntax.tcons (Syntax.tyInt Syntax.w64) (Syntax.tcons q6 (Syntax.tcons q7 (Syntax.tcons q7 (Syntax.tcons q7 (Syntax.tcons q7 (Syntax.tcons q4 Syntax.tnil)))))))) Syntax.tnil))) Syntax.tnil)))) Syntax.tnil)))) (Syntax.tcons q5 Syntax.tnil)))) (L._∷_ (10, Rows.any-gone (Syntax.tyStruct (L._∷_ 114 (L._∷_ 117 (L._∷_ 108 (L._∷_ 101 (L._∷_ 115 (L._∷_ 58 (L._∷_ 58 (L._∷_ 102 (L._∷_ 111 (L._∷_ 117 (L._∷_ 110 (L._∷_ 100 (L._∷_ 58 (L._∷_ 58 (L._∷_ 70 (L._∷_ 111 (L._∷_ 117 (L._∷_ 110 (L._∷_ 100 L.[]))))))))))))))))))) (Syntax.tcons Syntax.tyBool (Syntax.tcons Syntax.tyBool (Syntax.tcons (Syntax.tyStruct (L._∷_ 115 (L._∷_ 116 (L._∷_ 101 (L._∷_ 112 (L._∷_ 58 (L._∷_ 58 (L._∷_ 83 (L._∷_ 116 (L._∷_ 101 (L._∷_ 112 L.[])))))))))) (Syntax.tcons (Syntax.tyInt Syntax.w64) (Syntax.tcons (Syntax.tyInt Syntax.w64) (Syntax.tcons (Syntax.tyStruct (L._∷_ 115 (L._∷_ 116 (L._∷_ 101 (L._∷_ 112 (L._∷_ 58 (L._∷_ 58 (L._∷_ 67 (L._∷_ 104 (L._∷_ 97 (L._∷_ 110 (L._∷_ 103 (L._∷_ 101 L.[])))))))))))) (Syntax.tcons (Syntax.tyStruct (L._∷_ 110 (L._∷_ 101 (L._∷_ 116 (L._∷_ 119 (L._∷_ 111 (L._∷_ 114 (L._∷_ 107 (L._∷_ 58 (L._∷_ 58 (L._∷_ 69 (L._∷_ 100 (L._∷_ 105 (L._∷_ 116 L.[]))))))))))))) (Syntax.tcons q7 (Syntax.tcons q7 (Syntax.tcons q7 (Syntax.tcons q7 (Syntax.tcons q2 (Syntax.tcons q2 (Syntax.tcons (Syntax.tyInt Syntax.w64) (Syntax.tcons q6 Syntax.tnil))))))))) (Syntax.tcons (Syntax.tyStruct (L._∷_ 115 (L._∷_ 116 (L._∷_ 101 (L._∷_ 112 (L._∷_ 58 (L._∷_ 58 (L._∷_ 79 (L._∷_ 108 (L._∷_ 100 L.[]))))))))) (Syntax.tcons (Syntax.tyInt Syntax.w64) (Syntax.tcons q6 (Syntax.tcons q7 (Syntax.tcons q7 (Syntax.tcons q7 (Syntax.tcons q7 (Syntax.tcons q4 Syntax.tnil)))))))) Syntax.tnil))) Syntax.tnil)))) Syntax.tnil))))) (L._∷_ (11, Rows.any-gone (Syntax.tyStruct (L._∷_ 114 (L._∷_ 117 (L._∷_ 108 (L._∷_ 101 (L._∷_ 115 (L._∷_ 58 (L._∷_ 58 (L._∷_ 102 (L._∷_ 111 (L._∷_ 117 (L._∷_ 110 (L._∷_ 100 (L._∷_ 58 (L._∷_ 58 (L._∷_ 70 (L._∷_ 111 (L._∷_ 117 (L._∷_ 110 (L._∷_ 100 L.[]))))))))))))))))))) (Syntax.tcons Syntax.tyBool (Syntax.tcons Syntax.tyBool (Syntax.tcons (Syntax.tyStruct (L._∷_ 115 (L._∷_ 116 (L._∷_ 101 (L._∷_ 112 (L._∷_ 58 (L._∷_ 58 (L._∷_ 83 (L._∷_ 116 (L._∷_ 101 (L._∷_ 112 L.[])))))))))) (Syntax.tcons (Syntax.tyInt Syntax.w64) (Syntax.tcons (Syntax.tyInt Syntax.w64) (Syntax.tcons (Syntax.tyStruct (L._∷_ 115 (L._∷_ 116 (L._∷_ 101 (L._∷_ 112 (L._∷_ 58 (L._∷_ 58 (L._∷_ 67 (L._∷_ 104 (L._∷_ 97 (L._∷_ 110 (L._∷_ 103 (L._∷_ 101 L.[])))))))))))) (Syntax.tcons (Syntax.tyStruct (L._∷_ 110 (L._∷_ 101 (L._∷_ 116 (L._∷_ 119 (L._∷_ 111 (L._∷_ 114 (L._∷_ 107 (L._∷_ 58 (L._∷_ 58 (L._∷_ 69 (L._∷_ 100 (L._∷_ 105 (L._∷_ 116 L.[]))))))))))))) (Syntax.tcons q7 (Syntax.tcons q7 (Syntax.tcons q7 (Syntax.tcons q7 (Syntax.tcons q2 (Syntax.tcons q2 (Syntax.tcons (Syntax.tyInt Syntax.w64) (Syntax.tcons q6 Syntax.tnil))))))))) (Syntax.tcons (Syntax.tyStruct (L._∷_ 115 (L._∷_ 116 (L._∷_ 101 (L._∷_ 112 (L._∷_ 58 (L._∷_ 58 (L._∷_ 79 (L._∷_ 108 (L._∷_ 100 L.[]))))))))) (Syntax.tcons (Syntax.tyInt Syntax.w64) (Syntax.tcons q6 (Syntax.tcons q7 (Syntax.tcons q7 (Syntax.tcons q7 (Syntax.tcons q7 (Syntax.tcons q4 Syntax.tnil)))))))) Syntax.tnil))) Syntax.tnil)))) Syntax.tnil))))) (L._∷_ q28 (L._∷_ q29 (L._∷_ q30 (L._∷_ q31 L.[])))))))))))))))
 
 abbrev pub t1 : L.List Row.Entry
-t1 = L._∷_ q12 (L._∷_ q0 (L._∷_ q11 (L._∷_ q3 (L._∷_ q24 (L._∷_ (5, Rows.any-gone (Syntax.tyStruct (L._∷_ 114 (L._∷_ 117 (L._∷_ 108 (L._∷_ 101 (L._∷_ 115 (L._∷_ 58 (L._∷_ 58 (L._∷_ 102 (L._∷_ 111 (L._∷_ 117 (L._∷_ 110 (L._∷_ 100 (L._∷_ 58 (L._∷_ 58 (L._∷_ 70 (L._∷_ 111 (L._∷_ 117 (L._∷_ 110 (L._∷_ 100 L.[]))))))))))))))))))) (Syntax.tcons Syntax.tyBool (Syntax.tcons Syntax.tyBool (Syntax.tcons (Syntax.tyStruct (L._∷_ 115 (L._∷_ 116 (L._∷_ 101 (L._∷_ 112 (L._∷_ 58 (L._∷_ 58 (L._∷_ 83 (L._∷_ 116 (L._∷_ 101 (L._∷_ 112 L.[])))))))))) (Syntax.tcons (Syntax.tyInt Syntax.w64) (Syntax.tcons (Syntax.tyInt Syntax.w64) (Syntax.tcons (Syntax.tyStruct (L._∷_ 115 (L._∷_ 116 (L._∷_ 101 (L._∷_ 112 (L._∷_ 58 (L._∷_ 58 (L._∷_ 67 (L._∷_ 104 (L._∷_ 97 (L._∷_ 110 (L._∷_ 103 (L._∷_ 101 L.[])))))))))))) (Syntax.tcons (Syntax.tyStruct (L._∷_ 110 (L._∷_ 101 (L._∷_ 116 (L._∷_ 119 (L._∷_ 111 (L._∷_ 114 (L._∷_ 107 (L._∷_ 58 (L._∷_ 58 (L._∷_ 69 (L._∷_ 100 (L._∷_ 105 (L._∷_ 116 L.[]))))))))))))) (Syntax.tcons q7 (Syntax.tcons q7 (Syntax.tcons q7 (Syntax.tcons q7 (Syntax.tcons q2 (Syntax.tcons q2 (Syntax.tcons (Syntax.tyInt Syntax.w64) Syntax.tnil)))))))) (Syntax.tcons (Syntax.tyStruct (L._∷_ 115 (L._∷_ 116 (L._∷_ 101 (L._∷_ 112 (L._∷_ 58 (L._∷_ 58 (L._∷_ 79 (L._∷_ 108 (L._∷_ 100 L.[]))))))))) (Syntax.tcons (Syntax.tyInt Syntax.w64) (Syntax.tcons q6 (Syntax.tcons q7 (Syntax.tcons q7 (Syntax.tcons q7 (Syntax.tcons q7 (Syntax.tcons q4 Syntax.tnil)))))))) Syntax.tnil))) Syntax.tnil)))) Syntax.tnil))))) (L._∷_ q8 (L._∷_ q23 (L._∷_ q32 (L._∷_ (9, Rows.any-gone (Syntax.tyStruct (L._∷_ 114 (L._∷_ 117 (L._∷_ 108 (L._∷_ 101 (L._∷_ 115 (L._∷_ 58 (L._∷_ 58 (L._∷_ 116 (L._∷_ 114 (L._∷_ 105 (L._∷_ 101 (L._∷_ 100 (L._∷_ 58 (L._∷_ 58 (L._∷_ 76 (L._∷_ 111 (L._∷_ 111 (L._∷_ 107 (L._∷_ 101 (L._∷_ 100 L.[])))))))))))))))))))) (Syntax.tcons (Syntax.tyStruct (L._∷_ 114 (L._∷_ 117 (L._∷_ 108 (L._∷_ 101 (L._∷_ 115 (L._∷_ 58 (L._∷_ 58 (L._∷_ 102 (L._∷_ 111 (L._∷_ 117 (L._∷_ 110 (L._∷_ 100 (L._∷_ 58 (L._∷_ 58 (L._∷_ 70 (L._∷_ 111 (L._∷_ 117 (L._∷_ 110 (L._∷_ 100 L.[]))))))))))))))))))) (Syntax.tcons Syntax.tyBool (Syntax.tcons Syntax.tyBool (Syntax.tcons (Syntax.tyStruct (L._∷_ 115 (L._∷_ 116 (L._∷_ 101 (L._∷_ 112 (L._∷_ 58 (L._∷_ 58 (L._∷_ 83 (L._∷_ 116 (L._∷_ 101 (L._∷_ 112 L.[])))))))))) (Syntax.tcons (Syntax.tyInt Syntax.w64) (Syntax.tcons (Syntax.tyInt Syntax.w64) (Syntax.tcons (Syntax.tyStruct (L._∷_ 115 (L._∷_ 116 (L._∷_ 101 (L._∷_ 112 (L._∷_ 58 (L._∷_ 58 (L._∷_ 67 (L._∷_ 104 (L._∷_ 97 (L._∷_ 110 (L._∷_ 103 (L._∷_ 101 L.[])))))))))))) (Syntax.tcons (Syntax.tyStruct (L._∷_ 110 (L._∷_ 101 (L._∷_ 116 (L._∷_ 119 (L._∷_ 111 (L._∷_ 114 (L._∷_ 107 (L._∷_ 58 (L._∷_ 58 (L._∷_ 69 (L._∷_ 100 (L._∷_ 105 (L._∷_ 116 L.[]))))))))))))) (Syntax.tcons q7 (Syntax.tcons q7 (Syntax.tcons q7 (Syntax.tcons q7 (Syntax.tcons q2 (Syntax.tcons q2 (Syntax.tcons (Syntax.tyInt Syntax.w64) Syntax.tnil)))))))) (Syntax.tcons (Syntax.tyStruct (L._∷_ 115 (L._∷_ 116 (L._∷_ 101 (L._∷_ 112 (L._∷_ 58 (L._∷_ 58 (L._∷_ 79 (L._∷_ 108 (L._∷_ 100 L.[]))))))))) (Syntax.tcons (Syntax.tyInt Syntax.w64) (Syntax.tcons q6 (Syntax.tcons q7 (Syntax.tcons q7 (Syntax.tcons q7 (Syntax.tcons q7 (Syntax.tcons q4 Syntax.tnil)))))))) Syntax.tnil))) Syntax.tnil)))) Syntax.tnil)))) (Syntax.tcons q5 Syntax.tnil)))) (L._∷_ (10, Rows.any-gone (Syntax.tyStruct (L._∷_ 114 (L._∷_ 117 (L._∷_ 108 (L._∷_ 101 (L._∷_ 115 (L._∷_ 58 (L._∷_ 58 (L._∷_ 102 (L._∷_ 111 (L._∷_ 117 (L._∷_ 110 (L._∷_ 100 (L._∷_ 58 (L._∷_ 58 (L._∷_ 70 (L._∷_ 111 (L._∷_ 117 (L._∷_ 110 (L._∷_ 100 L.[]))))))))))))))))))) (Syntax.tcons Syntax.tyBool (Syntax.tcons Syntax.tyBool (Syntax.tcons (Syntax.tyStruct (L._∷_ 115 (L._∷_ 116 (L._∷_ 101 (L._∷_ 112 (L._∷_ 58 (L._∷_ 58 (L._∷_ 83 (L._∷_ 116 (L._∷_ 101 (L._∷_ 112 L.[])))))))))) (Syntax.tcons (Syntax.tyInt Syntax.w64) (Syntax.tcons (Syntax.tyInt Syntax.w64) (Syntax.tcons (Syntax.tyStruct (L._∷_ 115 (L._∷_ 116 (L._∷_ 101 (L._∷_ 112 (L._∷_ 58 (L._∷_ 58 (L._∷_ 67 (L._∷_ 104 (L._∷_ 97 (L._∷_ 110 (L._∷_ 103 (L._∷_ 101 L.[])))))))))))) (Syntax.tcons (Syntax.tyStruct (L._∷_ 110 (L._∷_ 101 (L._∷_ 116 (L._∷_ 119 (L._∷_ 111 (L._∷_ 114 (L._∷_ 107 (L._∷_ 58 (L._∷_ 58 (L._∷_ 69 (L._∷_ 100 (L._∷_ 105 (L._∷_ 116 L.[]))))))))))))) (Syntax.tcons q7 (Syntax.tcons q7 (Syntax.tcons q7 (Syntax.tcons q7 (Syntax.tcons q2 (Syntax.tcons q2 (Syntax.tcons (Syntax.tyInt Syntax.w64) Syntax.tnil)))))))) (Syntax.tcons (Syntax.tyStruct (L._∷_ 115 (L._∷_ 116 (L._∷_ 101 (L._∷_ 112 (L._∷_ 58 (L._∷_ 58 (L._∷_ 79 (L._∷_ 108 (L._∷_ 100 L.[]))))))))) (Syntax.tcons (Syntax.tyInt Syntax.w64) (Syntax.tcons q6 (Syntax.tcons q7 (Syntax.tcons q7 (Syntax.tcons q7 (Syntax.tcons q7 (Syntax.tcons q4 Syntax.tnil)))))))) Syntax.tnil))) Syntax.tnil)))) Syntax.tnil))))) (L._∷_ (11, Rows.any-gone (Syntax.tyStruct (L._∷_ 114 (L._∷_ 117 (L._∷_ 108 (L._∷_ 101 (L._∷_ 115 (L._∷_ 58 (L._∷_ 58 (L._∷_ 102 (L._∷_ 111 (L._∷_ 117 (L._∷_ 110 (L._∷_ 100 (L._∷_ 58 (L._∷_ 58 (L._∷_ 70 (L._∷_ 111 (L._∷_ 117 (L._∷_ 110 (L._∷_ 100 L.[]))))))))))))))))))) (Syntax.tcons Syntax.tyBool (Syntax.tcons Syntax.tyBool (Syntax.tcons (Syntax.tyStruct (L._∷_ 115 (L._∷_ 116 (L._∷_ 101 (L._∷_ 112 (L._∷_ 58 (L._∷_ 58 (L._∷_ 83 (L._∷_ 116 (L._∷_ 101 (L._∷_ 112 L.[])))))))))) (Syntax.tcons (Syntax.tyInt Syntax.w64) (Syntax.tcons (Syntax.tyInt Syntax.w64) (Syntax.tcons (Syntax.tyStruct (L._∷_ 115 (L._∷_ 116 (L._∷_ 101 (L._∷_ 112 (L._∷_ 58 (L._∷_ 58 (L._∷_ 67 (L._∷_ 104 (L._∷_ 97 (L._∷_ 110 (L._∷_ 103 (L._∷_ 101 L.[])))))))))))) (Syntax.tcons (Syntax.tyStruct (L._∷_ 110 (L._∷_ 101 (L._∷_ 116 (L._∷_ 119 (L._∷_ 111 (L._∷_ 114 (L._∷_ 107 (L._∷_ 58 (L._∷_ 58 (L._∷_ 69 (L._∷_ 100 (L._∷_ 105 (L._∷_ 116 L.[]))))))))))))) (Syntax.tcons q7 (Syntax.tcons q7 (Syntax.tcons q7 (Syntax.tcons q7 (Syntax.tcons q2 (Syntax.tcons q2 (Syntax.tcons (Syntax.tyInt Syntax.w64) Syntax.tnil)))))))) (Syntax.tcons (Syntax.tyStruct (L._∷_ 115 (L._∷_ 116 (L._∷_ 101 (L._∷_ 112 (L._∷_ 58 (L._∷_ 58 (L._∷_ 79 (L._∷_ 108 (L._∷_ 100 L.[]))))))))) (Syntax.tcons (Syntax.tyInt Syntax.w64) (Syntax.tcons q6 (Syntax.tcons q7 (Syntax.tcons q7 (Syntax.tcons q7 (Syntax.tcons q7 (Syntax.tcons q4 Syntax.tnil)))))))) Syntax.tnil))) Syntax.tnil)))) Syntax.tnil))))) (L._∷_ q28 (L._∷_ q29 (L._∷_ q30 (L._∷_ q31 L.[])))))))))))))))
+t1 = L._∷_ q12 (L._∷_ q0 (L._∷_ q11 (L._∷_ q3 (L._∷_ q24 (L._∷_ (5, Rows.any-gone (Syntax.tyStruct (L._∷_ 114 (L._∷_ 117 (L._∷_ 108 (L._∷_ 101 (L._∷_ 115 (L._∷_ 58 (L._∷_ 58 (L._∷_ 102 (L._∷_ 111 (L._∷_ 117 (L._∷_ 110 (L._∷_ 100 (L._∷_ 58 (L._∷_ 58 (L._∷_ 70 (L._∷_ 111 (L._∷_ 117 (L._∷_ 110 (L._∷_ 100 L.[]))))))))))))))))))) (Syntax.tcons Syntax.tyBool (Syntax.tcons Syntax.tyBool (Syntax.tcons (Syntax.tyStruct (L._∷_ 115 (L._∷_ 116 (L._∷_ 101 (L._∷_ 112 (L._∷_ 58 (L._∷_ 58 (L._∷_ 83 (L._∷_ 116 (L._∷_ 101 (L._∷_ 112 L.[])))))))))) (Syntax.tcons (Syntax.tyInt Syntax.w64) (Syntax.tcons (Syntax.tyInt Syntax.w64) (Syntax.tcons (Syntax.tyStruct (L._∷_ 115 (L._∷_ 116 (L._∷_ 101 (L._∷_ 112 (L._∷_ 58 (L._∷_ 58 (L._∷_ 67 (L._∷_ 104 (L._∷_ 97 (L._∷_ 110 (L._∷_ 103 (L._∷_ 101 L.[])))))))))))) (Syntax.tcons (Syntax.tyStruct (L._∷_ 110 (L._∷_ 101 (L._∷_ 116 (L._∷_ 119 (L._∷_ 111 (L._∷_ 114 (L._∷_ 107 (L._∷_ 58 (L._∷_ 58 (L._∷_ 69 (L._∷_ 100 (L._∷_ 105 (L._∷_ 116 L.[]))))))))))))) (Syntax.tcons q7 (Syntax.tcons q7 (Syntax.tcons q7 (Syntax.tcons q7 (Syntax.tcons q2 (Syntax.tcons q2 (Syntax.tcons (Syntax.tyInt Syntax.w64) (Syntax.tcons q6 Syntax.tnil))))))))) (Syntax.tcons (Syntax.tyStruct (L._∷_ 115 (L._∷_ 116 (L._∷_ 101 (L._∷_ 112 (L._∷_ 58 (L._∷_ 58 (L._∷_ 79 (L._∷_ 108 (L._∷_ 100 L.[]))))))))) (Syntax.tcons (Syntax.tyInt Syntax.w64) (Syntax.tcons q6 (Syntax.tcons q7 (Syntax.tcons q7 (Syntax.tcons q7 (Syntax.tcons q7 (Syntax.tcons q4 Syntax.tnil)))))))) Syntax.tnil))) Syntax.tnil)))) Syntax.tnil))))) (L._∷_ q8 (L._∷_ q23 (L._∷_ q32 (L._∷_ (9, Rows.any-gone (Syntax.tyStruct (L._∷_ 114 (L._∷_ 117 (L._∷_ 108 (L._∷_ 101 (L._∷_ 115 (L._∷_ 58 (L._∷_ 58 (L._∷_ 116 (L._∷_ 114 (L._∷_ 105 (L._∷_ 101 (L._∷_ 100 (L._∷_ 58 (L._∷_ 58 (L._∷_ 76 (L._∷_ 111 (L._∷_ 111 (L._∷_ 107 (L._∷_ 101 (L._∷_ 100 L.[])))))))))))))))))))) (Syntax.tcons (Syntax.tyStruct (L._∷_ 114 (L._∷_ 117 (L._∷_ 108 (L._∷_ 101 (L._∷_ 115 (L._∷_ 58 (L._∷_ 58 (L._∷_ 102 (L._∷_ 111 (L._∷_ 117 (L._∷_ 110 (L._∷_ 100 (L._∷_ 58 (L._∷_ 58 (L._∷_ 70 (L._∷_ 111 (L._∷_ 117 (L._∷_ 110 (L._∷_ 100 L.[]))))))))))))))))))) (Syntax.tcons Syntax.tyBool (Syntax.tcons Syntax.tyBool (Syntax.tcons (Syntax.tyStruct (L._∷_ 115 (L._∷_ 116 (L._∷_ 101 (L._∷_ 112 (L._∷_ 58 (L._∷_ 58 (L._∷_ 83 (L._∷_ 116 (L._∷_ 101 (L._∷_ 112 L.[])))))))))) (Syntax.tcons (Syntax.tyInt Syntax.w64) (Syntax.tcons (Syntax.tyInt Syntax.w64) (Syntax.tcons (Syntax.tyStruct (L._∷_ 115 (L._∷_ 116 (L._∷_ 101 (L._∷_ 112 (L._∷_ 58 (L._∷_ 58 (L._∷_ 67 (L._∷_ 104 (L._∷_ 97 (L._∷_ 110 (L._∷_ 103 (L._∷_ 101 L.[])))))))))))) (Syntax.tcons (Syntax.tyStruct (L._∷_ 110 (L._∷_ 101 (L._∷_ 116 (L._∷_ 119 (L._∷_ 111 (L._∷_ 114 (L._∷_ 107 (L._∷_ 58 (L._∷_ 58 (L._∷_ 69 (L._∷_ 100 (L._∷_ 105 (L._∷_ 116 L.[]))))))))))))) (Syntax.tcons q7 (Syntax.tcons q7 (Syntax.tcons q7 (Syntax.tcons q7 (Syntax.tcons q2 (Syntax.tcons q2 (Syntax.tcons (Syntax.tyInt Syntax.w64) (Syntax.tcons q6 Syntax.tnil))))))))) (Syntax.tcons (Syntax.tyStruct (L._∷_ 115 (L._∷_ 116 (L._∷_ 101 (L._∷_ 112 (L._∷_ 58 (L._∷_ 58 (L._∷_ 79 (L._∷_ 108 (L._∷_ 100 L.[]))))))))) (Syntax.tcons (Syntax.tyInt Syntax.w64) (Syntax.tcons q6 (Syntax.tcons q7 (Syntax.tcons q7 (Syntax.tcons q7 (Syntax.tcons q7 (Syntax.tcons q4 Syntax.tnil)))))))) Syntax.tnil))) Syntax.tnil)))) Syntax.tnil)))) (Syntax.tcons q5 Syntax.tnil)))) (L._∷_ (10, Rows.any-gone (Syntax.tyStruct (L._∷_ 114 (L._∷_ 117 (L._∷_ 108 (L._∷_ 101 (L._∷_ 115 (L._∷_ 58 (L._∷_ 58 (L._∷_ 102 (L._∷_ 111 (L._∷_ 117 (L._∷_ 110 (L._∷_ 100 (L._∷_ 58 (L._∷_ 58 (L._∷_ 70 (L._∷_ 111 (L._∷_ 117 (L._∷_ 110 (L._∷_ 100 L.[]))))))))))))))))))) (Syntax.tcons Syntax.tyBool (Syntax.tcons Syntax.tyBool (Syntax.tcons (Syntax.tyStruct (L._∷_ 115 (L._∷_ 116 (L._∷_ 101 (L._∷_ 112 (L._∷_ 58 (L._∷_ 58 (L._∷_ 83 (L._∷_ 116 (L._∷_ 101 (L._∷_ 112 L.[])))))))))) (Syntax.tcons (Syntax.tyInt Syntax.w64) (Syntax.tcons (Syntax.tyInt Syntax.w64) (Syntax.tcons (Syntax.tyStruct (L._∷_ 115 (L._∷_ 116 (L._∷_ 101 (L._∷_ 112 (L._∷_ 58 (L._∷_ 58 (L._∷_ 67 (L._∷_ 104 (L._∷_ 97 (L._∷_ 110 (L._∷_ 103 (L._∷_ 101 L.[])))))))))))) (Syntax.tcons (Syntax.tyStruct (L._∷_ 110 (L._∷_ 101 (L._∷_ 116 (L._∷_ 119 (L._∷_ 111 (L._∷_ 114 (L._∷_ 107 (L._∷_ 58 (L._∷_ 58 (L._∷_ 69 (L._∷_ 100 (L._∷_ 105 (L._∷_ 116 L.[]))))))))))))) (Syntax.tcons q7 (Syntax.tcons q7 (Syntax.tcons q7 (Syntax.tcons q7 (Syntax.tcons q2 (Syntax.tcons q2 (Syntax.tcons (Syntax.tyInt Syntax.w64) (Syntax.tcons q6 Syntax.tnil))))))))) (Syntax.tcons (Syntax.tyStruct (L._∷_ 115 (L._∷_ 116 (L._∷_ 101 (L._∷_ 112 (L._∷_ 58 (L._∷_ 58 (L._∷_ 79 (L._∷_ 108 (L._∷_ 100 L.[]))))))))) (Syntax.tcons (Syntax.tyInt Syntax.w64) (Syntax.tcons q6 (Syntax.tcons q7 (Syntax.tcons q7 (Syntax.tcons q7 (Syntax.tcons q7 (Syntax.tcons q4 Syntax.tnil)))))))) Syntax.tnil))) Syntax.tnil)))) Syntax.tnil))))) (L._∷_ (11, Rows.any-gone (Syntax.tyStruct (L._∷_ 114 (L._∷_ 117 (L._∷_ 108 (L._∷_ 101 (L._∷_ 115 (L._∷_ 58 (L._∷_ 58 (L._∷_ 102 (L._∷_ 111 (L._∷_ 117 (L._∷_ 110 (L._∷_ 100 (L._∷_ 58 (L._∷_ 58 (L._∷_ 70 (L._∷_ 111 (L._∷_ 117 (L._∷_ 110 (L._∷_ 100 L.[]))))))))))))))))))) (Syntax.tcons Syntax.tyBool (Syntax.tcons Syntax.tyBool (Syntax.tcons (Syntax.tyStruct (L._∷_ 115 (L._∷_ 116 (L._∷_ 101 (L._∷_ 112 (L._∷_ 58 (L._∷_ 58 (L._∷_ 83 (L._∷_ 116 (L._∷_ 101 (L._∷_ 112 L.[])))))))))) (Syntax.tcons (Syntax.tyInt Syntax.w64) (Syntax.tcons (Syntax.tyInt Syntax.w64) (Syntax.tcons (Syntax.tyStruct (L._∷_ 115 (L._∷_ 116 (L._∷_ 101 (L._∷_ 112 (L._∷_ 58 (L._∷_ 58 (L._∷_ 67 (L._∷_ 104 (L._∷_ 97 (L._∷_ 110 (L._∷_ 103 (L._∷_ 101 L.[])))))))))))) (Syntax.tcons (Syntax.tyStruct (L._∷_ 110 (L._∷_ 101 (L._∷_ 116 (L._∷_ 119 (L._∷_ 111 (L._∷_ 114 (L._∷_ 107 (L._∷_ 58 (L._∷_ 58 (L._∷_ 69 (L._∷_ 100 (L._∷_ 105 (L._∷_ 116 L.[]))))))))))))) (Syntax.tcons q7 (Syntax.tcons q7 (Syntax.tcons q7 (Syntax.tcons q7 (Syntax.tcons q2 (Syntax.tcons q2 (Syntax.tcons (Syntax.tyInt Syntax.w64) (Syntax.tcons q6 Syntax.tnil))))))))) (Syntax.tcons (Syntax.tyStruct (L._∷_ 115 (L._∷_ 116 (L._∷_ 101 (L._∷_ 112 (L._∷_ 58 (L._∷_ 58 (L._∷_ 79 (L._∷_ 108 (L._∷_ 100 L.[]))))))))) (Syntax.tcons (Syntax.tyInt Syntax.w64) (Syntax.tcons q6 (Syntax.tcons q7 (Syntax.tcons q7 (Syntax.tcons q7 (Syntax.tcons q7 (Syntax.tcons q4 Syntax.tnil)))))))) Syntax.tnil))) Syntax.tnil)))) Syntax.tnil))))) (L._∷_ q28 (L._∷_ q29 (L._∷_ q30 (L._∷_ q31 L.[])))))))))))))))
 
 abbrev pub t2 : L.List Row.Entry
-t2 = L._∷_ (0, Rows.any-gone (Syntax.tyStruct (L._∷_ 114 (L._∷_ 117 (L._∷_ 108 (L._∷_ 101 (L._∷_ 115 (L._∷_ 58 (L._∷_ 58 (L._∷_ 116 (L._∷_ 114 (L._∷_ 105 (L._∷_ 101 (L._∷_ 100 (L._∷_ 58 (L._∷_ 58 (L._∷_ 76 (L._∷_ 111 (L._∷_ 111 (L._∷_ 107 (L._∷_ 101 (L._∷_ 100 L.[])))))))))))))))))))) (Syntax.tcons (Syntax.tyStruct (L._∷_ 114 (L._∷_ 117 (L._∷_ 108 (L._∷_ 101 (L._∷_ 115 (L._∷_ 58 (L._∷_ 58 (L._∷_ 102 (L._∷_ 111 (L._∷_ 117 (L._∷_ 110 (L._∷_ 100 (L._∷_ 58 (L._∷_ 58 (L._∷_ 70 (L._∷_ 111 (L._∷_ 117 (L._∷_ 110 (L._∷_ 100 L.[]))))))))))))))))))) (Syntax.tcons Syntax.tyBool (Syntax.tcons Syntax.tyBool (Syntax.tcons (Syntax.tyStruct (L._∷_ 115 (L._∷_ 116 (L._∷_ 101 (L._∷_ 112 (L._∷_ 58 (L._∷_ 58 (L._∷_ 83 (L._∷_ 116 (L._∷_ 101 (L._∷_ 112 L.[])))))))))) (Syntax.tcons (Syntax.tyInt Syntax.w64) (Syntax.tcons (Syntax.tyInt Syntax.w64) (Syntax.tcons (Syntax.tyStruct (L._∷_ 115 (L._∷_ 116 (L._∷_ 101 (L._∷_ 112 (L._∷_ 58 (L._∷_ 58 (L._∷_ 67 (L._∷_ 104 (L._∷_ 97 (L._∷_ 110 (L._∷_ 103 (L._∷_ 101 L.[])))))))))))) (Syntax.tcons (Syntax.tyStruct (L._∷_ 110 (L._∷_ 101 (L._∷_ 116 (L._∷_ 119 (L._∷_ 111 (L._∷_ 114 (L._∷_ 107 (L._∷_ 58 (L._∷_ 58 (L._∷_ 69 (L._∷_ 100 (L._∷_ 105 (L._∷_ 116 L.[]))))))))))))) (Syntax.tcons q7 (Syntax.tcons q7 (Syntax.tcons q7 (Syntax.tcons q7 (Syntax.tcons q2 (Syntax.tcons q2 (Syntax.tcons (Syntax.tyInt Syntax.w64) Syntax.tnil)))))))) (Syntax.tcons (Syntax.tyStruct (L._∷_ 115 (L._∷_ 116 (L._∷_ 101 (L._∷_ 112 (L._∷_ 58 (L._∷_ 58 (L._∷_ 79 (L._∷_ 108 (L._∷_ 100 L.[]))))))))) (Syntax.tcons (Syntax.tyInt Syntax.w64) (Syntax.tcons q6 (Syntax.tcons q7 (Syntax.tcons q7 (Syntax.tcons q7 (Syntax.tcons q7 (Syntax.tcons q4 Syntax.tnil)))))))) Syntax.tnil))) Syntax.tnil)))) Syntax.tnil)))) (Syntax.tcons q5 Syntax.tnil)))) (L._∷_ q20 (L._∷_ q11 (L._∷_ q17 (L._∷_ q26 (L._∷_ q16 (L._∷_ q8 (L._∷_ q23 (L._∷_ q32 (L._∷_ (9, Rows.any-gone (Syntax.tyStruct (L._∷_ 114 (L._∷_ 117 (L._∷_ 108 (L._∷_ 101 (L._∷_ 115 (L._∷_ 58 (L._∷_ 58 (L._∷_ 116 (L._∷_ 114 (L._∷_ 105 (L._∷_ 101 (L._∷_ 100 (L._∷_ 58 (L._∷_ 58 (L._∷_ 76 (L._∷_ 111 (L._∷_ 111 (L._∷_ 107 (L._∷_ 101 (L._∷_ 100 L.[])))))))))))))))))))) (Syntax.tcons (Syntax.tyStruct (L._∷_ 114 (L._∷_ 117 (L._∷_ 108 (L._∷_ 101 (L._∷_ 115 (L._∷_ 58 (L._∷_ 58 (L._∷_ 102 (L._∷_ 111 (L._∷_ 117 (L._∷_ 110 (L._∷_ 100 (L._∷_ 58 (L._∷_ 58 (L._∷_ 70 (L._∷_ 111 (L._∷_ 117 (L._∷_ 110 (L._∷_ 100 L.[]))))))))))))))))))) (Syntax.tcons Syntax.tyBool (Syntax.tcons Syntax.tyBool (Syntax.tcons (Syntax.tyStruct (L._∷_ 115 (L._∷_ 116 (L._∷_ 101 (L._∷_ 112 (L._∷_ 58 (L._∷_ 58 (L._∷_ 83 (L._∷_ 116 (L._∷_ 101 (L._∷_ 112 L.[])))))))))) (Syntax.tcons (Syntax.tyInt Syntax.w64) (Syntax.tcons (Syntax.tyInt Syntax.w64) (Syntax.tcons (Syntax.tyStruct (L._∷_ 115 (L._∷_ 116 (L._∷_ 101 (L._∷_ 112 (L._∷_ 58 (L._∷_ 58 (L._∷_ 67 (L._∷_ 104 (L._∷_ 97 (L._∷_ 110 (L._∷_ 103 (L._∷_ 101 L.[])))))))))))) (Syntax.tcons (Syntax.tyStruct (L._∷_ 110 (L._∷_ 101 (L._∷_ 116 (L._∷_ 119 (L._∷_ 111 (L._∷_ 114 (L._∷_ 107 (L._∷_ 58 (L._∷_ 58 (L._∷_ 69 (L._∷_ 100 (L._∷_ 105 (L._∷_ 116 L.[]))))))))))))) (Syntax.tcons q7 (Syntax.tcons q7 (Syntax.tcons q7 (Syntax.tcons q7 (Syntax.tcons q2 (Syntax.tcons q2 (Syntax.tcons (Syntax.tyInt Syntax.w64) Syntax.tnil)))))))) (Syntax.tcons (Syntax.tyStruct (L._∷_ 115 (L._∷_ 116 (L._∷_ 101 (L._∷_ 112 (L._∷_ 58 (L._∷_ 58 (L._∷_ 79 (L._∷_ 108 (L._∷_ 100 L.[]))))))))) (Syntax.tcons (Syntax.tyInt Syntax.w64) (Syntax.tcons q6 (Syntax.tcons q7 (Syntax.tcons q7 (Syntax.tcons q7 (Syntax.tcons q7 (Syntax.tcons q4 Syntax.tnil)))))))) Syntax.tnil))) Syntax.tnil)))) Syntax.tnil)))) (Syntax.tcons q5 Syntax.tnil)))) (L._∷_ (10, Rows.any-gone (Syntax.tyStruct (L._∷_ 114 (L._∷_ 117 (L._∷_ 108 (L._∷_ 101 (L._∷_ 115 (L._∷_ 58 (L._∷_ 58 (L._∷_ 102 (L._∷_ 111 (L._∷_ 117 (L._∷_ 110 (L._∷_ 100 (L._∷_ 58 (L._∷_ 58 (L._∷_ 70 (L._∷_ 111 (L._∷_ 117 (L._∷_ 110 (L._∷_ 100 L.[]))))))))))))))))))) (Syntax.tcons Syntax.tyBool (Syntax.tcons Syntax.tyBool (Syntax.tcons (Syntax.tyStruct (L._∷_ 115 (L._∷_ 116 (L._∷_ 101 (L._∷_ 112 (L._∷_ 58 (L._∷_ 58 (L._∷_ 83 (L._∷_ 116 (L._∷_ 101 (L._∷_ 112 L.[])))))))))) (Syntax.tcons (Syntax.tyInt Syntax.w64) (Syntax.tcons (Syntax.tyInt Syntax.w64) (Syntax.tcons (Syntax.tyStruct (L._∷_ 115 (L._∷_ 116 (L._∷_ 101 (L._∷_ 112 (L._∷_ 58 (L._∷_ 58 (L._∷_ 67 (L._∷_ 104 (L._∷_ 97 (L._∷_ 110 (L._∷_ 103 (L._∷_ 101 L.[])))))))))))) (Syntax.tcons (Syntax.tyStruct (L._∷_ 110 (L._∷_ 101 (L._∷_ 116 (L._∷_ 119 (L._∷_ 111 (L._∷_ 114 (L._∷_ 107 (L._∷_ 58 (L._∷_ 58 (L._∷_ 69 (L._∷_ 100 (L._∷_ 105 (L._∷_ 116 L.[]))))))))))))) (Syntax.tcons q7 (Syntax.tcons q7 (Syntax.tcons q7 (Syntax.tcons q7 (Syntax.tcons q2 (Syntax.tcons q2 (Syntax.tcons (Syntax.tyInt Syntax.w64) Syntax.tnil)))))))) (Syntax.tcons (Syntax.tyStruct (L._∷_ 115 (L._∷_ 116 (L._∷_ 101 (L._∷_ 112 (L._∷_ 58 (L._∷_ 58 (L._∷_ 79 (L._∷_ 108 (L._∷_ 100 L.[]))))))))) (Syntax.tcons (Syntax.tyInt Syntax.w64) (Syntax.tcons q6 (Syntax.tcons q7 (Syntax.tcons q7 (Syntax.tcons q7 (Syntax.tcons q7 (Syntax.tcons q4 Syntax.tnil)))))))) Syntax.tnil))) Syntax.tnil)))) Syntax.tnil))))) (L._∷_ (11, Rows.any-gone (Syntax.tyStruct (L._∷_ 114 (L._∷_ 117 (L._∷_ 108 (L._∷_ 101 (L._∷_ 115 (L._∷_ 58 (L._∷_ 58 (L._∷_ 102 (L._∷_ 111 (L._∷_ 117 (L._∷_ 110 (L._∷_ 100 (L._∷_ 58 (L._∷_ 58 (L._∷_ 70 (L._∷_ 111 (L._∷_ 117 (L._∷_ 110 (L._∷_ 100 L.[]))))))))))))))))))) (Syntax.tcons Syntax.tyBool (Syntax.tcons Syntax.tyBool (Syntax.tcons (Syntax.tyStruct (L._∷_ 115 (L._∷_ 116 (L._∷_ 101 (L._∷_ 112 (L._∷_ 58 (L._∷_ 58 (L._∷_ 83 (L._∷_ 116 (L._∷_ 101 (L._∷_ 112 L.[])))))))))) (Syntax.tcons (Syntax.tyInt Syntax.w64) (Syntax.tcons (Syntax.tyInt Syntax.w64) (Syntax.tcons (Syntax.tyStruct (L._∷_ 115 (L._∷_ 116 (L._∷_ 101 (L._∷_ 112 (L._∷_ 58 (L._∷_ 58 (L._∷_ 67 (L._∷_ 104 (L._∷_ 97 (L._∷_ 110 (L._∷_ 103 (L._∷_ 101 L.[])))))))))))) (Syntax.tcons (Syntax.tyStruct (L._∷_ 110 (L._∷_ 101 (L._∷_ 116 (L._∷_ 119 (L._∷_ 111 (L._∷_ 114 (L._∷_ 107 (L._∷_ 58 (L._∷_ 58 (L._∷_ 69 (L._∷_ 100 (L._∷_ 105 (L._∷_ 116 L.[]))))))))))))) (Syntax.tcons q7 (Syntax.tcons q7 (Syntax.tcons q7 (Syntax.tcons q7 (Syntax.tcons q2 (Syntax.tcons q2 (Syntax.tcons (Syntax.tyInt Syntax.w64) Syntax.tnil)))))))) (Syntax.tcons (Syntax.tyStruct (L._∷_ 115 (L._∷_ 116 (L._∷_ 101 (L._∷_ 112 (L._∷_ 58 (L._∷_ 58 (L._∷_ 79 (L._∷_ 108 (L._∷_ 100 L.[]))))))))) (Syntax.tcons (Syntax.tyInt Syntax.w64) (Syntax.tcons q6 (Syntax.tcons q7 (Syntax.tcons q7 (Syntax.tcons q7 (Syntax.tcons q7 (Syntax.tcons q4 Syntax.tnil)))))))) Syntax.tnil))) Syntax.tnil)))) Syntax.tnil))))) (L._∷_ q28 (L._∷_ q29 (L._∷_ q30 (L._∷_ q31 L.[])))))))))))))))
+t2 = L._∷_ (0, Rows.any-gone (Syntax.tyStruct (L._∷_ 114 (L._∷_ 117 (L._∷_ 108 (L._∷_ 101 (L._∷_ 115 (L._∷_ 58 (L._∷_ 58 (L._∷_ 116 (L._∷_ 114 (L._∷_ 105 (L._∷_ 101 (L._∷_ 100 (L._∷_ 58 (L._∷_ 58 (L._∷_ 76 (L._∷_ 111 (L._∷_ 111 (L._∷_ 107 (L._∷_ 101 (L._∷_ 100 L.[])))))))))))))))))))) (Syntax.tcons (Syntax.tyStruct (L._∷_ 114 (L._∷_ 117 (L._∷_ 108 (L._∷_ 101 (L._∷_ 115 (L._∷_ 58 (L._∷_ 58 (L._∷_ 102 (L._∷_ 111 (L._∷_ 117 (L._∷_ 110 (L._∷_ 100 (L._∷_ 58 (L._∷_ 58 (L._∷_ 70 (L._∷_ 111 (L._∷_ 117 (L._∷_ 110 (L._∷_ 100 L.[]))))))))))))))))))) (Syntax.tcons Syntax.tyBool (Syntax.tcons Syntax.tyBool (Syntax.tcons (Syntax.tyStruct (L._∷_ 115 (L._∷_ 116 (L._∷_ 101 (L._∷_ 112 (L._∷_ 58 (L._∷_ 58 (L._∷_ 83 (L._∷_ 116 (L._∷_ 101 (L._∷_ 112 L.[])))))))))) (Syntax.tcons (Syntax.tyInt Syntax.w64) (Syntax.tcons (Syntax.tyInt Syntax.w64) (Syntax.tcons (Syntax.tyStruct (L._∷_ 115 (L._∷_ 116 (L._∷_ 101 (L._∷_ 112 (L._∷_ 58 (L._∷_ 58 (L._∷_ 67 (L._∷_ 104 (L._∷_ 97 (L._∷_ 110 (L._∷_ 103 (L._∷_ 101 L.[])))))))))))) (Syntax.tcons (Syntax.tyStruct (L._∷_ 110 (L._∷_ 101 (L._∷_ 116 (L._∷_ 119 (L._∷_ 111 (L._∷_ 114 (L._∷_ 107 (L._∷_ 58 (L._∷_ 58 (L._∷_ 69 (L._∷_ 100 (L._∷_ 105 (L._∷_ 116 L.[]))))))))))))) (Syntax.tcons q7 (Syntax.tcons q7 (Syntax.tcons q7 (Syntax.tcons q7 (Syntax.tcons q2 (Syntax.tcons q2 (Syntax.tcons (Syntax.tyInt Syntax.w64) (Syntax.tcons q6 Syntax.tnil))))))))) (Syntax.tcons (Syntax.tyStruct (L._∷_ 115 (L._∷_ 116 (L._∷_ 101 (L._∷_ 112 (L._∷_ 58 (L._∷_ 58 (L._∷_ 79 (L._∷_ 108 (L._∷_ 100 L.[]))))))))) (Syntax.tcons (Syntax.tyInt Syntax.w64) (Syntax.tcons q6 (Syntax.tcons q7 (Syntax.tcons q7 (Syntax.tcons q7 (Syntax.tcons q7 (Syntax.tcons q4 Syntax.tnil)))))))) Syntax.tnil))) Syntax.tnil)))) Syntax.tnil)))) (Syntax.tcons q5 Syntax.tnil)))) (L._∷_ q20 (L._∷_ q11 (L._∷_ q17 (L._∷_ q26 (L._∷_ q16 (L._∷_ q8 (L._∷_ q23 (L._∷_ q32 (L._∷_ (9, Rows.any-gone (Syntax.tyStruct (L._∷_ 114 (L._∷_ 117 (L._∷_ 108 (L._∷_ 101 (L._∷_ 115 (L._∷_ 58 (L._∷_ 58 (L._∷_ 116 (L._∷_ 114 (L._∷_ 105 (L._∷_ 101 (L._∷_ 100 (L._∷_ 58 (L._∷_ 58 (L._∷_ 76 (L._∷_ 111 (L._∷_ 111 (L._∷_ 107 (L._∷_ 101 (L._∷_ 100 L.[])))))))))))))))))))) (Syntax.tcons (Syntax.tyStruct (L._∷_ 114 (L._∷_ 117 (L._∷_ 108 (L._∷_ 101 (L._∷_ 115 (L._∷_ 58 (L._∷_ 58 (L._∷_ 102 (L._∷_ 111 (L._∷_ 117 (L._∷_ 110 (L._∷_ 100 (L._∷_ 58 (L._∷_ 58 (L._∷_ 70 (L._∷_ 111 (L._∷_ 117 (L._∷_ 110 (L._∷_ 100 L.[]))))))))))))))))))) (Syntax.tcons Syntax.tyBool (Syntax.tcons Syntax.tyBool (Syntax.tcons (Syntax.tyStruct (L._∷_ 115 (L._∷_ 116 (L._∷_ 101 (L._∷_ 112 (L._∷_ 58 (L._∷_ 58 (L._∷_ 83 (L._∷_ 116 (L._∷_ 101 (L._∷_ 112 L.[])))))))))) (Syntax.tcons (Syntax.tyInt Syntax.w64) (Syntax.tcons (Syntax.tyInt Syntax.w64) (Syntax.tcons (Syntax.tyStruct (L._∷_ 115 (L._∷_ 116 (L._∷_ 101 (L._∷_ 112 (L._∷_ 58 (L._∷_ 58 (L._∷_ 67 (L._∷_ 104 (L._∷_ 97 (L._∷_ 110 (L._∷_ 103 (L._∷_ 101 L.[])))))))))))) (Syntax.tcons (Syntax.tyStruct (L._∷_ 110 (L._∷_ 101 (L._∷_ 116 (L._∷_ 119 (L._∷_ 111 (L._∷_ 114 (L._∷_ 107 (L._∷_ 58 (L._∷_ 58 (L._∷_ 69 (L._∷_ 100 (L._∷_ 105 (L._∷_ 116 L.[]))))))))))))) (Syntax.tcons q7 (Syntax.tcons q7 (Syntax.tcons q7 (Syntax.tcons q7 (Syntax.tcons q2 (Syntax.tcons q2 (Syntax.tcons (Syntax.tyInt Syntax.w64) (Syntax.tcons q6 Syntax.tnil))))))))) (Syntax.tcons (Syntax.tyStruct (L._∷_ 115 (L._∷_ 116 (L._∷_ 101 (L._∷_ 112 (L._∷_ 58 (L._∷_ 58 (L._∷_ 79 (L._∷_ 108 (L._∷_ 100 L.[]))))))))) (Syntax.tcons (Syntax.tyInt Syntax.w64) (Syntax.tcons q6 (Syntax.tcons q7 (Syntax.tcons q7 (Syntax.tcons q7 (Syntax.tcons q7 (Syntax.tcons q4 Syntax.tnil)))))))) Syntax.tnil))) Syntax.tnil)))) Syntax.tnil)))) (Syntax.tcons q5 Syntax.tnil)))) (L._∷_ (10, Rows.any-gone (Syntax.tyStruct (L._∷_ 114 (L._∷_ 117 (L._∷_ 108 (L._∷_ 101 (L._∷_ 115 (L._∷_ 58 (L._∷_ 58 (L._∷_ 102 (L._∷_ 111 (L._∷_ 117 (L._∷_ 110 (L._∷_ 100 (L._∷_ 58 (L._∷_ 58 (L._∷_ 70 (L._∷_ 111 (L._∷_ 117 (L._∷_ 110 (L._∷_ 100 L.[]))))))))))))))))))) (Syntax.tcons Syntax.tyBool (Syntax.tcons Syntax.tyBool (Syntax.tcons (Syntax.tyStruct (L._∷_ 115 (L._∷_ 116 (L._∷_ 101 (L._∷_ 112 (L._∷_ 58 (L._∷_ 58 (L._∷_ 83 (L._∷_ 116 (L._∷_ 101 (L._∷_ 112 L.[])))))))))) (Syntax.tcons (Syntax.tyInt Syntax.w64) (Syntax.tcons (Syntax.tyInt Syntax.w64) (Syntax.tcons (Syntax.tyStruct (L._∷_ 115 (L._∷_ 116 (L._∷_ 101 (L._∷_ 112 (L._∷_ 58 (L._∷_ 58 (L._∷_ 67 (L._∷_ 104 (L._∷_ 97 (L._∷_ 110 (L._∷_ 103 (L._∷_ 101 L.[])))))))))))) (Syntax.tcons (Syntax.tyStruct (L._∷_ 110 (L._∷_ 101 (L._∷_ 116 (L._∷_ 119 (L._∷_ 111 (L._∷_ 114 (L._∷_ 107 (L._∷_ 58 (L._∷_ 58 (L._∷_ 69 (L._∷_ 100 (L._∷_ 105 (L._∷_ 116 L.[]))))))))))))) (Syntax.tcons q7 (Syntax.tcons q7 (Syntax.tcons q7 (Syntax.tcons q7 (Syntax.tcons q2 (Syntax.tcons q2 (Syntax.tcons (Syntax.tyInt Syntax.w64) (Syntax.tcons q6 Syntax.tnil))))))))) (Syntax.tcons (Syntax.tyStruct (L._∷_ 115 (L._∷_ 116 (L._∷_ 101 (L._∷_ 112 (L._∷_ 58 (L._∷_ 58 (L._∷_ 79 (L._∷_ 108 (L._∷_ 100 L.[]))))))))) (Syntax.tcons (Syntax.tyInt Syntax.w64) (Syntax.tcons q6 (Syntax.tcons q7 (Syntax.tcons q7 (Syntax.tcons q7 (Syntax.tcons q7 (Syntax.tcons q4 Syntax.tnil)))))))) Syntax.tnil))) Syntax.tnil)))) Syntax.tnil))))) (L._∷_ (11, Rows.any-gone (Syntax.tyStruct (L._∷_ 114 (L._∷_ 117 (L._∷_ 108 (L._∷_ 101 (L._∷_ 115 (L._∷_ 58 (L._∷_ 58 (L._∷_ 102 (L._∷_ 111 (L._∷_ 117 (L._∷_ 110 (L._∷_ 100 (L._∷_ 58 (L._∷_ 58 (L._∷_ 70 (L._∷_ 111 (L._∷_ 117 (L._∷_ 110 (L._∷_ 100 L.[]))))))))))))))))))) (Syntax.tcons Syntax.tyBool (Syntax.tcons Syntax.tyBool (Syntax.tcons (Syntax.tyStruct (L._∷_ 115 (L._∷_ 116 (L._∷_ 101 (L._∷_ 112 (L._∷_ 58 (L._∷_ 58 (L._∷_ 83 (L._∷_ 116 (L._∷_ 101 (L._∷_ 112 L.[])))))))))) (Syntax.tcons (Syntax.tyInt Syntax.w64) (Syntax.tcons (Syntax.tyInt Syntax.w64) (Syntax.tcons (Syntax.tyStruct (L._∷_ 115 (L._∷_ 116 (L._∷_ 101 (L._∷_ 112 (L._∷_ 58 (L._∷_ 58 (L._∷_ 67 (L._∷_ 104 (L._∷_ 97 (L._∷_ 110 (L._∷_ 103 (L._∷_ 101 L.[])))))))))))) (Syntax.tcons (Syntax.tyStruct (L._∷_ 110 (L._∷_ 101 (L._∷_ 116 (L._∷_ 119 (L._∷_ 111 (L._∷_ 114 (L._∷_ 107 (L._∷_ 58 (L._∷_ 58 (L._∷_ 69 (L._∷_ 100 (L._∷_ 105 (L._∷_ 116 L.[]))))))))))))) (Syntax.tcons q7 (Syntax.tcons q7 (Syntax.tcons q7 (Syntax.tcons q7 (Syntax.tcons q2 (Syntax.tcons q2 (Syntax.tcons (Syntax.tyInt Syntax.w64) (Syntax.tcons q6 Syntax.tnil))))))))) (Syntax.tcons (Syntax.tyStruct (L._∷_ 115 (L._∷_ 116 (L._∷_ 101 (L._∷_ 112 (L._∷_ 58 (L._∷_ 58 (L._∷_ 79 (L._∷_ 108 (L._∷_ 100 L.[]))))))))) (Syntax.tcons (Syntax.tyInt Syntax.w64) (Syntax.tcons q6 (Syntax.tcons q7 (Syntax.tcons q7 (Syntax.tcons q7 (Syntax.tcons q7 (Syntax.tcons q4 Syntax.tnil)))))))) Syntax.tnil))) Syntax.tnil)))) Syntax.tnil))))) (L._∷_ q28 (L._∷_ q29 (L._∷_ q30 (L._∷_ q31 L.[])))))))))))))))
 
 abbrev pub t3 : L.List Row.Entry
-t3 = L._∷_ (0, Rows.any-gone (Syntax.tyStruct (L._∷_ 114 (L._∷_ 117 (L._∷_ 108 (L._∷_ 101 (L._∷_ 115 (L._∷_ 58 (L._∷_ 58 (L._∷_ 116 (L._∷_ 114 (L._∷_ 105 (L._∷_ 101 (L._∷_ 100 (L._∷_ 58 (L._∷_ 58 (L._∷_ 76 (L._∷_ 111 (L._∷_ 111 (L._∷_ 107 (L._∷_ 101 (L._∷_ 100 L.[])))))))))))))))))))) (Syntax.tcons (Syntax.tyStruct (L._∷_ 114 (L._∷_ 117 (L._∷_ 108 (L._∷_ 101 (L._∷_ 115 (L._∷_ 58 (L._∷_ 58 (L._∷_ 102 (L._∷_ 111 (L._∷_ 117 (L._∷_ 110 (L._∷_ 100 (L._∷_ 58 (L._∷_ 58 (L._∷_ 70 (L._∷_ 111 (L._∷_ 117 (L._∷_ 110 (L._∷_ 100 L.[]))))))))))))))))))) (Syntax.tcons Syntax.tyBool (Syntax.tcons Syntax.tyBool (Syntax.tcons (Syntax.tyStruct (L._∷_ 115 (L._∷_ 116 (L._∷_ 101 (L._∷_ 112 (L._∷_ 58 (L._∷_ 58 (L._∷_ 83 (L._∷_ 116 (L._∷_ 101 (L._∷_ 112 L.[])))))))))) (Syntax.tcons (Syntax.tyInt Syntax.w64) (Syntax.tcons (Syntax.tyInt Syntax.w64) (Syntax.tcons (Syntax.tyStruct (L._∷_ 115 (L._∷_ 116 (L._∷_ 101 (L._∷_ 112 (L._∷_ 58 (L._∷_ 58 (L._∷_ 67 (L._∷_ 104 (L._∷_ 97 (L._∷_ 110 (L._∷_ 103 (L._∷_ 101 L.[])))))))))))) (Syntax.tcons (Syntax.tyStruct (L._∷_ 110 (L._∷_ 101 (L._∷_ 116 (L._∷_ 119 (L._∷_ 111 (L._∷_ 114 (L._∷_ 107 (L._∷_ 58 (L._∷_ 58 (L._∷_ 69 (L._∷_ 100 (L._∷_ 105 (L._∷_ 116 L.[]))))))))))))) (Syntax.tcons q7 (Syntax.tcons q7 (Syntax.tcons q7 (Syntax.tcons q7 (Syntax.tcons q2 (Syntax.tcons q2 (Syntax.tcons (Syntax.tyInt Syntax.w64) Syntax.tnil)))))))) (Syntax.tcons (Syntax.tyStruct (L._∷_ 115 (L._∷_ 116 (L._∷_ 101 (L._∷_ 112 (L._∷_ 58 (L._∷_ 58 (L._∷_ 79 (L._∷_ 108 (L._∷_ 100 L.[]))))))))) (Syntax.tcons (Syntax.tyInt Syntax.w64) (Syntax.tcons q6 (Syntax.tcons q7 (Syntax.tcons q7 (Syntax.tcons q7 (Syntax.tcons q7 (Syntax.tcons q4 Syntax.tnil)))))))) Syntax.tnil))) Syntax.tnil)))) Syntax.tnil)))) (Syntax.tcons q5 Syntax.tnil)))) (L._∷_ q20 (L._∷_ q11 (L._∷_ q17 (L._∷_ q26 (L._∷_ q16 (L._∷_ q8 (L._∷_ q23 (L._∷_ q32 (L._∷_ (9, Rows.any-gone (Syntax.tyStruct (L._∷_ 114 (L._∷_ 117 (L._∷_ 108 (L._∷_ 101 (L._∷_ 115 (L._∷_ 58 (L._∷_ 58 (L._∷_ 116 (L._∷_ 114 (L._∷_ 105 (L._∷_ 101 (L._∷_ 100 (L._∷_ 58 (L._∷_ 58 (L._∷_ 76 (L._∷_ 111 (L._∷_ 111 (L._∷_ 107 (L._∷_ 101 (L._∷_ 100 L.[])))))))))))))))))))) (Syntax.tcons (Syntax.tyStruct (L._∷_ 114 (L._∷_ 117 (L._∷_ 108 (L._∷_ 101 (L._∷_ 115 (L._∷_ 58 (L._∷_ 58 (L._∷_ 102 (L._∷_ 111 (L._∷_ 117 (L._∷_ 110 (L._∷_ 100 (L._∷_ 58 (L._∷_ 58 (L._∷_ 70 (L._∷_ 111 (L._∷_ 117 (L._∷_ 110 (L._∷_ 100 L.[]))))))))))))))))))) (Syntax.tcons Syntax.tyBool (Syntax.tcons Syntax.tyBool (Syntax.tcons (Syntax.tyStruct (L._∷_ 115 (L._∷_ 116 (L._∷_ 101 (L._∷_ 112 (L._∷_ 58 (L._∷_ 58 (L._∷_ 83 (L._∷_ 116 (L._∷_ 101 (L._∷_ 112 L.[])))))))))) (Syntax.tcons (Syntax.tyInt Syntax.w64) (Syntax.tcons (Syntax.tyInt Syntax.w64) (Syntax.tcons (Syntax.tyStruct (L._∷_ 115 (L._∷_ 116 (L._∷_ 101 (L._∷_ 112 (L._∷_ 58 (L._∷_ 58 (L._∷_ 67 (L._∷_ 104 (L._∷_ 97 (L._∷_ 110 (L._∷_ 103 (L._∷_ 101 L.[])))))))))))) (Syntax.tcons (Syntax.tyStruct (L._∷_ 110 (L._∷_ 101 (L._∷_ 116 (L._∷_ 119 (L._∷_ 111 (L._∷_ 114 (L._∷_ 107 (L._∷_ 58 (L._∷_ 58 (L._∷_ 69 (L._∷_ 100 (L._∷_ 105 (L._∷_ 116 L.[]))))))))))))) (Syntax.tcons q7 (Syntax.tcons q7 (Syntax.tcons q7 (Syntax.tcons q7 (Syntax.tcons q2 (Syntax.tcons q2 (Syntax.tcons (Syntax.tyInt Syntax.w64) Syntax.tnil)))))))) (Syntax.tcons (Syntax.tyStruct (L._∷_ 115 (L._∷_ 116 (L._∷_ 101 (L._∷_ 112 (L._∷_ 58 (L._∷_ 58 (L._∷_ 79 (L._∷_ 108 (L._∷_ 100 L.[]))))))))) (Syntax.tcons (Syntax.tyInt Syntax.w64) (Syntax.tcons q6 (Syntax.tcons q7 (Syntax.tcons q7 (Syntax.tcons q7 (Syntax.tcons q7 (Syntax.tcons q4 Syntax.tnil)))))))) Syntax.tnil))) Syntax.tnil)))) Syntax.tnil)))) (Syntax.tcons q5 Syntax.tnil)))) (L._∷_ (10, Rows.any-gone (Syntax.tyStruct (L._∷_ 114 (L._∷_ 117 (L._∷_ 108 (L._∷_ 101 (L._∷_ 115 (L._∷_ 58 (L._∷_ 58 (L._∷_ 102 (L._∷_ 111 (L._∷_ 117 (L._∷_ 110 (L._∷_ 100 (L._∷_ 58 (L._∷_ 58 (L._∷_ 70 (L._∷_ 111 (L._∷_ 117 (L._∷_ 110 (L._∷_ 100 L.[]))))))))))))))))))) (Syntax.tcons Syntax.tyBool (Syntax.tcons Syntax.tyBool (Syntax.tcons (Syntax.tyStruct (L._∷_ 115 (L._∷_ 116 (L._∷_ 101 (L._∷_ 112 (L._∷_ 58 (L._∷_ 58 (L._∷_ 83 (L._∷_ 116 (L._∷_ 101 (L._∷_ 112 L.[])))))))))) (Syntax.tcons (Syntax.tyInt Syntax.w64) (Syntax.tcons (Syntax.tyInt Syntax.w64) (Syntax.tcons (Syntax.tyStruct (L._∷_ 115 (L._∷_ 116 (L._∷_ 101 (L._∷_ 112 (L._∷_ 58 (L._∷_ 58 (L._∷_ 67 (L._∷_ 104 (L._∷_ 97 (L._∷_ 110 (L._∷_ 103 (L._∷_ 101 L.[])))))))))))) (Syntax.tcons (Syntax.tyStruct (L._∷_ 110 (L._∷_ 101 (L._∷_ 116 (L._∷_ 119 (L._∷_ 111 (L._∷_ 114 (L._∷_ 107 (L._∷_ 58 (L._∷_ 58 (L._∷_ 69 (L._∷_ 100 (L._∷_ 105 (L._∷_ 116 L.[]))))))))))))) (Syntax.tcons q7 (Syntax.tcons q7 (Syntax.tcons q7 (Syntax.tcons q7 (Syntax.tcons q2 (Syntax.tcons q2 (Syntax.tcons (Syntax.tyInt Syntax.w64) Syntax.tnil)))))))) (Syntax.tcons (Syntax.tyStruct (L._∷_ 115 (L._∷_ 116 (L._∷_ 101 (L._∷_ 112 (L._∷_ 58 (L._∷_ 58 (L._∷_ 79 (L._∷_ 108 (L._∷_ 100 L.[]))))))))) (Syntax.tcons (Syntax.tyInt Syntax.w64) (Syntax.tcons q6 (Syntax.tcons q7 (Syntax.tcons q7 (Syntax.tcons q7 (Syntax.tcons q7 (Syntax.tcons q4 Syntax.tnil)))))))) Syntax.tnil))) Syntax.tnil)))) Syntax.tnil))))) (L._∷_ (11, Rows.any-gone (Syntax.tyStruct (L._∷_ 114 (L._∷_ 117 (L._∷_ 108 (L._∷_ 101 (L._∷_ 115 (L._∷_ 58 (L._∷_ 58 (L._∷_ 102 (L._∷_ 111 (L._∷_ 117 (L._∷_ 110 (L._∷_ 100 (L._∷_ 58 (L._∷_ 58 (L._∷_ 70 (L._∷_ 111 (L._∷_ 117 (L._∷_ 110 (L._∷_ 100 L.[]))))))))))))))))))) (Syntax.tcons Syntax.tyBool (Syntax.tcons Syntax.tyBool (Syntax.tcons (Syntax.tyStruct (L._∷_ 115 (L._∷_ 116 (L._∷_ 101 (L._∷_ 112 (L._∷_ 58 (L._∷_ 58 (L._∷_ 83 (L._∷_ 116 (L._∷_ 101 (L._∷_ 112 L.[])))))))))) (Syntax.tcons (Syntax.tyInt Syntax.w64) (Syntax.tcons (Syntax.tyInt Syntax.w64) (Syntax.tcons (Syntax.tyStruct (L._∷_ 115 (L._∷_ 116 (L._∷_ 101 (L._∷_ 112 (L._∷_ 58 (L._∷_ 58 (L._∷_ 67 (L._∷_ 104 (L._∷_ 97 (L._∷_ 110 (L._∷_ 103 (L._∷_ 101 L.[])))))))))))) (Syntax.tcons (Syntax.tyStruct (L._∷_ 110 (L._∷_ 101 (L._∷_ 116 (L._∷_ 119 (L._∷_ 111 (L._∷_ 114 (L._∷_ 107 (L._∷_ 58 (L._∷_ 58 (L._∷_ 69 (L._∷_ 100 (L._∷_ 105 (L._∷_ 116 L.[]))))))))))))) (Syntax.tcons q7 (Syntax.tcons q7 (Syntax.tcons q7 (Syntax.tcons q7 (Syntax.tcons q2 (Syntax.tcons q2 (Syntax.tcons (Syntax.tyInt Syntax.w64) Syntax.tnil)))))))) (Syntax.tcons (Syntax.tyStruct (L._∷_ 115 (L._∷_ 116 (L._∷_ 101 (L._∷_ 112 (L._∷_ 58 (L._∷_ 58 (L._∷_ 79 (L._∷_ 108 (L._∷_ 100 L.[]))))))))) (Syntax.tcons (Syntax.tyInt Syntax.w64) (Syntax.tcons q6 (Syntax.tcons q7 (Syntax.tcons q7 (Syntax.tcons q7 (Syntax.tcons q7 (Syntax.tcons q4 Syntax.tnil)))))))) Syntax.tnil))) Syntax.tnil)))) Syntax.tnil))))) (L._∷_ (12, Rows.sc-here Row.sBool) (L._∷_ q29 (L._∷_ q30 (L._∷_ q31 L.[])))))))))))))))
+t3 = L._∷_ (0, Rows.any-gone (Syntax.tyStruct (L._∷_ 114 (L._∷_ 117 (L._∷_ 108 (L._∷_ 101 (L._∷_ 115 (L._∷_ 58 (L._∷_ 58 (L._∷_ 116 (L._∷_ 114 (L._∷_ 105 (L._∷_ 101 (L._∷_ 100 (L._∷_ 58 (L._∷_ 58 (L._∷_ 76 (L._∷_ 111 (L._∷_ 111 (L._∷_ 107 (L._∷_ 101 (L._∷_ 100 L.[])))))))))))))))))))) (Syntax.tcons (Syntax.tyStruct (L._∷_ 114 (L._∷_ 117 (L._∷_ 108 (L._∷_ 101 (L._∷_ 115 (L._∷_ 58 (L._∷_ 58 (L._∷_ 102 (L._∷_ 111 (L._∷_ 117 (L._∷_ 110 (L._∷_ 100 (L._∷_ 58 (L._∷_ 58 (L._∷_ 70 (L._∷_ 111 (L._∷_ 117 (L._∷_ 110 (L._∷_ 100 L.[]))))))))))))))))))) (Syntax.tcons Syntax.tyBool (Syntax.tcons Syntax.tyBool (Syntax.tcons (Syntax.tyStruct (L._∷_ 115 (L._∷_ 116 (L._∷_ 101 (L._∷_ 112 (L._∷_ 58 (L._∷_ 58 (L._∷_ 83 (L._∷_ 116 (L._∷_ 101 (L._∷_ 112 L.[])))))))))) (Syntax.tcons (Syntax.tyInt Syntax.w64) (Syntax.tcons (Syntax.tyInt Syntax.w64) (Syntax.tcons (Syntax.tyStruct (L._∷_ 115 (L._∷_ 116 (L._∷_ 101 (L._∷_ 112 (L._∷_ 58 (L._∷_ 58 (L._∷_ 67 (L._∷_ 104 (L._∷_ 97 (L._∷_ 110 (L._∷_ 103 (L._∷_ 101 L.[])))))))))))) (Syntax.tcons (Syntax.tyStruct (L._∷_ 110 (L._∷_ 101 (L._∷_ 116 (L._∷_ 119 (L._∷_ 111 (L._∷_ 114 (L._∷_ 107 (L._∷_ 58 (L._∷_ 58 (L._∷_ 69 (L._∷_ 100 (L._∷_ 105 (L._∷_ 116 L.[]))))))))))))) (Syntax.tcons q7 (Syntax.tcons q7 (Syntax.tcons q7 (Syntax.tcons q7 (Syntax.tcons q2 (Syntax.tcons q2 (Syntax.tcons (Syntax.tyInt Syntax.w64) (Syntax.tcons q6 Syntax.tnil))))))))) (Syntax.tcons (Syntax.tyStruct (L._∷_ 115 (L._∷_ 116 (L._∷_ 101 (L._∷_ 112 (L._∷_ 58 (L._∷_ 58 (L._∷_ 79 (L._∷_ 108 (L._∷_ 100 L.[]))))))))) (Syntax.tcons (Syntax.tyInt Syntax.w64) (Syntax.tcons q6 (Syntax.tcons q7 (Syntax.tcons q7 (Syntax.tcons q7 (Syntax.tcons q7 (Syntax.tcons q4 Syntax.tnil)))))))) Syntax.tnil))) Syntax.tnil)))) Syntax.tnil)))) (Syntax.tcons q5 Syntax.tnil)))) (L._∷_ q20 (L._∷_ q11 (L._∷_ q17 (L._∷_ q26 (L._∷_ q16 (L._∷_ q8 (L._∷_ q23 (L._∷_ q32 (L._∷_ (9, Rows.any-gone (Syntax.tyStruct (L._∷_ 114 (L._∷_ 117 (L._∷_ 108 (L._∷_ 101 (L._∷_ 115 (L._∷_ 58 (L._∷_ 58 (L._∷_ 116 (L._∷_ 114 (L._∷_ 105 (L._∷_ 101 (L._∷_ 100 (L._∷_ 58 (L._∷_ 58 (L._∷_ 76 (L._∷_ 111 (L._∷_ 111 (L._∷_ 107 (L._∷_ 101 (L._∷_ 100 L.[])))))))))))))))))))) (Syntax.tcons (Syntax.tyStruct (L._∷_ 114 (L._∷_ 117 (L._∷_ 108 (L._∷_ 101 (L._∷_ 115 (L._∷_ 58 (L._∷_ 58 (L._∷_ 102 (L._∷_ 111 (L._∷_ 117 (L._∷_ 110 (L._∷_ 100 (L._∷_ 58 (L._∷_ 58 (L._∷_ 70 (L._∷_ 111 (L._∷_ 117 (L._∷_ 110 (L._∷_ 100 L.[]))))))))))))))))))) (Syntax.tcons Syntax.tyBool (Syntax.tcons Syntax.tyBool (Syntax.tcons (Syntax.tyStruct (L._∷_ 115 (L._∷_ 116 (L._∷_ 101 (L._∷_ 112 (L._∷_ 58 (L._∷_ 58 (L._∷_ 83 (L._∷_ 116 (L._∷_ 101 (L._∷_ 112 L.[])))))))))) (Syntax.tcons (Syntax.tyInt Syntax.w64) (Syntax.tcons (Syntax.tyInt Syntax.w64) (Syntax.tcons (Syntax.tyStruct (L._∷_ 115 (L._∷_ 116 (L._∷_ 101 (L._∷_ 112 (L._∷_ 58 (L._∷_ 58 (L._∷_ 67 (L._∷_ 104 (L._∷_ 97 (L._∷_ 110 (L._∷_ 103 (L._∷_ 101 L.[])))))))))))) (Syntax.tcons (Syntax.tyStruct (L._∷_ 110 (L._∷_ 101 (L._∷_ 116 (L._∷_ 119 (L._∷_ 111 (L._∷_ 114 (L._∷_ 107 (L._∷_ 58 (L._∷_ 58 (L._∷_ 69 (L._∷_ 100 (L._∷_ 105 (L._∷_ 116 L.[]))))))))))))) (Syntax.tcons q7 (Syntax.tcons q7 (Syntax.tcons q7 (Syntax.tcons q7 (Syntax.tcons q2 (Syntax.tcons q2 (Syntax.tcons (Syntax.tyInt Syntax.w64) (Syntax.tcons q6 Syntax.tnil))))))))) (Syntax.tcons (Syntax.tyStruct (L._∷_ 115 (L._∷_ 116 (L._∷_ 101 (L._∷_ 112 (L._∷_ 58 (L._∷_ 58 (L._∷_ 79 (L._∷_ 108 (L._∷_ 100 L.[]))))))))) (Syntax.tcons (Syntax.tyInt Syntax.w64) (Syntax.tcons q6 (Syntax.tcons q7 (Syntax.tcons q7 (Syntax.tcons q7 (Syntax.tcons q7 (Syntax.tcons q4 Syntax.tnil)))))))) Syntax.tnil))) Syntax.tnil)))) Syntax.tnil)))) (Syntax.tcons q5 Syntax.tnil)))) (L._∷_ (10, Rows.any-gone (Syntax.tyStruct (L._∷_ 114 (L._∷_ 117 (L._∷_ 108 (L._∷_ 101 (L._∷_ 115 (L._∷_ 58 (L._∷_ 58 (L._∷_ 102 (L._∷_ 111 (L._∷_ 117 (L._∷_ 110 (L._∷_ 100 (L._∷_ 58 (L._∷_ 58 (L._∷_ 70 (L._∷_ 111 (L._∷_ 117 (L._∷_ 110 (L._∷_ 100 L.[]))))))))))))))))))) (Syntax.tcons Syntax.tyBool (Syntax.tcons Syntax.tyBool (Syntax.tcons (Syntax.tyStruct (L._∷_ 115 (L._∷_ 116 (L._∷_ 101 (L._∷_ 112 (L._∷_ 58 (L._∷_ 58 (L._∷_ 83 (L._∷_ 116 (L._∷_ 101 (L._∷_ 112 L.[])))))))))) (Syntax.tcons (Syntax.tyInt Syntax.w64) (Syntax.tcons (Syntax.tyInt Syntax.w64) (Syntax.tcons (Syntax.tyStruct (L._∷_ 115 (L._∷_ 116 (L._∷_ 101 (L._∷_ 112 (L._∷_ 58 (L._∷_ 58 (L._∷_ 67 (L._∷_ 104 (L._∷_ 97 (L._∷_ 110 (L._∷_ 103 (L._∷_ 101 L.[])))))))))))) (Syntax.tcons (Syntax.tyStruct (L._∷_ 110 (L._∷_ 101 (L._∷_ 116 (L._∷_ 119 (L._∷_ 111 (L._∷_ 114 (L._∷_ 107 (L._∷_ 58 (L._∷_ 58 (L._∷_ 69 (L._∷_ 100 (L._∷_ 105 (L._∷_ 116 L.[]))))))))))))) (Syntax.tcons q7 (Syntax.tcons q7 (Syntax.tcons q7 (Syntax.tcons q7 (Syntax.tcons q2 (Syntax.tcons q2 (Syntax.tcons (Syntax.tyInt Syntax.w64) (Syntax.tcons q6 Syntax.tnil))))))))) (Syntax.tcons (Syntax.tyStruct (L._∷_ 115 (L._∷_ 116 (L._∷_ 101 (L._∷_ 112 (L._∷_ 58 (L._∷_ 58 (L._∷_ 79 (L._∷_ 108 (L._∷_ 100 L.[]))))))))) (Syntax.tcons (Syntax.tyInt Syntax.w64) (Syntax.tcons q6 (Syntax.tcons q7 (Syntax.tcons q7 (Syntax.tcons q7 (Syntax.tcons q7 (Syntax.tcons q4 Syntax.tnil)))))))) Syntax.tnil))) Syntax.tnil)))) Syntax.tnil))))) (L._∷_ (11, Rows.any-gone (Syntax.tyStruct (L._∷_ 114 (L._∷_ 117 (L._∷_ 108 (L._∷_ 101 (L._∷_ 115 (L._∷_ 58 (L._∷_ 58 (L._∷_ 102 (L._∷_ 111 (L._∷_ 117 (L._∷_ 110 (L._∷_ 100 (L._∷_ 58 (L._∷_ 58 (L._∷_ 70 (L._∷_ 111 (L._∷_ 117 (L._∷_ 110 (L._∷_ 100 L.[]))))))))))))))))))) (Syntax.tcons Syntax.tyBool (Syntax.tcons Syntax.tyBool (Syntax.tcons (Syntax.tyStruct (L._∷_ 115 (L._∷_ 116 (L._∷_ 101 (L._∷_ 112 (L._∷_ 58 (L._∷_ 58 (L._∷_ 83 (L._∷_ 116 (L._∷_ 101 (L._∷_ 112 L.[])))))))))) (Syntax.tcons (Syntax.tyInt Syntax.w64) (Syntax.tcons (Syntax.tyInt Syntax.w64) (Syntax.tcons (Syntax.tyStruct (L._∷_ 115 (L._∷_ 116 (L._∷_ 101 (L._∷_ 112 (L._∷_ 58 (L._∷_ 58 (L._∷_ 67 (L._∷_ 104 (L._∷_ 97 (L._∷_ 110 (L._∷_ 103 (L._∷_ 101 L.[])))))))))))) (Syntax.tcons (Syntax.tyStruct (L._∷_ 110 (L._∷_ 101 (L._∷_ 116 (L._∷_ 119 (L._∷_ 111 (L._∷_ 114 (L._∷_ 107 (L._∷_ 58 (L._∷_ 58 (L._∷_ 69 (L._∷_ 100 (L._∷_ 105 (L._∷_ 116 L.[]))))))))))))) (Syntax.tcons q7 (Syntax.tcons q7 (Syntax.tcons q7 (Syntax.tcons q7 (Syntax.tcons q2 (Syntax.tcons q2 (Syntax.tcons (Syntax.tyInt Syntax.w64) (Syntax.tcons q6 Syntax.tnil))))))))) (Syntax.tcons (Syntax.tyStruct (L._∷_ 115 (L._∷_ 116 (L._∷_ 101 (L._∷_ 112 (L._∷_ 58 (L._∷_ 58 (L._∷_ 79 (L._∷_ 108 (L._∷_ 100 L.[]))))))))) (Syntax.tcons (Syntax.tyInt Syntax.w64) (Syntax.tcons q6 (Syntax.tcons q7 (Syntax.tcons q7 (Syntax.tcons q7 (Syntax.tcons q7 (Syntax.tcons q4 Syntax.tnil)))))))) Syntax.tnil))) Syntax.tnil)))) Syntax.tnil))))) (L._∷_ (12, Rows.sc-here Row.sBool) (L._∷_ q29 (L._∷_ q30 (L._∷_ q31 L.[])))))))))))))))
 
 abbrev pub t4 : L.List Row.Entry
-t4 = L._∷_ (0, Rows.any-gone (Syntax.tyStruct (L._∷_ 114 (L._∷_ 117 (L._∷_ 108 (L._∷_ 101 (L._∷_ 115 (L._∷_ 58 (L._∷_ 58 (L._∷_ 116 (L._∷_ 114 (L._∷_ 105 (L._∷_ 101 (L._∷_ 100 (L._∷_ 58 (L._∷_ 58 (L._∷_ 76 (L._∷_ 111 (L._∷_ 111 (L._∷_ 107 (L._∷_ 101 (L._∷_ 100 L.[])))))))))))))))))))) (Syntax.tcons (Syntax.tyStruct (L._∷_ 114 (L._∷_ 117 (L._∷_ 108 (L._∷_ 101 (L._∷_ 115 (L._∷_ 58 (L._∷_ 58 (L._∷_ 102 (L._∷_ 111 (L._∷_ 117 (L._∷_ 110 (L._∷_ 100 (L._∷_ 58 (L._∷_ 58 (L._∷_ 70 (L._∷_ 111 (L._∷_ 117 (L._∷_ 110 (L._∷_ 100 L.[]))))))))))))))))))) (Syntax.tcons Syntax.tyBool (Syntax.tcons Syntax.tyBool (Syntax.tcons (Syntax.tyStruct (L._∷_ 115 (L._∷_ 116 (L._∷_ 101 (L._∷_ 112 (L._∷_ 58 (L._∷_ 58 (L._∷_ 83 (L._∷_ 116 (L._∷_ 101 (L._∷_ 112 L.[])))))))))) (Syntax.tcons (Syntax.tyInt Syntax.w64) (Syntax.tcons (Syntax.tyInt Syntax.w64) (Syntax.tcons (Syntax.tyStruct (L._∷_ 115 (L._∷_ 116 (L._∷_ 101 (L._∷_ 112 (L._∷_ 58 (L._∷_ 58 (L._∷_ 67 (L._∷_ 104 (L._∷_ 97 (L._∷_ 110 (L._∷_ 103 (L._∷_ 101 L.[])))))))))))) (Syntax.tcons (Syntax.tyStruct (L._∷_ 110 (L._∷_ 101 (L._∷_ 116 (L._∷_ 119 (L._∷_ 111 (L._∷_ 114 (L._∷_ 107 (L._∷_ 58 (L._∷_ 58 (L._∷_ 69 (L._∷_ 100 (L._∷_ 105 (L._∷_ 116 L.[]))))))))))))) (Syntax.tcons q7 (Syntax.tcons q7 (Syntax.tcons q7 (Syntax.tcons q7 (Syntax.tcons q2 (Syntax.tcons q2 (Syntax.tcons (Syntax.tyInt Syntax.w64) Syntax.tnil)))))))) (Syntax.tcons (Syntax.tyStruct (L._∷_ 115 (L._∷_ 116 (L._∷_ 101 (L._∷_ 112 (L._∷_ 58 (L._∷_ 58 (L._∷_ 79 (L._∷_ 108 (L._∷_ 100 L.[]))))))))) (Syntax.tcons (Syntax.tyInt Syntax.w64) (Syntax.tcons q6 (Syntax.tcons q7 (Syntax.tcons q7 (Syntax.tcons q7 (Syntax.tcons q7 (Syntax.tcons q4 Syntax.tnil)))))))) Syntax.tnil))) Syntax.tnil)))) Syntax.tnil)))) (Syntax.tcons q5 Syntax.tnil)))) (L._∷_ q0 (L._∷_ q11 (L._∷_ q17 (L._∷_ q26 (L._∷_ q16 (L._∷_ q8 (L._∷_ q23 (L._∷_ q32 (L._∷_ (9, Rows.any-gone (Syntax.tyStruct (L._∷_ 114 (L._∷_ 117 (L._∷_ 108 (L._∷_ 101 (L._∷_ 115 (L._∷_ 58 (L._∷_ 58 (L._∷_ 116 (L._∷_ 114 (L._∷_ 105 (L._∷_ 101 (L._∷_ 100 (L._∷_ 58 (L._∷_ 58 (L._∷_ 76 (L._∷_ 111 (L._∷_ 111 (L._∷_ 107 (L._∷_ 101 (L._∷_ 100 L.[])))))))))))))))))))) (Syntax.tcons (Syntax.tyStruct (L._∷_ 114 (L._∷_ 117 (L._∷_ 108 (L._∷_ 101 (L._∷_ 115 (L._∷_ 58 (L._∷_ 58 (L._∷_ 102 (L._∷_ 111 (L._∷_ 117 (L._∷_ 110 (L._∷_ 100 (L._∷_ 58 (L._∷_ 58 (L._∷_ 70 (L._∷_ 111 (L._∷_ 117 (L._∷_ 110 (L._∷_ 100 L.[]))))))))))))))))))) (Syntax.tcons Syntax.tyBool (Syntax.tcons Syntax.tyBool (Syntax.tcons (Syntax.tyStruct (L._∷_ 115 (L._∷_ 116 (L._∷_ 101 (L._∷_ 112 (L._∷_ 58 (L._∷_ 58 (L._∷_ 83 (L._∷_ 116 (L._∷_ 101 (L._∷_ 112 L.[])))))))))) (Syntax.tcons (Syntax.tyInt Syntax.w64) (Syntax.tcons (Syntax.tyInt Syntax.w64) (Syntax.tcons (Syntax.tyStruct (L._∷_ 115 (L._∷_ 116 (L._∷_ 101 (L._∷_ 112 (L._∷_ 58 (L._∷_ 58 (L._∷_ 67 (L._∷_ 104 (L._∷_ 97 (L._∷_ 110 (L._∷_ 103 (L._∷_ 101 L.[])))))))))))) (Syntax.tcons (Syntax.tyStruct (L._∷_ 110 (L._∷_ 101 (L._∷_ 116 (L._∷_ 119 (L._∷_ 111 (L._∷_ 114 (L._∷_ 107 (L._∷_ 58 (L._∷_ 58 (L._∷_ 69 (L._∷_ 100 (L._∷_ 105 (L._∷_ 116 L.[]))))))))))))) (Syntax.tcons q7 (Syntax.tcons q7 (Syntax.tcons q7 (Syntax.tcons q7 (Syntax.tcons q2 (Syntax.tcons q2 (Syntax.tcons (Syntax.tyInt Syntax.w64) Syntax.tnil)))))))) (Syntax.tcons (Syntax.tyStruct (L._∷_ 115 (L._∷_ 116 (L._∷_ 101 (L._∷_ 112 (L._∷_ 58 (L._∷_ 58 (L._∷_ 79 (L._∷_ 108 (L._∷_ 100 L.[]))))))))) (Syntax.tcons (Syntax.tyInt Syntax.w64) (Syntax.tcons q6 (Syntax.tcons q7 (Syntax.tcons q7 (Syntax.tcons q7 (Syntax.tcons q7 (Syntax.tcons q4 Syntax.tnil)))))))) Syntax.tnil))) Syntax.tnil)))) Syntax.tnil)))) (Syntax.tcons q5 Syntax.tnil)))) (L._∷_ (10, Rows.any-gone (Syntax.tyStruct (L._∷_ 114 (L._∷_ 117 (L._∷_ 108 (L._∷_ 101 (L._∷_ 115 (L._∷_ 58 (L._∷_ 58 (L._∷_ 102 (L._∷_ 111 (L._∷_ 117 (L._∷_ 110 (L._∷_ 100 (L._∷_ 58 (L._∷_ 58 (L._∷_ 70 (L._∷_ 111 (L._∷_ 117 (L._∷_ 110 (L._∷_ 100 L.[]))))))))))))))))))) (Syntax.tcons Syntax.tyBool (Syntax.tcons Syntax.tyBool (Syntax.tcons (Syntax.tyStruct (L._∷_ 115 (L._∷_ 116 (L._∷_ 101 (L._∷_ 112 (L._∷_ 58 (L._∷_ 58 (L._∷_ 83 (L._∷_ 116 (L._∷_ 101 (L._∷_ 112 L.[])))))))))) (Syntax.tcons (Syntax.tyInt Syntax.w64) (Syntax.tcons (Syntax.tyInt Syntax.w64) (Syntax.tcons (Syntax.tyStruct (L._∷_ 115 (L._∷_ 116 (L._∷_ 101 (L._∷_ 112 (L._∷_ 58 (L._∷_ 58 (L._∷_ 67 (L._∷_ 104 (L._∷_ 97 (L._∷_ 110 (L._∷_ 103 (L._∷_ 101 L.[])))))))))))) (Syntax.tcons (Syntax.tyStruct (L._∷_ 110 (L._∷_ 101 (L._∷_ 116 (L._∷_ 119 (L._∷_ 111 (L._∷_ 114 (L._∷_ 107 (L._∷_ 58 (L._∷_ 58 (L._∷_ 69 (L._∷_ 100 (L._∷_ 105 (L._∷_ 116 L.[]))))))))))))) (Syntax.tcons q7 (Syntax.tcons q7 (Syntax.tcons q7 (Syntax.tcons q7 (Syntax.tcons q2 (Syntax.tcons q2 (Syntax.tcons (Syntax.tyInt Syntax.w64) Syntax.tnil)))))))) (Syntax.tcons (Syntax.tyStruct (L._∷_ 115 (L._∷_ 116 (L._∷_ 101 (L._∷_ 112 (L._∷_ 58 (L._∷_ 58 (L._∷_ 79 (L._∷_ 108 (L._∷_ 100 L.[]))))))))) (Syntax.tcons (Syntax.tyInt Syntax.w64) (Syntax.tcons q6 (Syntax.tcons q7 (Syntax.tcons q7 (Syntax.tcons q7 (Syntax.tcons q7 (Syntax.tcons q4 Syntax.tnil)))))))) Syntax.tnil))) Syntax.tnil)))) Syntax.tnil))))) (L._∷_ (11, Rows.any-gone (Syntax.tyStruct (L._∷_ 114 (L._∷_ 117 (L._∷_ 108 (L._∷_ 101 (L._∷_ 115 (L._∷_ 58 (L._∷_ 58 (L._∷_ 102 (L._∷_ 111 (L._∷_ 117 (L._∷_ 110 (L._∷_ 100 (L._∷_ 58 (L._∷_ 58 (L._∷_ 70 (L._∷_ 111 (L._∷_ 117 (L._∷_ 110 (L._∷_ 100 L.[]))))))))))))))))))) (Syntax.tcons Syntax.tyBool (Syntax.tcons Syntax.tyBool (Syntax.tcons (Syntax.tyStruct (L._∷_ 115 (L._∷_ 116 (L._∷_ 101 (L._∷_ 112 (L._∷_ 58 (L._∷_ 58 (L._∷_ 83 (L._∷_ 116 (L._∷_ 101 (L._∷_ 112 L.[])))))))))) (Syntax.tcons (Syntax.tyInt Syntax.w64) (Syntax.tcons (Syntax.tyInt Syntax.w64) (Syntax.tcons (Syntax.tyStruct (L._∷_ 115 (L._∷_ 116 (L._∷_ 101 (L._∷_ 112 (L._∷_ 58 (L._∷_ 58 (L._∷_ 67 (L._∷_ 104 (L._∷_ 97 (L._∷_ 110 (L._∷_ 103 (L._∷_ 101 L.[])))))))))))) (Syntax.tcons (Syntax.tyStruct (L._∷_ 110 (L._∷_ 101 (L._∷_ 116 (L._∷_ 119 (L._∷_ 111 (L._∷_ 114 (L._∷_ 107 (L._∷_ 58 (L._∷_ 58 (L._∷_ 69 (L._∷_ 100 (L._∷_ 105 (L._∷_ 116 L.[]))))))))))))) (Syntax.tcons q7 (Syntax.tcons q7 (Syntax.tcons q7 (Syntax.tcons q7 (Syntax.tcons q2 (Syntax.tcons q2 (Syntax.tcons (Syntax.tyInt Syntax.w64) Syntax.tnil)))))))) (Syntax.tcons (Syntax.tyStruct (L._∷_ 115 (L._∷_ 116 (L._∷_ 101 (L._∷_ 112 (L._∷_ 58 (L._∷_ 58 (L._∷_ 79 (L._∷_ 108 (L._∷_ 100 L.[]))))))))) (Syntax.tcons (Syntax.tyInt Syntax.w64) (Syntax.tcons q6 (Syntax.tcons q7 (Syntax.tcons q7 (Syntax.tcons q7 (Syntax.tcons q7 (Syntax.tcons q4 Syntax.tnil)))))))) Syntax.tnil))) Syntax.tnil)))) Syntax.tnil))))) (L._∷_ (12, Rows.sc-here Row.sBool) (L._∷_ q29 (L._∷_ q30 (L._∷_ q31 L.[])))))))))))))))
+t4 = L._∷_ (0, Rows.any-gone (Syntax.tyStruct (L._∷_ 114 (L._∷_ 117 (L._∷_ 108 (L._∷_ 101 (L._∷_ 115 (L._∷_ 58 (L._∷_ 58 (L._∷_ 116 (L._∷_ 114 (L._∷_ 105 (L._∷_ 101 (L._∷_ 100 (L._∷_ 58 (L._∷_ 58 (L._∷_ 76 (L._∷_ 111 (L._∷_ 111 (L._∷_ 107 (L._∷_ 101 (L._∷_ 100 L.[])))))))))))))))))))) (Syntax.tcons (Syntax.tyStruct (L._∷_ 114 (L._∷_ 117 (L._∷_ 108 (L._∷_ 101 (L._∷_ 115 (L._∷_ 58 (L._∷_ 58 (L._∷_ 102 (L._∷_ 111 (L._∷_ 117 (L._∷_ 110 (L._∷_ 100 (L._∷_ 58 (L._∷_ 58 (L._∷_ 70 (L._∷_ 111 (L._∷_ 117 (L._∷_ 110 (L._∷_ 100 L.[]))))))))))))))))))) (Syntax.tcons Syntax.tyBool (Syntax.tcons Syntax.tyBool (Syntax.tcons (Syntax.tyStruct (L._∷_ 115 (L._∷_ 116 (L._∷_ 101 (L._∷_ 112 (L._∷_ 58 (L._∷_ 58 (L._∷_ 83 (L._∷_ 116 (L._∷_ 101 (L._∷_ 112 L.[])))))))))) (Syntax.tcons (Syntax.tyInt Syntax.w64) (Syntax.tcons (Syntax.tyInt Syntax.w64) (Syntax.tcons (Syntax.tyStruct (L._∷_ 115 (L._∷_ 116 (L._∷_ 101 (L._∷_ 112 (L._∷_ 58 (L._∷_ 58 (L._∷_ 67 (L._∷_ 104 (L._∷_ 97 (L._∷_ 110 (L._∷_ 103 (L._∷_ 101 L.[])))))))))))) (Syntax.tcons (Syntax.tyStruct (L._∷_ 110 (L._∷_ 101 (L._∷_ 116 (L._∷_ 119 (L._∷_ 111 (L._∷_ 114 (L._∷_ 107 (L._∷_ 58 (L._∷_ 58 (L._∷_ 69 (L._∷_ 100 (L._∷_ 105 (L._∷_ 116 L.[]))))))))))))) (Syntax.tcons q7 (Syntax.tcons q7 (Syntax.tcons q7 (Syntax.tcons q7 (Syntax.tcons q2 (Syntax.tcons q2 (Syntax.tcons (Syntax.tyInt Syntax.w64) (Syntax.tcons q6 Syntax.tnil))))))))) (Syntax.tcons (Syntax.tyStruct (L._∷_ 115 (L._∷_ 116 (L._∷_ 101 (L._∷_ 112 (L._∷_ 58 (L._∷_ 58 (L._∷_ 79 (L._∷_ 108 (L._∷_ 100 L.[]))))))))) (Syntax.tcons (Syntax.tyInt Syntax.w64) (Syntax.tcons q6 (Syntax.tcons q7 (Syntax.tcons q7 (Syntax.tcons q7 (Syntax.tcons q7 (Syntax.tcons q4 Syntax.tnil)))))))) Syntax.tnil))) Syntax.tnil)))) Syntax.tnil)))) (Syntax.tcons q5 Syntax.tnil)))) (L._∷_ q0 (L._∷_ q11 (L._∷_ q17 (L._∷_ q26 (L._∷_ q16 (L._∷_ q8 (L._∷_ q23 (L._∷_ q32 (L._∷_ (9, Rows.any-gone (Syntax.tyStruct (L._∷_ 114 (L._∷_ 117 (L._∷_ 108 (L._∷_ 101 (L._∷_ 115 (L._∷_ 58 (L._∷_ 58 (L._∷_ 116 (L._∷_ 114 (L._∷_ 105 (L._∷_ 101 (L._∷_ 100 (L._∷_ 58 (L._∷_ 58 (L._∷_ 76 (L._∷_ 111 (L._∷_ 111 (L._∷_ 107 (L._∷_ 101 (L._∷_ 100 L.[])))))))))))))))))))) (Syntax.tcons (Syntax.tyStruct (L._∷_ 114 (L._∷_ 117 (L._∷_ 108 (L._∷_ 101 (L._∷_ 115 (L._∷_ 58 (L._∷_ 58 (L._∷_ 102 (L._∷_ 111 (L._∷_ 117 (L._∷_ 110 (L._∷_ 100 (L._∷_ 58 (L._∷_ 58 (L._∷_ 70 (L._∷_ 111 (L._∷_ 117 (L._∷_ 110 (L._∷_ 100 L.[]))))))))))))))))))) (Syntax.tcons Syntax.tyBool (Syntax.tcons Syntax.tyBool (Syntax.tcons (Syntax.tyStruct (L._∷_ 115 (L._∷_ 116 (L._∷_ 101 (L._∷_ 112 (L._∷_ 58 (L._∷_ 58 (L._∷_ 83 (L._∷_ 116 (L._∷_ 101 (L._∷_ 112 L.[])))))))))) (Syntax.tcons (Syntax.tyInt Syntax.w64) (Syntax.tcons (Syntax.tyInt Syntax.w64) (Syntax.tcons (Syntax.tyStruct (L._∷_ 115 (L._∷_ 116 (L._∷_ 101 (L._∷_ 112 (L._∷_ 58 (L._∷_ 58 (L._∷_ 67 (L._∷_ 104 (L._∷_ 97 (L._∷_ 110 (L._∷_ 103 (L._∷_ 101 L.[])))))))))))) (Syntax.tcons (Syntax.tyStruct (L._∷_ 110 (L._∷_ 101 (L._∷_ 116 (L._∷_ 119 (L._∷_ 111 (L._∷_ 114 (L._∷_ 107 (L._∷_ 58 (L._∷_ 58 (L._∷_ 69 (L._∷_ 100 (L._∷_ 105 (L._∷_ 116 L.[]))))))))))))) (Syntax.tcons q7 (Syntax.tcons q7 (Syntax.tcons q7 (Syntax.tcons q7 (Syntax.tcons q2 (Syntax.tcons q2 (Syntax.tcons (Syntax.tyInt Syntax.w64) (Syntax.tcons q6 Syntax.tnil))))))))) (Syntax.tcons (Syntax.tyStruct (L._∷_ 115 (L._∷_ 116 (L._∷_ 101 (L._∷_ 112 (L._∷_ 58 (L._∷_ 58 (L._∷_ 79 (L._∷_ 108 (L._∷_ 100 L.[]))))))))) (Syntax.tcons (Syntax.tyInt Syntax.w64) (Syntax.tcons q6 (Syntax.tcons q7 (Syntax.tcons q7 (Syntax.tcons q7 (Syntax.tcons q7 (Syntax.tcons q4 Syntax.tnil)))))))) Syntax.tnil))) Syntax.tnil)))) Syntax.tnil)))) (Syntax.tcons q5 Syntax.tnil)))) (L._∷_ (10, Rows.any-gone (Syntax.tyStruct (L._∷_ 114 (L._∷_ 117 (L._∷_ 108 (L._∷_ 101 (L._∷_ 115 (L._∷_ 58 (L._∷_ 58 (L._∷_ 102 (L._∷_ 111 (L._∷_ 117 (L._∷_ 110 (L._∷_ 100 (L._∷_ 58 (L._∷_ 58 (L._∷_ 70 (L._∷_ 111 (L._∷_ 117 (L._∷_ 110 (L._∷_ 100 L.[]))))))))))))))))))) (Syntax.tcons Syntax.tyBool (Syntax.tcons Syntax.tyBool (Syntax.tcons (Syntax.tyStruct (L._∷_ 115 (L._∷_ 116 (L._∷_ 101 (L._∷_ 112 (L._∷_ 58 (L._∷_ 58 (L._∷_ 83 (L._∷_ 116 (L._∷_ 101 (L._∷_ 112 L.[])))))))))) (Syntax.tcons (Syntax.tyInt Syntax.w64) (Syntax.tcons (Syntax.tyInt Syntax.w64) (Syntax.tcons (Syntax.tyStruct (L._∷_ 115 (L._∷_ 116 (L._∷_ 101 (L._∷_ 112 (L._∷_ 58 (L._∷_ 58 (L._∷_ 67 (L._∷_ 104 (L._∷_ 97 (L._∷_ 110 (L._∷_ 103 (L._∷_ 101 L.[])))))))))))) (Syntax.tcons (Syntax.tyStruct (L._∷_ 110 (L._∷_ 101 (L._∷_ 116 (L._∷_ 119 (L._∷_ 111 (L._∷_ 114 (L._∷_ 107 (L._∷_ 58 (L._∷_ 58 (L._∷_ 69 (L._∷_ 100 (L._∷_ 105 (L._∷_ 116 L.[]))))))))))))) (Syntax.tcons q7 (Syntax.tcons q7 (Syntax.tcons q7 (Syntax.tcons q7 (Syntax.tcons q2 (Syntax.tcons q2 (Syntax.tcons (Syntax.tyInt Syntax.w64) (Syntax.tcons q6 Syntax.tnil))))))))) (Syntax.tcons (Syntax.tyStruct (L._∷_ 115 (L._∷_ 116 (L._∷_ 101 (L._∷_ 112 (L._∷_ 58 (L._∷_ 58 (L._∷_ 79 (L._∷_ 108 (L._∷_ 100 L.[]))))))))) (Syntax.tcons (Syntax.tyInt Syntax.w64) (Syntax.tcons q6 (Syntax.tcons q7 (Syntax.tcons q7 (Syntax.tcons q7 (Syntax.tcons q7 (Syntax.tcons q4 Syntax.tnil)))))))) Syntax.tnil))) Syntax.tnil)))) Syntax.tnil))))) (L._∷_ (11, Rows.any-gone (Syntax.tyStruct (L._∷_ 114 (L._∷_ 117 (L._∷_ 108 (L._∷_ 101 (L._∷_ 115 (L._∷_ 58 (L._∷_ 58 (L._∷_ 102 (L._∷_ 111 (L._∷_ 117 (L._∷_ 110 (L._∷_ 100 (L._∷_ 58 (L._∷_ 58 (L._∷_ 70 (L._∷_ 111 (L._∷_ 117 (L._∷_ 110 (L._∷_ 100 L.[]))))))))))))))))))) (Syntax.tcons Syntax.tyBool (Syntax.tcons Syntax.tyBool (Syntax.tcons (Syntax.tyStruct (L._∷_ 115 (L._∷_ 116 (L._∷_ 101 (L._∷_ 112 (L._∷_ 58 (L._∷_ 58 (L._∷_ 83 (L._∷_ 116 (L._∷_ 101 (L._∷_ 112 L.[])))))))))) (Syntax.tcons (Syntax.tyInt Syntax.w64) (Syntax.tcons (Syntax.tyInt Syntax.w64) (Syntax.tcons (Syntax.tyStruct (L._∷_ 115 (L._∷_ 116 (L._∷_ 101 (L._∷_ 112 (L._∷_ 58 (L._∷_ 58 (L._∷_ 67 (L._∷_ 104 (L._∷_ 97 (L._∷_ 110 (L._∷_ 103 (L._∷_ 101 L.[])))))))))))) (Syntax.tcons (Syntax.tyStruct (L._∷_ 110 (L._∷_ 101 (L._∷_ 116 (L._∷_ 119 (L._∷_ 111 (L._∷_ 114 (L._∷_ 107 (L._∷_ 58 (L._∷_ 58 (L._∷_ 69 (L._∷_ 100 (L._∷_ 105 (L._∷_ 116 L.[]))))))))))))) (Syntax.tcons q7 (Syntax.tcons q7 (Syntax.tcons q7 (Syntax.tcons q7 (Syntax.tcons q2 (Syntax.tcons q2 (Syntax.tcons (Syntax.tyInt Syntax.w64) (Syntax.tcons q6 Syntax.tnil))))))))) (Syntax.tcons (Syntax.tyStruct (L._∷_ 115 (L._∷_ 116 (L._∷_ 101 (L._∷_ 112 (L._∷_ 58 (L._∷_ 58 (L._∷_ 79 (L._∷_ 108 (L._∷_ 100 L.[]))))))))) (Syntax.tcons (Syntax.tyInt Syntax.w64) (Syntax.tcons q6 (Syntax.tcons q7 (Syntax.tcons q7 (Syntax.tcons q7 (Syntax.tcons q7 (Syntax.tcons q4 Syntax.tnil)))))))) Syntax.tnil))) Syntax.tnil)))) Syntax.tnil))))) (L._∷_ (12, Rows.sc-here Row.sBool) (L._∷_ q29 (L._∷_ q30 (L._∷_ q31 L.[])))))))))))))))
 
 abbrev pub t5 : L.List Row.Entry
-t5 = L._∷_ (0, Rows.any-gone (Syntax.tyStruct (L._∷_ 114 (L._∷_ 117 (L._∷_ 108 (L._∷_ 101 (L._∷_ 115 (L._∷_ 58 (L._∷_ 58 (L._∷_ 116 (L._∷_ 114 (L._∷_ 105 (L._∷_ 101 (L._∷_ 100 (L._∷_ 58 (L._∷_ 58 (L._∷_ 76 (L._∷_ 111 (L._∷_ 111 (L._∷_ 107 (L._∷_ 101 (L._∷_ 100 L.[])))))))))))))))))))) (Syntax.tcons (Syntax.tyStruct (L._∷_ 114 (L._∷_ 117 (L._∷_ 108 (L._∷_ 101 (L._∷_ 115 (L._∷_ 58 (L._∷_ 58 (L._∷_ 102 (L._∷_ 111 (L._∷_ 117 (L._∷_ 110 (L._∷_ 100 (L._∷_ 58 (L._∷_ 58 (L._∷_ 70 (L._∷_ 111 (L._∷_ 117 (L._∷_ 110 (L._∷_ 100 L.[]))))))))))))))))))) (Syntax.tcons Syntax.tyBool (Syntax.tcons Syntax.tyBool (Syntax.tcons (Syntax.tyStruct (L._∷_ 115 (L._∷_ 116 (L._∷_ 101 (L._∷_ 112 (L._∷_ 58 (L._∷_ 58 (L._∷_ 83 (L._∷_ 116 (L._∷_ 101 (L._∷_ 112 L.[])))))))))) (Syntax.tcons (Syntax.tyInt Syntax.w64) (Syntax.tcons (Syntax.tyInt Syntax.w64) (Syntax.tcons (Syntax.tyStruct (L._∷_ 115 (L._∷_ 116 (L._∷_ 101 (L._∷_ 112 (L._∷_ 58 (L._∷_ 58 (L._∷_ 67 (L._∷_ 104 (L._∷_ 97 (L._∷_ 110 (L._∷_ 103 (L._∷_ 101 L.[])))))))))))) (Syntax.tcons (Syntax.tyStruct (L._∷_ 110 (L._∷_ 101 (L._∷_ 116 (L._∷_ 119 (L._∷_ 111 (L._∷_ 114 (L._∷_ 107 (L._∷_ 58 (L._∷_ 58 (L._∷_ 69 (L._∷_ 100 (L._∷_ 105 (L._∷_ 116 L.[]))))))))))))) (Syntax.tcons q7 (Syntax.tcons q7 (Syntax.tcons q7 (Syntax.tcons q7 (Syntax.tcons q2 (Syntax.tcons q2 (Syntax.tcons (Syntax.tyInt Syntax.w64) Syntax.tnil)))))))) (Syntax.tcons (Syntax.tyStruct (L._∷_ 115 (L._∷_ 116 (L._∷_ 101 (L._∷_ 112 (L._∷_ 58 (L._∷_ 58 (L._∷_ 79 (L._∷_ 108 (L._∷_ 100 L.[]))))))))) (Syntax.tcons (Syntax.tyInt Syntax.w64) (Syntax.tcons q6 (Syntax.tcons q7 (Syntax.tcons q7 (Syntax.tcons q7 (Syntax.tcons q7 (Syntax.tcons q4 Syntax.tnil)))))))) Syntax.tnil))) Syntax.tnil)))) Syntax.tnil)))) (Syntax.tcons q5 Syntax.tnil)))) (L._∷_ q0 (L._∷_ q11 (L._∷_ q17 (L._∷_ q26 (L._∷_ q16 (L._∷_ q8 (L._∷_ q23 (L._∷_ q32 (L._∷_ (9, Rows.any-gone (Syntax.tyStruct (L._∷_ 114 (L._∷_ 117 (L._∷_ 108 (L._∷_ 101 (L._∷_ 115 (L._∷_ 58 (L._∷_ 58 (L._∷_ 116 (L._∷_ 114 (L._∷_ 105 (L._∷_ 101 (L._∷_ 100 (L._∷_ 58 (L._∷_ 58 (L._∷_ 76 (L._∷_ 111 (L._∷_ 111 (L._∷_ 107 (L._∷_ 101 (L._∷_ 100 L.[])))))))))))))))))))) (Syntax.tcons (Syntax.tyStruct (L._∷_ 114 (L._∷_ 117 (L._∷_ 108 (L._∷_ 101 (L._∷_ 115 (L._∷_ 58 (L._∷_ 58 (L._∷_ 102 (L._∷_ 111 (L._∷_ 117 (L._∷_ 110 (L._∷_ 100 (L._∷_ 58 (L._∷_ 58 (L._∷_ 70 (L._∷_ 111 (L._∷_ 117 (L._∷_ 110 (L._∷_ 100 L.[]))))))))))))))))))) (Syntax.tcons Syntax.tyBool (Syntax.tcons Syntax.tyBool (Syntax.tcons (Syntax.tyStruct (L._∷_ 115 (L._∷_ 116 (L._∷_ 101 (L._∷_ 112 (L._∷_ 58 (L._∷_ 58 (L._∷_ 83 (L._∷_ 116 (L._∷_ 101 (L._∷_ 112 L.[])))))))))) (Syntax.tcons (Syntax.tyInt Syntax.w64) (Syntax.tcons (Syntax.tyInt Syntax.w64) (Syntax.tcons (Syntax.tyStruct (L._∷_ 115 (L._∷_ 116 (L._∷_ 101 (L._∷_ 112 (L._∷_ 58 (L._∷_ 58 (L._∷_ 67 (L._∷_ 104 (L._∷_ 97 (L._∷_ 110 (L._∷_ 103 (L._∷_ 101 L.[])))))))))))) (Syntax.tcons (Syntax.tyStruct (L._∷_ 110 (L._∷_ 101 (L._∷_ 116 (L._∷_ 119 (L._∷_ 111 (L._∷_ 114 (L._∷_ 107 (L._∷_ 58 (L._∷_ 58 (L._∷_ 69 (L._∷_ 100 (L._∷_ 105 (L._∷_ 116 L.[]))))))))))))) (Syntax.tcons q7 (Syntax.tcons q7 (Syntax.tcons q7 (Syntax.tcons q7 (Syntax.tcons q2 (Syntax.tcons q2 (Syntax.tcons (Syntax.tyInt Syntax.w64) Syntax.tnil)))))))) (Syntax.tcons (Syntax.tyStruct (L._∷_ 115 (L._∷_ 116 (L._∷_ 101 (L._∷_ 112 (L._∷_ 58 (L._∷_ 58 (L._∷_ 79 (L._∷_ 108 (L._∷_ 100 L.[]))))))))) (Syntax.tcons (Syntax.tyInt Syntax.w64) (Syntax.tcons q6 (Syntax.tcons q7 (Syntax.tcons q7 (Syntax.tcons q7 (Syntax.tcons q7 (Syntax.tcons q4 Syntax.tnil)))))))) Syntax.tnil))) Syntax.tnil)))) Syntax.tnil)))) (Syntax.tcons q5 Syntax.tnil)))) (L._∷_ (10, Rows.any-gone (Syntax.tyStruct (L._∷_ 114 (L._∷_ 117 (L._∷_ 108 (L._∷_ 101 (L._∷_ 115 (L._∷_ 58 (L._∷_ 58 (L._∷_ 102 (L._∷_ 111 (L._∷_ 117 (L._∷_ 110 (L._∷_ 100 (L._∷_ 58 (L._∷_ 58 (L._∷_ 70 (L._∷_ 111 (L._∷_ 117 (L._∷_ 110 (L._∷_ 100 L.[]))))))))))))))))))) (Syntax.tcons Syntax.tyBool (Syntax.tcons Syntax.tyBool (Syntax.tcons (Syntax.tyStruct (L._∷_ 115 (L._∷_ 116 (L._∷_ 101 (L._∷_ 112 (L._∷_ 58 (L._∷_ 58 (L._∷_ 83 (L._∷_ 116 (L._∷_ 101 (L._∷_ 112 L.[])))))))))) (Syntax.tcons (Syntax.tyInt Syntax.w64) (Syntax.tcons (Syntax.tyInt Syntax.w64) (Syntax.tcons (Syntax.tyStruct (L._∷_ 115 (L._∷_ 116 (L._∷_ 101 (L._∷_ 112 (L._∷_ 58 (L._∷_ 58 (L._∷_ 67 (L._∷_ 104 (L._∷_ 97 (L._∷_ 110 (L._∷_ 103 (L._∷_ 101 L.[])))))))))))) (Syntax.tcons (Syntax.tyStruct (L._∷_ 110 (L._∷_ 101 (L._∷_ 116 (L._∷_ 119 (L._∷_ 111 (L._∷_ 114 (L._∷_ 107 (L._∷_ 58 (L._∷_ 58 (L._∷_ 69 (L._∷_ 100 (L._∷_ 105 (L._∷_ 116 L.[]))))))))))))) (Syntax.tcons q7 (Syntax.tcons q7 (Syntax.tcons q7 (Syntax.tcons q7 (Syntax.tcons q2 (Syntax.tcons q2 (Syntax.tcons (Syntax.tyInt Syntax.w64) Syntax.tnil)))))))) (Syntax.tcons (Syntax.tyStruct (L._∷_ 115 (L._∷_ 116 (L._∷_ 101 (L._∷_ 112 (L._∷_ 58 (L._∷_ 58 (L._∷_ 79 (L._∷_ 108 (L._∷_ 100 L.[]))))))))) (Syntax.tcons (Syntax.tyInt Syntax.w64) (Syntax.tcons q6 (Syntax.tcons q7 (Syntax.tcons q7 (Syntax.tcons q7 (Syntax.tcons q7 (Syntax.tcons q4 Syntax.tnil)))))))) Syntax.tnil))) Syntax.tnil)))) Syntax.tnil))))) (L._∷_ (11, Rows.any-gone (Syntax.tyStruct (L._∷_ 114 (L._∷_ 117 (L._∷_ 108 (L._∷_ 101 (L._∷_ 115 (L._∷_ 58 (L._∷_ 58 (L._∷_ 102 (L._∷_ 111 (L._∷_ 117 (L._∷_ 110 (L._∷_ 100 (L._∷_ 58 (L._∷_ 58 (L._∷_ 70 (L._∷_ 111 (L._∷_ 117 (L._∷_ 110 (L._∷_ 100 L.[]))))))))))))))))))) (Syntax.tcons Syntax.tyBool (Syntax.tcons Syntax.tyBool (Syntax.tcons (Syntax.tyStruct (L._∷_ 115 (L._∷_ 116 (L._∷_ 101 (L._∷_ 112 (L._∷_ 58 (L._∷_ 58 (L._∷_ 83 (L._∷_ 116 (L._∷_ 101 (L._∷_ 112 L.[])))))))))) (Syntax.tcons (Syntax.tyInt Syntax.w64) (Syntax.tcons (Syntax.tyInt Syntax.w64) (Syntax.tcons (Syntax.tyStruct (L._∷_ 115 (L._∷_ 116 (L._∷_ 101 (L._∷_ 112 (L._∷_ 58 (L._∷_ 58 (L._∷_ 67 (L._∷_ 104 (L._∷_ 97 (L._∷_ 110 (L._∷_ 103 (L._∷_ 101 L.[])))))))))))) (Syntax.tcons (Syntax.tyStruct (L._∷_ 110 (L._∷_ 101 (L._∷_ 116 (L._∷_ 119 (L._∷_ 111 (L._∷_ 114 (L._∷_ 107 (L._∷_ 58 (L._∷_ 58 (L._∷_ 69 (L._∷_ 100 (L._∷_ 105 (L._∷_ 116 L.[]))))))))))))) (Syntax.tcons q7 (Syntax.tcons q7 (Syntax.tcons q7 (Syntax.tcons q7 (Syntax.tcons q2 (Syntax.tcons q2 (Syntax.tcons (Syntax.tyInt Syntax.w64) Syntax.tnil)))))))) (Syntax.tcons (Syntax.tyStruct (L._∷_ 115 (L._∷_ 116 (L._∷_ 101 (L._∷_ 112 (L._∷_ 58 (L._∷_ 58 (L._∷_ 79 (L._∷_ 108 (L._∷_ 100 L.[]))))))))) (Syntax.tcons (Syntax.tyInt Syntax.w64) (Syntax.tcons q6 (Syntax.tcons q7 (Syntax.tcons q7 (Syntax.tcons q7 (Syntax.tcons q7 (Syntax.tcons q4 Syntax.tnil)))))))) Syntax.tnil))) Syntax.tnil)))) Syntax.tnil))))) (L._∷_ q28 (L._∷_ q29 (L._∷_ q30 (L._∷_ q31 L.[])))))))))))))))
+t5 = L._∷_ (0, Rows.any-gone (Syntax.tyStruct (L._∷_ 114 (L._∷_ 117 (L._∷_ 108 (L._∷_ 101 (L._∷_ 115 (L._∷_ 58 (L._∷_ 58 (L._∷_ 116 (L._∷_ 114 (L._∷_ 105 (L._∷_ 101 (L._∷_ 100 (L._∷_ 58 (L._∷_ 58 (L._∷_ 76 (L._∷_ 111 (L._∷_ 111 (L._∷_ 107 (L._∷_ 101 (L._∷_ 100 L.[])))))))))))))))))))) (Syntax.tcons (Syntax.tyStruct (L._∷_ 114 (L._∷_ 117 (L._∷_ 108 (L._∷_ 101 (L._∷_ 115 (L._∷_ 58 (L._∷_ 58 (L._∷_ 102 (L._∷_ 111 (L._∷_ 117 (L._∷_ 110 (L._∷_ 100 (L._∷_ 58 (L._∷_ 58 (L._∷_ 70 (L._∷_ 111 (L._∷_ 117 (L._∷_ 110 (L._∷_ 100 L.[]))))))))))))))))))) (Syntax.tcons Syntax.tyBool (Syntax.tcons Syntax.tyBool (Syntax.tcons (Syntax.tyStruct (L._∷_ 115 (L._∷_ 116 (L._∷_ 101 (L._∷_ 112 (L._∷_ 58 (L._∷_ 58 (L._∷_ 83 (L._∷_ 116 (L._∷_ 101 (L._∷_ 112 L.[])))))))))) (Syntax.tcons (Syntax.tyInt Syntax.w64) (Syntax.tcons (Syntax.tyInt Syntax.w64) (Syntax.tcons (Syntax.tyStruct (L._∷_ 115 (L._∷_ 116 (L._∷_ 101 (L._∷_ 112 (L._∷_ 58 (L._∷_ 58 (L._∷_ 67 (L._∷_ 104 (L._∷_ 97 (L._∷_ 110 (L._∷_ 103 (L._∷_ 101 L.[])))))))))))) (Syntax.tcons (Syntax.tyStruct (L._∷_ 110 (L._∷_ 101 (L._∷_ 116 (L._∷_ 119 (L._∷_ 111 (L._∷_ 114 (L._∷_ 107 (L._∷_ 58 (L._∷_ 58 (L._∷_ 69 (L._∷_ 100 (L._∷_ 105 (L._∷_ 116 L.[]))))))))))))) (Syntax.tcons q7 (Syntax.tcons q7 (Syntax.tcons q7 (Syntax.tcons q7 (Syntax.tcons q2 (Syntax.tcons q2 (Syntax.tcons (Syntax.tyInt Syntax.w64) (Syntax.tcons q6 Syntax.tnil))))))))) (Syntax.tcons (Syntax.tyStruct (L._∷_ 115 (L._∷_ 116 (L._∷_ 101 (L._∷_ 112 (L._∷_ 58 (L._∷_ 58 (L._∷_ 79 (L._∷_ 108 (L._∷_ 100 L.[]))))))))) (Syntax.tcons (Syntax.tyInt Syntax.w64) (Syntax.tcons q6 (Syntax.tcons q7 (Syntax.tcons q7 (Syntax.tcons q7 (Syntax.tcons q7 (Syntax.tcons q4 Syntax.tnil)))))))) Syntax.tnil))) Syntax.tnil)))) Syntax.tnil)))) (Syntax.tcons q5 Syntax.tnil)))) (L._∷_ q0 (L._∷_ q11 (L._∷_ q17 (L._∷_ q26 (L._∷_ q16 (L._∷_ q8 (L._∷_ q23 (L._∷_ q32 (L._∷_ (9, Rows.any-gone (Syntax.tyStruct (L._∷_ 114 (L._∷_ 117 (L._∷_ 108 (L._∷_ 101 (L._∷_ 115 (L._∷_ 58 (L._∷_ 58 (L._∷_ 116 (L._∷_ 114 (L._∷_ 105 (L._∷_ 101 (L._∷_ 100 (L._∷_ 58 (L._∷_ 58 (L._∷_ 76 (L._∷_ 111 (L._∷_ 111 (L._∷_ 107 (L._∷_ 101 (L._∷_ 100 L.[])))))))))))))))))))) (Syntax.tcons (Syntax.tyStruct (L._∷_ 114 (L._∷_ 117 (L._∷_ 108 (L._∷_ 101 (L._∷_ 115 (L._∷_ 58 (L._∷_ 58 (L._∷_ 102 (L._∷_ 111 (L._∷_ 117 (L._∷_ 110 (L._∷_ 100 (L._∷_ 58 (L._∷_ 58 (L._∷_ 70 (L._∷_ 111 (L._∷_ 117 (L._∷_ 110 (L._∷_ 100 L.[]))))))))))))))))))) (Syntax.tcons Syntax.tyBool (Syntax.tcons Syntax.tyBool (Syntax.tcons (Syntax.tyStruct (L._∷_ 115 (L._∷_ 116 (L._∷_ 101 (L._∷_ 112 (L._∷_ 58 (L._∷_ 58 (L._∷_ 83 (L._∷_ 116 (L._∷_ 101 (L._∷_ 112 L.[])))))))))) (Syntax.tcons (Syntax.tyInt Syntax.w64) (Syntax.tcons (Syntax.tyInt Syntax.w64) (Syntax.tcons (Syntax.tyStruct (L._∷_ 115 (L._∷_ 116 (L._∷_ 101 (L._∷_ 112 (L._∷_ 58 (L._∷_ 58 (L._∷_ 67 (L._∷_ 104 (L._∷_ 97 (L._∷_ 110 (L._∷_ 103 (L._∷_ 101 L.[])))))))))))) (Syntax.tcons (Syntax.tyStruct (L._∷_ 110 (L._∷_ 101 (L._∷_ 116 (L._∷_ 119 (L._∷_ 111 (L._∷_ 114 (L._∷_ 107 (L._∷_ 58 (L._∷_ 58 (L._∷_ 69 (L._∷_ 100 (L._∷_ 105 (L._∷_ 116 L.[]))))))))))))) (Syntax.tcons q7 (Syntax.tcons q7 (Syntax.tcons q7 (Syntax.tcons q7 (Syntax.tcons q2 (Syntax.tcons q2 (Syntax.tcons (Syntax.tyInt Syntax.w64) (Syntax.tcons q6 Syntax.tnil))))))))) (Syntax.tcons (Syntax.tyStruct (L._∷_ 115 (L._∷_ 116 (L._∷_ 101 (L._∷_ 112 (L._∷_ 58 (L._∷_ 58 (L._∷_ 79 (L._∷_ 108 (L._∷_ 100 L.[]))))))))) (Syntax.tcons (Syntax.tyInt Syntax.w64) (Syntax.tcons q6 (Syntax.tcons q7 (Syntax.tcons q7 (Syntax.tcons q7 (Syntax.tcons q7 (Syntax.tcons q4 Syntax.tnil)))))))) Syntax.tnil))) Syntax.tnil)))) Syntax.tnil)))) (Syntax.tcons q5 Syntax.tnil)))) (L._∷_ (10, Rows.any-gone (Syntax.tyStruct (L._∷_ 114 (L._∷_ 117 (L._∷_ 108 (L._∷_ 101 (L._∷_ 115 (L._∷_ 58 (L._∷_ 58 (L._∷_ 102 (L._∷_ 111 (L._∷_ 117 (L._∷_ 110 (L._∷_ 100 (L._∷_ 58 (L._∷_ 58 (L._∷_ 70 (L._∷_ 111 (L._∷_ 117 (L._∷_ 110 (L._∷_ 100 L.[]))))))))))))))))))) (Syntax.tcons Syntax.tyBool (Syntax.tcons Syntax.tyBool (Syntax.tcons (Syntax.tyStruct (L._∷_ 115 (L._∷_ 116 (L._∷_ 101 (L._∷_ 112 (L._∷_ 58 (L._∷_ 58 (L._∷_ 83 (L._∷_ 116 (L._∷_ 101 (L._∷_ 112 L.[])))))))))) (Syntax.tcons (Syntax.tyInt Syntax.w64) (Syntax.tcons (Syntax.tyInt Syntax.w64) (Syntax.tcons (Syntax.tyStruct (L._∷_ 115 (L._∷_ 116 (L._∷_ 101 (L._∷_ 112 (L._∷_ 58 (L._∷_ 58 (L._∷_ 67 (L._∷_ 104 (L._∷_ 97 (L._∷_ 110 (L._∷_ 103 (L._∷_ 101 L.[])))))))))))) (Syntax.tcons (Syntax.tyStruct (L._∷_ 110 (L._∷_ 101 (L._∷_ 116 (L._∷_ 119 (L._∷_ 111 (L._∷_ 114 (L._∷_ 107 (L._∷_ 58 (L._∷_ 58 (L._∷_ 69 (L._∷_ 100 (L._∷_ 105 (L._∷_ 116 L.[]))))))))))))) (Syntax.tcons q7 (Syntax.tcons q7 (Syntax.tcons q7 (Syntax.tcons q7 (Syntax.tcons q2 (Syntax.tcons q2 (Syntax.tcons (Syntax.tyInt Syntax.w64) (Syntax.tcons q6 Syntax.tnil))))))))) (Syntax.tcons (Syntax.tyStruct (L._∷_ 115 (L._∷_ 116 (L._∷_ 101 (L._∷_ 112 (L._∷_ 58 (L._∷_ 58 (L._∷_ 79 (L._∷_ 108 (L._∷_ 100 L.[]))))))))) (Syntax.tcons (Syntax.tyInt Syntax.w64) (Syntax.tcons q6 (Syntax.tcons q7 (Syntax.tcons q7 (Syntax.tcons q7 (Syntax.tcons q7 (Syntax.tcons q4 Syntax.tnil)))))))) Syntax.tnil))) Syntax.tnil)))) Syntax.tnil))))) (L._∷_ (11, Rows.any-gone (Syntax.tyStruct (L._∷_ 114 (L._∷_ 117 (L._∷_ 108 (L._∷_ 101 (L._∷_ 115 (L._∷_ 58 (L._∷_ 58 (L._∷_ 102 (L._∷_ 111 (L._∷_ 117 (L._∷_ 110 (L._∷_ 100 (L._∷_ 58 (L._∷_ 58 (L._∷_ 70 (L._∷_ 111 (L._∷_ 117 (L._∷_ 110 (L._∷_ 100 L.[]))))))))))))))))))) (Syntax.tcons Syntax.tyBool (Syntax.tcons Syntax.tyBool (Syntax.tcons (Syntax.tyStruct (L._∷_ 115 (L._∷_ 116 (L._∷_ 101 (L._∷_ 112 (L._∷_ 58 (L._∷_ 58 (L._∷_ 83 (L._∷_ 116 (L._∷_ 101 (L._∷_ 112 L.[])))))))))) (Syntax.tcons (Syntax.tyInt Syntax.w64) (Syntax.tcons (Syntax.tyInt Syntax.w64) (Syntax.tcons (Syntax.tyStruct (L._∷_ 115 (L._∷_ 116 (L._∷_ 101 (L._∷_ 112 (L._∷_ 58 (L._∷_ 58 (L._∷_ 67 (L._∷_ 104 (L._∷_ 97 (L._∷_ 110 (L._∷_ 103 (L._∷_ 101 L.[])))))))))))) (Syntax.tcons (Syntax.tyStruct (L._∷_ 110 (L._∷_ 101 (L._∷_ 116 (L._∷_ 119 (L._∷_ 111 (L._∷_ 114 (L._∷_ 107 (L._∷_ 58 (L._∷_ 58 (L._∷_ 69 (L._∷_ 100 (L._∷_ 105 (L._∷_ 116 L.[]))))))))))))) (Syntax.tcons q7 (Syntax.tcons q7 (Syntax.tcons q7 (Syntax.tcons q7 (Syntax.tcons q2 (Syntax.tcons q2 (Syntax.tcons (Syntax.tyInt Syntax.w64) (Syntax.tcons q6 Syntax.tnil))))))))) (Syntax.tcons (Syntax.tyStruct (L._∷_ 115 (L._∷_ 116 (L._∷_ 101 (L._∷_ 112 (L._∷_ 58 (L._∷_ 58 (L._∷_ 79 (L._∷_ 108 (L._∷_ 100 L.[]))))))))) (Syntax.tcons (Syntax.tyInt Syntax.w64) (Syntax.tcons q6 (Syntax.tcons q7 (Syntax.tcons q7 (Syntax.tcons q7 (Syntax.tcons q7 (Syntax.tcons q4 Syntax.tnil)))))))) Syntax.tnil))) Syntax.tnil)))) Syntax.tnil))))) (L._∷_ q28 (L._∷_ q29 (L._∷_ q30 (L._∷_ q31 L.[])))))))))))))))
 
 abbrev pub t6 : L.List Row.Entry
-t6 = L._∷_ q10 (L._∷_ q0 (L._∷_ q11 (L._∷_ q17 (L._∷_ q26 (L._∷_ q16 (L._∷_ q8 (L._∷_ q23 (L._∷_ q32 (L._∷_ (9, Rows.any-gone (Syntax.tyStruct (L._∷_ 114 (L._∷_ 117 (L._∷_ 108 (L._∷_ 101 (L._∷_ 115 (L._∷_ 58 (L._∷_ 58 (L._∷_ 116 (L._∷_ 114 (L._∷_ 105 (L._∷_ 101 (L._∷_ 100 (L._∷_ 58 (L._∷_ 58 (L._∷_ 76 (L._∷_ 111 (L._∷_ 111 (L._∷_ 107 (L._∷_ 101 (L._∷_ 100 L.[])))))))))))))))))))) (Syntax.tcons (Syntax.tyStruct (L._∷_ 114 (L._∷_ 117 (L._∷_ 108 (L._∷_ 101 (L._∷_ 115 (L._∷_ 58 (L._∷_ 58 (L._∷_ 102 (L._∷_ 111 (L._∷_ 117 (L._∷_ 110 (L._∷_ 100 (L._∷_ 58 (L._∷_ 58 (L._∷_ 70 (L._∷_ 111 (L._∷_ 117 (L._∷_ 110 (L._∷_ 100 L.[]))))))))))))))))))) (Syntax.tcons Syntax.tyBool (Syntax.tcons Syntax.tyBool (Syntax.tcons (Syntax.tyStruct (L._∷_ 115 (L._∷_ 116 (L._∷_ 101 (L._∷_ 112 (L._∷_ 58 (L._∷_ 58 (L._∷_ 83 (L._∷_ 116 (L._∷_ 101 (L._∷_ 112 L.[])))))))))) (Syntax.tcons (Syntax.tyInt Syntax.w64) (Syntax.tcons (Syntax.tyInt Syntax.w64) (Syntax.tcons (Syntax.tyStruct (L._∷_ 115 (L._∷_ 116 (L._∷_ 101 (L._∷_ 112 (L._∷_ 58 (L._∷_ 58 (L._∷_ 67 (L._∷_ 104 (L._∷_ 97 (L._∷_ 110 (L._∷_ 103 (L._∷_ 101 L.[])))))))))))) (Syntax.tcons (Syntax.tyStruct (L._∷_ 110 (L._∷_ 101 (L._∷_ 116 (L._∷_ 119 (L._∷_ 111 (L._∷_ 114 (L._∷_ 107 (L._∷_ 58 (L._∷_ 58 (L._∷_ 69 (L._∷_ 100 (L._∷_ 105 (L._∷_ 116 L.[]))))))))))))) (Syntax.tcons q7 (Syntax.tcons q7 (Syntax.tcons q7 (Syntax.tcons q7 (Syntax.tcons q2 (Syntax.tcons q2 (Syntax.tcons (Syntax.tyInt Syntax.w64) Syntax.tnil)))))))) (Syntax.tcons (Syntax.tyStruct (L._∷_ 115 (L._∷_ 116 (L._∷_ 101 (L._∷_ 112 (L._∷_ 58 (L._∷_ 58 (L._∷_ 79 (L._∷_ 108 (L._∷_ 100 L.[]))))))))) (Syntax.tcons (Syntax.tyInt Syntax.w64) (Syntax.tcons q6 (Syntax.tcons q7 (Syntax.tcons q7 (Syntax.tcons q7 (Syntax.tcons q7 (Syntax.tcons q4 Syntax.tnil)))))))) Syntax.tnil))) Syntax.tnil)))) Syntax.tnil)))) (Syntax.tcons q5 Syntax.tnil)))) (L._∷_ (10, Rows.any-gone (Syntax.tyStruct (L._∷_ 114 (L._∷_ 117 (L._∷_ 108 (L._∷_ 101 (L._∷_ 115 (L._∷_ 58 (L._∷_ 58 (L._∷_ 102 (L._∷_ 111 (L._∷_ 117 (L._∷_ 110 (L._∷_ 100 (L._∷_ 58 (L._∷_ 58 (L._∷_ 70 (L._∷_ 111 (L._∷_ 117 (L._∷_ 110 (L._∷_ 100 L.[]))))))))))))))))))) (Syntax.tcons Syntax.tyBool (Syntax.tcons Syntax.tyBool (Syntax.tcons (Syntax.tyStruct (L._∷_ 115 (L._∷_ 116 (L._∷_ 101 (L._∷_ 112 (L._∷_ 58 (L._∷_ 58 (L._∷_ 83 (L._∷_ 116 (L._∷_ 101 (L._∷_ 112 L.[])))))))))) (Syntax.tcons (Syntax.tyInt Syntax.w64) (Syntax.tcons (Syntax.tyInt Syntax.w64) (Syntax.tcons (Syntax.tyStruct (L._∷_ 115 (L._∷_ 116 (L._∷_ 101 (L._∷_ 112 (L._∷_ 58 (L._∷_ 58 (L._∷_ 67 (L._∷_ 104 (L._∷_ 97 (L._∷_ 110 (L._∷_ 103 (L._∷_ 101 L.[])))))))))))) (Syntax.tcons (Syntax.tyStruct (L._∷_ 110 (L._∷_ 101 (L._∷_ 116 (L._∷_ 119 (L._∷_ 111 (L._∷_ 114 (L._∷_ 107 (L._∷_ 58 (L._∷_ 58 (L._∷_ 69 (L._∷_ 100 (L._∷_ 105 (L._∷_ 116 L.[]))))))))))))) (Syntax.tcons q7 (Syntax.tcons q7 (Syntax.tcons q7 (Syntax.tcons q7 (Syntax.tcons q2 (Syntax.tcons q2 (Syntax.tcons (Syntax.tyInt Syntax.w64) Syntax.tnil)))))))) (Syntax.tcons (Syntax.tyStruct (L._∷_ 115 (L._∷_ 116 (L._∷_ 101 (L._∷_ 112 (L._∷_ 58 (L._∷_ 58 (L._∷_ 79 (L._∷_ 108 (L._∷_ 100 L.[]))))))))) (Syntax.tcons (Syntax.tyInt Syntax.w64) (Syntax.tcons q6 (Syntax.tcons q7 (Syntax.tcons q7 (Syntax.tcons q7 (Syntax.tcons q7 (Syntax.tcons q4 Syntax.tnil)))))))) Syntax.tnil))) Syntax.tnil)))) Syntax.tnil))))) (L._∷_ (11, Rows.any-gone (Syntax.tyStruct (L._∷_ 114 (L._∷_ 117 (L._∷_ 108 (L._∷_ 101 (L._∷_ 115 (L._∷_ 58 (L._∷_ 58 (L._∷_ 102 (L._∷_ 111 (L._∷_ 117 (L._∷_ 110 (L._∷_ 100 (L._∷_ 58 (L._∷_ 58 (L._∷_ 70 (L._∷_ 111 (L._∷_ 117 (L._∷_ 110 (L._∷_ 100 L.[]))))))))))))))))))) (Syntax.tcons Syntax.tyBool (Syntax.tcons Syntax.tyBool (Syntax.tcons (Syntax.tyStruct (L._∷_ 115 (L._∷_ 116 (L._∷_ 101 (L._∷_ 112 (L._∷_ 58 (L._∷_ 58 (L._∷_ 83 (L._∷_ 116 (L._∷_ 101 (L._∷_ 112 L.[])))))))))) (Syntax.tcons (Syntax.tyInt Syntax.w64) (Syntax.tcons (Syntax.tyInt Syntax.w64) (Syntax.tcons (Syntax.tyStruct (L._∷_ 115 (L._∷_ 116 (L._∷_ 101 (L._∷_ 112 (L._∷_ 58 (L._∷_ 58 (L._∷_ 67 (L._∷_ 104 (L._∷_ 97 (L._∷_ 110 (L._∷_ 103 (L._∷_ 101 L.[])))))))))))) (Syntax.tcons (Syntax.tyStruct (L._∷_ 110 (L._∷_ 101 (L._∷_ 116 (L._∷_ 119 (L._∷_ 111 (L._∷_ 114 (L._∷_ 107 (L._∷_ 58 (L._∷_ 58 (L._∷_ 69 (L._∷_ 100 (L._∷_ 105 (L._∷_ 116 L.[]))))))))))))) (Syntax.tcons q7 (Syntax.tcons q7 (Syntax.tcons q7 (Syntax.tcons q7 (Syntax.tcons q2 (Syntax.tcons q2 (Syntax.tcons (Syntax.tyInt Syntax.w64) Syntax.tnil)))))))) (Syntax.tcons (Syntax.tyStruct (L._∷_ 115 (L._∷_ 116 (L._∷_ 101 (L._∷_ 112 (L._∷_ 58 (L._∷_ 58 (L._∷_ 79 (L._∷_ 108 (L._∷_ 100 L.[]))))))))) (Syntax.tcons (Syntax.tyInt Syntax.w64) (Syntax.tcons q6 (Syntax.tcons q7 (Syntax.tcons q7 (Syntax.tcons q7 (Syntax.tcons q7 (Syntax.tcons q4 Syntax.tnil)))))))) Syntax.tnil))) Syntax.tnil)))) Syntax.tnil))))) (L._∷_ q28 (L._∷_ q29 (L._∷_ q30 (L._∷_ q31 L.[])))))))))))))))
+t6 = L._∷_ q10 (L._∷_ q0 (L._∷_ q11 (L._∷_ q17 (L._∷_ q26 (L._∷_ q16 (L._∷_ q8 (L._∷_ q23 (L._∷_ q32 (L._∷_ (9, Rows.any-gone (Syntax.tyStruct (L._∷_ 114 (L._∷_ 117 (L._∷_ 108 (L._∷_ 101 (L._∷_ 115 (L._∷_ 58 (L._∷_ 58 (L._∷_ 116 (L._∷_ 114 (L._∷_ 105 (L._∷_ 101 (L._∷_ 100 (L._∷_ 58 (L._∷_ 58 (L._∷_ 76 (L._∷_ 111 (L._∷_ 111 (L._∷_ 107 (L._∷_ 101 (L._∷_ 100 L.[])))))))))))))))))))) (Syntax.tcons (Syntax.tyStruct (L._∷_ 114 (L._∷_ 117 (L._∷_ 108 (L._∷_ 101 (L._∷_ 115 (L._∷_ 58 (L._∷_ 58 (L._∷_ 102 (L._∷_ 111 (L._∷_ 117 (L._∷_ 110 (L._∷_ 100 (L._∷_ 58 (L._∷_ 58 (L._∷_ 70 (L._∷_ 111 (L._∷_ 117 (L._∷_ 110 (L._∷_ 100 L.[]))))))))))))))))))) (Syntax.tcons Syntax.tyBool (Syntax.tcons Syntax.tyBool (Syntax.tcons (Syntax.tyStruct (L._∷_ 115 (L._∷_ 116 (L._∷_ 101 (L._∷_ 112 (L._∷_ 58 (L._∷_ 58 (L._∷_ 83 (L._∷_ 116 (L._∷_ 101 (L._∷_ 112 L.[])))))))))) (Syntax.tcons (Syntax.tyInt Syntax.w64) (Syntax.tcons (Syntax.tyInt Syntax.w64) (Syntax.tcons (Syntax.tyStruct (L._∷_ 115 (L._∷_ 116 (L._∷_ 101 (L._∷_ 112 (L._∷_ 58 (L._∷_ 58 (L._∷_ 67 (L._∷_ 104 (L._∷_ 97 (L._∷_ 110 (L._∷_ 103 (L._∷_ 101 L.[])))))))))))) (Syntax.tcons (Syntax.tyStruct (L._∷_ 110 (L._∷_ 101 (L._∷_ 116 (L._∷_ 119 (L._∷_ 111 (L._∷_ 114 (L._∷_ 107 (L._∷_ 58 (L._∷_ 58 (L._∷_ 69 (L._∷_ 100 (L._∷_ 105 (L._∷_ 116 L.[]))))))))))))) (Syntax.tcons q7 (Syntax.tcons q7 (Syntax.tcons q7 (Syntax.tcons q7 (Syntax.tcons q2 (Syntax.tcons q2 (Syntax.tcons (Syntax.tyInt Syntax.w64) (Syntax.tcons q6 Syntax.tnil))))))))) (Syntax.tcons (Syntax.tyStruct (L._∷_ 115 (L._∷_ 116 (L._∷_ 101 (L._∷_ 112 (L._∷_ 58 (L._∷_ 58 (L._∷_ 79 (L._∷_ 108 (L._∷_ 100 L.[]))))))))) (Syntax.tcons (Syntax.tyInt Syntax.w64) (Syntax.tcons q6 (Syntax.tcons q7 (Syntax.tcons q7 (Syntax.tcons q7 (Syntax.tcons q7 (Syntax.tcons q4 Syntax.tnil)))))))) Syntax.tnil))) Syntax.tnil)))) Syntax.tnil)))) (Syntax.tcons q5 Syntax.tnil)))) (L._∷_ (10, Rows.any-gone (Syntax.tyStruct (L._∷_ 114 (L._∷_ 117 (L._∷_ 108 (L._∷_ 101 (L._∷_ 115 (L._∷_ 58 (L._∷_ 58 (L._∷_ 102 (L._∷_ 111 (L._∷_ 117 (L._∷_ 110 (L._∷_ 100 (L._∷_ 58 (L._∷_ 58 (L._∷_ 70 (L._∷_ 111 (L._∷_ 117 (L._∷_ 110 (L._∷_ 100 L.[]))))))))))))))))))) (Syntax.tcons Syntax.tyBool (Syntax.tcons Syntax.tyBool (Syntax.tcons (Syntax.tyStruct (L._∷_ 115 (L._∷_ 116 (L._∷_ 101 (L._∷_ 112 (L._∷_ 58 (L._∷_ 58 (L._∷_ 83 (L._∷_ 116 (L._∷_ 101 (L._∷_ 112 L.[])))))))))) (Syntax.tcons (Syntax.tyInt Syntax.w64) (Syntax.tcons (Syntax.tyInt Syntax.w64) (Syntax.tcons (Syntax.tyStruct (L._∷_ 115 (L._∷_ 116 (L._∷_ 101 (L._∷_ 112 (L._∷_ 58 (L._∷_ 58 (L._∷_ 67 (L._∷_ 104 (L._∷_ 97 (L._∷_ 110 (L._∷_ 103 (L._∷_ 101 L.[])))))))))))) (Syntax.tcons (Syntax.tyStruct (L._∷_ 110 (L._∷_ 101 (L._∷_ 116 (L._∷_ 119 (L._∷_ 111 (L._∷_ 114 (L._∷_ 107 (L._∷_ 58 (L._∷_ 58 (L._∷_ 69 (L._∷_ 100 (L._∷_ 105 (L._∷_ 116 L.[]))))))))))))) (Syntax.tcons q7 (Syntax.tcons q7 (Syntax.tcons q7 (Syntax.tcons q7 (Syntax.tcons q2 (Syntax.tcons q2 (Syntax.tcons (Syntax.tyInt Syntax.w64) (Syntax.tcons q6 Syntax.tnil))))))))) (Syntax.tcons (Syntax.tyStruct (L._∷_ 115 (L._∷_ 116 (L._∷_ 101 (L._∷_ 112 (L._∷_ 58 (L._∷_ 58 (L._∷_ 79 (L._∷_ 108 (L._∷_ 100 L.[]))))))))) (Syntax.tcons (Syntax.tyInt Syntax.w64) (Syntax.tcons q6 (Syntax.tcons q7 (Syntax.tcons q7 (Syntax.tcons q7 (Syntax.tcons q7 (Syntax.tcons q4 Syntax.tnil)))))))) Syntax.tnil))) Syntax.tnil)))) Syntax.tnil))))) (L._∷_ (11, Rows.any-gone (Syntax.tyStruct (L._∷_ 114 (L._∷_ 117 (L._∷_ 108 (L._∷_ 101 (L._∷_ 115 (L._∷_ 58 (L._∷_ 58 (L._∷_ 102 (L._∷_ 111 (L._∷_ 117 (L._∷_ 110 (L._∷_ 100 (L._∷_ 58 (L._∷_ 58 (L._∷_ 70 (L._∷_ 111 (L._∷_ 117 (L._∷_ 110 (L._∷_ 100 L.[]))))))))))))))))))) (Syntax.tcons Syntax.tyBool (Syntax.tcons Syntax.tyBool (Syntax.tcons (Syntax.tyStruct (L._∷_ 115 (L._∷_ 116 (L._∷_ 101 (L._∷_ 112 (L._∷_ 58 (L._∷_ 58 (L._∷_ 83 (L._∷_ 116 (L._∷_ 101 (L._∷_ 112 L.[])))))))))) (Syntax.tcons (Syntax.tyInt Syntax.w64) (Syntax.tcons (Syntax.tyInt Syntax.w64) (Syntax.tcons (Syntax.tyStruct (L._∷_ 115 (L._∷_ 116 (L._∷_ 101 (L._∷_ 112 (L._∷_ 58 (L._∷_ 58 (L._∷_ 67 (L._∷_ 104 (L._∷_ 97 (L._∷_ 110 (L._∷_ 103 (L._∷_ 101 L.[])))))))))))) (Syntax.tcons (Syntax.tyStruct (L._∷_ 110 (L._∷_ 101 (L._∷_ 116 (L._∷_ 119 (L._∷_ 111 (L._∷_ 114 (L._∷_ 107 (L._∷_ 58 (L._∷_ 58 (L._∷_ 69 (L._∷_ 100 (L._∷_ 105 (L._∷_ 116 L.[]))))))))))))) (Syntax.tcons q7 (Syntax.tcons q7 (Syntax.tcons q7 (Syntax.tcons q7 (Syntax.tcons q2 (Syntax.tcons q2 (Syntax.tcons (Syntax.tyInt Syntax.w64) (Syntax.tcons q6 Syntax.tnil))))))))) (Syntax.tcons (Syntax.tyStruct (L._∷_ 115 (L._∷_ 116 (L._∷_ 101 (L._∷_ 112 (L._∷_ 58 (L._∷_ 58 (L._∷_ 79 (L._∷_ 108 (L._∷_ 100 L.[]))))))))) (Syntax.tcons (Syntax.tyInt Syntax.w64) (Syntax.tcons q6 (Syntax.tcons q7 (Syntax.tcons q7 (Syntax.tcons q7 (Syntax.tcons q7 (Syntax.tcons q4 Syntax.tnil)))))))) Syntax.tnil))) Syntax.tnil)))) Syntax.tnil))))) (L._∷_ q28 (L._∷_ q29 (L._∷_ q30 (L._∷_ q31 L.[])))))))))))))))
 
 abbrev pub t7 : L.List Row.Entry
-t7 = L._∷_ q10 (L._∷_ q0 (L._∷_ q11 (L._∷_ q3 (L._∷_ q26 (L._∷_ q16 (L._∷_ q8 (L._∷_ q23 (L._∷_ q32 (L._∷_ (9, Rows.any-gone (Syntax.tyStruct (L._∷_ 114 (L._∷_ 117 (L._∷_ 108 (L._∷_ 101 (L._∷_ 115 (L._∷_ 58 (L._∷_ 58 (L._∷_ 116 (L._∷_ 114 (L._∷_ 105 (L._∷_ 101 (L._∷_ 100 (L._∷_ 58 (L._∷_ 58 (L._∷_ 76 (L._∷_ 111 (L._∷_ 111 (L._∷_ 107 (L._∷_ 101 (L._∷_ 100 L.[])))))))))))))))))))) (Syntax.tcons (Syntax.tyStruct (L._∷_ 114 (L._∷_ 117 (L._∷_ 108 (L._∷_ 101 (L._∷_ 115 (L._∷_ 58 (L._∷_ 58 (L._∷_ 102 (L._∷_ 111 (L._∷_ 117 (L._∷_ 110 (L._∷_ 100 (L._∷_ 58 (L._∷_ 58 (L._∷_ 70 (L._∷_ 111 (L._∷_ 117 (L._∷_ 110 (L._∷_ 100 L.[]))))))))))))))))))) (Syntax.tcons Syntax.tyBool (Syntax.tcons Syntax.tyBool (Syntax.tcons (Syntax.tyStruct (L._∷_ 115 (L._∷_ 116 (L._∷_ 101 (L._∷_ 112 (L._∷_ 58 (L._∷_ 58 (L._∷_ 83 (L._∷_ 116 (L._∷_ 101 (L._∷_ 112 L.[])))))))))) (Syntax.tcons (Syntax.tyInt Syntax.w64) (Syntax.tcons (Syntax.tyInt Syntax.w64) (Syntax.tcons (Syntax.tyStruct (L._∷_ 115 (L._∷_ 116 (L._∷_ 101 (L._∷_ 112 (L._∷_ 58 (L._∷_ 58 (L._∷_ 67 (L._∷_ 104 (L._∷_ 97 (L._∷_ 110 (L._∷_ 103 (L._∷_ 101 L.[])))))))))))) (Syntax.tcons (Syntax.tyStruct (L._∷_ 110 (L._∷_ 101 (L._∷_ 116 (L._∷_ 119 (L._∷_ 111 (L._∷_ 114 (L._∷_ 107 (L._∷_ 58 (L._∷_ 58 (L._∷_ 69 (L._∷_ 100 (L._∷_ 105 (L._∷_ 116 L.[]))))))))))))) (Syntax.tcons q7 (Syntax.tcons q7 (Syntax.tcons q7 (Syntax.tcons q7 (Syntax.tcons q2 (Syntax.tcons q2 (Syntax.tcons (Syntax.tyInt Syntax.w64) Syntax.tnil)))))))) (Syntax.tcons (Syntax.tyStruct (L._∷_ 115 (L._∷_ 116 (L._∷_ 101 (L._∷_ 112 (L._∷_ 58 (L._∷_ 58 (L._∷_ 79 (L._∷_ 108 (L._∷_ 100 L.[]))))))))) (Syntax.tcons (Syntax.tyInt Syntax.w64) (Syntax.tcons q6 (Syntax.tcons q7 (Syntax.tcons q7 (Syntax.tcons q7 (Syntax.tcons q7 (Syntax.tcons q4 Syntax.tnil)))))))) Syntax.tnil))) Syntax.tnil)))) Syntax.tnil)))) (Syntax.tcons q5 Syntax.tnil)))) (L._∷_ (10, Rows.any-gone (Syntax.tyStruct (L._∷_ 114 (L._∷_ 117 (L._∷_ 108 (L._∷_ 101 (L._∷_ 115 (L._∷_ 58 (L._∷_ 58 (L._∷_ 102 (L._∷_ 111 (L._∷_ 117 (L._∷_ 110 (L._∷_ 100 (L._∷_ 58 (L._∷_ 58 (L._∷_ 70 (L._∷_ 111 (L._∷_ 117 (L._∷_ 110 (L._∷_ 100 L.[]))))))))))))))))))) (Syntax.tcons Syntax.tyBool (Syntax.tcons Syntax.tyBool (Syntax.tcons (Syntax.tyStruct (L._∷_ 115 (L._∷_ 116 (L._∷_ 101 (L._∷_ 112 (L._∷_ 58 (L._∷_ 58 (L._∷_ 83 (L._∷_ 116 (L._∷_ 101 (L._∷_ 112 L.[])))))))))) (Syntax.tcons (Syntax.tyInt Syntax.w64) (Syntax.tcons (Syntax.tyInt Syntax.w64) (Syntax.tcons (Syntax.tyStruct (L._∷_ 115 (L._∷_ 116 (L._∷_ 101 (L._∷_ 112 (L._∷_ 58 (L._∷_ 58 (L._∷_ 67 (L._∷_ 104 (L._∷_ 97 (L._∷_ 110 (L._∷_ 103 (L._∷_ 101 L.[])))))))))))) (Syntax.tcons (Syntax.tyStruct (L._∷_ 110 (L._∷_ 101 (L._∷_ 116 (L._∷_ 119 (L._∷_ 111 (L._∷_ 114 (L._∷_ 107 (L._∷_ 58 (L._∷_ 58 (L._∷_ 69 (L._∷_ 100 (L._∷_ 105 (L._∷_ 116 L.[]))))))))))))) (Syntax.tcons q7 (Syntax.tcons q7 (Syntax.tcons q7 (Syntax.tcons q7 (Syntax.tcons q2 (Syntax.tcons q2 (Syntax.tcons (Syntax.tyInt Syntax.w64) Syntax.tnil)))))))) (Syntax.tcons (Syntax.tyStruct (L._∷_ 115 (L._∷_ 116 (L._∷_ 101 (L._∷_ 112 (L._∷_ 58 (L._∷_ 58 (L._∷_ 79 (L._∷_ 108 (L._∷_ 100 L.[]))))))))) (Syntax.tcons (Syntax.tyInt Syntax.w64) (Syntax.tcons q6 (Syntax.tcons q7 (Syntax.tcons q7 (Syntax.tcons q7 (Syntax.tcons q7 (Syntax.tcons q4 Syntax.tnil)))))))) Syntax.tnil))) Syntax.tnil)))) Syntax.tnil))))) (L._∷_ (11, Rows.any-gone (Syntax.tyStruct (L._∷_ 114 (L._∷_ 117 (L._∷_ 108 (L._∷_ 101 (L._∷_ 115 (L._∷_ 58 (L._∷_ 58 (L._∷_ 102 (L._∷_ 111 (L._∷_ 117 (L._∷_ 110 (L._∷_ 100 (L._∷_ 58 (L._∷_ 58 (L._∷_ 70 (L._∷_ 111 (L._∷_ 117 (L._∷_ 110 (L._∷_ 100 L.[]))))))))))))))))))) (Syntax.tcons Syntax.tyBool (Syntax.tcons Syntax.tyBool (Syntax.tcons (Syntax.tyStruct (L._∷_ 115 (L._∷_ 116 (L._∷_ 101 (L._∷_ 112 (L._∷_ 58 (L._∷_ 58 (L._∷_ 83 (L._∷_ 116 (L._∷_ 101 (L._∷_ 112 L.[])))))))))) (Syntax.tcons (Syntax.tyInt Syntax.w64) (Syntax.tcons (Syntax.tyInt Syntax.w64) (Syntax.tcons (Syntax.tyStruct (L._∷_ 115 (L._∷_ 116 (L._∷_ 101 (L._∷_ 112 (L._∷_ 58 (L._∷_ 58 (L._∷_ 67 (L._∷_ 104 (L._∷_ 97 (L._∷_ 110 (L._∷_ 103 (L._∷_ 101 L.[])))))))))))) (Syntax.tcons (Syntax.tyStruct (L._∷_ 110 (L._∷_ 101 (L._∷_ 116 (L._∷_ 119 (L._∷_ 111 (L._∷_ 114 (L._∷_ 107 (L._∷_ 58 (L._∷_ 58 (L._∷_ 69 (L._∷_ 100 (L._∷_ 105 (L._∷_ 116 L.[]))))))))))))) (Syntax.tcons q7 (Syntax.tcons q7 (Syntax.tcons q7 (Syntax.tcons q7 (Syntax.tcons q2 (Syntax.tcons q2 (Syntax.tcons (Syntax.tyInt Syntax.w64) Syntax.tnil)))))))) (Syntax.tcons (Syntax.tyStruct (L._∷_ 115 (L._∷_ 116 (L._∷_ 101 (L._∷_ 112 (L._∷_ 58 (L._∷_ 58 (L._∷_ 79 (L._∷_ 108 (L._∷_ 100 L.[]))))))))) (Syntax.tcons (Syntax.tyInt Syntax.w64) (Syntax.tcons q6 (Syntax.tcons q7 (Syntax.tcons q7 (Syntax.tcons q7 (Syntax.tcons q7 (Syntax.tcons q4 Syntax.tnil)))))))) Syntax.tnil))) Syntax.tnil)))) Syntax.tnil))))) (L._∷_ q28 (L._∷_ q29 (L._∷_ q30 (L._∷_ q31 L.[])))))))))))))))
+t7 = L._∷_ q10 (L._∷_ q0 (L._∷_ q11 (L._∷_ q3 (L._∷_ q26 (L._∷_ q16 (L._∷_ q8 (L._∷_ q23 (L._∷_ q32 (L._∷_ (9, Rows.any-gone (Syntax.tyStruct (L._∷_ 114 (L._∷_ 117 (L._∷_ 108 (L._∷_ 101 (L._∷_ 115 (L._∷_ 58 (L._∷_ 58 (L._∷_ 116 (L._∷_ 114 (L._∷_ 105 (L._∷_ 101 (L._∷_ 100 (L._∷_ 58 (L._∷_ 58 (L._∷_ 76 (L._∷_ 111 (L._∷_ 111 (L._∷_ 107 (L._∷_ 101 (L._∷_ 100 L.[])))))))))))))))))))) (Syntax.tcons (Syntax.tyStruct (L._∷_ 114 (L._∷_ 117 (L._∷_ 108 (L._∷_ 101 (L._∷_ 115 (L._∷_ 58 (L._∷_ 58 (L._∷_ 102 (L._∷_ 111 (L._∷_ 117 (L._∷_ 110 (L._∷_ 100 (L._∷_ 58 (L._∷_ 58 (L._∷_ 70 (L._∷_ 111 (L._∷_ 117 (L._∷_ 110 (L._∷_ 100 L.[]))))))))))))))))))) (Syntax.tcons Syntax.tyBool (Syntax.tcons Syntax.tyBool (Syntax.tcons (Syntax.tyStruct (L._∷_ 115 (L._∷_ 116 (L._∷_ 101 (L._∷_ 112 (L._∷_ 58 (L._∷_ 58 (L._∷_ 83 (L._∷_ 116 (L._∷_ 101 (L._∷_ 112 L.[])))))))))) (Syntax.tcons (Syntax.tyInt Syntax.w64) (Syntax.tcons (Syntax.tyInt Syntax.w64) (Syntax.tcons (Syntax.tyStruct (L._∷_ 115 (L._∷_ 116 (L._∷_ 101 (L._∷_ 112 (L._∷_ 58 (L._∷_ 58 (L._∷_ 67 (L._∷_ 104 (L._∷_ 97 (L._∷_ 110 (L._∷_ 103 (L._∷_ 101 L.[])))))))))))) (Syntax.tcons (Syntax.tyStruct (L._∷_ 110 (L._∷_ 101 (L._∷_ 116 (L._∷_ 119 (L._∷_ 111 (L._∷_ 114 (L._∷_ 107 (L._∷_ 58 (L._∷_ 58 (L._∷_ 69 (L._∷_ 100 (L._∷_ 105 (L._∷_ 116 L.[]))))))))))))) (Syntax.tcons q7 (Syntax.tcons q7 (Syntax.tcons q7 (Syntax.tcons q7 (Syntax.tcons q2 (Syntax.tcons q2 (Syntax.tcons (Syntax.tyInt Syntax.w64) (Syntax.tcons q6 Syntax.tnil))))))))) (Syntax.tcons (Syntax.tyStruct (L._∷_ 115 (L._∷_ 116 (L._∷_ 101 (L._∷_ 112 (L._∷_ 58 (L._∷_ 58 (L._∷_ 79 (L._∷_ 108 (L._∷_ 100 L.[]))))))))) (Syntax.tcons (Syntax.tyInt Syntax.w64) (Syntax.tcons q6 (Syntax.tcons q7 (Syntax.tcons q7 (Syntax.tcons q7 (Syntax.tcons q7 (Syntax.tcons q4 Syntax.tnil)))))))) Syntax.tnil))) Syntax.tnil)))) Syntax.tnil)))) (Syntax.tcons q5 Syntax.tnil)))) (L._∷_ (10, Rows.any-gone (Syntax.tyStruct (L._∷_ 114 (L._∷_ 117 (L._∷_ 108 (L._∷_ 101 (L._∷_ 115 (L._∷_ 58 (L._∷_ 58 (L._∷_ 102 (L._∷_ 111 (L._∷_ 117 (L._∷_ 110 (L._∷_ 100 (L._∷_ 58 (L._∷_ 58 (L._∷_ 70 (L._∷_ 111 (L._∷_ 117 (L._∷_ 110 (L._∷_ 100 L.[]))))))))))))))))))) (Syntax.tcons Syntax.tyBool (Syntax.tcons Syntax.tyBool (Syntax.tcons (Syntax.tyStruct (L._∷_ 115 (L._∷_ 116 (L._∷_ 101 (L._∷_ 112 (L._∷_ 58 (L._∷_ 58 (L._∷_ 83 (L._∷_ 116 (L._∷_ 101 (L._∷_ 112 L.[])))))))))) (Syntax.tcons (Syntax.tyInt Syntax.w64) (Syntax.tcons (Syntax.tyInt Syntax.w64) (Syntax.tcons (Syntax.tyStruct (L._∷_ 115 (L._∷_ 116 (L._∷_ 101 (L._∷_ 112 (L._∷_ 58 (L._∷_ 58 (L._∷_ 67 (L._∷_ 104 (L._∷_ 97 (L._∷_ 110 (L._∷_ 103 (L._∷_ 101 L.[])))))))))))) (Syntax.tcons (Syntax.tyStruct (L._∷_ 110 (L._∷_ 101 (L._∷_ 116 (L._∷_ 119 (L._∷_ 111 (L._∷_ 114 (L._∷_ 107 (L._∷_ 58 (L._∷_ 58 (L._∷_ 69 (L._∷_ 100 (L._∷_ 105 (L._∷_ 116 L.[]))))))))))))) (Syntax.tcons q7 (Syntax.tcons q7 (Syntax.tcons q7 (Syntax.tcons q7 (Syntax.tcons q2 (Syntax.tcons q2 (Syntax.tcons (Syntax.tyInt Syntax.w64) (Syntax.tcons q6 Syntax.tnil))))))))) (Syntax.tcons (Syntax.tyStruct (L._∷_ 115 (L._∷_ 116 (L._∷_ 101 (L._∷_ 112 (L._∷_ 58 (L._∷_ 58 (L._∷_ 79 (L._∷_ 108 (L._∷_ 100 L.[]))))))))) (Syntax.tcons (Syntax.tyInt Syntax.w64) (Syntax.tcons q6 (Syntax.tcons q7 (Syntax.tcons q7 (Syntax.tcons q7 (Syntax.tcons q7 (Syntax.tcons q4 Syntax.tnil)))))))) Syntax.tnil))) Syntax.tnil)))) Syntax.tnil))))) (L._∷_ (11, Rows.any-gone (Syntax.tyStruct (L._∷_ 114 (L._∷_ 117 (L._∷_ 108 (L._∷_ 101 (L._∷_ 115 (L._∷_ 58 (L._∷_ 58 (L._∷_ 102 (L._∷_ 111 (L._∷_ 117 (L._∷_ 110 (L._∷_ 100 (L._∷_ 58 (L._∷_ 58 (L._∷_ 70 (L._∷_ 111 (L._∷_ 117 (L._∷_ 110 (L._∷_ 100 L.[]))))))))))))))))))) (Syntax.tcons Syntax.tyBool (Syntax.tcons Syntax.tyBool (Syntax.tcons (Syntax.tyStruct (L._∷_ 115 (L._∷_ 116 (L._∷_ 101 (L._∷_ 112 (L._∷_ 58 (L._∷_ 58 (L._∷_ 83 (L._∷_ 116 (L._∷_ 101 (L._∷_ 112 L.[])))))))))) (Syntax.tcons (Syntax.tyInt Syntax.w64) (Syntax.tcons (Syntax.tyInt Syntax.w64) (Syntax.tcons (Syntax.tyStruct (L._∷_ 115 (L._∷_ 116 (L._∷_ 101 (L._∷_ 112 (L._∷_ 58 (L._∷_ 58 (L._∷_ 67 (L._∷_ 104 (L._∷_ 97 (L._∷_ 110 (L._∷_ 103 (L._∷_ 101 L.[])))))))))))) (Syntax.tcons (Syntax.tyStruct (L._∷_ 110 (L._∷_ 101 (L._∷_ 116 (L._∷_ 119 (L._∷_ 111 (L._∷_ 114 (L._∷_ 107 (L._∷_ 58 (L._∷_ 58 (L._∷_ 69 (L._∷_ 100 (L._∷_ 105 (L._∷_ 116 L.[]))))))))))))) (Syntax.tcons q7 (Syntax.tcons q7 (Syntax.tcons q7 (Syntax.tcons q7 (Syntax.tcons q2 (Syntax.tcons q2 (Syntax.tcons (Syntax.tyInt Syntax.w64) (Syntax.tcons q6 Syntax.tnil))))))))) (Syntax.tcons (Syntax.tyStruct (L._∷_ 115 (L._∷_ 116 (L._∷_ 101 (L._∷_ 112 (L._∷_ 58 (L._∷_ 58 (L._∷_ 79 (L._∷_ 108 (L._∷_ 100 L.[]))))))))) (Syntax.tcons (Syntax.tyInt Syntax.w64) (Syntax.tcons q6 (Syntax.tcons q7 (Syntax.tcons q7 (Syntax.tcons q7 (Syntax.tcons q7 (Syntax.tcons q4 Syntax.tnil)))))))) Syntax.tnil))) Syntax.tnil)))) Syntax.tnil))))) (L._∷_ q28 (L._∷_ q29 (L._∷_ q30 (L._∷_ q31 L.[])))))))))))))))
 
 abbrev pub t8 : L.List Row.Entry
-t8 = L._∷_ q10 (L._∷_ q0 (L._∷_ q11 (L._∷_ q3 (L._∷_ q26 (L._∷_ (5, Rows.any-gone (Syntax.tyStruct (L._∷_ 114 (L._∷_ 117 (L._∷_ 108 (L._∷_ 101 (L._∷_ 115 (L._∷_ 58 (L._∷_ 58 (L._∷_ 102 (L._∷_ 111 (L._∷_ 117 (L._∷_ 110 (L._∷_ 100 (L._∷_ 58 (L._∷_ 58 (L._∷_ 70 (L._∷_ 111 (L._∷_ 117 (L._∷_ 110 (L._∷_ 100 L.[]))))))))))))))))))) (Syntax.tcons Syntax.tyBool (Syntax.tcons Syntax.tyBool (Syntax.tcons (Syntax.tyStruct (L._∷_ 115 (L._∷_ 116 (L._∷_ 101 (L._∷_ 112 (L._∷_ 58 (L._∷_ 58 (L._∷_ 83 (L._∷_ 116 (L._∷_ 101 (L._∷_ 112 L.[])))))))))) (Syntax.tcons (Syntax.tyInt Syntax.w64) (Syntax.tcons (Syntax.tyInt Syntax.w64) (Syntax.tcons (Syntax.tyStruct (L._∷_ 115 (L._∷_ 116 (L._∷_ 101 (L._∷_ 112 (L._∷_ 58 (L._∷_ 58 (L._∷_ 67 (L._∷_ 104 (L._∷_ 97 (L._∷_ 110 (L._∷_ 103 (L._∷_ 101 L.[])))))))))))) (Syntax.tcons (Syntax.tyStruct (L._∷_ 110 (L._∷_ 101 (L._∷_ 116 (L._∷_ 119 (L._∷_ 111 (L._∷_ 114 (L._∷_ 107 (L._∷_ 58 (L._∷_ 58 (L._∷_ 69 (L._∷_ 100 (L._∷_ 105 (L._∷_ 116 L.[]))))))))))))) (Syntax.tcons q7 (Syntax.tcons q7 (Syntax.tcons q7 (Syntax.tcons q7 (Syntax.tcons q2 (Syntax.tcons q2 (Syntax.tcons (Syntax.tyInt Syntax.w64) Syntax.tnil)))))))) (Syntax.tcons (Syntax.tyStruct (L._∷_ 115 (L._∷_ 116 (L._∷_ 101 (L._∷_ 112 (L._∷_ 58 (L._∷_ 58 (L._∷_ 79 (L._∷_ 108 (L._∷_ 100 L.[]))))))))) (Syntax.tcons (Syntax.tyInt Syntax.w64) (Syntax.tcons q6 (Syntax.tcons q7 (Syntax.tcons q7 (Syntax.tcons q7 (Syntax.tcons q7 (Syntax.tcons q4 Syntax.tnil)))))))) Syntax.tnil))) Syntax.tnil)))) Syntax.tnil))))) (L._∷_ q8 (L._∷_ q23 (L._∷_ q32 (L._∷_ (9, Rows.any-gone (Syntax.tyStruct (L._∷_ 114 (L._∷_ 117 (L._∷_ 108 (L._∷_ 101 (L._∷_ 115 (L._∷_ 58 (L._∷_ 58 (L._∷_ 116 (L._∷_ 114 (L._∷_ 105 (L._∷_ 101 (L._∷_ 100 (L._∷_ 58 (L._∷_ 58 (L._∷_ 76 (L._∷_ 111 (L._∷_ 111 (L._∷_ 107 (L._∷_ 101 (L._∷_ 100 L.[])))))))))))))))))))) (Syntax.tcons (Syntax.tyStruct (L._∷_ 114 (L._∷_ 117 (L._∷_ 108 (L._∷_ 101 (L._∷_ 115 (L._∷_ 58 (L._∷_ 58 (L._∷_ 102 (L._∷_ 111 (L._∷_ 117 (L._∷_ 110 (L._∷_ 100 (L._∷_ 58 (L._∷_ 58 (L._∷_ 70 (L._∷_ 111 (L._∷_ 117 (L._∷_ 110 (L._∷_ 100 L.[]))))))))))))))))))) (Syntax.tcons Syntax.tyBool (Syntax.tcons Syntax.tyBool (Syntax.tcons (Syntax.tyStruct (L._∷_ 115 (L._∷_ 116 (L._∷_ 101 (L._∷_ 112 (L._∷_ 58 (L._∷_ 58 (L._∷_ 83 (L._∷_ 116 (L._∷_ 101 (L._∷_ 112 L.[])))))))))) (Syntax.tcons (Syntax.tyInt Syntax.w64) (Syntax.tcons (Syntax.tyInt Syntax.w64) (Syntax.tcons (Syntax.tyStruct (L._∷_ 115 (L._∷_ 116 (L._∷_ 101 (L._∷_ 112 (L._∷_ 58 (L._∷_ 58 (L._∷_ 67 (L._∷_ 104 (L._∷_ 97 (L._∷_ 110 (L._∷_ 103 (L._∷_ 101 L.[])))))))))))) (Syntax.tcons (Syntax.tyStruct (L._∷_ 110 (L._∷_ 101 (L._∷_ 116 (L._∷_ 119 (L._∷_ 111 (L._∷_ 114 (L._∷_ 107 (L._∷_ 58 (L._∷_ 58 (L._∷_ 69 (L._∷_ 100 (L._∷_ 105 (L._∷_ 116 L.[]))))))))))))) (Syntax.tcons q7 (Syntax.tcons q7 (Syntax.tcons q7 (Syntax.tcons q7 (Syntax.tcons q2 (Syntax.tcons q2 (Syntax.tcons (Syntax.tyInt Syntax.w64) Syntax.tnil)))))))) (Syntax.tcons (Syntax.tyStruct (L._∷_ 115 (L._∷_ 116 (L._∷_ 101 (L._∷_ 112 (L._∷_ 58 (L._∷_ 58 (L._∷_ 79 (L._∷_ 108 (L._∷_ 100 L.[]))))))))) (Syntax.tcons (Syntax.tyInt Syntax.w64) (Syntax.tcons q6 (Syntax.tcons q7 (Syntax.tcons q7 (Syntax.tcons q7 (Syntax.tcons q7 (Syntax.tcons q4 Syntax.tnil)))))))) Syntax.tnil))) Syntax.tnil)))) Syntax.tnil)))) (Syntax.tcons q5 Syntax.tnil)))) (L._∷_ (10, Rows.any-gone (Syntax.tyStruct (L._∷_ 114 (L._∷_ 117 (L._∷_ 108 (L._∷_ 101 (L._∷_ 115 (L._∷_ 58 (L._∷_ 58 (L._∷_ 102 (L._∷_ 111 (L._∷_ 117 (L._∷_ 110 (L._∷_ 100 (L._∷_ 58 (L._∷_ 58 (L._∷_ 70 (L._∷_ 111 (L._∷_ 117 (L._∷_ 110 (L._∷_ 100 L.[]))))))))))))))))))) (Syntax.tcons Syntax.tyBool (Syntax.tcons Syntax.tyBool (Syntax.tcons (Syntax.tyStruct (L._∷_ 115 (L._∷_ 116 (L._∷_ 101 (L._∷_ 112 (L._∷_ 58 (L._∷_ 58 (L._∷_ 83 (L._∷_ 116 (L._∷_ 101 (L._∷_ 112 L.[])))))))))) (Syntax.tcons (Syntax.tyInt Syntax.w64) (Syntax.tcons (Syntax.tyInt Syntax.w64) (Syntax.tcons (Syntax.tyStruct (L._∷_ 115 (L._∷_ 116 (L._∷_ 101 (L._∷_ 112 (L._∷_ 58 (L._∷_ 58 (L._∷_ 67 (L._∷_ 104 (L._∷_ 97 (L._∷_ 110 (L._∷_ 103 (L._∷_ 101 L.[])))))))))))) (Syntax.tcons (Syntax.tyStruct (L._∷_ 110 (L._∷_ 101 (L._∷_ 116 (L._∷_ 119 (L._∷_ 111 (L._∷_ 114 (L._∷_ 107 (L._∷_ 58 (L._∷_ 58 (L._∷_ 69 (L._∷_ 100 (L._∷_ 105 (L._∷_ 116 L.[]))))))))))))) (Syntax.tcons q7 (Syntax.tcons q7 (Syntax.tcons q7 (Syntax.tcons q7 (Syntax.tcons q2 (Syntax.tcons q2 (Syntax.tcons (Syntax.tyInt Syntax.w64) Syntax.tnil)))))))) (Syntax.tcons (Syntax.tyStruct (L._∷_ 115 (L._∷_ 116 (L._∷_ 101 (L._∷_ 112 (L._∷_ 58 (L._∷_ 58 (L._∷_ 79 (L._∷_ 108 (L._∷_ 100 L.[]))))))))) (Syntax.tcons (Syntax.tyInt Syntax.w64) (Syntax.tcons q6 (Syntax.tcons q7 (Syntax.tcons q7 (Syntax.tcons q7 (Syntax.tcons q7 (Syntax.tcons q4 Syntax.tnil)))))))) Syntax.tnil))) Syntax.tnil)))) Syntax.tnil))))) (L._∷_ (11, Rows.any-gone (Syntax.tyStruct (L._∷_ 114 (L._∷_ 117 (L._∷_ 108 (L._∷_ 101 (L._∷_ 115 (L._∷_ 58 (L._∷_ 58 (L._∷_ 102 (L._∷_ 111 (L._∷_ 117 (L._∷_ 110 (L._∷_ 100 (L._∷_ 58 (L._∷_ 58 (L._∷_ 70 (L._∷_ 111 (L._∷_ 117 (L._∷_ 110 (L._∷_ 100 L.[]))))))))))))))))))) (Syntax.tcons Syntax.tyBool (Syntax.tcons Syntax.tyBool (Syntax.tcons (Syntax.tyStruct (L._∷_ 115 (L._∷_ 116 (L._∷_ 101 (L._∷_ 112 (L._∷_ 58 (L._∷_ 58 (L._∷_ 83 (L._∷_ 116 (L._∷_ 101 (L._∷_ 112 L.[])))))))))) (Syntax.tcons (Syntax.tyInt Syntax.w64) (Syntax.tcons (Syntax.tyInt Syntax.w64) (Syntax.tcons (Syntax.tyStruct (L._∷_ 115 (L._∷_ 116 (L._∷_ 101 (L._∷_ 112 (L._∷_ 58 (L._∷_ 58 (L._∷_ 67 (L._∷_ 104 (L._∷_ 97 (L._∷_ 110 (L._∷_ 103 (L._∷_ 101 L.[])))))))))))) (Syntax.tcons (Syntax.tyStruct (L._∷_ 110 (L._∷_ 101 (L._∷_ 116 (L._∷_ 119 (L._∷_ 111 (L._∷_ 114 (L._∷_ 107 (L._∷_ 58 (L._∷_ 58 (L._∷_ 69 (L._∷_ 100 (L._∷_ 105 (L._∷_ 116 L.[]))))))))))))) (Syntax.tcons q7 (Syntax.tcons q7 (Syntax.tcons q7 (Syntax.tcons q7 (Syntax.tcons q2 (Syntax.tcons q2 (Syntax.tcons (Syntax.tyInt Syntax.w64) Syntax.tnil)))))))) (Syntax.tcons (Syntax.tyStruct (L._∷_ 115 (L._∷_ 116 (L._∷_ 101 (L._∷_ 112 (L._∷_ 58 (L._∷_ 58 (L._∷_ 79 (L._∷_ 108 (L._∷_ 100 L.[]))))))))) (Syntax.tcons (Syntax.tyInt Syntax.w64) (Syntax.tcons q6 (Syntax.tcons q7 (Syntax.tcons q7 (Syntax.tcons q7 (Syntax.tcons q7 (Syntax.tcons q4 Syntax.tnil)))))))) Syntax.tnil))) Syntax.tnil)))) Syntax.tnil))))) (L._∷_ q28 (L._∷_ q29 (L._∷_ q30 (L._∷_ q31 L.[])))))))))))))))
+t8 = L._∷_ q10 (L._∷_ q0 (L._∷_ q11 (L._∷_ q3 (L._∷_ q26 (L._∷_ (5, Rows.any-gone (Syntax.tyStruct (L._∷_ 114 (L._∷_ 117 (L._∷_ 108 (L._∷_ 101 (L._∷_ 115 (L._∷_ 58 (L._∷_ 58 (L._∷_ 102 (L._∷_ 111 (L._∷_ 117 (L._∷_ 110 (L._∷_ 100 (L._∷_ 58 (L._∷_ 58 (L._∷_ 70 (L._∷_ 111 (L._∷_ 117 (L._∷_ 110 (L._∷_ 100 L.[]))))))))))))))))))) (Syntax.tcons Syntax.tyBool (Syntax.tcons Syntax.tyBool (Syntax.tcons (Syntax.tyStruct (L._∷_ 115 (L._∷_ 116 (L._∷_ 101 (L._∷_ 112 (L._∷_ 58 (L._∷_ 58 (L._∷_ 83 (L._∷_ 116 (L._∷_ 101 (L._∷_ 112 L.[])))))))))) (Syntax.tcons (Syntax.tyInt Syntax.w64) (Syntax.tcons (Syntax.tyInt Syntax.w64) (Syntax.tcons (Syntax.tyStruct (L._∷_ 115 (L._∷_ 116 (L._∷_ 101 (L._∷_ 112 (L._∷_ 58 (L._∷_ 58 (L._∷_ 67 (L._∷_ 104 (L._∷_ 97 (L._∷_ 110 (L._∷_ 103 (L._∷_ 101 L.[])))))))))))) (Syntax.tcons (Syntax.tyStruct (L._∷_ 110 (L._∷_ 101 (L._∷_ 116 (L._∷_ 119 (L._∷_ 111 (L._∷_ 114 (L._∷_ 107 (L._∷_ 58 (L._∷_ 58 (L._∷_ 69 (L._∷_ 100 (L._∷_ 105 (L._∷_ 116 L.[]))))))))))))) (Syntax.tcons q7 (Syntax.tcons q7 (Syntax.tcons q7 (Syntax.tcons q7 (Syntax.tcons q2 (Syntax.tcons q2 (Syntax.tcons (Syntax.tyInt Syntax.w64) (Syntax.tcons q6 Syntax.tnil))))))))) (Syntax.tcons (Syntax.tyStruct (L._∷_ 115 (L._∷_ 116 (L._∷_ 101 (L._∷_ 112 (L._∷_ 58 (L._∷_ 58 (L._∷_ 79 (L._∷_ 108 (L._∷_ 100 L.[]))))))))) (Syntax.tcons (Syntax.tyInt Syntax.w64) (Syntax.tcons q6 (Syntax.tcons q7 (Syntax.tcons q7 (Syntax.tcons q7 (Syntax.tcons q7 (Syntax.tcons q4 Syntax.tnil)))))))) Syntax.tnil))) Syntax.tnil)))) Syntax.tnil))))) (L._∷_ q8 (L._∷_ q23 (L._∷_ q32 (L._∷_ (9, Rows.any-gone (Syntax.tyStruct (L._∷_ 114 (L._∷_ 117 (L._∷_ 108 (L._∷_ 101 (L._∷_ 115 (L._∷_ 58 (L._∷_ 58 (L._∷_ 116 (L._∷_ 114 (L._∷_ 105 (L._∷_ 101 (L._∷_ 100 (L._∷_ 58 (L._∷_ 58 (L._∷_ 76 (L._∷_ 111 (L._∷_ 111 (L._∷_ 107 (L._∷_ 101 (L._∷_ 100 L.[])))))))))))))))))))) (Syntax.tcons (Syntax.tyStruct (L._∷_ 114 (L._∷_ 117 (L._∷_ 108 (L._∷_ 101 (L._∷_ 115 (L._∷_ 58 (L._∷_ 58 (L._∷_ 102 (L._∷_ 111 (L._∷_ 117 (L._∷_ 110 (L._∷_ 100 (L._∷_ 58 (L._∷_ 58 (L._∷_ 70 (L._∷_ 111 (L._∷_ 117 (L._∷_ 110 (L._∷_ 100 L.[]))))))))))))))))))) (Syntax.tcons Syntax.tyBool (Syntax.tcons Syntax.tyBool (Syntax.tcons (Syntax.tyStruct (L._∷_ 115 (L._∷_ 116 (L._∷_ 101 (L._∷_ 112 (L._∷_ 58 (L._∷_ 58 (L._∷_ 83 (L._∷_ 116 (L._∷_ 101 (L._∷_ 112 L.[])))))))))) (Syntax.tcons (Syntax.tyInt Syntax.w64) (Syntax.tcons (Syntax.tyInt Syntax.w64) (Syntax.tcons (Syntax.tyStruct (L._∷_ 115 (L._∷_ 116 (L._∷_ 101 (L._∷_ 112 (L._∷_ 58 (L._∷_ 58 (L._∷_ 67 (L._∷_ 104 (L._∷_ 97 (L._∷_ 110 (L._∷_ 103 (L._∷_ 101 L.[])))))))))))) (Syntax.tcons (Syntax.tyStruct (L._∷_ 110 (L._∷_ 101 (L._∷_ 116 (L._∷_ 119 (L._∷_ 111 (L._∷_ 114 (L._∷_ 107 (L._∷_ 58 (L._∷_ 58 (L._∷_ 69 (L._∷_ 100 (L._∷_ 105 (L._∷_ 116 L.[]))))))))))))) (Syntax.tcons q7 (Syntax.tcons q7 (Syntax.tcons q7 (Syntax.tcons q7 (Syntax.tcons q2 (Syntax.tcons q2 (Syntax.tcons (Syntax.tyInt Syntax.w64) (Syntax.tcons q6 Syntax.tnil))))))))) (Syntax.tcons (Syntax.tyStruct (L._∷_ 115 (L._∷_ 116 (L._∷_ 101 (L._∷_ 112 (L._∷_ 58 (L._∷_ 58 (L._∷_ 79 (L._∷_ 108 (L._∷_ 100 L.[]))))))))) (Syntax.tcons (Syntax.tyInt Syntax.w64) (Syntax.tcons q6 (Syntax.tcons q7 (Syntax.tcons q7 (Syntax.tcons q7 (Syntax.tcons q7 (Syntax.tcons q4 Syntax.tnil)))))))) Syntax.tnil))) Syntax.tnil)))) Syntax.tnil)))) (Syntax.tcons q5 Syntax.tnil)))) (L._∷_ (10, Rows.any-gone (Syntax.tyStruct (L._∷_ 114 (L._∷_ 117 (L._∷_ 108 (L._∷_ 101 (L._∷_ 115 (L._∷_ 58 (L._∷_ 58 (L._∷_ 102 (L._∷_ 111 (L._∷_ 117 (L._∷_ 110 (L._∷_ 100 (L._∷_ 58 (L._∷_ 58 (L._∷_ 70 (L._∷_ 111 (L._∷_ 117 (L._∷_ 110 (L._∷_ 100 L.[]))))))))))))))))))) (Syntax.tcons Syntax.tyBool (Syntax.tcons Syntax.tyBool (Syntax.tcons (Syntax.tyStruct (L._∷_ 115 (L._∷_ 116 (L._∷_ 101 (L._∷_ 112 (L._∷_ 58 (L._∷_ 58 (L._∷_ 83 (L._∷_ 116 (L._∷_ 101 (L._∷_ 112 L.[])))))))))) (Syntax.tcons (Syntax.tyInt Syntax.w64) (Syntax.tcons (Syntax.tyInt Syntax.w64) (Syntax.tcons (Syntax.tyStruct (L._∷_ 115 (L._∷_ 116 (L._∷_ 101 (L._∷_ 112 (L._∷_ 58 (L._∷_ 58 (L._∷_ 67 (L._∷_ 104 (L._∷_ 97 (L._∷_ 110 (L._∷_ 103 (L._∷_ 101 L.[])))))))))))) (Syntax.tcons (Syntax.tyStruct (L._∷_ 110 (L._∷_ 101 (L._∷_ 116 (L._∷_ 119 (L._∷_ 111 (L._∷_ 114 (L._∷_ 107 (L._∷_ 58 (L._∷_ 58 (L._∷_ 69 (L._∷_ 100 (L._∷_ 105 (L._∷_ 116 L.[]))))))))))))) (Syntax.tcons q7 (Syntax.tcons q7 (Syntax.tcons q7 (Syntax.tcons q7 (Syntax.tcons q2 (Syntax.tcons q2 (Syntax.tcons (Syntax.tyInt Syntax.w64) (Syntax.tcons q6 Syntax.tnil))))))))) (Syntax.tcons (Syntax.tyStruct (L._∷_ 115 (L._∷_ 116 (L._∷_ 101 (L._∷_ 112 (L._∷_ 58 (L._∷_ 58 (L._∷_ 79 (L._∷_ 108 (L._∷_ 100 L.[]))))))))) (Syntax.tcons (Syntax.tyInt Syntax.w64) (Syntax.tcons q6 (Syntax.tcons q7 (Syntax.tcons q7 (Syntax.tcons q7 (Syntax.tcons q7 (Syntax.tcons q4 Syntax.tnil)))))))) Syntax.tnil))) Syntax.tnil)))) Syntax.tnil))))) (L._∷_ (11, Rows.any-gone (Syntax.tyStruct (L._∷_ 114 (L._∷_ 117 (L._∷_ 108 (L._∷_ 101 (L._∷_ 115 (L._∷_ 58 (L._∷_ 58 (L._∷_ 102 (L._∷_ 111 (L._∷_ 117 (L._∷_ 110 (L._∷_ 100 (L._∷_ 58 (L._∷_ 58 (L._∷_ 70 (L._∷_ 111 (L._∷_ 117 (L._∷_ 110 (L._∷_ 100 L.[]))))))))))))))))))) (Syntax.tcons Syntax.tyBool (Syntax.tcons Syntax.tyBool (Syntax.tcons (Syntax.tyStruct (L._∷_ 115 (L._∷_ 116 (L._∷_ 101 (L._∷_ 112 (L._∷_ 58 (L._∷_ 58 (L._∷_ 83 (L._∷_ 116 (L._∷_ 101 (L._∷_ 112 L.[])))))))))) (Syntax.tcons (Syntax.tyInt Syntax.w64) (Syntax.tcons (Syntax.tyInt Syntax.w64) (Syntax.tcons (Syntax.tyStruct (L._∷_ 115 (L._∷_ 116 (L._∷_ 101 (L._∷_ 112 (L._∷_ 58 (L._∷_ 58 (L._∷_ 67 (L._∷_ 104 (L._∷_ 97 (L._∷_ 110 (L._∷_ 103 (L._∷_ 101 L.[])))))))))))) (Syntax.tcons (Syntax.tyStruct (L._∷_ 110 (L._∷_ 101 (L._∷_ 116 (L._∷_ 119 (L._∷_ 111 (L._∷_ 114 (L._∷_ 107 (L._∷_ 58 (L._∷_ 58 (L._∷_ 69 (L._∷_ 100 (L._∷_ 105 (L._∷_ 116 L.[]))))))))))))) (Syntax.tcons q7 (Syntax.tcons q7 (Syntax.tcons q7 (Syntax.tcons q7 (Syntax.tcons q2 (Syntax.tcons q2 (Syntax.tcons (Syntax.tyInt Syntax.w64) (Syntax.tcons q6 Syntax.tnil))))))))) (Syntax.tcons (Syntax.tyStruct (L._∷_ 115 (L._∷_ 116 (L._∷_ 101 (L._∷_ 112 (L._∷_ 58 (L._∷_ 58 (L._∷_ 79 (L._∷_ 108 (L._∷_ 100 L.[]))))))))) (Syntax.tcons (Syntax.tyInt Syntax.w64) (Syntax.tcons q6 (Syntax.tcons q7 (Syntax.tcons q7 (Syntax.tcons q7 (Syntax.tcons q7 (Syntax.tcons q4 Syntax.tnil)))))))) Syntax.tnil))) Syntax.tnil)))) Syntax.tnil))))) (L._∷_ q28 (L._∷_ q29 (L._∷_ q30 (L._∷_ q31 L.[])))))))))))))))
 
 abbrev pub t9 : L.List Row.Entry
-t9 = L._∷_ q10 (L._∷_ q0 (L._∷_ q11 (L._∷_ q3 (L._∷_ q24 (L._∷_ (5, Rows.any-gone (Syntax.tyStruct (L._∷_ 114 (L._∷_ 117 (L._∷_ 108 (L._∷_ 101 (L._∷_ 115 (L._∷_ 58 (L._∷_ 58 (L._∷_ 102 (L._∷_ 111 (L._∷_ 117 (L._∷_ 110 (L._∷_ 100 (L._∷_ 58 (L._∷_ 58 (L._∷_ 70 (L._∷_ 111 (L._∷_ 117 (L._∷_ 110 (L._∷_ 100 L.[]))))))))))))))))))) (Syntax.tcons Syntax.tyBool (Syntax.tcons Syntax.tyBool (Syntax.tcons (Syntax.tyStruct (L._∷_ 115 (L._∷_ 116 (L._∷_ 101 (L._∷_ 112 (L._∷_ 58 (L._∷_ 58 (L._∷_ 83 (L._∷_ 116 (L._∷_ 101 (L._∷_ 112 L.[])))))))))) (Syntax.tcons (Syntax.tyInt Syntax.w64) (Syntax.tcons (Syntax.tyInt Syntax.w64) (Syntax.tcons (Syntax.tyStruct (L._∷_ 115 (L._∷_ 116 (L._∷_ 101 (L._∷_ 112 (L._∷_ 58 (L._∷_ 58 (L._∷_ 67 (L._∷_ 104 (L._∷_ 97 (L._∷_ 110 (L._∷_ 103 (L._∷_ 101 L.[])))))))))))) (Syntax.tcons (Syntax.tyStruct (L._∷_ 110 (L._∷_ 101 (L._∷_ 116 (L._∷_ 119 (L._∷_ 111 (L._∷_ 114 (L._∷_ 107 (L._∷_ 58 (L._∷_ 58 (L._∷_ 69 (L._∷_ 100 (L._∷_ 105 (L._∷_ 116 L.[]))))))))))))) (Syntax.tcons q7 (Syntax.tcons q7 (Syntax.tcons q7 (Syntax.tcons q7 (Syntax.tcons q2 (Syntax.tcons q2 (Syntax.tcons (Syntax.tyInt Syntax.w64) Syntax.tnil)))))))) (Syntax.tcons (Syntax.tyStruct (L._∷_ 115 (L._∷_ 116 (L._∷_ 101 (L._∷_ 112 (L._∷_ 58 (L._∷_ 58 (L._∷_ 79 (L._∷_ 108 (L._∷_ 100 L.[]))))))))) (Syntax.tcons (Syntax.tyInt Syntax.w64) (Syntax.tcons q6 (Syntax.tcons q7 (Syntax.tcons q7 (Syntax.tcons q7 (Syntax.tcons q7 (Syntax.tcons q4 Syntax.tnil)))))))) Syntax.tnil))) Syntax.tnil)))) Syntax.tnil))))) (L._∷_ q8 (L._∷_ q23 (L._∷_ q32 (L._∷_ (9, Rows.any-gone (Syntax.tyStruct (L._∷_ 114 (L._∷_ 117 (L._∷_ 108 (L._∷_ 101 (L._∷_ 115 (L._∷_ 58 (L._∷_ 58 (L._∷_ 116 (L._∷_ 114 (L._∷_ 105 (L._∷_ 101 (L._∷_ 100 (L._∷_ 58 (L._∷_ 58 (L._∷_ 76 (L._∷_ 111 (L._∷_ 111 (L._∷_ 107 (L._∷_ 101 (L._∷_ 100 L.[])))))))))))))))))))) (Syntax.tcons (Syntax.tyStruct (L._∷_ 114 (L._∷_ 117 (L._∷_ 108 (L._∷_ 101 (L._∷_ 115 (L._∷_ 58 (L._∷_ 58 (L._∷_ 102 (L._∷_ 111 (L._∷_ 117 (L._∷_ 110 (L._∷_ 100 (L._∷_ 58 (L._∷_ 58 (L._∷_ 70 (L._∷_ 111 (L._∷_ 117 (L._∷_ 110 (L._∷_ 100 L.[]))))))))))))))))))) (Syntax.tcons Syntax.tyBool (Syntax.tcons Syntax.tyBool (Syntax.tcons (Syntax.tyStruct (L._∷_ 115 (L._∷_ 116 (L._∷_ 101 (L._∷_ 112 (L._∷_ 58 (L._∷_ 58 (L._∷_ 83 (L._∷_ 116 (L._∷_ 101 (L._∷_ 112 L.[])))))))))) (Syntax.tcons (Syntax.tyInt Syntax.w64) (Syntax.tcons (Syntax.tyInt Syntax.w64) (Syntax.tcons (Syntax.tyStruct (L._∷_ 115 (L._∷_ 116 (L._∷_ 101 (L._∷_ 112 (L._∷_ 58 (L._∷_ 58 (L._∷_ 67 (L._∷_ 104 (L._∷_ 97 (L._∷_ 110 (L._∷_ 103 (L._∷_ 101 L.[])))))))))))) (Syntax.tcons (Syntax.tyStruct (L._∷_ 110 (L._∷_ 101 (L._∷_ 116 (L._∷_ 119 (L._∷_ 111 (L._∷_ 114 (L._∷_ 107 (L._∷_ 58 (L._∷_ 58 (L._∷_ 69 (L._∷_ 100 (L._∷_ 105 (L._∷_ 116 L.[]))))))))))))) (Syntax.tcons q7 (Syntax.tcons q7 (Syntax.tcons q7 (Syntax.tcons q7 (Syntax.tcons q2 (Syntax.tcons q2 (Syntax.tcons (Syntax.tyInt Syntax.w64) Syntax.tnil)))))))) (Syntax.tcons (Syntax.tyStruct (L._∷_ 115 (L._∷_ 116 (L._∷_ 101 (L._∷_ 112 (L._∷_ 58 (L._∷_ 58 (L._∷_ 79 (L._∷_ 108 (L._∷_ 100 L.[]))))))))) (Syntax.tcons (Syntax.tyInt Syntax.w64) (Syntax.tcons q6 (Syntax.tcons q7 (Syntax.tcons q7 (Syntax.tcons q7 (Syntax.tcons q7 (Syntax.tcons q4 Syntax.tnil)))))))) Syntax.tnil))) Syntax.tnil)))) Syntax.tnil)))) (Syntax.tcons q5 Syntax.tnil)))) (L._∷_ (10, Rows.any-gone (Syntax.tyStruct (L._∷_ 114 (L._∷_ 117 (L._∷_ 108 (L._∷_ 101 (L._∷_ 115 (L._∷_ 58 (L._∷_ 58 (L._∷_ 102 (L._∷_ 111 (L._∷_ 117 (L._∷_ 110 (L._∷_ 100 (L._∷_ 58 (L._∷_ 58 (L._∷_ 70 (L._∷_ 111 (L._∷_ 117 (L._∷_ 110 (L._∷_ 100 L.[]))))))))))))))))))) (Syntax.tcons Syntax.tyBool (Syntax.tcons Syntax.tyBool (Syntax.tcons (Syntax.tyStruct (L._∷_ 115 (L._∷_ 116 (L._∷_ 101 (L._∷_ 112 (L._∷_ 58 (L._∷_ 58 (L._∷_ 83 (L._∷_ 116 (L._∷_ 101 (L._∷_ 112 L.[])))))))))) (Syntax.tcons (Syntax.tyInt Syntax.w64) (Syntax.tcons (Syntax.tyInt Syntax.w64) (Syntax.tcons (Syntax.tyStruct (L._∷_ 115 (L._∷_ 116 (L._∷_ 101 (L._∷_ 112 (L._∷_ 58 (L._∷_ 58 (L._∷_ 67 (L._∷_ 104 (L._∷_ 97 (L._∷_ 110 (L._∷_ 103 (L._∷_ 101 L.[])))))))))))) (Syntax.tcons (Syntax.tyStruct (L._∷_ 110 (L._∷_ 101 (L._∷_ 116 (L._∷_ 119 (L._∷_ 111 (L._∷_ 114 (L._∷_ 107 (L._∷_ 58 (L._∷_ 58 (L._∷_ 69 (L._∷_ 100 (L._∷_ 105 (L._∷_ 116 L.[]))))))))))))) (Syntax.tcons q7 (Syntax.tcons q7 (Syntax.tcons q7 (Syntax.tcons q7 (Syntax.tcons q2 (Syntax.tcons q2 (Syntax.tcons (Syntax.tyInt Syntax.w64) Syntax.tnil)))))))) (Syntax.tcons (Syntax.tyStruct (L._∷_ 115 (L._∷_ 116 (L._∷_ 101 (L._∷_ 112 (L._∷_ 58 (L._∷_ 58 (L._∷_ 79 (L._∷_ 108 (L._∷_ 100 L.[]))))))))) (Syntax.tcons (Syntax.tyInt Syntax.w64) (Syntax.tcons q6 (Syntax.tcons q7 (Syntax.tcons q7 (Syntax.tcons q7 (Syntax.tcons q7 (Syntax.tcons q4 Syntax.tnil)))))))) Syntax.tnil))) Syntax.tnil)))) Syntax.tnil))))) (L._∷_ (11, Rows.any-gone (Syntax.tyStruct (L._∷_ 114 (L._∷_ 117 (L._∷_ 108 (L._∷_ 101 (L._∷_ 115 (L._∷_ 58 (L._∷_ 58 (L._∷_ 102 (L._∷_ 111 (L._∷_ 117 (L._∷_ 110 (L._∷_ 100 (L._∷_ 58 (L._∷_ 58 (L._∷_ 70 (L._∷_ 111 (L._∷_ 117 (L._∷_ 110 (L._∷_ 100 L.[]))))))))))))))))))) (Syntax.tcons Syntax.tyBool (Syntax.tcons Syntax.tyBool (Syntax.tcons (Syntax.tyStruct (L._∷_ 115 (L._∷_ 116 (L._∷_ 101 (L._∷_ 112 (L._∷_ 58 (L._∷_ 58 (L._∷_ 83 (L._∷_ 116 (L._∷_ 101 (L._∷_ 112 L.[])))))))))) (Syntax.tcons (Syntax.tyInt Syntax.w64) (Syntax.tcons (Syntax.tyInt Syntax.w64) (Syntax.tcons (Syntax.tyStruct (L._∷_ 115 (L._∷_ 116 (L._∷_ 101 (L._∷_ 112 (L._∷_ 58 (L._∷_ 58 (L._∷_ 67 (L._∷_ 104 (L._∷_ 97 (L._∷_ 110 (L._∷_ 103 (L._∷_ 101 L.[])))))))))))) (Syntax.tcons (Syntax.tyStruct (L._∷_ 110 (L._∷_ 101 (L._∷_ 116 (L._∷_ 119 (L._∷_ 111 (L._∷_ 114 (L._∷_ 107 (L._∷_ 58 (L._∷_ 58 (L._∷_ 69 (L._∷_ 100 (L._∷_ 105 (L._∷_ 116 L.[]))))))))))))) (Syntax.tcons q7 (Syntax.tcons q7 (Syntax.tcons q7 (Syntax.tcons q7 (Syntax.tcons q2 (Syntax.tcons q2 (Syntax.tcons (Syntax.tyInt Syntax.w64) Syntax.tnil)))))))) (Syntax.tcons (Syntax.tyStruct (L._∷_ 115 (L._∷_ 116 (L._∷_ 101 (L._∷_ 112 (L._∷_ 58 (L._∷_ 58 (L._∷_ 79 (L._∷_ 108 (L._∷_ 100 L.[]))))))))) (Syntax.tcons (Syntax.tyInt Syntax.w64) (Syntax.tcons q6 (Syntax.tcons q7 (Syntax.tcons q7 (Syntax.tcons q7 (Syntax.tcons q7 (Syntax.tcons q4 Syntax.tnil)))))))) Syntax.tnil))) Syntax.tnil)))) Syntax.tnil))))) (L._∷_ q28 (L._∷_ q29 (L._∷_ q30 (L._∷_ q31 L.[])))))))))))))))
+t9 = L._∷_ q10 (L._∷_ q0 (L._∷_ q11 (L._∷_ q3 (L._∷_ q24 (L._∷_ (5, Rows.any-gone (Syntax.tyStruct (L._∷_ 114 (L._∷_ 117 (L._∷_ 108 (L._∷_ 101 (L._∷_ 115 (L._∷_ 58 (L._∷_ 58 (L._∷_ 102 (L._∷_ 111 (L._∷_ 117 (L._∷_ 110 (L._∷_ 100 (L._∷_ 58 (L._∷_ 58 (L._∷_ 70 (L._∷_ 111 (L._∷_ 117 (L._∷_ 110 (L._∷_ 100 L.[]))))))))))))))))))) (Syntax.tcons Syntax.tyBool (Syntax.tcons Syntax.tyBool (Syntax.tcons (Syntax.tyStruct (L._∷_ 115 (L._∷_ 116 (L._∷_ 101 (L._∷_ 112 (L._∷_ 58 (L._∷_ 58 (L._∷_ 83 (L._∷_ 116 (L._∷_ 101 (L._∷_ 112 L.[])))))))))) (Syntax.tcons (Syntax.tyInt Syntax.w64) (Syntax.tcons (Syntax.tyInt Syntax.w64) (Syntax.tcons (Syntax.tyStruct (L._∷_ 115 (L._∷_ 116 (L._∷_ 101 (L._∷_ 112 (L._∷_ 58 (L._∷_ 58 (L._∷_ 67 (L._∷_ 104 (L._∷_ 97 (L._∷_ 110 (L._∷_ 103 (L._∷_ 101 L.[])))))))))))) (Syntax.tcons (Syntax.tyStruct (L._∷_ 110 (L._∷_ 101 (L._∷_ 116 (L._∷_ 119 (L._∷_ 111 (L._∷_ 114 (L._∷_ 107 (L._∷_ 58 (L._∷_ 58 (L._∷_ 69 (L._∷_ 100 (L._∷_ 105 (L._∷_ 116 L.[]))))))))))))) (Syntax.tcons q7 (Syntax.tcons q7 (Syntax.tcons q7 (Syntax.tcons q7 (Syntax.tcons q2 (Syntax.tcons q2 (Syntax.tcons (Syntax.tyInt Syntax.w64) (Syntax.tcons q6 Syntax.tnil))))))))) (Syntax.tcons (Syntax.tyStruct (L._∷_ 115 (L._∷_ 116 (L._∷_ 101 (L._∷_ 112 (L._∷_ 58 (L._∷_ 58 (L._∷_ 79 (L._∷_ 108 (L._∷_ 100 L.[]))))))))) (Syntax.tcons (Syntax.tyInt Syntax.w64) (Syntax.tcons q6 (Syntax.tcons q7 (Syntax.tcons q7 (Syntax.tcons q7 (Syntax.tcons q7 (Syntax.tcons q4 Syntax.tnil)))))))) Syntax.tnil))) Syntax.tnil)))) Syntax.tnil))))) (L._∷_ q8 (L._∷_ q23 (L._∷_ q32 (L._∷_ (9, Rows.any-gone (Syntax.tyStruct (L._∷_ 114 (L._∷_ 117 (L._∷_ 108 (L._∷_ 101 (L._∷_ 115 (L._∷_ 58 (L._∷_ 58 (L._∷_ 116 (L._∷_ 114 (L._∷_ 105 (L._∷_ 101 (L._∷_ 100 (L._∷_ 58 (L._∷_ 58 (L._∷_ 76 (L._∷_ 111 (L._∷_ 111 (L._∷_ 107 (L._∷_ 101 (L._∷_ 100 L.[])))))))))))))))))))) (Syntax.tcons (Syntax.tyStruct (L._∷_ 114 (L._∷_ 117 (L._∷_ 108 (L._∷_ 101 (L._∷_ 115 (L._∷_ 58 (L._∷_ 58 (L._∷_ 102 (L._∷_ 111 (L._∷_ 117 (L._∷_ 110 (L._∷_ 100 (L._∷_ 58 (L._∷_ 58 (L._∷_ 70 (L._∷_ 111 (L._∷_ 117 (L._∷_ 110 (L._∷_ 100 L.[]))))))))))))))))))) (Syntax.tcons Syntax.tyBool (Syntax.tcons Syntax.tyBool (Syntax.tcons (Syntax.tyStruct (L._∷_ 115 (L._∷_ 116 (L._∷_ 101 (L._∷_ 112 (L._∷_ 58 (L._∷_ 58 (L._∷_ 83 (L._∷_ 116 (L._∷_ 101 (L._∷_ 112 L.[])))))))))) (Syntax.tcons (Syntax.tyInt Syntax.w64) (Syntax.tcons (Syntax.tyInt Syntax.w64) (Syntax.tcons (Syntax.tyStruct (L._∷_ 115 (L._∷_ 116 (L._∷_ 101 (L._∷_ 112 (L._∷_ 58 (L._∷_ 58 (L._∷_ 67 (L._∷_ 104 (L._∷_ 97 (L._∷_ 110 (L._∷_ 103 (L._∷_ 101 L.[])))))))))))) (Syntax.tcons (Syntax.tyStruct (L._∷_ 110 (L._∷_ 101 (L._∷_ 116 (L._∷_ 119 (L._∷_ 111 (L._∷_ 114 (L._∷_ 107 (L._∷_ 58 (L._∷_ 58 (L._∷_ 69 (L._∷_ 100 (L._∷_ 105 (L._∷_ 116 L.[]))))))))))))) (Syntax.tcons q7 (Syntax.tcons q7 (Syntax.tcons q7 (Syntax.tcons q7 (Syntax.tcons q2 (Syntax.tcons q2 (Syntax.tcons (Syntax.tyInt Syntax.w64) (Syntax.tcons q6 Syntax.tnil))))))))) (Syntax.tcons (Syntax.tyStruct (L._∷_ 115 (L._∷_ 116 (L._∷_ 101 (L._∷_ 112 (L._∷_ 58 (L._∷_ 58 (L._∷_ 79 (L._∷_ 108 (L._∷_ 100 L.[]))))))))) (Syntax.tcons (Syntax.tyInt Syntax.w64) (Syntax.tcons q6 (Syntax.tcons q7 (Syntax.tcons q7 (Syntax.tcons q7 (Syntax.tcons q7 (Syntax.tcons q4 Syntax.tnil)))))))) Syntax.tnil))) Syntax.tnil)))) Syntax.tnil)))) (Syntax.tcons q5 Syntax.tnil)))) (L._∷_ (10, Rows.any-gone (Syntax.tyStruct (L._∷_ 114 (L._∷_ 117 (L._∷_ 108 (L._∷_ 101 (L._∷_ 115 (L._∷_ 58 (L._∷_ 58 (L._∷_ 102 (L._∷_ 111 (L._∷_ 117 (L._∷_ 110 (L._∷_ 100 (L._∷_ 58 (L._∷_ 58 (L._∷_ 70 (L._∷_ 111 (L._∷_ 117 (L._∷_ 110 (L._∷_ 100 L.[]))))))))))))))))))) (Syntax.tcons Syntax.tyBool (Syntax.tcons Syntax.tyBool (Syntax.tcons (Syntax.tyStruct (L._∷_ 115 (L._∷_ 116 (L._∷_ 101 (L._∷_ 112 (L._∷_ 58 (L._∷_ 58 (L._∷_ 83 (L._∷_ 116 (L._∷_ 101 (L._∷_ 112 L.[])))))))))) (Syntax.tcons (Syntax.tyInt Syntax.w64) (Syntax.tcons (Syntax.tyInt Syntax.w64) (Syntax.tcons (Syntax.tyStruct (L._∷_ 115 (L._∷_ 116 (L._∷_ 101 (L._∷_ 112 (L._∷_ 58 (L._∷_ 58 (L._∷_ 67 (L._∷_ 104 (L._∷_ 97 (L._∷_ 110 (L._∷_ 103 (L._∷_ 101 L.[])))))))))))) (Syntax.tcons (Syntax.tyStruct (L._∷_ 110 (L._∷_ 101 (L._∷_ 116 (L._∷_ 119 (L._∷_ 111 (L._∷_ 114 (L._∷_ 107 (L._∷_ 58 (L._∷_ 58 (L._∷_ 69 (L._∷_ 100 (L._∷_ 105 (L._∷_ 116 L.[]))))))))))))) (Syntax.tcons q7 (Syntax.tcons q7 (Syntax.tcons q7 (Syntax.tcons q7 (Syntax.tcons q2 (Syntax.tcons q2 (Syntax.tcons (Syntax.tyInt Syntax.w64) (Syntax.tcons q6 Syntax.tnil))))))))) (Syntax.tcons (Syntax.tyStruct (L._∷_ 115 (L._∷_ 116 (L._∷_ 101 (L._∷_ 112 (L._∷_ 58 (L._∷_ 58 (L._∷_ 79 (L._∷_ 108 (L._∷_ 100 L.[]))))))))) (Syntax.tcons (Syntax.tyInt Syntax.w64) (Syntax.tcons q6 (Syntax.tcons q7 (Syntax.tcons q7 (Syntax.tcons q7 (Syntax.tcons q7 (Syntax.tcons q4 Syntax.tnil)))))))) Syntax.tnil))) Syntax.tnil)))) Syntax.tnil))))) (L._∷_ (11, Rows.any-gone (Syntax.tyStruct (L._∷_ 114 (L._∷_ 117 (L._∷_ 108 (L._∷_ 101 (L._∷_ 115 (L._∷_ 58 (L._∷_ 58 (L._∷_ 102 (L._∷_ 111 (L._∷_ 117 (L._∷_ 110 (L._∷_ 100 (L._∷_ 58 (L._∷_ 58 (L._∷_ 70 (L._∷_ 111 (L._∷_ 117 (L._∷_ 110 (L._∷_ 100 L.[]))))))))))))))))))) (Syntax.tcons Syntax.tyBool (Syntax.tcons Syntax.tyBool (Syntax.tcons (Syntax.tyStruct (L._∷_ 115 (L._∷_ 116 (L._∷_ 101 (L._∷_ 112 (L._∷_ 58 (L._∷_ 58 (L._∷_ 83 (L._∷_ 116 (L._∷_ 101 (L._∷_ 112 L.[])))))))))) (Syntax.tcons (Syntax.tyInt Syntax.w64) (Syntax.tcons (Syntax.tyInt Syntax.w64) (Syntax.tcons (Syntax.tyStruct (L._∷_ 115 (L._∷_ 116 (L._∷_ 101 (L._∷_ 112 (L._∷_ 58 (L._∷_ 58 (L._∷_ 67 (L._∷_ 104 (L._∷_ 97 (L._∷_ 110 (L._∷_ 103 (L._∷_ 101 L.[])))))))))))) (Syntax.tcons (Syntax.tyStruct (L._∷_ 110 (L._∷_ 101 (L._∷_ 116 (L._∷_ 119 (L._∷_ 111 (L._∷_ 114 (L._∷_ 107 (L._∷_ 58 (L._∷_ 58 (L._∷_ 69 (L._∷_ 100 (L._∷_ 105 (L._∷_ 116 L.[]))))))))))))) (Syntax.tcons q7 (Syntax.tcons q7 (Syntax.tcons q7 (Syntax.tcons q7 (Syntax.tcons q2 (Syntax.tcons q2 (Syntax.tcons (Syntax.tyInt Syntax.w64) (Syntax.tcons q6 Syntax.tnil))))))))) (Syntax.tcons (Syntax.tyStruct (L._∷_ 115 (L._∷_ 116 (L._∷_ 101 (L._∷_ 112 (L._∷_ 58 (L._∷_ 58 (L._∷_ 79 (L._∷_ 108 (L._∷_ 100 L.[]))))))))) (Syntax.tcons (Syntax.tyInt Syntax.w64) (Syntax.tcons q6 (Syntax.tcons q7 (Syntax.tcons q7 (Syntax.tcons q7 (Syntax.tcons q7 (Syntax.tcons q4 Syntax.tnil)))))))) Syntax.tnil))) Syntax.tnil)))) Syntax.tnil))))) (L._∷_ q28 (L._∷_ q29 (L._∷_ q30 (L._∷_ q31 L.[])))))))))))))))
 
 abbrev pub t10 : L.List Row.Entry
-t10 = L._∷_ (0, Rows.any-gone (Syntax.tyStruct (L._∷_ 114 (L._∷_ 117 (L._∷_ 108 (L._∷_ 101 (L._∷_ 115 (L._∷_ 58 (L._∷_ 58 (L._∷_ 116 (L._∷_ 114 (L._∷_ 105 (L._∷_ 101 (L._∷_ 100 (L._∷_ 58 (L._∷_ 58 (L._∷_ 76 (L._∷_ 111 (L._∷_ 111 (L._∷_ 107 (L._∷_ 101 (L._∷_ 100 L.[])))))))))))))))))))) (Syntax.tcons (Syntax.tyStruct (L._∷_ 114 (L._∷_ 117 (L._∷_ 108 (L._∷_ 101 (L._∷_ 115 (L._∷_ 58 (L._∷_ 58 (L._∷_ 102 (L._∷_ 111 (L._∷_ 117 (L._∷_ 110 (L._∷_ 100 (L._∷_ 58 (L._∷_ 58 (L._∷_ 70 (L._∷_ 111 (L._∷_ 117 (L._∷_ 110 (L._∷_ 100 L.[]))))))))))))))))))) (Syntax.tcons Syntax.tyBool (Syntax.tcons Syntax.tyBool (Syntax.tcons (Syntax.tyStruct (L._∷_ 115 (L._∷_ 116 (L._∷_ 101 (L._∷_ 112 (L._∷_ 58 (L._∷_ 58 (L._∷_ 83 (L._∷_ 116 (L._∷_ 101 (L._∷_ 112 L.[])))))))))) (Syntax.tcons (Syntax.tyInt Syntax.w64) (Syntax.tcons (Syntax.tyInt Syntax.w64) (Syntax.tcons (Syntax.tyStruct (L._∷_ 115 (L._∷_ 116 (L._∷_ 101 (L._∷_ 112 (L._∷_ 58 (L._∷_ 58 (L._∷_ 67 (L._∷_ 104 (L._∷_ 97 (L._∷_ 110 (L._∷_ 103 (L._∷_ 101 L.[])))))))))))) (Syntax.tcons (Syntax.tyStruct (L._∷_ 110 (L._∷_ 101 (L._∷_ 116 (L._∷_ 119 (L._∷_ 111 (L._∷_ 114 (L._∷_ 107 (L._∷_ 58 (L._∷_ 58 (L._∷_ 69 (L._∷_ 100 (L._∷_ 105 (L._∷_ 116 L.[]))))))))))))) (Syntax.tcons q7 (Syntax.tcons q7 (Syntax.tcons q7 (Syntax.tcons q7 (Syntax.tcons q2 (Syntax.tcons q2 (Syntax.tcons (Syntax.tyInt Syntax.w64) Syntax.tnil)))))))) (Syntax.tcons (Syntax.tyStruct (L._∷_ 115 (L._∷_ 116 (L._∷_ 101 (L._∷_ 112 (L._∷_ 58 (L._∷_ 58 (L._∷_ 79 (L._∷_ 108 (L._∷_ 100 L.[]))))))))) (Syntax.tcons (Syntax.tyInt Syntax.w64) (Syntax.tcons q6 (Syntax.tcons q7 (Syntax.tcons q7 (Syntax.tcons q7 (Syntax.tcons q7 (Syntax.tcons q4 Syntax.tnil)))))))) Syntax.tnil))) Syntax.tnil)))) Syntax.tnil)))) (Syntax.tcons q5 Syntax.tnil)))) (L._∷_ q20 (L._∷_ q11 (L._∷_ q17 (L._∷_ q26 (L._∷_ (5, Rows.any-gone (Syntax.tyStruct (L._∷_ 114 (L._∷_ 117 (L._∷_ 108 (L._∷_ 101 (L._∷_ 115 (L._∷_ 58 (L._∷_ 58 (L._∷_ 102 (L._∷_ 111 (L._∷_ 117 (L._∷_ 110 (L._∷_ 100 (L._∷_ 58 (L._∷_ 58 (L._∷_ 70 (L._∷_ 111 (L._∷_ 117 (L._∷_ 110 (L._∷_ 100 L.[]))))))))))))))))))) (Syntax.tcons Syntax.tyBool (Syntax.tcons Syntax.tyBool (Syntax.tcons (Syntax.tyStruct (L._∷_ 115 (L._∷_ 116 (L._∷_ 101 (L._∷_ 112 (L._∷_ 58 (L._∷_ 58 (L._∷_ 83 (L._∷_ 116 (L._∷_ 101 (L._∷_ 112 L.[])))))))))) (Syntax.tcons (Syntax.tyInt Syntax.w64) (Syntax.tcons (Syntax.tyInt Syntax.w64) (Syntax.tcons (Syntax.tyStruct (L._∷_ 115 (L._∷_ 116 (L._∷_ 101 (L._∷_ 112 (L._∷_ 58 (L._∷_ 58 (L._∷_ 67 (L._∷_ 104 (L._∷_ 97 (L._∷_ 110 (L._∷_ 103 (L._∷_ 101 L.[])))))))))))) (Syntax.tcons (Syntax.tyStruct (L._∷_ 110 (L._∷_ 101 (L._∷_ 116 (L._∷_ 119 (L._∷_ 111 (L._∷_ 114 (L._∷_ 107 (L._∷_ 58 (L._∷_ 58 (L._∷_ 69 (L._∷_ 100 (L._∷_ 105 (L._∷_ 116 L.[]))))))))))))) (Syntax.tcons q7 (Syntax.tcons q7 (Syntax.tcons q7 (Syntax.tcons q7 (Syntax.tcons q2 (Syntax.tcons q2 (Syntax.tcons (Syntax.tyInt Syntax.w64) Syntax.tnil)))))))) (Syntax.tcons (Syntax.tyStruct (L._∷_ 115 (L._∷_ 116 (L._∷_ 101 (L._∷_ 112 (L._∷_ 58 (L._∷_ 58 (L._∷_ 79 (L._∷_ 108 (L._∷_ 100 L.[]))))))))) (Syntax.tcons (Syntax.tyInt Syntax.w64) (Syntax.tcons q6 (Syntax.tcons q7 (Syntax.tcons q7 (Syntax.tcons q7 (Syntax.tcons q7 (Syntax.tcons q4 Syntax.tnil)))))))) Syntax.tnil))) Syntax.tnil)))) Syntax.tnil))))) (L._∷_ q8 (L._∷_ q23 (L._∷_ q32 (L._∷_ (9, Rows.any-gone (Syntax.tyStruct (L._∷_ 114 (L._∷_ 117 (L._∷_ 108 (L._∷_ 101 (L._∷_ 115 (L._∷_ 58 (L._∷_ 58 (L._∷_ 116 (L._∷_ 114 (L._∷_ 105 (L._∷_ 101 (L._∷_ 100 (L._∷_ 58 (L._∷_ 58 (L._∷_ 76 (L._∷_ 111 (L._∷_ 111 (L._∷_ 107 (L._∷_ 101 (L._∷_ 100 L.[])))))))))))))))))))) (Syntax.tcons (Syntax.tyStruct (L._∷_ 114 (L._∷_ 117 (L._∷_ 108 (L._∷_ 101 (L._∷_ 115 (L._∷_ 58 (L._∷_ 58 (L._∷_ 102 (L._∷_ 111 (L._∷_ 117 (L._∷_ 110 (L._∷_ 100 (L._∷_ 58 (L._∷_ 58 (L._∷_ 70 (L._∷_ 111 (L._∷_ 117 (L._∷_ 110 (L._∷_ 100 L.[]))))))))))))))))))) (Syntax.tcons Syntax.tyBool (Syntax.tcons Syntax.tyBool (Syntax.tcons (Syntax.tyStruct (L._∷_ 115 (L._∷_ 116 (L._∷_ 101 (L._∷_ 112 (L._∷_ 58 (L._∷_ 58 (L._∷_ 83 (L._∷_ 116 (L._∷_ 101 (L._∷_ 112 L.[])))))))))) (Syntax.tcons (Syntax.tyInt Syntax.w64) (Syntax.tcons (Syntax.tyInt Syntax.w64) (Syntax.tcons (Syntax.tyStruct (L._∷_ 115 (L._∷_ 116 (L._∷_ 101 (L._∷_ 112 (L._∷_ 58 (L._∷_ 58 (L._∷_ 67 (L._∷_ 104 (L._∷_ 97 (L._∷_ 110 (L._∷_ 103 (L._∷_ 101 L.[])))))))))))) (Syntax.tcons (Syntax.tyStruct (L._∷_ 110 (L._∷_ 101 (L._∷_ 116 (L._∷_ 119 (L._∷_ 111 (L._∷_ 114 (L._∷_ 107 (L._∷_ 58 (L._∷_ 58 (L._∷_ 69 (L._∷_ 100 (L._∷_ 105 (L._∷_ 116 L.[]))))))))))))) (Syntax.tcons q7 (Syntax.tcons q7 (Syntax.tcons q7 (Syntax.tcons q7 (Syntax.tcons q2 (Syntax.tcons q2 (Syntax.tcons (Syntax.tyInt Syntax.w64) Syntax.tnil)))))))) (Syntax.tcons (Syntax.tyStruct (L._∷_ 115 (L._∷_ 116 (L._∷_ 101 (L._∷_ 112 (L._∷_ 58 (L._∷_ 58 (L._∷_ 79 (L._∷_ 108 (L._∷_ 100 L.[]))))))))) (Syntax.tcons (Syntax.tyInt Syntax.w64) (Syntax.tcons q6 (Syntax.tcons q7 (Syntax.tcons q7 (Syntax.tcons q7 (Syntax.tcons q7 (Syntax.tcons q4 Syntax.tnil)))))))) Syntax.tnil))) Syntax.tnil)))) Syntax.tnil)))) (Syntax.tcons q5 Syntax.tnil)))) (L._∷_ (10, Rows.any-gone (Syntax.tyStruct (L._∷_ 114 (L._∷_ 117 (L._∷_ 108 (L._∷_ 101 (L._∷_ 115 (L._∷_ 58 (L._∷_ 58 (L._∷_ 102 (L._∷_ 111 (L._∷_ 117 (L._∷_ 110 (L._∷_ 100 (L._∷_ 58 (L._∷_ 58 (L._∷_ 70 (L._∷_ 111 (L._∷_ 117 (L._∷_ 110 (L._∷_ 100 L.[]))))))))))))))))))) (Syntax.tcons Syntax.tyBool (Syntax.tcons Syntax.tyBool (Syntax.tcons (Syntax.tyStruct (L._∷_ 115 (L._∷_ 116 (L._∷_ 101 (L._∷_ 112 (L._∷_ 58 (L._∷_ 58 (L._∷_ 83 (L._∷_ 116 (L._∷_ 101 (L._∷_ 112 L.[])))))))))) (Syntax.tcons (Syntax.tyInt Syntax.w64) (Syntax.tcons (Syntax.tyInt Syntax.w64) (Syntax.tcons (Syntax.tyStruct (L._∷_ 115 (L._∷_ 116 (L._∷_ 101 (L._∷_ 112 (L._∷_ 58 (L._∷_ 58 (L._∷_ 67 (L._∷_ 104 (L._∷_ 97 (L._∷_ 110 (L._∷_ 103 (L._∷_ 101 L.[])))))))))))) (Syntax.tcons (Syntax.tyStruct (L._∷_ 110 (L._∷_ 101 (L._∷_ 116 (L._∷_ 119 (L._∷_ 111 (L._∷_ 114 (L._∷_ 107 (L._∷_ 58 (L._∷_ 58 (L._∷_ 69 (L._∷_ 100 (L._∷_ 105 (L._∷_ 116 L.[]))))))))))))) (Syntax.tcons q7 (Syntax.tcons q7 (Syntax.tcons q7 (Syntax.tcons q7 (Syntax.tcons q2 (Syntax.tcons q2 (Syntax.tcons (Syntax.tyInt Syntax.w64) Syntax.tnil)))))))) (Syntax.tcons (Syntax.tyStruct (L._∷_ 115 (L._∷_ 116 (L._∷_ 101 (L._∷_ 112 (L._∷_ 58 (L._∷_ 58 (L._∷_ 79 (L._∷_ 108 (L._∷_ 100 L.[]))))))))) (Syntax.tcons (Syntax.tyInt Syntax.w64) (Syntax.tcons q6 (Syntax.tcons q7 (Syntax.tcons q7 (Syntax.tcons q7 (Syntax.tcons q7 (Syntax.tcons q4 Syntax.tnil)))))))) Syntax.tnil))) Syntax.tnil)))) Syntax.tnil))))) (L._∷_ (11, Rows.any-gone (Syntax.tyStruct (L._∷_ 114 (L._∷_ 117 (L._∷_ 108 (L._∷_ 101 (L._∷_ 115 (L._∷_ 58 (L._∷_ 58 (L._∷_ 102 (L._∷_ 111 (L._∷_ 117 (L._∷_ 110 (L._∷_ 100 (L._∷_ 58 (L._∷_ 58 (L._∷_ 70 (L._∷_ 111 (L._∷_ 117 (L._∷_ 110 (L._∷_ 100 L.[]))))))))))))))))))) (Syntax.tcons Syntax.tyBool (Syntax.tcons Syntax.tyBool (Syntax.tcons (Syntax.tyStruct (L._∷_ 115 (L._∷_ 116 (L._∷_ 101 (L._∷_ 112 (L._∷_ 58 (L._∷_ 58 (L._∷_ 83 (L._∷_ 116 (L._∷_ 101 (L._∷_ 112 L.[])))))))))) (Syntax.tcons (Syntax.tyInt Syntax.w64) (Syntax.tcons (Syntax.tyInt Syntax.w64) (Syntax.tcons (Syntax.tyStruct (L._∷_ 115 (L._∷_ 116 (L._∷_ 101 (L._∷_ 112 (L._∷_ 58 (L._∷_ 58 (L._∷_ 67 (L._∷_ 104 (L._∷_ 97 (L._∷_ 110 (L._∷_ 103 (L._∷_ 101 L.[])))))))))))) (Syntax.tcons (Syntax.tyStruct (L._∷_ 110 (L._∷_ 101 (L._∷_ 116 (L._∷_ 119 (L._∷_ 111 (L._∷_ 114 (L._∷_ 107 (L._∷_ 58 (L._∷_ 58 (L._∷_ 69 (L._∷_ 100 (L._∷_ 105 (L._∷_ 116 L.[]))))))))))))) (Syntax.tcons q7 (Syntax.tcons q7 (Syntax.tcons q7 (Syntax.tcons q7 (Syntax.tcons q2 (Syntax.tcons q2 (Syntax.tcons (Syntax.tyInt Syntax.w64) Syntax.tnil)))))))) (Syntax.tcons (Syntax.tyStruct (L._∷_ 115 (L._∷_ 116 (L._∷_ 101 (L._∷_ 112 (L._∷_ 58 (L._∷_ 58 (L._∷_ 79 (L._∷_ 108 (L._∷_ 100 L.[]))))))))) (Syntax.tcons (Syntax.tyInt Syntax.w64) (Syntax.tcons q6 (Syntax.tcons q7 (Syntax.tcons q7 (Syntax.tcons q7 (Syntax.tcons q7 (Syntax.tcons q4 Syntax.tnil)))))))) Syntax.tnil))) Syntax.tnil)))) Syntax.tnil))))) (L._∷_ (12, Rows.sc-here Row.sBool) (L._∷_ q29 (L._∷_ q30 (L._∷_ q31 L.[])))))))))))))))
+t10 = L._∷_ (0, Rows.any-gone (Syntax.tyStruct (L._∷_ 114 (L._∷_ 117 (L._∷_ 108 (L._∷_ 101 (L._∷_ 115 (L._∷_ 58 (L._∷_ 58 (L._∷_ 116 (L._∷_ 114 (L._∷_ 105 (L._∷_ 101 (L._∷_ 100 (L._∷_ 58 (L._∷_ 58 (L._∷_ 76 (L._∷_ 111 (L._∷_ 111 (L._∷_ 107 (L._∷_ 101 (L._∷_ 100 L.[])))))))))))))))))))) (Syntax.tcons (Syntax.tyStruct (L._∷_ 114 (L._∷_ 117 (L._∷_ 108 (L._∷_ 101 (L._∷_ 115 (L._∷_ 58 (L._∷_ 58 (L._∷_ 102 (L._∷_ 111 (L._∷_ 117 (L._∷_ 110 (L._∷_ 100 (L._∷_ 58 (L._∷_ 58 (L._∷_ 70 (L._∷_ 111 (L._∷_ 117 (L._∷_ 110 (L._∷_ 100 L.[]))))))))))))))))))) (Syntax.tcons Syntax.tyBool (Syntax.tcons Syntax.tyBool (Syntax.tcons (Syntax.tyStruct (L._∷_ 115 (L._∷_ 116 (L._∷_ 101 (L._∷_ 112 (L._∷_ 58 (L._∷_ 58 (L._∷_ 83 (L._∷_ 116 (L._∷_ 101 (L._∷_ 112 L.[])))))))))) (Syntax.tcons (Syntax.tyInt Syntax.w64) (Syntax.tcons (Syntax.tyInt Syntax.w64) (Syntax.tcons (Syntax.tyStruct (L._∷_ 115 (L._∷_ 116 (L._∷_ 101 (L._∷_ 112 (L._∷_ 58 (L._∷_ 58 (L._∷_ 67 (L._∷_ 104 (L._∷_ 97 (L._∷_ 110 (L._∷_ 103 (L._∷_ 101 L.[])))))))))))) (Syntax.tcons (Syntax.tyStruct (L._∷_ 110 (L._∷_ 101 (L._∷_ 116 (L._∷_ 119 (L._∷_ 111 (L._∷_ 114 (L._∷_ 107 (L._∷_ 58 (L._∷_ 58 (L._∷_ 69 (L._∷_ 100 (L._∷_ 105 (L._∷_ 116 L.[]))))))))))))) (Syntax.tcons q7 (Syntax.tcons q7 (Syntax.tcons q7 (Syntax.tcons q7 (Syntax.tcons q2 (Syntax.tcons q2 (Syntax.tcons (Syntax.tyInt Syntax.w64) (Syntax.tcons q6 Syntax.tnil))))))))) (Syntax.tcons (Syntax.tyStruct (L._∷_ 115 (L._∷_ 116 (L._∷_ 101 (L._∷_ 112 (L._∷_ 58 (L._∷_ 58 (L._∷_ 79 (L._∷_ 108 (L._∷_ 100 L.[]))))))))) (Syntax.tcons (Syntax.tyInt Syntax.w64) (Syntax.tcons q6 (Syntax.tcons q7 (Syntax.tcons q7 (Syntax.tcons q7 (Syntax.tcons q7 (Syntax.tcons q4 Syntax.tnil)))))))) Syntax.tnil))) Syntax.tnil)))) Syntax.tnil)))) (Syntax.tcons q5 Syntax.tnil)))) (L._∷_ q20 (L._∷_ q11 (L._∷_ q17 (L._∷_ q26 (L._∷_ (5, Rows.any-gone (Syntax.tyStruct (L._∷_ 114 (L._∷_ 117 (L._∷_ 108 (L._∷_ 101 (L._∷_ 115 (L._∷_ 58 (L._∷_ 58 (L._∷_ 102 (L._∷_ 111 (L._∷_ 117 (L._∷_ 110 (L._∷_ 100 (L._∷_ 58 (L._∷_ 58 (L._∷_ 70 (L._∷_ 111 (L._∷_ 117 (L._∷_ 110 (L._∷_ 100 L.[]))))))))))))))))))) (Syntax.tcons Syntax.tyBool (Syntax.tcons Syntax.tyBool (Syntax.tcons (Syntax.tyStruct (L._∷_ 115 (L._∷_ 116 (L._∷_ 101 (L._∷_ 112 (L._∷_ 58 (L._∷_ 58 (L._∷_ 83 (L._∷_ 116 (L._∷_ 101 (L._∷_ 112 L.[])))))))))) (Syntax.tcons (Syntax.tyInt Syntax.w64) (Syntax.tcons (Syntax.tyInt Syntax.w64) (Syntax.tcons (Syntax.tyStruct (L._∷_ 115 (L._∷_ 116 (L._∷_ 101 (L._∷_ 112 (L._∷_ 58 (L._∷_ 58 (L._∷_ 67 (L._∷_ 104 (L._∷_ 97 (L._∷_ 110 (L._∷_ 103 (L._∷_ 101 L.[])))))))))))) (Syntax.tcons (Syntax.tyStruct (L._∷_ 110 (L._∷_ 101 (L._∷_ 116 (L._∷_ 119 (L._∷_ 111 (L._∷_ 114 (L._∷_ 107 (L._∷_ 58 (L._∷_ 58 (L._∷_ 69 (L._∷_ 100 (L._∷_ 105 (L._∷_ 116 L.[]))))))))))))) (Syntax.tcons q7 (Syntax.tcons q7 (Syntax.tcons q7 (Syntax.tcons q7 (Syntax.tcons q2 (Syntax.tcons q2 (Syntax.tcons (Syntax.tyInt Syntax.w64) (Syntax.tcons q6 Syntax.tnil))))))))) (Syntax.tcons (Syntax.tyStruct (L._∷_ 115 (L._∷_ 116 (L._∷_ 101 (L._∷_ 112 (L._∷_ 58 (L._∷_ 58 (L._∷_ 79 (L._∷_ 108 (L._∷_ 100 L.[]))))))))) (Syntax.tcons (Syntax.tyInt Syntax.w64) (Syntax.tcons q6 (Syntax.tcons q7 (Syntax.tcons q7 (Syntax.tcons q7 (Syntax.tcons q7 (Syntax.tcons q4 Syntax.tnil)))))))) Syntax.tnil))) Syntax.tnil)))) Syntax.tnil))))) (L._∷_ q8 (L._∷_ q23 (L._∷_ q32 (L._∷_ (9, Rows.any-gone (Syntax.tyStruct (L._∷_ 114 (L._∷_ 117 (L._∷_ 108 (L._∷_ 101 (L._∷_ 115 (L._∷_ 58 (L._∷_ 58 (L._∷_ 116 (L._∷_ 114 (L._∷_ 105 (L._∷_ 101 (L._∷_ 100 (L._∷_ 58 (L._∷_ 58 (L._∷_ 76 (L._∷_ 111 (L._∷_ 111 (L._∷_ 107 (L._∷_ 101 (L._∷_ 100 L.[])))))))))))))))))))) (Syntax.tcons (Syntax.tyStruct (L._∷_ 114 (L._∷_ 117 (L._∷_ 108 (L._∷_ 101 (L._∷_ 115 (L._∷_ 58 (L._∷_ 58 (L._∷_ 102 (L._∷_ 111 (L._∷_ 117 (L._∷_ 110 (L._∷_ 100 (L._∷_ 58 (L._∷_ 58 (L._∷_ 70 (L._∷_ 111 (L._∷_ 117 (L._∷_ 110 (L._∷_ 100 L.[]))))))))))))))))))) (Syntax.tcons Syntax.tyBool (Syntax.tcons Syntax.tyBool (Syntax.tcons (Syntax.tyStruct (L._∷_ 115 (L._∷_ 116 (L._∷_ 101 (L._∷_ 112 (L._∷_ 58 (L._∷_ 58 (L._∷_ 83 (L._∷_ 116 (L._∷_ 101 (L._∷_ 112 L.[])))))))))) (Syntax.tcons (Syntax.tyInt Syntax.w64) (Syntax.tcons (Syntax.tyInt Syntax.w64) (Syntax.tcons (Syntax.tyStruct (L._∷_ 115 (L._∷_ 116 (L._∷_ 101 (L._∷_ 112 (L._∷_ 58 (L._∷_ 58 (L._∷_ 67 (L._∷_ 104 (L._∷_ 97 (L._∷_ 110 (L._∷_ 103 (L._∷_ 101 L.[])))))))))))) (Syntax.tcons (Syntax.tyStruct (L._∷_ 110 (L._∷_ 101 (L._∷_ 116 (L._∷_ 119 (L._∷_ 111 (L._∷_ 114 (L._∷_ 107 (L._∷_ 58 (L._∷_ 58 (L._∷_ 69 (L._∷_ 100 (L._∷_ 105 (L._∷_ 116 L.[]))))))))))))) (Syntax.tcons q7 (Syntax.tcons q7 (Syntax.tcons q7 (Syntax.tcons q7 (Syntax.tcons q2 (Syntax.tcons q2 (Syntax.tcons (Syntax.tyInt Syntax.w64) (Syntax.tcons q6 Syntax.tnil))))))))) (Syntax.tcons (Syntax.tyStruct (L._∷_ 115 (L._∷_ 116 (L._∷_ 101 (L._∷_ 112 (L._∷_ 58 (L._∷_ 58 (L._∷_ 79 (L._∷_ 108 (L._∷_ 100 L.[]))))))))) (Syntax.tcons (Syntax.tyInt Syntax.w64) (Syntax.tcons q6 (Syntax.tcons q7 (Syntax.tcons q7 (Syntax.tcons q7 (Syntax.tcons q7 (Syntax.tcons q4 Syntax.tnil)))))))) Syntax.tnil))) Syntax.tnil)))) Syntax.tnil)))) (Syntax.tcons q5 Syntax.tnil)))) (L._∷_ (10, Rows.any-gone (Syntax.tyStruct (L._∷_ 114 (L._∷_ 117 (L._∷_ 108 (L._∷_ 101 (L._∷_ 115 (L._∷_ 58 (L._∷_ 58 (L._∷_ 102 (L._∷_ 111 (L._∷_ 117 (L._∷_ 110 (L._∷_ 100 (L._∷_ 58 (L._∷_ 58 (L._∷_ 70 (L._∷_ 111 (L._∷_ 117 (L._∷_ 110 (L._∷_ 100 L.[]))))))))))))))))))) (Syntax.tcons Syntax.tyBool (Syntax.tcons Syntax.tyBool (Syntax.tcons (Syntax.tyStruct (L._∷_ 115 (L._∷_ 116 (L._∷_ 101 (L._∷_ 112 (L._∷_ 58 (L._∷_ 58 (L._∷_ 83 (L._∷_ 116 (L._∷_ 101 (L._∷_ 112 L.[])))))))))) (Syntax.tcons (Syntax.tyInt Syntax.w64) (Syntax.tcons (Syntax.tyInt Syntax.w64) (Syntax.tcons (Syntax.tyStruct (L._∷_ 115 (L._∷_ 116 (L._∷_ 101 (L._∷_ 112 (L._∷_ 58 (L._∷_ 58 (L._∷_ 67 (L._∷_ 104 (L._∷_ 97 (L._∷_ 110 (L._∷_ 103 (L._∷_ 101 L.[])))))))))))) (Syntax.tcons (Syntax.tyStruct (L._∷_ 110 (L._∷_ 101 (L._∷_ 116 (L._∷_ 119 (L._∷_ 111 (L._∷_ 114 (L._∷_ 107 (L._∷_ 58 (L._∷_ 58 (L._∷_ 69 (L._∷_ 100 (L._∷_ 105 (L._∷_ 116 L.[]))))))))))))) (Syntax.tcons q7 (Syntax.tcons q7 (Syntax.tcons q7 (Syntax.tcons q7 (Syntax.tcons q2 (Syntax.tcons q2 (Syntax.tcons (Syntax.tyInt Syntax.w64) (Syntax.tcons q6 Syntax.tnil))))))))) (Syntax.tcons (Syntax.tyStruct (L._∷_ 115 (L._∷_ 116 (L._∷_ 101 (L._∷_ 112 (L._∷_ 58 (L._∷_ 58 (L._∷_ 79 (L._∷_ 108 (L._∷_ 100 L.[]))))))))) (Syntax.tcons (Syntax.tyInt Syntax.w64) (Syntax.tcons q6 (Syntax.tcons q7 (Syntax.tcons q7 (Syntax.tcons q7 (Syntax.tcons q7 (Syntax.tcons q4 Syntax.tnil)))))))) Syntax.tnil))) Syntax.tnil)))) Syntax.tnil))))) (L._∷_ (11, Rows.any-gone (Syntax.tyStruct (L._∷_ 114 (L._∷_ 117 (L._∷_ 108 (L._∷_ 101 (L._∷_ 115 (L._∷_ 58 (L._∷_ 58 (L._∷_ 102 (L._∷_ 111 (L._∷_ 117 (L._∷_ 110 (L._∷_ 100 (L._∷_ 58 (L._∷_ 58 (L._∷_ 70 (L._∷_ 111 (L._∷_ 117 (L._∷_ 110 (L._∷_ 100 L.[]))))))))))))))))))) (Syntax.tcons Syntax.tyBool (Syntax.tcons Syntax.tyBool (Syntax.tcons (Syntax.tyStruct (L._∷_ 115 (L._∷_ 116 (L._∷_ 101 (L._∷_ 112 (L._∷_ 58 (L._∷_ 58 (L._∷_ 83 (L._∷_ 116 (L._∷_ 101 (L._∷_ 112 L.[])))))))))) (Syntax.tcons (Syntax.tyInt Syntax.w64) (Syntax.tcons (Syntax.tyInt Syntax.w64) (Syntax.tcons (Syntax.tyStruct (L._∷_ 115 (L._∷_ 116 (L._∷_ 101 (L._∷_ 112 (L._∷_ 58 (L._∷_ 58 (L._∷_ 67 (L._∷_ 104 (L._∷_ 97 (L._∷_ 110 (L._∷_ 103 (L._∷_ 101 L.[])))))))))))) (Syntax.tcons (Syntax.tyStruct (L._∷_ 110 (L._∷_ 101 (L._∷_ 116 (L._∷_ 119 (L._∷_ 111 (L._∷_ 114 (L._∷_ 107 (L._∷_ 58 (L._∷_ 58 (L._∷_ 69 (L._∷_ 100 (L._∷_ 105 (L._∷_ 116 L.[]))))))))))))) (Syntax.tcons q7 (Syntax.tcons q7 (Syntax.tcons q7 (Syntax.tcons q7 (Syntax.tcons q2 (Syntax.tcons q2 (Syntax.tcons (Syntax.tyInt Syntax.w64) (Syntax.tcons q6 Syntax.tnil))))))))) (Syntax.tcons (Syntax.tyStruct (L._∷_ 115 (L._∷_ 116 (L._∷_ 101 (L._∷_ 112 (L._∷_ 58 (L._∷_ 58 (L._∷_ 79 (L._∷_ 108 (L._∷_ 100 L.[]))))))))) (Syntax.tcons (Syntax.tyInt Syntax.w64) (Syntax.tcons q6 (Syntax.tcons q7 (Syntax.tcons q7 (Syntax.tcons q7 (Syntax.tcons q7 (Syntax.tcons q4 Syntax.tnil)))))))) Syntax.tnil))) Syntax.tnil)))) Syntax.tnil))))) (L._∷_ (12, Rows.sc-here Row.sBool) (L._∷_ q29 (L._∷_ q30 (L._∷_ q31 L.[])))))))))))))))
 
 abbrev pub t11 : L.List Row.Entry
-t11 = L._∷_ (0, Rows.any-gone (Syntax.tyStruct (L._∷_ 114 (L._∷_ 117 (L._∷_ 108 (L._∷_ 101 (L._∷_ 115 (L._∷_ 58 (L._∷_ 58 (L._∷_ 116 (L._∷_ 114 (L._∷_ 105 (L._∷_ 101 (L._∷_ 100 (L._∷_ 58 (L._∷_ 58 (L._∷_ 76 (L._∷_ 111 (L._∷_ 111 (L._∷_ 107 (L._∷_ 101 (L._∷_ 100 L.[])))))))))))))))))))) (Syntax.tcons (Syntax.tyStruct (L._∷_ 114 (L._∷_ 117 (L._∷_ 108 (L._∷_ 101 (L._∷_ 115 (L._∷_ 58 (L._∷_ 58 (L._∷_ 102 (L._∷_ 111 (L._∷_ 117 (L._∷_ 110 (L._∷_ 100 (L._∷_ 58 (L._∷_ 58 (L._∷_ 70 (L._∷_ 111 (L._∷_ 117 (L._∷_ 110 (L._∷_ 100 L.[]))))))))))))))))))) (Syntax.tcons Syntax.tyBool (Syntax.tcons Syntax.tyBool (Syntax.tcons (Syntax.tyStruct (L._∷_ 115 (L._∷_ 116 (L._∷_ 101 (L._∷_ 112 (L._∷_ 58 (L._∷_ 58 (L._∷_ 83 (L._∷_ 116 (L._∷_ 101 (L._∷_ 112 L.[])))))))))) (Syntax.tcons (Syntax.tyInt Syntax.w64) (Syntax.tcons (Syntax.tyInt Syntax.w64) (Syntax.tcons (Syntax.tyStruct (L._∷_ 115 (L._∷_ 116 (L._∷_ 101 (L._∷_ 112 (L._∷_ 58 (L._∷_ 58 (L._∷_ 67 (L._∷_ 104 (L._∷_ 97 (L._∷_ 110 (L._∷_ 103 (L._∷_ 101 L.[])))))))))))) (Syntax.tcons (Syntax.tyStruct (L._∷_ 110 (L._∷_ 101 (L._∷_ 116 (L._∷_ 119 (L._∷_ 111 (L._∷_ 114 (L._∷_ 107 (L._∷_ 58 (L._∷_ 58 (L._∷_ 69 (L._∷_ 100 (L._∷_ 105 (L._∷_ 116 L.[]))))))))))))) (Syntax.tcons q7 (Syntax.tcons q7 (Syntax.tcons q7 (Syntax.tcons q7 (Syntax.tcons q2 (Syntax.tcons q2 (Syntax.tcons (Syntax.tyInt Syntax.w64) Syntax.tnil)))))))) (Syntax.tcons (Syntax.tyStruct (L._∷_ 115 (L._∷_ 116 (L._∷_ 101 (L._∷_ 112 (L._∷_ 58 (L._∷_ 58 (L._∷_ 79 (L._∷_ 108 (L._∷_ 100 L.[]))))))))) (Syntax.tcons (Syntax.tyInt Syntax.w64) (Syntax.tcons q6 (Syntax.tcons q7 (Syntax.tcons q7 (Syntax.tcons q7 (Syntax.tcons q7 (Syntax.tcons q4 Syntax.tnil)))))))) Syntax.tnil))) Syntax.tnil)))) Syntax.tnil)))) (Syntax.tcons q5 Syntax.tnil)))) (L._∷_ q20 (L._∷_ q11 (L._∷_ q17 (L._∷_ q26 (L._∷_ (5, Rows.any-gone (Syntax.tyStruct (L._∷_ 114 (L._∷_ 117 (L._∷_ 108 (L._∷_ 101 (L._∷_ 115 (L._∷_ 58 (L._∷_ 58 (L._∷_ 102 (L._∷_ 111 (L._∷_ 117 (L._∷_ 110 (L._∷_ 100 (L._∷_ 58 (L._∷_ 58 (L._∷_ 70 (L._∷_ 111 (L._∷_ 117 (L._∷_ 110 (L._∷_ 100 L.[]))))))))))))))))))) (Syntax.tcons Syntax.tyBool (Syntax.tcons Syntax.tyBool (Syntax.tcons (Syntax.tyStruct (L._∷_ 115 (L._∷_ 116 (L._∷_ 101 (L._∷_ 112 (L._∷_ 58 (L._∷_ 58 (L._∷_ 83 (L._∷_ 116 (L._∷_ 101 (L._∷_ 112 L.[])))))))))) (Syntax.tcons (Syntax.tyInt Syntax.w64) (Syntax.tcons (Syntax.tyInt Syntax.w64) (Syntax.tcons (Syntax.tyStruct (L._∷_ 115 (L._∷_ 116 (L._∷_ 101 (L._∷_ 112 (L._∷_ 58 (L._∷_ 58 (L._∷_ 67 (L._∷_ 104 (L._∷_ 97 (L._∷_ 110 (L._∷_ 103 (L._∷_ 101 L.[])))))))))))) (Syntax.tcons (Syntax.tyStruct (L._∷_ 110 (L._∷_ 101 (L._∷_ 116 (L._∷_ 119 (L._∷_ 111 (L._∷_ 114 (L._∷_ 107 (L._∷_ 58 (L._∷_ 58 (L._∷_ 69 (L._∷_ 100 (L._∷_ 105 (L._∷_ 116 L.[]))))))))))))) (Syntax.tcons q7 (Syntax.tcons q7 (Syntax.tcons q7 (Syntax.tcons q7 (Syntax.tcons q2 (Syntax.tcons q2 (Syntax.tcons (Syntax.tyInt Syntax.w64) Syntax.tnil)))))))) (Syntax.tcons (Syntax.tyStruct (L._∷_ 115 (L._∷_ 116 (L._∷_ 101 (L._∷_ 112 (L._∷_ 58 (L._∷_ 58 (L._∷_ 79 (L._∷_ 108 (L._∷_ 100 L.[]))))))))) (Syntax.tcons (Syntax.tyInt Syntax.w64) (Syntax.tcons q6 (Syntax.tcons q7 (Syntax.tcons q7 (Syntax.tcons q7 (Syntax.tcons q7 (Syntax.tcons q4 Syntax.tnil)))))))) Syntax.tnil))) Syntax.tnil)))) Syntax.tnil))))) (L._∷_ q18 (L._∷_ q23 (L._∷_ q32 (L._∷_ (9, Rows.any-gone (Syntax.tyStruct (L._∷_ 114 (L._∷_ 117 (L._∷_ 108 (L._∷_ 101 (L._∷_ 115 (L._∷_ 58 (L._∷_ 58 (L._∷_ 116 (L._∷_ 114 (L._∷_ 105 (L._∷_ 101 (L._∷_ 100 (L._∷_ 58 (L._∷_ 58 (L._∷_ 76 (L._∷_ 111 (L._∷_ 111 (L._∷_ 107 (L._∷_ 101 (L._∷_ 100 L.[])))))))))))))))))))) (Syntax.tcons (Syntax.tyStruct (L._∷_ 114 (L._∷_ 117 (L._∷_ 108 (L._∷_ 101 (L._∷_ 115 (L._∷_ 58 (L._∷_ 58 (L._∷_ 102 (L._∷_ 111 (L._∷_ 117 (L._∷_ 110 (L._∷_ 100 (L._∷_ 58 (L._∷_ 58 (L._∷_ 70 (L._∷_ 111 (L._∷_ 117 (L._∷_ 110 (L._∷_ 100 L.[]))))))))))))))))))) (Syntax.tcons Syntax.tyBool (Syntax.tcons Syntax.tyBool (Syntax.tcons (Syntax.tyStruct (L._∷_ 115 (L._∷_ 116 (L._∷_ 101 (L._∷_ 112 (L._∷_ 58 (L._∷_ 58 (L._∷_ 83 (L._∷_ 116 (L._∷_ 101 (L._∷_ 112 L.[])))))))))) (Syntax.tcons (Syntax.tyInt Syntax.w64) (Syntax.tcons (Syntax.tyInt Syntax.w64) (Syntax.tcons (Syntax.tyStruct (L._∷_ 115 (L._∷_ 116 (L._∷_ 101 (L._∷_ 112 (L._∷_ 58 (L._∷_ 58 (L._∷_ 67 (L._∷_ 104 (L._∷_ 97 (L._∷_ 110 (L._∷_ 103 (L._∷_ 101 L.[])))))))))))) (Syntax.tcons (Syntax.tyStruct (L._∷_ 110 (L._∷_ 101 (L._∷_ 116 (L._∷_ 119 (L._∷_ 111 (L._∷_ 114 (L._∷_ 107 (L._∷_ 58 (L._∷_ 58 (L._∷_ 69 (L._∷_ 100 (L._∷_ 105 (L._∷_ 116 L.[]))))))))))))) (Syntax.tcons q7 (Syntax.tcons q7 (Syntax.tcons q7 (Syntax.tcons q7 (Syntax.tcons q2 (Syntax.tcons q2 (Syntax.tcons (Syntax.tyInt Syntax.w64) Syntax.tnil)))))))) (Syntax.tcons (Syntax.tyStruct (L._∷_ 115 (L._∷_ 116 (L._∷_ 101 (L._∷_ 112 (L._∷_ 58 (L._∷_ 58 (L._∷_ 79 (L._∷_ 108 (L._∷_ 100 L.[]))))))))) (Syntax.tcons (Syntax.tyInt Syntax.w64) (Syntax.tcons q6 (Syntax.tcons q7 (Syntax.tcons q7 (Syntax.tcons q7 (Syntax.tcons q7 (Syntax.tcons q4 Syntax.tnil)))))))) Syntax.tnil))) Syntax.tnil)))) Syntax.tnil)))) (Syntax.tcons q5 Syntax.tnil)))) (L._∷_ (10, Rows.any-gone (Syntax.tyStruct (L._∷_ 114 (L._∷_ 117 (L._∷_ 108 (L._∷_ 101 (L._∷_ 115 (L._∷_ 58 (L._∷_ 58 (L._∷_ 102 (L._∷_ 111 (L._∷_ 117 (L._∷_ 110 (L._∷_ 100 (L._∷_ 58 (L._∷_ 58 (L._∷_ 70 (L._∷_ 111 (L._∷_ 117 (L._∷_ 110 (L._∷_ 100 L.[]))))))))))))))))))) (Syntax.tcons Syntax.tyBool (Syntax.tcons Syntax.tyBool (Syntax.tcons (Syntax.tyStruct (L._∷_ 115 (L._∷_ 116 (L._∷_ 101 (L._∷_ 112 (L._∷_ 58 (L._∷_ 58 (L._∷_ 83 (L._∷_ 116 (L._∷_ 101 (L._∷_ 112 L.[])))))))))) (Syntax.tcons (Syntax.tyInt Syntax.w64) (Syntax.tcons (Syntax.tyInt Syntax.w64) (Syntax.tcons (Syntax.tyStruct (L._∷_ 115 (L._∷_ 116 (L._∷_ 101 (L._∷_ 112 (L._∷_ 58 (L._∷_ 58 (L._∷_ 67 (L._∷_ 104 (L._∷_ 97 (L._∷_ 110 (L._∷_ 103 (L._∷_ 101 L.[])))))))))))) (Syntax.tcons (Syntax.tyStruct (L._∷_ 110 (L._∷_ 101 (L._∷_ 116 (L._∷_ 119 (L._∷_ 111 (L._∷_ 114 (L._∷_ 107 (L._∷_ 58 (L._∷_ 58 (L._∷_ 69 (L._∷_ 100 (L._∷_ 105 (L._∷_ 116 L.[]))))))))))))) (Syntax.tcons q7 (Syntax.tcons q7 (Syntax.tcons q7 (Syntax.tcons q7 (Syntax.tcons q2 (Syntax.tcons q2 (Syntax.tcons (Syntax.tyInt Syntax.w64) Syntax.tnil)))))))) (Syntax.tcons (Syntax.tyStruct (L._∷_ 115 (L._∷_ 116 (L._∷_ 101 (L._∷_ 112 (L._∷_ 58 (L._∷_ 58 (L._∷_ 79 (L._∷_ 108 (L._∷_ 100 L.[]))))))))) (Syntax.tcons (Syntax.tyInt Syntax.w64) (Syntax.tcons q6 (Syntax.tcons q7 (Syntax.tcons q7 (Syntax.tcons q7 (Syntax.tcons q7 (Syntax.tcons q4 Syntax.tnil)))))))) Syntax.tnil))) Syntax.tnil)))) Syntax.tnil))))) (L._∷_ (11, Rows.any-gone (Syntax.tyStruct (L._∷_ 114 (L._∷_ 117 (L._∷_ 108 (L._∷_ 101 (L._∷_ 115 (L._∷_ 58 (L._∷_ 58 (L._∷_ 102 (L._∷_ 111 (L._∷_ 117 (L._∷_ 110 (L._∷_ 100 (L._∷_ 58 (L._∷_ 58 (L._∷_ 70 (L._∷_ 111 (L._∷_ 117 (L._∷_ 110 (L._∷_ 100 L.[]))))))))))))))))))) (Syntax.tcons Syntax.tyBool (Syntax.tcons Syntax.tyBool (Syntax.tcons (Syntax.tyStruct (L._∷_ 115 (L._∷_ 116 (L._∷_ 101 (L._∷_ 112 (L._∷_ 58 (L._∷_ 58 (L._∷_ 83 (L._∷_ 116 (L._∷_ 101 (L._∷_ 112 L.[])))))))))) (Syntax.tcons (Syntax.tyInt Syntax.w64) (Syntax.tcons (Syntax.tyInt Syntax.w64) (Syntax.tcons (Syntax.tyStruct (L._∷_ 115 (L._∷_ 116 (L._∷_ 101 (L._∷_ 112 (L._∷_ 58 (L._∷_ 58 (L._∷_ 67 (L._∷_ 104 (L._∷_ 97 (L._∷_ 110 (L._∷_ 103 (L._∷_ 101 L.[])))))))))))) (Syntax.tcons (Syntax.tyStruct (L._∷_ 110 (L._∷_ 101 (L._∷_ 116 (L._∷_ 119 (L._∷_ 111 (L._∷_ 114 (L._∷_ 107 (L._∷_ 58 (L._∷_ 58 (L._∷_ 69 (L._∷_ 100 (L._∷_ 105 (L._∷_ 116 L.[]))))))))))))) (Syntax.tcons q7 (Syntax.tcons q7 (Syntax.tcons q7 (Syntax.tcons q7 (Syntax.tcons q2 (Syntax.tcons q2 (Syntax.tcons (Syntax.tyInt Syntax.w64) Syntax.tnil)))))))) (Syntax.tcons (Syntax.tyStruct (L._∷_ 115 (L._∷_ 116 (L._∷_ 101 (L._∷_ 112 (L._∷_ 58 (L._∷_ 58 (L._∷_ 79 (L._∷_ 108 (L._∷_ 100 L.[]))))))))) (Syntax.tcons (Syntax.tyInt Syntax.w64) (Syntax.tcons q6 (Syntax.tcons q7 (Syntax.tcons q7 (Syntax.tcons q7 (Syntax.tcons q7 (Syntax.tcons q4 Syntax.tnil)))))))) Syntax.tnil))) Syntax.tnil)))) Syntax.tnil))))) (L._∷_ q28 (L._∷_ q29 (L._∷_ q30 (L._∷_ q31 L.[])))))))))))))))
+t11 = L._∷_ (0, Rows.any-gone (Syntax.tyStruct (L._∷_ 114 (L._∷_ 117 (L._∷_ 108 (L._∷_ 101 (L._∷_ 115 (L._∷_ 58 (L._∷_ 58 (L._∷_ 116 (L._∷_ 114 (L._∷_ 105 (L._∷_ 101 (L._∷_ 100 (L._∷_ 58 (L._∷_ 58 (L._∷_ 76 (L._∷_ 111 (L._∷_ 111 (L._∷_ 107 (L._∷_ 101 (L._∷_ 100 L.[])))))))))))))))))))) (Syntax.tcons (Syntax.tyStruct (L._∷_ 114 (L._∷_ 117 (L._∷_ 108 (L._∷_ 101 (L._∷_ 115 (L._∷_ 58 (L._∷_ 58 (L._∷_ 102 (L._∷_ 111 (L._∷_ 117 (L._∷_ 110 (L._∷_ 100 (L._∷_ 58 (L._∷_ 58 (L._∷_ 70 (L._∷_ 111 (L._∷_ 117 (L._∷_ 110 (L._∷_ 100 L.[]))))))))))))))))))) (Syntax.tcons Syntax.tyBool (Syntax.tcons Syntax.tyBool (Syntax.tcons (Syntax.tyStruct (L._∷_ 115 (L._∷_ 116 (L._∷_ 101 (L._∷_ 112 (L._∷_ 58 (L._∷_ 58 (L._∷_ 83 (L._∷_ 116 (L._∷_ 101 (L._∷_ 112 L.[])))))))))) (Syntax.tcons (Syntax.tyInt Syntax.w64) (Syntax.tcons (Syntax.tyInt Syntax.w64) (Syntax.tcons (Syntax.tyStruct (L._∷_ 115 (L._∷_ 116 (L._∷_ 101 (L._∷_ 112 (L._∷_ 58 (L._∷_ 58 (L._∷_ 67 (L._∷_ 104 (L._∷_ 97 (L._∷_ 110 (L._∷_ 103 (L._∷_ 101 L.[])))))))))))) (Syntax.tcons (Syntax.tyStruct (L._∷_ 110 (L._∷_ 101 (L._∷_ 116 (L._∷_ 119 (L._∷_ 111 (L._∷_ 114 (L._∷_ 107 (L._∷_ 58 (L._∷_ 58 (L._∷_ 69 (L._∷_ 100 (L._∷_ 105 (L._∷_ 116 L.[]))))))))))))) (Syntax.tcons q7 (Syntax.tcons q7 (Syntax.tcons q7 (Syntax.tcons q7 (Syntax.tcons q2 (Syntax.tcons q2 (Syntax.tcons (Syntax.tyInt Syntax.w64) (Syntax.tcons q6 Syntax.tnil))))))))) (Syntax.tcons (Syntax.tyStruct (L._∷_ 115 (L._∷_ 116 (L._∷_ 101 (L._∷_ 112 (L._∷_ 58 (L._∷_ 58 (L._∷_ 79 (L._∷_ 108 (L._∷_ 100 L.[]))))))))) (Syntax.tcons (Syntax.tyInt Syntax.w64) (Syntax.tcons q6 (Syntax.tcons q7 (Syntax.tcons q7 (Syntax.tcons q7 (Syntax.tcons q7 (Syntax.tcons q4 Syntax.tnil)))))))) Syntax.tnil))) Syntax.tnil)))) Syntax.tnil)))) (Syntax.tcons q5 Syntax.tnil)))) (L._∷_ q20 (L._∷_ q11 (L._∷_ q17 (L._∷_ q26 (L._∷_ (5, Rows.any-gone (Syntax.tyStruct (L._∷_ 114 (L._∷_ 117 (L._∷_ 108 (L._∷_ 101 (L._∷_ 115 (L._∷_ 58 (L._∷_ 58 (L._∷_ 102 (L._∷_ 111 (L._∷_ 117 (L._∷_ 110 (L._∷_ 100 (L._∷_ 58 (L._∷_ 58 (L._∷_ 70 (L._∷_ 111 (L._∷_ 117 (L._∷_ 110 (L._∷_ 100 L.[]))))))))))))))))))) (Syntax.tcons Syntax.tyBool (Syntax.tcons Syntax.tyBool (Syntax.tcons (Syntax.tyStruct (L._∷_ 115 (L._∷_ 116 (L._∷_ 101 (L._∷_ 112 (L._∷_ 58 (L._∷_ 58 (L._∷_ 83 (L._∷_ 116 (L._∷_ 101 (L._∷_ 112 L.[])))))))))) (Syntax.tcons (Syntax.tyInt Syntax.w64) (Syntax.tcons (Syntax.tyInt Syntax.w64) (Syntax.tcons (Syntax.tyStruct (L._∷_ 115 (L._∷_ 116 (L._∷_ 101 (L._∷_ 112 (L._∷_ 58 (L._∷_ 58 (L._∷_ 67 (L._∷_ 104 (L._∷_ 97 (L._∷_ 110 (L._∷_ 103 (L._∷_ 101 L.[])))))))))))) (Syntax.tcons (Syntax.tyStruct (L._∷_ 110 (L._∷_ 101 (L._∷_ 116 (L._∷_ 119 (L._∷_ 111 (L._∷_ 114 (L._∷_ 107 (L._∷_ 58 (L._∷_ 58 (L._∷_ 69 (L._∷_ 100 (L._∷_ 105 (L._∷_ 116 L.[]))))))))))))) (Syntax.tcons q7 (Syntax.tcons q7 (Syntax.tcons q7 (Syntax.tcons q7 (Syntax.tcons q2 (Syntax.tcons q2 (Syntax.tcons (Syntax.tyInt Syntax.w64) (Syntax.tcons q6 Syntax.tnil))))))))) (Syntax.tcons (Syntax.tyStruct (L._∷_ 115 (L._∷_ 116 (L._∷_ 101 (L._∷_ 112 (L._∷_ 58 (L._∷_ 58 (L._∷_ 79 (L._∷_ 108 (L._∷_ 100 L.[]))))))))) (Syntax.tcons (Syntax.tyInt Syntax.w64) (Syntax.tcons q6 (Syntax.tcons q7 (Syntax.tcons q7 (Syntax.tcons q7 (Syntax.tcons q7 (Syntax.tcons q4 Syntax.tnil)))))))) Syntax.tnil))) Syntax.tnil)))) Syntax.tnil))))) (L._∷_ q18 (L._∷_ q23 (L._∷_ q32 (L._∷_ (9, Rows.any-gone (Syntax.tyStruct (L._∷_ 114 (L._∷_ 117 (L._∷_ 108 (L._∷_ 101 (L._∷_ 115 (L._∷_ 58 (L._∷_ 58 (L._∷_ 116 (L._∷_ 114 (L._∷_ 105 (L._∷_ 101 (L._∷_ 100 (L._∷_ 58 (L._∷_ 58 (L._∷_ 76 (L._∷_ 111 (L._∷_ 111 (L._∷_ 107 (L._∷_ 101 (L._∷_ 100 L.[])))))))))))))))))))) (Syntax.tcons (Syntax.tyStruct (L._∷_ 114 (L._∷_ 117 (L._∷_ 108 (L._∷_ 101 (L._∷_ 115 (L._∷_ 58 (L._∷_ 58 (L._∷_ 102 (L._∷_ 111 (L._∷_ 117 (L._∷_ 110 (L._∷_ 100 (L._∷_ 58 (L._∷_ 58 (L._∷_ 70 (L._∷_ 111 (L._∷_ 117 (L._∷_ 110 (L._∷_ 100 L.[]))))))))))))))))))) (Syntax.tcons Syntax.tyBool (Syntax.tcons Syntax.tyBool (Syntax.tcons (Syntax.tyStruct (L._∷_ 115 (L._∷_ 116 (L._∷_ 101 (L._∷_ 112 (L._∷_ 58 (L._∷_ 58 (L._∷_ 83 (L._∷_ 116 (L._∷_ 101 (L._∷_ 112 L.[])))))))))) (Syntax.tcons (Syntax.tyInt Syntax.w64) (Syntax.tcons (Syntax.tyInt Syntax.w64) (Syntax.tcons (Syntax.tyStruct (L._∷_ 115 (L._∷_ 116 (L._∷_ 101 (L._∷_ 112 (L._∷_ 58 (L._∷_ 58 (L._∷_ 67 (L._∷_ 104 (L._∷_ 97 (L._∷_ 110 (L._∷_ 103 (L._∷_ 101 L.[])))))))))))) (Syntax.tcons (Syntax.tyStruct (L._∷_ 110 (L._∷_ 101 (L._∷_ 116 (L._∷_ 119 (L._∷_ 111 (L._∷_ 114 (L._∷_ 107 (L._∷_ 58 (L._∷_ 58 (L._∷_ 69 (L._∷_ 100 (L._∷_ 105 (L._∷_ 116 L.[]))))))))))))) (Syntax.tcons q7 (Syntax.tcons q7 (Syntax.tcons q7 (Syntax.tcons q7 (Syntax.tcons q2 (Syntax.tcons q2 (Syntax.tcons (Syntax.tyInt Syntax.w64) (Syntax.tcons q6 Syntax.tnil))))))))) (Syntax.tcons (Syntax.tyStruct (L._∷_ 115 (L._∷_ 116 (L._∷_ 101 (L._∷_ 112 (L._∷_ 58 (L._∷_ 58 (L._∷_ 79 (L._∷_ 108 (L._∷_ 100 L.[]))))))))) (Syntax.tcons (Syntax.tyInt Syntax.w64) (Syntax.tcons q6 (Syntax.tcons q7 (Syntax.tcons q7 (Syntax.tcons q7 (Syntax.tcons q7 (Syntax.tcons q4 Syntax.tnil)))))))) Syntax.tnil))) Syntax.tnil)))) Syntax.tnil)))) (Syntax.tcons q5 Syntax.tnil)))) (L._∷_ (10, Rows.any-gone (Syntax.tyStruct (L._∷_ 114 (L._∷_ 117 (L._∷_ 108 (L._∷_ 101 (L._∷_ 115 (L._∷_ 58 (L._∷_ 58 (L._∷_ 102 (L._∷_ 111 (L._∷_ 117 (L._∷_ 110 (L._∷_ 100 (L._∷_ 58 (L._∷_ 58 (L._∷_ 70 (L._∷_ 111 (L._∷_ 117 (L._∷_ 110 (L._∷_ 100 L.[]))))))))))))))))))) (Syntax.tcons Syntax.tyBool (Syntax.tcons Syntax.tyBool (Syntax.tcons (Syntax.tyStruct (L._∷_ 115 (L._∷_ 116 (L._∷_ 101 (L._∷_ 112 (L._∷_ 58 (L._∷_ 58 (L._∷_ 83 (L._∷_ 116 (L._∷_ 101 (L._∷_ 112 L.[])))))))))) (Syntax.tcons (Syntax.tyInt Syntax.w64) (Syntax.tcons (Syntax.tyInt Syntax.w64) (Syntax.tcons (Syntax.tyStruct (L._∷_ 115 (L._∷_ 116 (L._∷_ 101 (L._∷_ 112 (L._∷_ 58 (L._∷_ 58 (L._∷_ 67 (L._∷_ 104 (L._∷_ 97 (L._∷_ 110 (L._∷_ 103 (L._∷_ 101 L.[])))))))))))) (Syntax.tcons (Syntax.tyStruct (L._∷_ 110 (L._∷_ 101 (L._∷_ 116 (L._∷_ 119 (L._∷_ 111 (L._∷_ 114 (L._∷_ 107 (L._∷_ 58 (L._∷_ 58 (L._∷_ 69 (L._∷_ 100 (L._∷_ 105 (L._∷_ 116 L.[]))))))))))))) (Syntax.tcons q7 (Syntax.tcons q7 (Syntax.tcons q7 (Syntax.tcons q7 (Syntax.tcons q2 (Syntax.tcons q2 (Syntax.tcons (Syntax.tyInt Syntax.w64) (Syntax.tcons q6 Syntax.tnil))))))))) (Syntax.tcons (Syntax.tyStruct (L._∷_ 115 (L._∷_ 116 (L._∷_ 101 (L._∷_ 112 (L._∷_ 58 (L._∷_ 58 (L._∷_ 79 (L._∷_ 108 (L._∷_ 100 L.[]))))))))) (Syntax.tcons (Syntax.tyInt Syntax.w64) (Syntax.tcons q6 (Syntax.tcons q7 (Syntax.tcons q7 (Syntax.tcons q7 (Syntax.tcons q7 (Syntax.tcons q4 Syntax.tnil)))))))) Syntax.tnil))) Syntax.tnil)))) Syntax.tnil))))) (L._∷_ (11, Rows.any-gone (Syntax.tyStruct (L._∷_ 114 (L._∷_ 117 (L._∷_ 108 (L._∷_ 101 (L._∷_ 115 (L._∷_ 58 (L._∷_ 58 (L._∷_ 102 (L._∷_ 111 (L._∷_ 117 (L._∷_ 110 (L._∷_ 100 (L._∷_ 58 (L._∷_ 58 (L._∷_ 70 (L._∷_ 111 (L._∷_ 117 (L._∷_ 110 (L._∷_ 100 L.[]))))))))))))))))))) (Syntax.tcons Syntax.tyBool (Syntax.tcons Syntax.tyBool (Syntax.tcons (Syntax.tyStruct (L._∷_ 115 (L._∷_ 116 (L._∷_ 101 (L._∷_ 112 (L._∷_ 58 (L._∷_ 58 (L._∷_ 83 (L._∷_ 116 (L._∷_ 101 (L._∷_ 112 L.[])))))))))) (Syntax.tcons (Syntax.tyInt Syntax.w64) (Syntax.tcons (Syntax.tyInt Syntax.w64) (Syntax.tcons (Syntax.tyStruct (L._∷_ 115 (L._∷_ 116 (L._∷_ 101 (L._∷_ 112 (L._∷_ 58 (L._∷_ 58 (L._∷_ 67 (L._∷_ 104 (L._∷_ 97 (L._∷_ 110 (L._∷_ 103 (L._∷_ 101 L.[])))))))))))) (Syntax.tcons (Syntax.tyStruct (L._∷_ 110 (L._∷_ 101 (L._∷_ 116 (L._∷_ 119 (L._∷_ 111 (L._∷_ 114 (L._∷_ 107 (L._∷_ 58 (L._∷_ 58 (L._∷_ 69 (L._∷_ 100 (L._∷_ 105 (L._∷_ 116 L.[]))))))))))))) (Syntax.tcons q7 (Syntax.tcons q7 (Syntax.tcons q7 (Syntax.tcons q7 (Syntax.tcons q2 (Syntax.tcons q2 (Syntax.tcons (Syntax.tyInt Syntax.w64) (Syntax.tcons q6 Syntax.tnil))))))))) (Syntax.tcons (Syntax.tyStruct (L._∷_ 115 (L._∷_ 116 (L._∷_ 101 (L._∷_ 112 (L._∷_ 58 (L._∷_ 58 (L._∷_ 79 (L._∷_ 108 (L._∷_ 100 L.[]))))))))) (Syntax.tcons (Syntax.tyInt Syntax.w64) (Syntax.tcons q6 (Syntax.tcons q7 (Syntax.tcons q7 (Syntax.tcons q7 (Syntax.tcons q7 (Syntax.tcons q4 Syntax.tnil)))))))) Syntax.tnil))) Syntax.tnil)))) Syntax.tnil))))) (L._∷_ q28 (L._∷_ q29 (L._∷_ q30 (L._∷_ q31 L.[])))))))))))))))
 
 abbrev pub t12 : L.List Row.Entry
-t12 = L._∷_ (0, Rows.any-gone (Syntax.tyStruct (L._∷_ 114 (L._∷_ 117 (L._∷_ 108 (L._∷_ 101 (L._∷_ 115 (L._∷_ 58 (L._∷_ 58 (L._∷_ 116 (L._∷_ 114 (L._∷_ 105 (L._∷_ 101 (L._∷_ 100 (L._∷_ 58 (L._∷_ 58 (L._∷_ 76 (L._∷_ 111 (L._∷_ 111 (L._∷_ 107 (L._∷_ 101 (L._∷_ 100 L.[])))))))))))))))))))) (Syntax.tcons (Syntax.tyStruct (L._∷_ 114 (L._∷_ 117 (L._∷_ 108 (L._∷_ 101 (L._∷_ 115 (L._∷_ 58 (L._∷_ 58 (L._∷_ 102 (L._∷_ 111 (L._∷_ 117 (L._∷_ 110 (L._∷_ 100 (L._∷_ 58 (L._∷_ 58 (L._∷_ 70 (L._∷_ 111 (L._∷_ 117 (L._∷_ 110 (L._∷_ 100 L.[]))))))))))))))))))) (Syntax.tcons Syntax.tyBool (Syntax.tcons Syntax.tyBool (Syntax.tcons (Syntax.tyStruct (L._∷_ 115 (L._∷_ 116 (L._∷_ 101 (L._∷_ 112 (L._∷_ 58 (L._∷_ 58 (L._∷_ 83 (L._∷_ 116 (L._∷_ 101 (L._∷_ 112 L.[])))))))))) (Syntax.tcons (Syntax.tyInt Syntax.w64) (Syntax.tcons (Syntax.tyInt Syntax.w64) (Syntax.tcons (Syntax.tyStruct (L._∷_ 115 (L._∷_ 116 (L._∷_ 101 (L._∷_ 112 (L._∷_ 58 (L._∷_ 58 (L._∷_ 67 (L._∷_ 104 (L._∷_ 97 (L._∷_ 110 (L._∷_ 103 (L._∷_ 101 L.[])))))))))))) (Syntax.tcons (Syntax.tyStruct (L._∷_ 110 (L._∷_ 101 (L._∷_ 116 (L._∷_ 119 (L._∷_ 111 (L._∷_ 114 (L._∷_ 107 (L._∷_ 58 (L._∷_ 58 (L._∷_ 69 (L._∷_ 100 (L._∷_ 105 (L._∷_ 116 L.[]))))))))))))) (Syntax.tcons q7 (Syntax.tcons q7 (Syntax.tcons q7 (Syntax.tcons q7 (Syntax.tcons q2 (Syntax.tcons q2 (Syntax.tcons (Syntax.tyInt Syntax.w64) Syntax.tnil)))))))) (Syntax.tcons (Syntax.tyStruct (L._∷_ 115 (L._∷_ 116 (L._∷_ 101 (L._∷_ 112 (L._∷_ 58 (L._∷_ 58 (L._∷_ 79 (L._∷_ 108 (L._∷_ 100 L.[]))))))))) (Syntax.tcons (Syntax.tyInt Syntax.w64) (Syntax.tcons q6 (Syntax.tcons q7 (Syntax.tcons q7 (Syntax.tcons q7 (Syntax.tcons q7 (Syntax.tcons q4 Syntax.tnil)))))))) Syntax.tnil))) Syntax.tnil)))) Syntax.tnil)))) (Syntax.tcons q5 Syntax.tnil)))) (L._∷_ q20 (L._∷_ q11 (L._∷_ q17 (L._∷_ q26 (L._∷_ (5, Rows.any-gone (Syntax.tyStruct (L._∷_ 114 (L._∷_ 117 (L._∷_ 108 (L._∷_ 101 (L._∷_ 115 (L._∷_ 58 (L._∷_ 58 (L._∷_ 102 (L._∷_ 111 (L._∷_ 117 (L._∷_ 110 (L._∷_ 100 (L._∷_ 58 (L._∷_ 58 (L._∷_ 70 (L._∷_ 111 (L._∷_ 117 (L._∷_ 110 (L._∷_ 100 L.[]))))))))))))))))))) (Syntax.tcons Syntax.tyBool (Syntax.tcons Syntax.tyBool (Syntax.tcons (Syntax.tyStruct (L._∷_ 115 (L._∷_ 116 (L._∷_ 101 (L._∷_ 112 (L._∷_ 58 (L._∷_ 58 (L._∷_ 83 (L._∷_ 116 (L._∷_ 101 (L._∷_ 112 L.[])))))))))) (Syntax.tcons (Syntax.tyInt Syntax.w64) (Syntax.tcons (Syntax.tyInt Syntax.w64) (Syntax.tcons (Syntax.tyStruct (L._∷_ 115 (L._∷_ 116 (L._∷_ 101 (L._∷_ 112 (L._∷_ 58 (L._∷_ 58 (L._∷_ 67 (L._∷_ 104 (L._∷_ 97 (L._∷_ 110 (L._∷_ 103 (L._∷_ 101 L.[])))))))))))) (Syntax.tcons (Syntax.tyStruct (L._∷_ 110 (L._∷_ 101 (L._∷_ 116 (L._∷_ 119 (L._∷_ 111 (L._∷_ 114 (L._∷_ 107 (L._∷_ 58 (L._∷_ 58 (L._∷_ 69 (L._∷_ 100 (L._∷_ 105 (L._∷_ 116 L.[]))))))))))))) (Syntax.tcons q7 (Syntax.tcons q7 (Syntax.tcons q7 (Syntax.tcons q7 (Syntax.tcons q2 (Syntax.tcons q2 (Syntax.tcons (Syntax.tyInt Syntax.w64) Syntax.tnil)))))))) (Syntax.tcons (Syntax.tyStruct (L._∷_ 115 (L._∷_ 116 (L._∷_ 101 (L._∷_ 112 (L._∷_ 58 (L._∷_ 58 (L._∷_ 79 (L._∷_ 108 (L._∷_ 100 L.[]))))))))) (Syntax.tcons (Syntax.tyInt Syntax.w64) (Syntax.tcons q6 (Syntax.tcons q7 (Syntax.tcons q7 (Syntax.tcons q7 (Syntax.tcons q7 (Syntax.tcons q4 Syntax.tnil)))))))) Syntax.tnil))) Syntax.tnil)))) Syntax.tnil))))) (L._∷_ q18 (L._∷_ q25 (L._∷_ q32 (L._∷_ (9, Rows.any-gone (Syntax.tyStruct (L._∷_ 114 (L._∷_ 117 (L._∷_ 108 (L._∷_ 101 (L._∷_ 115 (L._∷_ 58 (L._∷_ 58 (L._∷_ 116 (L._∷_ 114 (L._∷_ 105 (L._∷_ 101 (L._∷_ 100 (L._∷_ 58 (L._∷_ 58 (L._∷_ 76 (L._∷_ 111 (L._∷_ 111 (L._∷_ 107 (L._∷_ 101 (L._∷_ 100 L.[])))))))))))))))))))) (Syntax.tcons (Syntax.tyStruct (L._∷_ 114 (L._∷_ 117 (L._∷_ 108 (L._∷_ 101 (L._∷_ 115 (L._∷_ 58 (L._∷_ 58 (L._∷_ 102 (L._∷_ 111 (L._∷_ 117 (L._∷_ 110 (L._∷_ 100 (L._∷_ 58 (L._∷_ 58 (L._∷_ 70 (L._∷_ 111 (L._∷_ 117 (L._∷_ 110 (L._∷_ 100 L.[]))))))))))))))))))) (Syntax.tcons Syntax.tyBool (Syntax.tcons Syntax.tyBool (Syntax.tcons (Syntax.tyStruct (L._∷_ 115 (L._∷_ 116 (L._∷_ 101 (L._∷_ 112 (L._∷_ 58 (L._∷_ 58 (L._∷_ 83 (L._∷_ 116 (L._∷_ 101 (L._∷_ 112 L.[])))))))))) (Syntax.tcons (Syntax.tyInt Syntax.w64) (Syntax.tcons (Syntax.tyInt Syntax.w64) (Syntax.tcons (Syntax.tyStruct (L._∷_ 115 (L._∷_ 116 (L._∷_ 101 (L._∷_ 112 (L._∷_ 58 (L._∷_ 58 (L._∷_ 67 (L._∷_ 104 (L._∷_ 97 (L._∷_ 110 (L._∷_ 103 (L._∷_ 101 L.[])))))))))))) (Syntax.tcons (Syntax.tyStruct (L._∷_ 110 (L._∷_ 101 (L._∷_ 116 (L._∷_ 119 (L._∷_ 111 (L._∷_ 114 (L._∷_ 107 (L._∷_ 58 (L._∷_ 58 (L._∷_ 69 (L._∷_ 100 (L._∷_ 105 (L._∷_ 116 L.[]))))))))))))) (Syntax.tcons q7 (Syntax.tcons q7 (Syntax.tcons q7 (Syntax.tcons q7 (Syntax.tcons q2 (Syntax.tcons q2 (Syntax.tcons (Syntax.tyInt Syntax.w64) Syntax.tnil)))))))) (Syntax.tcons (Syntax.tyStruct (L._∷_ 115 (L._∷_ 116 (L._∷_ 101 (L._∷_ 112 (L._∷_ 58 (L._∷_ 58 (L._∷_ 79 (L._∷_ 108 (L._∷_ 100 L.[]))))))))) (Syntax.tcons (Syntax.tyInt Syntax.w64) (Syntax.tcons q6 (Syntax.tcons q7 (Syntax.tcons q7 (Syntax.tcons q7 (Syntax.tcons q7 (Syntax.tcons q4 Syntax.tnil)))))))) Syntax.tnil))) Syntax.tnil)))) Syntax.tnil)))) (Syntax.tcons q5 Syntax.tnil)))) (L._∷_ (10, Rows.any-gone (Syntax.tyStruct (L._∷_ 114 (L._∷_ 117 (L._∷_ 108 (L._∷_ 101 (L._∷_ 115 (L._∷_ 58 (L._∷_ 58 (L._∷_ 102 (L._∷_ 111 (L._∷_ 117 (L._∷_ 110 (L._∷_ 100 (L._∷_ 58 (L._∷_ 58 (L._∷_ 70 (L._∷_ 111 (L._∷_ 117 (L._∷_ 110 (L._∷_ 100 L.[]))))))))))))))))))) (Syntax.tcons Syntax.tyBool (Syntax.tcons Syntax.tyBool (Syntax.tcons (Syntax.tyStruct (L._∷_ 115 (L._∷_ 116 (L._∷_ 101 (L._∷_ 112 (L._∷_ 58 (L._∷_ 58 (L._∷_ 83 (L._∷_ 116 (L._∷_ 101 (L._∷_ 112 L.[])))))))))) (Syntax.tcons (Syntax.tyInt Syntax.w64) (Syntax.tcons (Syntax.tyInt Syntax.w64) (Syntax.tcons (Syntax.tyStruct (L._∷_ 115 (L._∷_ 116 (L._∷_ 101 (L._∷_ 112 (L._∷_ 58 (L._∷_ 58 (L._∷_ 67 (L._∷_ 104 (L._∷_ 97 (L._∷_ 110 (L._∷_ 103 (L._∷_ 101 L.[])))))))))))) (Syntax.tcons (Syntax.tyStruct (L._∷_ 110 (L._∷_ 101 (L._∷_ 116 (L._∷_ 119 (L._∷_ 111 (L._∷_ 114 (L._∷_ 107 (L._∷_ 58 (L._∷_ 58 (L._∷_ 69 (L._∷_ 100 (L._∷_ 105 (L._∷_ 116 L.[]))))))))))))) (Syntax.tcons q7 (Syntax.tcons q7 (Syntax.tcons q7 (Syntax.tcons q7 (Syntax.tcons q2 (Syntax.tcons q2 (Syntax.tcons (Syntax.tyInt Syntax.w64) Syntax.tnil)))))))) (Syntax.tcons (Syntax.tyStruct (L._∷_ 115 (L._∷_ 116 (L._∷_ 101 (L._∷_ 112 (L._∷_ 58 (L._∷_ 58 (L._∷_ 79 (L._∷_ 108 (L._∷_ 100 L.[]))))))))) (Syntax.tcons (Syntax.tyInt Syntax.w64) (Syntax.tcons q6 (Syntax.tcons q7 (Syntax.tcons q7 (Syntax.tcons q7 (Syntax.tcons q7 (Syntax.tcons q4 Syntax.tnil)))))))) Syntax.tnil))) Syntax.tnil)))) Syntax.tnil))))) (L._∷_ (11, Rows.any-gone (Syntax.tyStruct (L._∷_ 114 (L._∷_ 117 (L._∷_ 108 (L._∷_ 101 (L._∷_ 115 (L._∷_ 58 (L._∷_ 58 (L._∷_ 102 (L._∷_ 111 (L._∷_ 117 (L._∷_ 110 (L._∷_ 100 (L._∷_ 58 (L._∷_ 58 (L._∷_ 70 (L._∷_ 111 (L._∷_ 117 (L._∷_ 110 (L._∷_ 100 L.[]))))))))))))))))))) (Syntax.tcons Syntax.tyBool (Syntax.tcons Syntax.tyBool (Syntax.tcons (Syntax.tyStruct (L._∷_ 115 (L._∷_ 116 (L._∷_ 101 (L._∷_ 112 (L._∷_ 58 (L._∷_ 58 (L._∷_ 83 (L._∷_ 116 (L._∷_ 101 (L._∷_ 112 L.[])))))))))) (Syntax.tcons (Syntax.tyInt Syntax.w64) (Syntax.tcons (Syntax.tyInt Syntax.w64) (Syntax.tcons (Syntax.tyStruct (L._∷_ 115 (L._∷_ 116 (L._∷_ 101 (L._∷_ 112 (L._∷_ 58 (L._∷_ 58 (L._∷_ 67 (L._∷_ 104 (L._∷_ 97 (L._∷_ 110 (L._∷_ 103 (L._∷_ 101 L.[])))))))))))) (Syntax.tcons (Syntax.tyStruct (L._∷_ 110 (L._∷_ 101 (L._∷_ 116 (L._∷_ 119 (L._∷_ 111 (L._∷_ 114 (L._∷_ 107 (L._∷_ 58 (L._∷_ 58 (L._∷_ 69 (L._∷_ 100 (L._∷_ 105 (L._∷_ 116 L.[]))))))))))))) (Syntax.tcons q7 (Syntax.tcons q7 (Syntax.tcons q7 (Syntax.tcons q7 (Syntax.tcons q2 (Syntax.tcons q2 (Syntax.tcons (Syntax.tyInt Syntax.w64) Syntax.tnil)))))))) (Syntax.tcons (Syntax.tyStruct (L._∷_ 115 (L._∷_ 116 (L._∷_ 101 (L._∷_ 112 (L._∷_ 58 (L._∷_ 58 (L._∷_ 79 (L._∷_ 108 (L._∷_ 100 L.[]))))))))) (Syntax.tcons (Syntax.tyInt Syntax.w64) (Syntax.tcons q6 (Syntax.tcons q7 (Syntax.tcons q7 (Syntax.tcons q7 (Syntax.tcons q7 (Syntax.tcons q4 Syntax.tnil)))))))) Syntax.tnil))) Syntax.tnil)))) Syntax.tnil))))) (L._∷_ q28 (L._∷_ q29 (L._∷_ q30 (L._∷_ q31 L.[])))))))))))))))
+t12 = L._∷_ (0, Rows.any-gone (Syntax.tyStruct (L._∷_ 114 (L._∷_ 117 (L._∷_ 108 (L._∷_ 101 (L._∷_ 115 (L._∷_ 58 (L._∷_ 58 (L._∷_ 116 (L._∷_ 114 (L._∷_ 105 (L._∷_ 101 (L._∷_ 100 (L._∷_ 58 (L._∷_ 58 (L._∷_ 76 (L._∷_ 111 (L._∷_ 111 (L._∷_ 107 (L._∷_ 101 (L._∷_ 100 L.[])))))))))))))))))))) (Syntax.tcons (Syntax.tyStruct (L._∷_ 114 (L._∷_ 117 (L._∷_ 108 (L._∷_ 101 (L._∷_ 115 (L._∷_ 58 (L._∷_ 58 (L._∷_ 102 (L._∷_ 111 (L._∷_ 117 (L._∷_ 110 (L._∷_ 100 (L._∷_ 58 (L._∷_ 58 (L._∷_ 70 (L._∷_ 111 (L._∷_ 117 (L._∷_ 110 (L._∷_ 100 L.[]))))))))))))))))))) (Syntax.tcons Syntax.tyBool (Syntax.tcons Syntax.tyBool (Syntax.tcons (Syntax.tyStruct (L._∷_ 115 (L._∷_ 116 (L._∷_ 101 (L._∷_ 112 (L._∷_ 58 (L._∷_ 58 (L._∷_ 83 (L._∷_ 116 (L._∷_ 101 (L._∷_ 112 L.[])))))))))) (Syntax.tcons (Syntax.tyInt Syntax.w64) (Syntax.tcons (Syntax.tyInt Syntax.w64) (Syntax.tcons (Syntax.tyStruct (L._∷_ 115 (L._∷_ 116 (L._∷_ 101 (L._∷_ 112 (L._∷_ 58 (L._∷_ 58 (L._∷_ 67 (L._∷_ 104 (L._∷_ 97 (L._∷_ 110 (L._∷_ 103 (L._∷_ 101 L.[])))))))))))) (Syntax.tcons (Syntax.tyStruct (L._∷_ 110 (L._∷_ 101 (L._∷_ 116 (L._∷_ 119 (L._∷_ 111 (L._∷_ 114 (L._∷_ 107 (L._∷_ 58 (L._∷_ 58 (L._∷_ 69 (L._∷_ 100 (L._∷_ 105 (L._∷_ 116 L.[]))))))))))))) (Syntax.tcons q7 (Syntax.tcons q7 (Syntax.tcons q7 (Syntax.tcons q7 (Syntax.tcons q2 (Syntax.tcons q2 (Syntax.tcons (Syntax.tyInt Syntax.w64) (Syntax.tcons q6 Syntax.tnil))))))))) (Syntax.tcons (Syntax.tyStruct (L._∷_ 115 (L._∷_ 116 (L._∷_ 101 (L._∷_ 112 (L._∷_ 58 (L._∷_ 58 (L._∷_ 79 (L._∷_ 108 (L._∷_ 100 L.[]))))))))) (Syntax.tcons (Syntax.tyInt Syntax.w64) (Syntax.tcons q6 (Syntax.tcons q7 (Syntax.tcons q7 (Syntax.tcons q7 (Syntax.tcons q7 (Syntax.tcons q4 Syntax.tnil)))))))) Syntax.tnil))) Syntax.tnil)))) Syntax.tnil)))) (Syntax.tcons q5 Syntax.tnil)))) (L._∷_ q20 (L._∷_ q11 (L._∷_ q17 (L._∷_ q26 (L._∷_ (5, Rows.any-gone (Syntax.tyStruct (L._∷_ 114 (L._∷_ 117 (L._∷_ 108 (L._∷_ 101 (L._∷_ 115 (L._∷_ 58 (L._∷_ 58 (L._∷_ 102 (L._∷_ 111 (L._∷_ 117 (L._∷_ 110 (L._∷_ 100 (L._∷_ 58 (L._∷_ 58 (L._∷_ 70 (L._∷_ 111 (L._∷_ 117 (L._∷_ 110 (L._∷_ 100 L.[]))))))))))))))))))) (Syntax.tcons Syntax.tyBool (Syntax.tcons Syntax.tyBool (Syntax.tcons (Syntax.tyStruct (L._∷_ 115 (L._∷_ 116 (L._∷_ 101 (L._∷_ 112 (L._∷_ 58 (L._∷_ 58 (L._∷_ 83 (L._∷_ 116 (L._∷_ 101 (L._∷_ 112 L.[])))))))))) (Syntax.tcons (Syntax.tyInt Syntax.w64) (Syntax.tcons (Syntax.tyInt Syntax.w64) (Syntax.tcons (Syntax.tyStruct (L._∷_ 115 (L._∷_ 116 (L._∷_ 101 (L._∷_ 112 (L._∷_ 58 (L._∷_ 58 (L._∷_ 67 (L._∷_ 104 (L._∷_ 97 (L._∷_ 110 (L._∷_ 103 (L._∷_ 101 L.[])))))))))))) (Syntax.tcons (Syntax.tyStruct (L._∷_ 110 (L._∷_ 101 (L._∷_ 116 (L._∷_ 119 (L._∷_ 111 (L._∷_ 114 (L._∷_ 107 (L._∷_ 58 (L._∷_ 58 (L._∷_ 69 (L._∷_ 100 (L._∷_ 105 (L._∷_ 116 L.[]))))))))))))) (Syntax.tcons q7 (Syntax.tcons q7 (Syntax.tcons q7 (Syntax.tcons q7 (Syntax.tcons q2 (Syntax.tcons q2 (Syntax.tcons (Syntax.tyInt Syntax.w64) (Syntax.tcons q6 Syntax.tnil))))))))) (Syntax.tcons (Syntax.tyStruct (L._∷_ 115 (L._∷_ 116 (L._∷_ 101 (L._∷_ 112 (L._∷_ 58 (L._∷_ 58 (L._∷_ 79 (L._∷_ 108 (L._∷_ 100 L.[]))))))))) (Syntax.tcons (Syntax.tyInt Syntax.w64) (Syntax.tcons q6 (Syntax.tcons q7 (Syntax.tcons q7 (Syntax.tcons q7 (Syntax.tcons q7 (Syntax.tcons q4 Syntax.tnil)))))))) Syntax.tnil))) Syntax.tnil)))) Syntax.tnil))))) (L._∷_ q18 (L._∷_ q25 (L._∷_ q32 (L._∷_ (9, Rows.any-gone (Syntax.tyStruct (L._∷_ 114 (L._∷_ 117 (L._∷_ 108 (L._∷_ 101 (L._∷_ 115 (L._∷_ 58 (L._∷_ 58 (L._∷_ 116 (L._∷_ 114 (L._∷_ 105 (L._∷_ 101 (L._∷_ 100 (L._∷_ 58 (L._∷_ 58 (L._∷_ 76 (L._∷_ 111 (L._∷_ 111 (L._∷_ 107 (L._∷_ 101 (L._∷_ 100 L.[])))))))))))))))))))) (Syntax.tcons (Syntax.tyStruct (L._∷_ 114 (L._∷_ 117 (L._∷_ 108 (L._∷_ 101 (L._∷_ 115 (L._∷_ 58 (L._∷_ 58 (L._∷_ 102 (L._∷_ 111 (L._∷_ 117 (L._∷_ 110 (L._∷_ 100 (L._∷_ 58 (L._∷_ 58 (L._∷_ 70 (L._∷_ 111 (L._∷_ 117 (L._∷_ 110 (L._∷_ 100 L.[]))))))))))))))))))) (Syntax.tcons Syntax.tyBool (Syntax.tcons Syntax.tyBool (Syntax.tcons (Syntax.tyStruct (L._∷_ 115 (L._∷_ 116 (L._∷_ 101 (L._∷_ 112 (L._∷_ 58 (L._∷_ 58 (L._∷_ 83 (L._∷_ 116 (L._∷_ 101 (L._∷_ 112 L.[])))))))))) (Syntax.tcons (Syntax.tyInt Syntax.w64) (Syntax.tcons (Syntax.tyInt Syntax.w64) (Syntax.tcons (Syntax.tyStruct (L._∷_ 115 (L._∷_ 116 (L._∷_ 101 (L._∷_ 112 (L._∷_ 58 (L._∷_ 58 (L._∷_ 67 (L._∷_ 104 (L._∷_ 97 (L._∷_ 110 (L._∷_ 103 (L._∷_ 101 L.[])))))))))))) (Syntax.tcons (Syntax.tyStruct (L._∷_ 110 (L._∷_ 101 (L._∷_ 116 (L._∷_ 119 (L._∷_ 111 (L._∷_ 114 (L._∷_ 107 (L._∷_ 58 (L._∷_ 58 (L._∷_ 69 (L._∷_ 100 (L._∷_ 105 (L._∷_ 116 L.[]))))))))))))) (Syntax.tcons q7 (Syntax.tcons q7 (Syntax.tcons q7 (Syntax.tcons q7 (Syntax.tcons q2 (Syntax.tcons q2 (Syntax.tcons (Syntax.tyInt Syntax.w64) (Syntax.tcons q6 Syntax.tnil))))))))) (Syntax.tcons (Syntax.tyStruct (L._∷_ 115 (L._∷_ 116 (L._∷_ 101 (L._∷_ 112 (L._∷_ 58 (L._∷_ 58 (L._∷_ 79 (L._∷_ 108 (L._∷_ 100 L.[]))))))))) (Syntax.tcons (Syntax.tyInt Syntax.w64) (Syntax.tcons q6 (Syntax.tcons q7 (Syntax.tcons q7 (Syntax.tcons q7 (Syntax.tcons q7 (Syntax.tcons q4 Syntax.tnil)))))))) Syntax.tnil))) Syntax.tnil)))) Syntax.tnil)))) (Syntax.tcons q5 Syntax.tnil)))) (L._∷_ (10, Rows.any-gone (Syntax.tyStruct (L._∷_ 114 (L._∷_ 117 (L._∷_ 108 (L._∷_ 101 (L._∷_ 115 (L._∷_ 58 (L._∷_ 58 (L._∷_ 102 (L._∷_ 111 (L._∷_ 117 (L._∷_ 110 (L._∷_ 100 (L._∷_ 58 (L._∷_ 58 (L._∷_ 70 (L._∷_ 111 (L._∷_ 117 (L._∷_ 110 (L._∷_ 100 L.[]))))))))))))))))))) (Syntax.tcons Syntax.tyBool (Syntax.tcons Syntax.tyBool (Syntax.tcons (Syntax.tyStruct (L._∷_ 115 (L._∷_ 116 (L._∷_ 101 (L._∷_ 112 (L._∷_ 58 (L._∷_ 58 (L._∷_ 83 (L._∷_ 116 (L._∷_ 101 (L._∷_ 112 L.[])))))))))) (Syntax.tcons (Syntax.tyInt Syntax.w64) (Syntax.tcons (Syntax.tyInt Syntax.w64) (Syntax.tcons (Syntax.tyStruct (L._∷_ 115 (L._∷_ 116 (L._∷_ 101 (L._∷_ 112 (L._∷_ 58 (L._∷_ 58 (L._∷_ 67 (L._∷_ 104 (L._∷_ 97 (L._∷_ 110 (L._∷_ 103 (L._∷_ 101 L.[])))))))))))) (Syntax.tcons (Syntax.tyStruct (L._∷_ 110 (L._∷_ 101 (L._∷_ 116 (L._∷_ 119 (L._∷_ 111 (L._∷_ 114 (L._∷_ 107 (L._∷_ 58 (L._∷_ 58 (L._∷_ 69 (L._∷_ 100 (L._∷_ 105 (L._∷_ 116 L.[]))))))))))))) (Syntax.tcons q7 (Syntax.tcons q7 (Syntax.tcons q7 (Syntax.tcons q7 (Syntax.tcons q2 (Syntax.tcons q2 (Syntax.tcons (Syntax.tyInt Syntax.w64) (Syntax.tcons q6 Syntax.tnil))))))))) (Syntax.tcons (Syntax.tyStruct (L._∷_ 115 (L._∷_ 116 (L._∷_ 101 (L._∷_ 112 (L._∷_ 58 (L._∷_ 58 (L._∷_ 79 (L._∷_ 108 (L._∷_ 100 L.[]))))))))) (Syntax.tcons (Syntax.tyInt Syntax.w64) (Syntax.tcons q6 (Syntax.tcons q7 (Syntax.tcons q7 (Syntax.tcons q7 (Syntax.tcons q7 (Syntax.tcons q4 Syntax.tnil)))))))) Syntax.tnil))) Syntax.tnil)))) Syntax.tnil))))) (L._∷_ (11, Rows.any-gone (Syntax.tyStruct (L._∷_ 114 (L._∷_ 117 (L._∷_ 108 (L._∷_ 101 (L._∷_ 115 (L._∷_ 58 (L._∷_ 58 (L._∷_ 102 (L._∷_ 111 (L._∷_ 117 (L._∷_ 110 (L._∷_ 100 (L._∷_ 58 (L._∷_ 58 (L._∷_ 70 (L._∷_ 111 (L._∷_ 117 (L._∷_ 110 (L._∷_ 100 L.[]))))))))))))))))))) (Syntax.tcons Syntax.tyBool (Syntax.tcons Syntax.tyBool (Syntax.tcons (Syntax.tyStruct (L._∷_ 115 (L._∷_ 116 (L._∷_ 101 (L._∷_ 112 (L._∷_ 58 (L._∷_ 58 (L._∷_ 83 (L._∷_ 116 (L._∷_ 101 (L._∷_ 112 L.[])))))))))) (Syntax.tcons (Syntax.tyInt Syntax.w64) (Syntax.tcons (Syntax.tyInt Syntax.w64) (Syntax.tcons (Syntax.tyStruct (L._∷_ 115 (L._∷_ 116 (L._∷_ 101 (L._∷_ 112 (L._∷_ 58 (L._∷_ 58 (L._∷_ 67 (L._∷_ 104 (L._∷_ 97 (L._∷_ 110 (L._∷_ 103 (L._∷_ 101 L.[])))))))))))) (Syntax.tcons (Syntax.tyStruct (L._∷_ 110 (L._∷_ 101 (L._∷_ 116 (L._∷_ 119 (L._∷_ 111 (L._∷_ 114 (L._∷_ 107 (L._∷_ 58 (L._∷_ 58 (L._∷_ 69 (L._∷_ 100 (L._∷_ 105 (L._∷_ 116 L.[]))))))))))))) (Syntax.tcons q7 (Syntax.tcons q7 (Syntax.tcons q7 (Syntax.tcons q7 (Syntax.tcons q2 (Syntax.tcons q2 (Syntax.tcons (Syntax.tyInt Syntax.w64) (Syntax.tcons q6 Syntax.tnil))))))))) (Syntax.tcons (Syntax.tyStruct (L._∷_ 115 (L._∷_ 116 (L._∷_ 101 (L._∷_ 112 (L._∷_ 58 (L._∷_ 58 (L._∷_ 79 (L._∷_ 108 (L._∷_ 100 L.[]))))))))) (Syntax.tcons (Syntax.tyInt Syntax.w64) (Syntax.tcons q6 (Syntax.tcons q7 (Syntax.tcons q7 (Syntax.tcons q7 (Syntax.tcons q7 (Syntax.tcons q4 Syntax.tnil)))))))) Syntax.tnil))) Syntax.tnil)))) Syntax.tnil))))) (L._∷_ q28 (L._∷_ q29 (L._∷_ q30 (L._∷_ q31 L.[])))))))))))))))
 
 abbrev pub t13 : L.List Row.Entry
-t13 = L._∷_ (0, Rows.any-gone (Syntax.tyStruct (L._∷_ 114 (L._∷_ 117 (L._∷_ 108 (L._∷_ 101 (L._∷_ 115 (L._∷_ 58 (L._∷_ 58 (L._∷_ 116 (L._∷_ 114 (L._∷_ 105 (L._∷_ 101 (L._∷_ 100 (L._∷_ 58 (L._∷_ 58 (L._∷_ 76 (L._∷_ 111 (L._∷_ 111 (L._∷_ 107 (L._∷_ 101 (L._∷_ 100 L.[])))))))))))))))))))) (Syntax.tcons (Syntax.tyStruct (L._∷_ 114 (L._∷_ 117 (L._∷_ 108 (L._∷_ 101 (L._∷_ 115 (L._∷_ 58 (L._∷_ 58 (L._∷_ 102 (L._∷_ 111 (L._∷_ 117 (L._∷_ 110 (L._∷_ 100 (L._∷_ 58 (L._∷_ 58 (L._∷_ 70 (L._∷_ 111 (L._∷_ 117 (L._∷_ 110 (L._∷_ 100 L.[]))))))))))))))))))) (Syntax.tcons Syntax.tyBool (Syntax.tcons Syntax.tyBool (Syntax.tcons (Syntax.tyStruct (L._∷_ 115 (L._∷_ 116 (L._∷_ 101 (L._∷_ 112 (L._∷_ 58 (L._∷_ 58 (L._∷_ 83 (L._∷_ 116 (L._∷_ 101 (L._∷_ 112 L.[])))))))))) (Syntax.tcons (Syntax.tyInt Syntax.w64) (Syntax.tcons (Syntax.tyInt Syntax.w64) (Syntax.tcons (Syntax.tyStruct (L._∷_ 115 (L._∷_ 116 (L._∷_ 101 (L._∷_ 112 (L._∷_ 58 (L._∷_ 58 (L._∷_ 67 (L._∷_ 104 (L._∷_ 97 (L._∷_ 110 (L._∷_ 103 (L._∷_ 101 L.[])))))))))))) (Syntax.tcons (Syntax.tyStruct (L._∷_ 110 (L._∷_ 101 (L._∷_ 116 (L._∷_ 119 (L._∷_ 111 (L._∷_ 114 (L._∷_ 107 (L._∷_ 58 (L._∷_ 58 (L._∷_ 69 (L._∷_ 100 (L._∷_ 105 (L._∷_ 116 L.[]))))))))))))) (Syntax.tcons q7 (Syntax.tcons q7 (Syntax.tcons q7 (Syntax.tcons q7 (Syntax.tcons q2 (Syntax.tcons q2 (Syntax.tcons (Syntax.tyInt Syntax.w64) Syntax.tnil)))))))) (Syntax.tcons (Syntax.tyStruct (L._∷_ 115 (L._∷_ 116 (L._∷_ 101 (L._∷_ 112 (L._∷_ 58 (L._∷_ 58 (L._∷_ 79 (L._∷_ 108 (L._∷_ 100 L.[]))))))))) (Syntax.tcons (Syntax.tyInt Syntax.w64) (Syntax.tcons q6 (Syntax.tcons q7 (Syntax.tcons q7 (Syntax.tcons q7 (Syntax.tcons q7 (Syntax.tcons q4 Syntax.tnil)))))))) Syntax.tnil))) Syntax.tnil)))) Syntax.tnil)))) (Syntax.tcons q5 Syntax.tnil)))) (L._∷_ q20 (L._∷_ q11 (L._∷_ q17 (L._∷_ q26 (L._∷_ (5, Rows.any-gone (Syntax.tyStruct (L._∷_ 114 (L._∷_ 117 (L._∷_ 108 (L._∷_ 101 (L._∷_ 115 (L._∷_ 58 (L._∷_ 58 (L._∷_ 102 (L._∷_ 111 (L._∷_ 117 (L._∷_ 110 (L._∷_ 100 (L._∷_ 58 (L._∷_ 58 (L._∷_ 70 (L._∷_ 111 (L._∷_ 117 (L._∷_ 110 (L._∷_ 100 L.[]))))))))))))))))))) (Syntax.tcons Syntax.tyBool (Syntax.tcons Syntax.tyBool (Syntax.tcons (Syntax.tyStruct (L._∷_ 115 (L._∷_ 116 (L._∷_ 101 (L._∷_ 112 (L._∷_ 58 (L._∷_ 58 (L._∷_ 83 (L._∷_ 116 (L._∷_ 101 (L._∷_ 112 L.[])))))))))) (Syntax.tcons (Syntax.tyInt Syntax.w64) (Syntax.tcons (Syntax.tyInt Syntax.w64) (Syntax.tcons (Syntax.tyStruct (L._∷_ 115 (L._∷_ 116 (L._∷_ 101 (L._∷_ 112 (L._∷_ 58 (L._∷_ 58 (L._∷_ 67 (L._∷_ 104 (L._∷_ 97 (L._∷_ 110 (L._∷_ 103 (L._∷_ 101 L.[])))))))))))) (Syntax.tcons (Syntax.tyStruct (L._∷_ 110 (L._∷_ 101 (L._∷_ 116 (L._∷_ 119 (L._∷_ 111 (L._∷_ 114 (L._∷_ 107 (L._∷_ 58 (L._∷_ 58 (L._∷_ 69 (L._∷_ 100 (L._∷_ 105 (L._∷_ 116 L.[]))))))))))))) (Syntax.tcons q7 (Syntax.tcons q7 (Syntax.tcons q7 (Syntax.tcons q7 (Syntax.tcons q2 (Syntax.tcons q2 (Syntax.tcons (Syntax.tyInt Syntax.w64) Syntax.tnil)))))))) (Syntax.tcons (Syntax.tyStruct (L._∷_ 115 (L._∷_ 116 (L._∷_ 101 (L._∷_ 112 (L._∷_ 58 (L._∷_ 58 (L._∷_ 79 (L._∷_ 108 (L._∷_ 100 L.[]))))))))) (Syntax.tcons (Syntax.tyInt Syntax.w64) (Syntax.tcons q6 (Syntax.tcons q7 (Syntax.tcons q7 (Syntax.tcons q7 (Syntax.tcons q7 (Syntax.tcons q4 Syntax.tnil)))))))) Syntax.tnil))) Syntax.tnil)))) Syntax.tnil))))) (L._∷_ q18 (L._∷_ q25 (L._∷_ (8, Rows.sc-here Row.sBool) (L._∷_ (9, Rows.any-gone (Syntax.tyStruct (L._∷_ 114 (L._∷_ 117 (L._∷_ 108 (L._∷_ 101 (L._∷_ 115 (L._∷_ 58 (L._∷_ 58 (L._∷_ 116 (L._∷_ 114 (L._∷_ 105 (L._∷_ 101 (L._∷_ 100 (L._∷_ 58 (L._∷_ 58 (L._∷_ 76 (L._∷_ 111 (L._∷_ 111 (L._∷_ 107 (L._∷_ 101 (L._∷_ 100 L.[])))))))))))))))))))) (Syntax.tcons (Syntax.tyStruct (L._∷_ 114 (L._∷_ 117 (L._∷_ 108 (L._∷_ 101 (L._∷_ 115 (L._∷_ 58 (L._∷_ 58 (L._∷_ 102 (L._∷_ 111 (L._∷_ 117 (L._∷_ 110 (L._∷_ 100 (L._∷_ 58 (L._∷_ 58 (L._∷_ 70 (L._∷_ 111 (L._∷_ 117 (L._∷_ 110 (L._∷_ 100 L.[]))))))))))))))))))) (Syntax.tcons Syntax.tyBool (Syntax.tcons Syntax.tyBool (Syntax.tcons (Syntax.tyStruct (L._∷_ 115 (L._∷_ 116 (L._∷_ 101 (L._∷_ 112 (L._∷_ 58 (L._∷_ 58 (L._∷_ 83 (L._∷_ 116 (L._∷_ 101 (L._∷_ 112 L.[])))))))))) (Syntax.tcons (Syntax.tyInt Syntax.w64) (Syntax.tcons (Syntax.tyInt Syntax.w64) (Syntax.tcons (Syntax.tyStruct (L._∷_ 115 (L._∷_ 116 (L._∷_ 101 (L._∷_ 112 (L._∷_ 58 (L._∷_ 58 (L._∷_ 67 (L._∷_ 104 (L._∷_ 97 (L._∷_ 110 (L._∷_ 103 (L._∷_ 101 L.[])))))))))))) (Syntax.tcons (Syntax.tyStruct (L._∷_ 110 (L._∷_ 101 (L._∷_ 116 (L._∷_ 119 (L._∷_ 111 (L._∷_ 114 (L._∷_ 107 (L._∷_ 58 (L._∷_ 58 (L._∷_ 69 (L._∷_ 100 (L._∷_ 105 (L._∷_ 116 L.[]))))))))))))) (Syntax.tcons q7 (Syntax.tcons q7 (Syntax.tcons q7 (Syntax.tcons q7 (Syntax.tcons q2 (Syntax.tcons q2 (Syntax.tcons (Syntax.tyInt Syntax.w64) Syntax.tnil)))))))) (Syntax.tcons (Syntax.tyStruct (L._∷_ 115 (L._∷_ 116 (L._∷_ 101 (L._∷_ 112 (L._∷_ 58 (L._∷_ 58 (L._∷_ 79 (L._∷_ 108 (L._∷_ 100 L.[]))))))))) (Syntax.tcons (Syntax.tyInt Syntax.w64) (Syntax.tcons q6 (Syntax.tcons q7 (Syntax.tcons q7 (Syntax.tcons q7 (Syntax.tcons q7 (Syntax.tcons q4 Syntax.tnil)))))))) Syntax.tnil))) Syntax.tnil)))) Syntax.tnil)))) (Syntax.tcons q5 Syntax.tnil)))) (L._∷_ (10, Rows.any-gone (Syntax.tyStruct (L._∷_ 114 (L._∷_ 117 (L._∷_ 108 (L._∷_ 101 (L._∷_ 115 (L._∷_ 58 (L._∷_ 58 (L._∷_ 102 (L._∷_ 111 (L._∷_ 117 (L._∷_ 110 (L._∷_ 100 (L._∷_ 58 (L._∷_ 58 (L._∷_ 70 (L._∷_ 111 (L._∷_ 117 (L._∷_ 110 (L._∷_ 100 L.[]))))))))))))))))))) (Syntax.tcons Syntax.tyBool (Syntax.tcons Syntax.tyBool (Syntax.tcons (Syntax.tyStruct (L._∷_ 115 (L._∷_ 116 (L._∷_ 101 (L._∷_ 112 (L._∷_ 58 (L._∷_ 58 (L._∷_ 83 (L._∷_ 116 (L._∷_ 101 (L._∷_ 112 L.[])))))))))) (Syntax.tcons (Syntax.tyInt Syntax.w64) (Syntax.tcons (Syntax.tyInt Syntax.w64) (Syntax.tcons (Syntax.tyStruct (L._∷_ 115 (L._∷_ 116 (L._∷_ 101 (L._∷_ 112 (L._∷_ 58 (L._∷_ 58 (L._∷_ 67 (L._∷_ 104 (L._∷_ 97 (L._∷_ 110 (L._∷_ 103 (L._∷_ 101 L.[])))))))))))) (Syntax.tcons (Syntax.tyStruct (L._∷_ 110 (L._∷_ 101 (L._∷_ 116 (L._∷_ 119 (L._∷_ 111 (L._∷_ 114 (L._∷_ 107 (L._∷_ 58 (L._∷_ 58 (L._∷_ 69 (L._∷_ 100 (L._∷_ 105 (L._∷_ 116 L.[]))))))))))))) (Syntax.tcons q7 (Syntax.tcons q7 (Syntax.tcons q7 (Syntax.tcons q7 (Syntax.tcons q2 (Syntax.tcons q2 (Syntax.tcons (Syntax.tyInt Syntax.w64) Syntax.tnil)))))))) (Syntax.tcons (Syntax.tyStruct (L._∷_ 115 (L._∷_ 116 (L._∷_ 101 (L._∷_ 112 (L._∷_ 58 (L._∷_ 58 (L._∷_ 79 (L._∷_ 108 (L._∷_ 100 L.[]))))))))) (Syntax.tcons (Syntax.tyInt Syntax.w64) (Syntax.tcons q6 (Syntax.tcons q7 (Syntax.tcons q7 (Syntax.tcons q7 (Syntax.tcons q7 (Syntax.tcons q4 Syntax.tnil)))))))) Syntax.tnil))) Syntax.tnil)))) Syntax.tnil))))) (L._∷_ (11, Rows.any-gone (Syntax.tyStruct (L._∷_ 114 (L._∷_ 117 (L._∷_ 108 (L._∷_ 101 (L._∷_ 115 (L._∷_ 58 (L._∷_ 58 (L._∷_ 102 (L._∷_ 111 (L._∷_ 117 (L._∷_ 110 (L._∷_ 100 (L._∷_ 58 (L._∷_ 58 (L._∷_ 70 (L._∷_ 111 (L._∷_ 117 (L._∷_ 110 (L._∷_ 100 L.[]))))))))))))))))))) (Syntax.tcons Syntax.tyBool (Syntax.tcons Syntax.tyBool (Syntax.tcons (Syntax.tyStruct (L._∷_ 115 (L._∷_ 116 (L._∷_ 101 (L._∷_ 112 (L._∷_ 58 (L._∷_ 58 (L._∷_ 83 (L._∷_ 116 (L._∷_ 101 (L._∷_ 112 L.[])))))))))) (Syntax.tcons (Syntax.tyInt Syntax.w64) (Syntax.tcons (Syntax.tyInt Syntax.w64) (Syntax.tcons (Syntax.tyStruct (L._∷_ 115 (L._∷_ 116 (L._∷_ 101 (L._∷_ 112 (L._∷_ 58 (L._∷_ 58 (L._∷_ 67 (L._∷_ 104 (L._∷_ 97 (L._∷_ 110 (L._∷_ 103 (L._∷_ 101 L.[])))))))))))) (Syntax.tcons (Syntax.tyStruct (L._∷_ 110 (L._∷_ 101 (L._∷_ 116 (L._∷_ 119 (L._∷_ 111 (L._∷_ 114 (L._∷_ 107 (L._∷_ 58 (L._∷_ 58 (L._∷_ 69 (L._∷_ 100 (L._∷_ 105 (L._∷_ 116 L.[]))))))))))))) (Syntax.tcons q7 (Syntax.tcons q7 (Syntax.tcons q7 (Syntax.tcons q7 (Syntax.tcons q2 (Syntax.tcons q2 (Syntax.tcons (Syntax.tyInt Syntax.w64) Syntax.tnil)))))))) (Syntax.tcons (Syntax.tyStruct (L._∷_ 115 (L._∷_ 116 (L._∷_ 101 (L._∷_ 112 (L._∷_ 58 (L._∷_ 58 (L._∷_ 79 (L._∷_ 108 (L._∷_ 100 L.[]))))))))) (Syntax.tcons (Syntax.tyInt Syntax.w64) (Syntax.tcons q6 (Syntax.tcons q7 (Syntax.tcons q7 (Syntax.tcons q7 (Syntax.tcons q7 (Syntax.tcons q4 Syntax.tnil)))))))) Syntax.tnil))) Syntax.tnil)))) Syntax.tnil))))) (L._∷_ q28 (L._∷_ q29 (L._∷_ q30 (L._∷_ q31 L.[])))))))))))))))
+t13 = L._∷_ (0, Rows.any-gone (Syntax.tyStruct (L._∷_ 114 (L._∷_ 117 (L._∷_ 108 (L._∷_ 101 (L._∷_ 115 (L._∷_ 58 (L._∷_ 58 (L._∷_ 116 (L._∷_ 114 (L._∷_ 105 (L._∷_ 101 (L._∷_ 100 (L._∷_ 58 (L._∷_ 58 (L._∷_ 76 (L._∷_ 111 (L._∷_ 111 (L._∷_ 107 (L._∷_ 101 (L._∷_ 100 L.[])))))))))))))))))))) (Syntax.tcons (Syntax.tyStruct (L._∷_ 114 (L._∷_ 117 (L._∷_ 108 (L._∷_ 101 (L._∷_ 115 (L._∷_ 58 (L._∷_ 58 (L._∷_ 102 (L._∷_ 111 (L._∷_ 117 (L._∷_ 110 (L._∷_ 100 (L._∷_ 58 (L._∷_ 58 (L._∷_ 70 (L._∷_ 111 (L._∷_ 117 (L._∷_ 110 (L._∷_ 100 L.[]))))))))))))))))))) (Syntax.tcons Syntax.tyBool (Syntax.tcons Syntax.tyBool (Syntax.tcons (Syntax.tyStruct (L._∷_ 115 (L._∷_ 116 (L._∷_ 101 (L._∷_ 112 (L._∷_ 58 (L._∷_ 58 (L._∷_ 83 (L._∷_ 116 (L._∷_ 101 (L._∷_ 112 L.[])))))))))) (Syntax.tcons (Syntax.tyInt Syntax.w64) (Syntax.tcons (Syntax.tyInt Syntax.w64) (Syntax.tcons (Syntax.tyStruct (L._∷_ 115 (L._∷_ 116 (L._∷_ 101 (L._∷_ 112 (L._∷_ 58 (L._∷_ 58 (L._∷_ 67 (L._∷_ 104 (L._∷_ 97 (L._∷_ 110 (L._∷_ 103 (L._∷_ 101 L.[])))))))))))) (Syntax.tcons (Syntax.tyStruct (L._∷_ 110 (L._∷_ 101 (L._∷_ 116 (L._∷_ 119 (L._∷_ 111 (L._∷_ 114 (L._∷_ 107 (L._∷_ 58 (L._∷_ 58 (L._∷_ 69 (L._∷_ 100 (L._∷_ 105 (L._∷_ 116 L.[]))))))))))))) (Syntax.tcons q7 (Syntax.tcons q7 (Syntax.tcons q7 (Syntax.tcons q7 (Syntax.tcons q2 (Syntax.tcons q2 (Syntax.tcons (Syntax.tyInt Syntax.w64) (Syntax.tcons q6 Syntax.tnil))))))))) (Syntax.tcons (Syntax.tyStruct (L._∷_ 115 (L._∷_ 116 (L._∷_ 101 (L._∷_ 112 (L._∷_ 58 (L._∷_ 58 (L._∷_ 79 (L._∷_ 108 (L._∷_ 100 L.[]))))))))) (Syntax.tcons (Syntax.tyInt Syntax.w64) (Syntax.tcons q6 (Syntax.tcons q7 (Syntax.tcons q7 (Syntax.tcons q7 (Syntax.tcons q7 (Syntax.tcons q4 Syntax.tnil)))))))) Syntax.tnil))) Syntax.tnil)))) Syntax.tnil)))) (Syntax.tcons q5 Syntax.tnil)))) (L._∷_ q20 (L._∷_ q11 (L._∷_ q17 (L._∷_ q26 (L._∷_ (5, Rows.any-gone (Syntax.tyStruct (L._∷_ 114 (L._∷_ 117 (L._∷_ 108 (L._∷_ 101 (L._∷_ 115 (L._∷_ 58 (L._∷_ 58 (L._∷_ 102 (L._∷_ 111 (L._∷_ 117 (L._∷_ 110 (L._∷_ 100 (L._∷_ 58 (L._∷_ 58 (L._∷_ 70 (L._∷_ 111 (L._∷_ 117 (L._∷_ 110 (L._∷_ 100 L.[]))))))))))))))))))) (Syntax.tcons Syntax.tyBool (Syntax.tcons Syntax.tyBool (Syntax.tcons (Syntax.tyStruct (L._∷_ 115 (L._∷_ 116 (L._∷_ 101 (L._∷_ 112 (L._∷_ 58 (L._∷_ 58 (L._∷_ 83 (L._∷_ 116 (L._∷_ 101 (L._∷_ 112 L.[])))))))))) (Syntax.tcons (Syntax.tyInt Syntax.w64) (Syntax.tcons (Syntax.tyInt Syntax.w64) (Syntax.tcons (Syntax.tyStruct (L._∷_ 115 (L._∷_ 116 (L._∷_ 101 (L._∷_ 112 (L._∷_ 58 (L._∷_ 58 (L._∷_ 67 (L._∷_ 104 (L._∷_ 97 (L._∷_ 110 (L._∷_ 103 (L._∷_ 101 L.[])))))))))))) (Syntax.tcons (Syntax.tyStruct (L._∷_ 110 (L._∷_ 101 (L._∷_ 116 (L._∷_ 119 (L._∷_ 111 (L._∷_ 114 (L._∷_ 107 (L._∷_ 58 (L._∷_ 58 (L._∷_ 69 (L._∷_ 100 (L._∷_ 105 (L._∷_ 116 L.[]))))))))))))) (Syntax.tcons q7 (Syntax.tcons q7 (Syntax.tcons q7 (Syntax.tcons q7 (Syntax.tcons q2 (Syntax.tcons q2 (Syntax.tcons (Syntax.tyInt Syntax.w64) (Syntax.tcons q6 Syntax.tnil))))))))) (Syntax.tcons (Syntax.tyStruct (L._∷_ 115 (L._∷_ 116 (L._∷_ 101 (L._∷_ 112 (L._∷_ 58 (L._∷_ 58 (L._∷_ 79 (L._∷_ 108 (L._∷_ 100 L.[]))))))))) (Syntax.tcons (Syntax.tyInt Syntax.w64) (Syntax.tcons q6 (Syntax.tcons q7 (Syntax.tcons q7 (Syntax.tcons q7 (Syntax.tcons q7 (Syntax.tcons q4 Syntax.tnil)))))))) Syntax.tnil))) Syntax.tnil)))) Syntax.tnil))))) (L._∷_ q18 (L._∷_ q25 (L._∷_ (8, Rows.sc-here Row.sBool) (L._∷_ (9, Rows.any-gone (Syntax.tyStruct (L._∷_ 114 (L._∷_ 117 (L._∷_ 108 (L._∷_ 101 (L._∷_ 115 (L._∷_ 58 (L._∷_ 58 (L._∷_ 116 (L._∷_ 114 (L._∷_ 105 (L._∷_ 101 (L._∷_ 100 (L._∷_ 58 (L._∷_ 58 (L._∷_ 76 (L._∷_ 111 (L._∷_ 111 (L._∷_ 107 (L._∷_ 101 (L._∷_ 100 L.[])))))))))))))))))))) (Syntax.tcons (Syntax.tyStruct (L._∷_ 114 (L._∷_ 117 (L._∷_ 108 (L._∷_ 101 (L._∷_ 115 (L._∷_ 58 (L._∷_ 58 (L._∷_ 102 (L._∷_ 111 (L._∷_ 117 (L._∷_ 110 (L._∷_ 100 (L._∷_ 58 (L._∷_ 58 (L._∷_ 70 (L._∷_ 111 (L._∷_ 117 (L._∷_ 110 (L._∷_ 100 L.[]))))))))))))))))))) (Syntax.tcons Syntax.tyBool (Syntax.tcons Syntax.tyBool (Syntax.tcons (Syntax.tyStruct (L._∷_ 115 (L._∷_ 116 (L._∷_ 101 (L._∷_ 112 (L._∷_ 58 (L._∷_ 58 (L._∷_ 83 (L._∷_ 116 (L._∷_ 101 (L._∷_ 112 L.[])))))))))) (Syntax.tcons (Syntax.tyInt Syntax.w64) (Syntax.tcons (Syntax.tyInt Syntax.w64) (Syntax.tcons (Syntax.tyStruct (L._∷_ 115 (L._∷_ 116 (L._∷_ 101 (L._∷_ 112 (L._∷_ 58 (L._∷_ 58 (L._∷_ 67 (L._∷_ 104 (L._∷_ 97 (L._∷_ 110 (L._∷_ 103 (L._∷_ 101 L.[])))))))))))) (Syntax.tcons (Syntax.tyStruct (L._∷_ 110 (L._∷_ 101 (L._∷_ 116 (L._∷_ 119 (L._∷_ 111 (L._∷_ 114 (L._∷_ 107 (L._∷_ 58 (L._∷_ 58 (L._∷_ 69 (L._∷_ 100 (L._∷_ 105 (L._∷_ 116 L.[]))))))))))))) (Syntax.tcons q7 (Syntax.tcons q7 (Syntax.tcons q7 (Syntax.tcons q7 (Syntax.tcons q2 (Syntax.tcons q2 (Syntax.tcons (Syntax.tyInt Syntax.w64) (Syntax.tcons q6 Syntax.tnil))))))))) (Syntax.tcons (Syntax.tyStruct (L._∷_ 115 (L._∷_ 116 (L._∷_ 101 (L._∷_ 112 (L._∷_ 58 (L._∷_ 58 (L._∷_ 79 (L._∷_ 108 (L._∷_ 100 L.[]))))))))) (Syntax.tcons (Syntax.tyInt Syntax.w64) (Syntax.tcons q6 (Syntax.tcons q7 (Syntax.tcons q7 (Syntax.tcons q7 (Syntax.tcons q7 (Syntax.tcons q4 Syntax.tnil)))))))) Syntax.tnil))) Syntax.tnil)))) Syntax.tnil)))) (Syntax.tcons q5 Syntax.tnil)))) (L._∷_ (10, Rows.any-gone (Syntax.tyStruct (L._∷_ 114 (L._∷_ 117 (L._∷_ 108 (L._∷_ 101 (L._∷_ 115 (L._∷_ 58 (L._∷_ 58 (L._∷_ 102 (L._∷_ 111 (L._∷_ 117 (L._∷_ 110 (L._∷_ 100 (L._∷_ 58 (L._∷_ 58 (L._∷_ 70 (L._∷_ 111 (L._∷_ 117 (L._∷_ 110 (L._∷_ 100 L.[]))))))))))))))))))) (Syntax.tcons Syntax.tyBool (Syntax.tcons Syntax.tyBool (Syntax.tcons (Syntax.tyStruct (L._∷_ 115 (L._∷_ 116 (L._∷_ 101 (L._∷_ 112 (L._∷_ 58 (L._∷_ 58 (L._∷_ 83 (L._∷_ 116 (L._∷_ 101 (L._∷_ 112 L.[])))))))))) (Syntax.tcons (Syntax.tyInt Syntax.w64) (Syntax.tcons (Syntax.tyInt Syntax.w64) (Syntax.tcons (Syntax.tyStruct (L._∷_ 115 (L._∷_ 116 (L._∷_ 101 (L._∷_ 112 (L._∷_ 58 (L._∷_ 58 (L._∷_ 67 (L._∷_ 104 (L._∷_ 97 (L._∷_ 110 (L._∷_ 103 (L._∷_ 101 L.[])))))))))))) (Syntax.tcons (Syntax.tyStruct (L._∷_ 110 (L._∷_ 101 (L._∷_ 116 (L._∷_ 119 (L._∷_ 111 (L._∷_ 114 (L._∷_ 107 (L._∷_ 58 (L._∷_ 58 (L._∷_ 69 (L._∷_ 100 (L._∷_ 105 (L._∷_ 116 L.[]))))))))))))) (Syntax.tcons q7 (Syntax.tcons q7 (Syntax.tcons q7 (Syntax.tcons q7 (Syntax.tcons q2 (Syntax.tcons q2 (Syntax.tcons (Syntax.tyInt Syntax.w64) (Syntax.tcons q6 Syntax.tnil))))))))) (Syntax.tcons (Syntax.tyStruct (L._∷_ 115 (L._∷_ 116 (L._∷_ 101 (L._∷_ 112 (L._∷_ 58 (L._∷_ 58 (L._∷_ 79 (L._∷_ 108 (L._∷_ 100 L.[]))))))))) (Syntax.tcons (Syntax.tyInt Syntax.w64) (Syntax.tcons q6 (Syntax.tcons q7 (Syntax.tcons q7 (Syntax.tcons q7 (Syntax.tcons q7 (Syntax.tcons q4 Syntax.tnil)))))))) Syntax.tnil))) Syntax.tnil)))) Syntax.tnil))))) (L._∷_ (11, Rows.any-gone (Syntax.tyStruct (L._∷_ 114 (L._∷_ 117 (L._∷_ 108 (L._∷_ 101 (L._∷_ 115 (L._∷_ 58 (L._∷_ 58 (L._∷_ 102 (L._∷_ 111 (L._∷_ 117 (L._∷_ 110 (L._∷_ 100 (L._∷_ 58 (L._∷_ 58 (L._∷_ 70 (L._∷_ 111 (L._∷_ 117 (L._∷_ 110 (L._∷_ 100 L.[]))))))))))))))))))) (Syntax.tcons Syntax.tyBool (Syntax.tcons Syntax.tyBool (Syntax.tcons (Syntax.tyStruct (L._∷_ 115 (L._∷_ 116 (L._∷_ 101 (L._∷_ 112 (L._∷_ 58 (L._∷_ 58 (L._∷_ 83 (L._∷_ 116 (L._∷_ 101 (L._∷_ 112 L.[])))))))))) (Syntax.tcons (Syntax.tyInt Syntax.w64) (Syntax.tcons (Syntax.tyInt Syntax.w64) (Syntax.tcons (Syntax.tyStruct (L._∷_ 115 (L._∷_ 116 (L._∷_ 101 (L._∷_ 112 (L._∷_ 58 (L._∷_ 58 (L._∷_ 67 (L._∷_ 104 (L._∷_ 97 (L._∷_ 110 (L._∷_ 103 (L._∷_ 101 L.[])))))))))))) (Syntax.tcons (Syntax.tyStruct (L._∷_ 110 (L._∷_ 101 (L._∷_ 116 (L._∷_ 119 (L._∷_ 111 (L._∷_ 114 (L._∷_ 107 (L._∷_ 58 (L._∷_ 58 (L._∷_ 69 (L._∷_ 100 (L._∷_ 105 (L._∷_ 116 L.[]))))))))))))) (Syntax.tcons q7 (Syntax.tcons q7 (Syntax.tcons q7 (Syntax.tcons q7 (Syntax.tcons q2 (Syntax.tcons q2 (Syntax.tcons (Syntax.tyInt Syntax.w64) (Syntax.tcons q6 Syntax.tnil))))))))) (Syntax.tcons (Syntax.tyStruct (L._∷_ 115 (L._∷_ 116 (L._∷_ 101 (L._∷_ 112 (L._∷_ 58 (L._∷_ 58 (L._∷_ 79 (L._∷_ 108 (L._∷_ 100 L.[]))))))))) (Syntax.tcons (Syntax.tyInt Syntax.w64) (Syntax.tcons q6 (Syntax.tcons q7 (Syntax.tcons q7 (Syntax.tcons q7 (Syntax.tcons q7 (Syntax.tcons q4 Syntax.tnil)))))))) Syntax.tnil))) Syntax.tnil)))) Syntax.tnil))))) (L._∷_ q28 (L._∷_ q29 (L._∷_ q30 (L._∷_ q31 L.[])))))))))))))))
 
 abbrev pub t14 : L.List Row.Entry
-t14 = L._∷_ (0, Rows.any-gone (Syntax.tyStruct (L._∷_ 114 (L._∷_ 117 (L._∷_ 108 (L._∷_ 101 (L._∷_ 115 (L._∷_ 58 (L._∷_ 58 (L._∷_ 116 (L._∷_ 114 (L._∷_ 105 (L._∷_ 101 (L._∷_ 100 (L._∷_ 58 (L._∷_ 58 (L._∷_ 76 (L._∷_ 111 (L._∷_ 111 (L._∷_ 107 (L._∷_ 101 (L._∷_ 100 L.[])))))))))))))))))))) (Syntax.tcons (Syntax.tyStruct (L._∷_ 114 (L._∷_ 117 (L._∷_ 108 (L._∷_ 101 (L._∷_ 115 (L._∷_ 58 (L._∷_ 58 (L._∷_ 102 (L._∷_ 111 (L._∷_ 117 (L._∷_ 110 (L._∷_ 100 (L._∷_ 58 (L._∷_ 58 (L._∷_ 70 (L._∷_ 111 (L._∷_ 117 (L._∷_ 110 (L._∷_ 100 L.[]))))))))))))))))))) (Syntax.tcons Syntax.tyBool (Syntax.tcons Syntax.tyBool (Syntax.tcons (Syntax.tyStruct (L._∷_ 115 (L._∷_ 116 (L._∷_ 101 (L._∷_ 112 (L._∷_ 58 (L._∷_ 58 (L._∷_ 83 (L._∷_ 116 (L._∷_ 101 (L._∷_ 112 L.[])))))))))) (Syntax.tcons (Syntax.tyInt Syntax.w64) (Syntax.tcons (Syntax.tyInt Syntax.w64) (Syntax.tcons (Syntax.tyStruct (L._∷_ 115 (L._∷_ 116 (L._∷_ 101 (L._∷_ 112 (L._∷_ 58 (L._∷_ 58 (L._∷_ 67 (L._∷_ 104 (L._∷_ 97 (L._∷_ 110 (L._∷_ 103 (L._∷_ 101 L.[])))))))))))) (Syntax.tcons (Syntax.tyStruct (L._∷_ 110 (L._∷_ 101 (L._∷_ 116 (L._∷_ 119 (L._∷_ 111 (L._∷_ 114 (L._∷_ 107 (L._∷_ 58 (L._∷_ 58 (L._∷_ 69 (L._∷_ 100 (L._∷_ 105 (L._∷_ 116 L.[]))))))))))))) (Syntax.tcons q7 (Syntax.tcons q7 (Syntax.tcons q7 (Syntax.tcons q7 (Syntax.tcons q2 (Syntax.tcons q2 (Syntax.tcons (Syntax.tyInt Syntax.w64) Syntax.tnil)))))))) (Syntax.tcons (Syntax.tyStruct (L._∷_ 115 (L._∷_ 116 (L._∷_ 101 (L._∷_ 112 (L._∷_ 58 (L._∷_ 58 (L._∷_ 79 (L._∷_ 108 (L._∷_ 100 L.[]))))))))) (Syntax.tcons (Syntax.tyInt Syntax.w64) (Syntax.tcons q6 (Syntax.tcons q7 (Syntax.tcons q7 (Syntax.tcons q7 (Syntax.tcons q7 (Syntax.tcons q4 Syntax.tnil)))))))) Syntax.tnil))) Syntax.tnil)))) Syntax.tnil)))) (Syntax.tcons q5 Syntax.tnil)))) (L._∷_ q0 (L._∷_ q11 (L._∷_ q17 (L._∷_ q26 (L._∷_ (5, Rows.any-gone (Syntax.tyStruct (L._∷_ 114 (L._∷_ 117 (L._∷_ 108 (L._∷_ 101 (L._∷_ 115 (L._∷_ 58 (L._∷_ 58 (L._∷_ 102 (L._∷_ 111 (L._∷_ 117 (L._∷_ 110 (L._∷_ 100 (L._∷_ 58 (L._∷_ 58 (L._∷_ 70 (L._∷_ 111 (L._∷_ 117 (L._∷_ 110 (L._∷_ 100 L.[]))))))))))))))))))) (Syntax.tcons Syntax.tyBool (Syntax.tcons Syntax.tyBool (Syntax.tcons (Syntax.tyStruct (L._∷_ 115 (L._∷_ 116 (L._∷_ 101 (L._∷_ 112 (L._∷_ 58 (L._∷_ 58 (L._∷_ 83 (L._∷_ 116 (L._∷_ 101 (L._∷_ 112 L.[])))))))))) (Syntax.tcons (Syntax.tyInt Syntax.w64) (Syntax.tcons (Syntax.tyInt Syntax.w64) (Syntax.tcons (Syntax.tyStruct (L._∷_ 115 (L._∷_ 116 (L._∷_ 101 (L._∷_ 112 (L._∷_ 58 (L._∷_ 58 (L._∷_ 67 (L._∷_ 104 (L._∷_ 97 (L._∷_ 110 (L._∷_ 103 (L._∷_ 101 L.[])))))))))))) (Syntax.tcons (Syntax.tyStruct (L._∷_ 110 (L._∷_ 101 (L._∷_ 116 (L._∷_ 119 (L._∷_ 111 (L._∷_ 114 (L._∷_ 107 (L._∷_ 58 (L._∷_ 58 (L._∷_ 69 (L._∷_ 100 (L._∷_ 105 (L._∷_ 116 L.[]))))))))))))) (Syntax.tcons q7 (Syntax.tcons q7 (Syntax.tcons q7 (Syntax.tcons q7 (Syntax.tcons q2 (Syntax.tcons q2 (Syntax.tcons (Syntax.tyInt Syntax.w64) Syntax.tnil)))))))) (Syntax.tcons (Syntax.tyStruct (L._∷_ 115 (L._∷_ 116 (L._∷_ 101 (L._∷_ 112 (L._∷_ 58 (L._∷_ 58 (L._∷_ 79 (L._∷_ 108 (L._∷_ 100 L.[]))))))))) (Syntax.tcons (Syntax.tyInt Syntax.w64) (Syntax.tcons q6 (Syntax.tcons q7 (Syntax.tcons q7 (Syntax.tcons q7 (Syntax.tcons q7 (Syntax.tcons q4 Syntax.tnil)))))))) Syntax.tnil))) Syntax.tnil)))) Syntax.tnil))))) (L._∷_ q8 (L._∷_ q25 (L._∷_ (8, Rows.sc-here Row.sBool) (L._∷_ (9, Rows.any-gone (Syntax.tyStruct (L._∷_ 114 (L._∷_ 117 (L._∷_ 108 (L._∷_ 101 (L._∷_ 115 (L._∷_ 58 (L._∷_ 58 (L._∷_ 116 (L._∷_ 114 (L._∷_ 105 (L._∷_ 101 (L._∷_ 100 (L._∷_ 58 (L._∷_ 58 (L._∷_ 76 (L._∷_ 111 (L._∷_ 111 (L._∷_ 107 (L._∷_ 101 (L._∷_ 100 L.[])))))))))))))))))))) (Syntax.tcons (Syntax.tyStruct (L._∷_ 114 (L._∷_ 117 (L._∷_ 108 (L._∷_ 101 (L._∷_ 115 (L._∷_ 58 (L._∷_ 58 (L._∷_ 102 (L._∷_ 111 (L._∷_ 117 (L._∷_ 110 (L._∷_ 100 (L._∷_ 58 (L._∷_ 58 (L._∷_ 70 (L._∷_ 111 (L._∷_ 117 (L._∷_ 110 (L._∷_ 100 L.[]))))))))))))))))))) (Syntax.tcons Syntax.tyBool (Syntax.tcons Syntax.tyBool (Syntax.tcons (Syntax.tyStruct (L._∷_ 115 (L._∷_ 116 (L._∷_ 101 (L._∷_ 112 (L._∷_ 58 (L._∷_ 58 (L._∷_ 83 (L._∷_ 116 (L._∷_ 101 (L._∷_ 112 L.[])))))))))) (Syntax.tcons (Syntax.tyInt Syntax.w64) (Syntax.tcons (Syntax.tyInt Syntax.w64) (Syntax.tcons (Syntax.tyStruct (L._∷_ 115 (L._∷_ 116 (L._∷_ 101 (L._∷_ 112 (L._∷_ 58 (L._∷_ 58 (L._∷_ 67 (L._∷_ 104 (L._∷_ 97 (L._∷_ 110 (L._∷_ 103 (L._∷_ 101 L.[])))))))))))) (Syntax.tcons (Syntax.tyStruct (L._∷_ 110 (L._∷_ 101 (L._∷_ 116 (L._∷_ 119 (L._∷_ 111 (L._∷_ 114 (L._∷_ 107 (L._∷_ 58 (L._∷_ 58 (L._∷_ 69 (L._∷_ 100 (L._∷_ 105 (L._∷_ 116 L.[]))))))))))))) (Syntax.tcons q7 (Syntax.tcons q7 (Syntax.tcons q7 (Syntax.tcons q7 (Syntax.tcons q2 (Syntax.tcons q2 (Syntax.tcons (Syntax.tyInt Syntax.w64) Syntax.tnil)))))))) (Syntax.tcons (Syntax.tyStruct (L._∷_ 115 (L._∷_ 116 (L._∷_ 101 (L._∷_ 112 (L._∷_ 58 (L._∷_ 58 (L._∷_ 79 (L._∷_ 108 (L._∷_ 100 L.[]))))))))) (Syntax.tcons (Syntax.tyInt Syntax.w64) (Syntax.tcons q6 (Syntax.tcons q7 (Syntax.tcons q7 (Syntax.tcons q7 (Syntax.tcons q7 (Syntax.tcons q4 Syntax.tnil)))))))) Syntax.tnil))) Syntax.tnil)))) Syntax.tnil)))) (Syntax.tcons q5 Syntax.tnil)))) (L._∷_ (10, Rows.any-gone (Syntax.tyStruct (L._∷_ 114 (L._∷_ 117 (L._∷_ 108 (L._∷_ 101 (L._∷_ 115 (L._∷_ 58 (L._∷_ 58 (L._∷_ 102 (L._∷_ 111 (L._∷_ 117 (L._∷_ 110 (L._∷_ 100 (L._∷_ 58 (L._∷_ 58 (L._∷_ 70 (L._∷_ 111 (L._∷_ 117 (L._∷_ 110 (L._∷_ 100 L.[]))))))))))))))))))) (Syntax.tcons Syntax.tyBool (Syntax.tcons Syntax.tyBool (Syntax.tcons (Syntax.tyStruct (L._∷_ 115 (L._∷_ 116 (L._∷_ 101 (L._∷_ 112 (L._∷_ 58 (L._∷_ 58 (L._∷_ 83 (L._∷_ 116 (L._∷_ 101 (L._∷_ 112 L.[])))))))))) (Syntax.tcons (Syntax.tyInt Syntax.w64) (Syntax.tcons (Syntax.tyInt Syntax.w64) (Syntax.tcons (Syntax.tyStruct (L._∷_ 115 (L._∷_ 116 (L._∷_ 101 (L._∷_ 112 (L._∷_ 58 (L._∷_ 58 (L._∷_ 67 (L._∷_ 104 (L._∷_ 97 (L._∷_ 110 (L._∷_ 103 (L._∷_ 101 L.[])))))))))))) (Syntax.tcons (Syntax.tyStruct (L._∷_ 110 (L._∷_ 101 (L._∷_ 116 (L._∷_ 119 (L._∷_ 111 (L._∷_ 114 (L._∷_ 107 (L._∷_ 58 (L._∷_ 58 (L._∷_ 69 (L._∷_ 100 (L._∷_ 105 (L._∷_ 116 L.[]))))))))))))) (Syntax.tcons q7 (Syntax.tcons q7 (Syntax.tcons q7 (Syntax.tcons q7 (Syntax.tcons q2 (Syntax.tcons q2 (Syntax.tcons (Syntax.tyInt Syntax.w64) Syntax.tnil)))))))) (Syntax.tcons (Syntax.tyStruct (L._∷_ 115 (L._∷_ 116 (L._∷_ 101 (L._∷_ 112 (L._∷_ 58 (L._∷_ 58 (L._∷_ 79 (L._∷_ 108 (L._∷_ 100 L.[]))))))))) (Syntax.tcons (Syntax.tyInt Syntax.w64) (Syntax.tcons q6 (Syntax.tcons q7 (Syntax.tcons q7 (Syntax.tcons q7 (Syntax.tcons q7 (Syntax.tcons q4 Syntax.tnil)))))))) Syntax.tnil))) Syntax.tnil)))) Syntax.tnil))))) (L._∷_ (11, Rows.any-gone (Syntax.tyStruct (L._∷_ 114 (L._∷_ 117 (L._∷_ 108 (L._∷_ 101 (L._∷_ 115 (L._∷_ 58 (L._∷_ 58 (L._∷_ 102 (L._∷_ 111 (L._∷_ 117 (L._∷_ 110 (L._∷_ 100 (L._∷_ 58 (L._∷_ 58 (L._∷_ 70 (L._∷_ 111 (L._∷_ 117 (L._∷_ 110 (L._∷_ 100 L.[]))))))))))))))))))) (Syntax.tcons Syntax.tyBool (Syntax.tcons Syntax.tyBool (Syntax.tcons (Syntax.tyStruct (L._∷_ 115 (L._∷_ 116 (L._∷_ 101 (L._∷_ 112 (L._∷_ 58 (L._∷_ 58 (L._∷_ 83 (L._∷_ 116 (L._∷_ 101 (L._∷_ 112 L.[])))))))))) (Syntax.tcons (Syntax.tyInt Syntax.w64) (Syntax.tcons (Syntax.tyInt Syntax.w64) (Syntax.tcons (Syntax.tyStruct (L._∷_ 115 (L._∷_ 116 (L._∷_ 101 (L._∷_ 112 (L._∷_ 58 (L._∷_ 58 (L._∷_ 67 (L._∷_ 104 (L._∷_ 97 (L._∷_ 110 (L._∷_ 103 (L._∷_ 101 L.[])))))))))))) (Syntax.tcons (Syntax.tyStruct (L._∷_ 110 (L._∷_ 101 (L._∷_ 116 (L._∷_ 119 (L._∷_ 111 (L._∷_ 114 (L._∷_ 107 (L._∷_ 58 (L._∷_ 58 (L._∷_ 69 (L._∷_ 100 (L._∷_ 105 (L._∷_ 116 L.[]))))))))))))) (Syntax.tcons q7 (Syntax.tcons q7 (Syntax.tcons q7 (Syntax.tcons q7 (Syntax.tcons q2 (Syntax.tcons q2 (Syntax.tcons (Syntax.tyInt Syntax.w64) Syntax.tnil)))))))) (Syntax.tcons (Syntax.tyStruct (L._∷_ 115 (L._∷_ 116 (L._∷_ 101 (L._∷_ 112 (L._∷_ 58 (L._∷_ 58 (L._∷_ 79 (L._∷_ 108 (L._∷_ 100 L.[]))))))))) (Syntax.tcons (Syntax.tyInt Syntax.w64) (Syntax.tcons q6 (Syntax.tcons q7 (Syntax.tcons q7 (Syntax.tcons q7 (Syntax.tcons q7 (Syntax.tcons q4 Syntax.tnil)))))))) Syntax.tnil))) Syntax.tnil)))) Syntax.tnil))))) (L._∷_ q28 (L._∷_ q29 (L._∷_ q30 (L._∷_ q31 L.[])))))))))))))))
+t14 = L._∷_ (0, Rows.any-gone (Syntax.tyStruct (L._∷_ 114 (L._∷_ 117 (L._∷_ 108 (L._∷_ 101 (L._∷_ 115 (L._∷_ 58 (L._∷_ 58 (L._∷_ 116 (L._∷_ 114 (L._∷_ 105 (L._∷_ 101 (L._∷_ 100 (L._∷_ 58 (L._∷_ 58 (L._∷_ 76 (L._∷_ 111 (L._∷_ 111 (L._∷_ 107 (L._∷_ 101 (L._∷_ 100 L.[])))))))))))))))))))) (Syntax.tcons (Syntax.tyStruct (L._∷_ 114 (L._∷_ 117 (L._∷_ 108 (L._∷_ 101 (L._∷_ 115 (L._∷_ 58 (L._∷_ 58 (L._∷_ 102 (L._∷_ 111 (L._∷_ 117 (L._∷_ 110 (L._∷_ 100 (L._∷_ 58 (L._∷_ 58 (L._∷_ 70 (L._∷_ 111 (L._∷_ 117 (L._∷_ 110 (L._∷_ 100 L.[]))))))))))))))))))) (Syntax.tcons Syntax.tyBool (Syntax.tcons Syntax.tyBool (Syntax.tcons (Syntax.tyStruct (L._∷_ 115 (L._∷_ 116 (L._∷_ 101 (L._∷_ 112 (L._∷_ 58 (L._∷_ 58 (L._∷_ 83 (L._∷_ 116 (L._∷_ 101 (L._∷_ 112 L.[])))))))))) (Syntax.tcons (Syntax.tyInt Syntax.w64) (Syntax.tcons (Syntax.tyInt Syntax.w64) (Syntax.tcons (Syntax.tyStruct (L._∷_ 115 (L._∷_ 116 (L._∷_ 101 (L._∷_ 112 (L._∷_ 58 (L._∷_ 58 (L._∷_ 67 (L._∷_ 104 (L._∷_ 97 (L._∷_ 110 (L._∷_ 103 (L._∷_ 101 L.[])))))))))))) (Syntax.tcons (Syntax.tyStruct (L._∷_ 110 (L._∷_ 101 (L._∷_ 116 (L._∷_ 119 (L._∷_ 111 (L._∷_ 114 (L._∷_ 107 (L._∷_ 58 (L._∷_ 58 (L._∷_ 69 (L._∷_ 100 (L._∷_ 105 (L._∷_ 116 L.[]))))))))))))) (Syntax.tcons q7 (Syntax.tcons q7 (Syntax.tcons q7 (Syntax.tcons q7 (Syntax.tcons q2 (Syntax.tcons q2 (Syntax.tcons (Syntax.tyInt Syntax.w64) (Syntax.tcons q6 Syntax.tnil))))))))) (Syntax.tcons (Syntax.tyStruct (L._∷_ 115 (L._∷_ 116 (L._∷_ 101 (L._∷_ 112 (L._∷_ 58 (L._∷_ 58 (L._∷_ 79 (L._∷_ 108 (L._∷_ 100 L.[]))))))))) (Syntax.tcons (Syntax.tyInt Syntax.w64) (Syntax.tcons q6 (Syntax.tcons q7 (Syntax.tcons q7 (Syntax.tcons q7 (Syntax.tcons q7 (Syntax.tcons q4 Syntax.tnil)))))))) Syntax.tnil))) Syntax.tnil)))) Syntax.tnil)))) (Syntax.tcons q5 Syntax.tnil)))) (L._∷_ q0 (L._∷_ q11 (L._∷_ q17 (L._∷_ q26 (L._∷_ (5, Rows.any-gone (Syntax.tyStruct (L._∷_ 114 (L._∷_ 117 (L._∷_ 108 (L._∷_ 101 (L._∷_ 115 (L._∷_ 58 (L._∷_ 58 (L._∷_ 102 (L._∷_ 111 (L._∷_ 117 (L._∷_ 110 (L._∷_ 100 (L._∷_ 58 (L._∷_ 58 (L._∷_ 70 (L._∷_ 111 (L._∷_ 117 (L._∷_ 110 (L._∷_ 100 L.[]))))))))))))))))))) (Syntax.tcons Syntax.tyBool (Syntax.tcons Syntax.tyBool (Syntax.tcons (Syntax.tyStruct (L._∷_ 115 (L._∷_ 116 (L._∷_ 101 (L._∷_ 112 (L._∷_ 58 (L._∷_ 58 (L._∷_ 83 (L._∷_ 116 (L._∷_ 101 (L._∷_ 112 L.[])))))))))) (Syntax.tcons (Syntax.tyInt Syntax.w64) (Syntax.tcons (Syntax.tyInt Syntax.w64) (Syntax.tcons (Syntax.tyStruct (L._∷_ 115 (L._∷_ 116 (L._∷_ 101 (L._∷_ 112 (L._∷_ 58 (L._∷_ 58 (L._∷_ 67 (L._∷_ 104 (L._∷_ 97 (L._∷_ 110 (L._∷_ 103 (L._∷_ 101 L.[])))))))))))) (Syntax.tcons (Syntax.tyStruct (L._∷_ 110 (L._∷_ 101 (L._∷_ 116 (L._∷_ 119 (L._∷_ 111 (L._∷_ 114 (L._∷_ 107 (L._∷_ 58 (L._∷_ 58 (L._∷_ 69 (L._∷_ 100 (L._∷_ 105 (L._∷_ 116 L.[]))))))))))))) (Syntax.tcons q7 (Syntax.tcons q7 (Syntax.tcons q7 (Syntax.tcons q7 (Syntax.tcons q2 (Syntax.tcons q2 (Syntax.tcons (Syntax.tyInt Syntax.w64) (Syntax.tcons q6 Syntax.tnil))))))))) (Syntax.tcons (Syntax.tyStruct (L._∷_ 115 (L._∷_ 116 (L._∷_ 101 (L._∷_ 112 (L._∷_ 58 (L._∷_ 58 (L._∷_ 79 (L._∷_ 108 (L._∷_ 100 L.[]))))))))) (Syntax.tcons (Syntax.tyInt Syntax.w64) (Syntax.tcons q6 (Syntax.tcons q7 (Syntax.tcons q7 (Syntax.tcons q7 (Syntax.tcons q7 (Syntax.tcons q4 Syntax.tnil)))))))) Syntax.tnil))) Syntax.tnil)))) Syntax.tnil))))) (L._∷_ q8 (L._∷_ q25 (L._∷_ (8, Rows.sc-here Row.sBool) (L._∷_ (9, Rows.any-gone (Syntax.tyStruct (L._∷_ 114 (L._∷_ 117 (L._∷_ 108 (L._∷_ 101 (L._∷_ 115 (L._∷_ 58 (L._∷_ 58 (L._∷_ 116 (L._∷_ 114 (L._∷_ 105 (L._∷_ 101 (L._∷_ 100 (L._∷_ 58 (L._∷_ 58 (L._∷_ 76 (L._∷_ 111 (L._∷_ 111 (L._∷_ 107 (L._∷_ 101 (L._∷_ 100 L.[])))))))))))))))))))) (Syntax.tcons (Syntax.tyStruct (L._∷_ 114 (L._∷_ 117 (L._∷_ 108 (L._∷_ 101 (L._∷_ 115 (L._∷_ 58 (L._∷_ 58 (L._∷_ 102 (L._∷_ 111 (L._∷_ 117 (L._∷_ 110 (L._∷_ 100 (L._∷_ 58 (L._∷_ 58 (L._∷_ 70 (L._∷_ 111 (L._∷_ 117 (L._∷_ 110 (L._∷_ 100 L.[]))))))))))))))))))) (Syntax.tcons Syntax.tyBool (Syntax.tcons Syntax.tyBool (Syntax.tcons (Syntax.tyStruct (L._∷_ 115 (L._∷_ 116 (L._∷_ 101 (L._∷_ 112 (L._∷_ 58 (L._∷_ 58 (L._∷_ 83 (L._∷_ 116 (L._∷_ 101 (L._∷_ 112 L.[])))))))))) (Syntax.tcons (Syntax.tyInt Syntax.w64) (Syntax.tcons (Syntax.tyInt Syntax.w64) (Syntax.tcons (Syntax.tyStruct (L._∷_ 115 (L._∷_ 116 (L._∷_ 101 (L._∷_ 112 (L._∷_ 58 (L._∷_ 58 (L._∷_ 67 (L._∷_ 104 (L._∷_ 97 (L._∷_ 110 (L._∷_ 103 (L._∷_ 101 L.[])))))))))))) (Syntax.tcons (Syntax.tyStruct (L._∷_ 110 (L._∷_ 101 (L._∷_ 116 (L._∷_ 119 (L._∷_ 111 (L._∷_ 114 (L._∷_ 107 (L._∷_ 58 (L._∷_ 58 (L._∷_ 69 (L._∷_ 100 (L._∷_ 105 (L._∷_ 116 L.[]))))))))))))) (Syntax.tcons q7 (Syntax.tcons q7 (Syntax.tcons q7 (Syntax.tcons q7 (Syntax.tcons q2 (Syntax.tcons q2 (Syntax.tcons (Syntax.tyInt Syntax.w64) (Syntax.tcons q6 Syntax.tnil))))))))) (Syntax.tcons (Syntax.tyStruct (L._∷_ 115 (L._∷_ 116 (L._∷_ 101 (L._∷_ 112 (L._∷_ 58 (L._∷_ 58 (L._∷_ 79 (L._∷_ 108 (L._∷_ 100 L.[]))))))))) (Syntax.tcons (Syntax.tyInt Syntax.w64) (Syntax.tcons q6 (Syntax.tcons q7 (Syntax.tcons q7 (Syntax.tcons q7 (Syntax.tcons q7 (Syntax.tcons q4 Syntax.tnil)))))))) Syntax.tnil))) Syntax.tnil)))) Syntax.tnil)))) (Syntax.tcons q5 Syntax.tnil)))) (L._∷_ (10, Rows.any-gone (Syntax.tyStruct (L._∷_ 114 (L._∷_ 117 (L._∷_ 108 (L._∷_ 101 (L._∷_ 115 (L._∷_ 58 (L._∷_ 58 (L._∷_ 102 (L._∷_ 111 (L._∷_ 117 (L._∷_ 110 (L._∷_ 100 (L._∷_ 58 (L._∷_ 58 (L._∷_ 70 (L._∷_ 111 (L._∷_ 117 (L._∷_ 110 (L._∷_ 100 L.[]))))))))))))))))))) (Syntax.tcons Syntax.tyBool (Syntax.tcons Syntax.tyBool (Syntax.tcons (Syntax.tyStruct (L._∷_ 115 (L._∷_ 116 (L._∷_ 101 (L._∷_ 112 (L._∷_ 58 (L._∷_ 58 (L._∷_ 83 (L._∷_ 116 (L._∷_ 101 (L._∷_ 112 L.[])))))))))) (Syntax.tcons (Syntax.tyInt Syntax.w64) (Syntax.tcons (Syntax.tyInt Syntax.w64) (Syntax.tcons (Syntax.tyStruct (L._∷_ 115 (L._∷_ 116 (L._∷_ 101 (L._∷_ 112 (L._∷_ 58 (L._∷_ 58 (L._∷_ 67 (L._∷_ 104 (L._∷_ 97 (L._∷_ 110 (L._∷_ 103 (L._∷_ 101 L.[])))))))))))) (Syntax.tcons (Syntax.tyStruct (L._∷_ 110 (L._∷_ 101 (L._∷_ 116 (L._∷_ 119 (L._∷_ 111 (L._∷_ 114 (L._∷_ 107 (L._∷_ 58 (L._∷_ 58 (L._∷_ 69 (L._∷_ 100 (L._∷_ 105 (L._∷_ 116 L.[]))))))))))))) (Syntax.tcons q7 (Syntax.tcons q7 (Syntax.tcons q7 (Syntax.tcons q7 (Syntax.tcons q2 (Syntax.tcons q2 (Syntax.tcons (Syntax.tyInt Syntax.w64) (Syntax.tcons q6 Syntax.tnil))))))))) (Syntax.tcons (Syntax.tyStruct (L._∷_ 115 (L._∷_ 116 (L._∷_ 101 (L._∷_ 112 (L._∷_ 58 (L._∷_ 58 (L._∷_ 79 (L._∷_ 108 (L._∷_ 100 L.[]))))))))) (Syntax.tcons (Syntax.tyInt Syntax.w64) (Syntax.tcons q6 (Syntax.tcons q7 (Syntax.tcons q7 (Syntax.tcons q7 (Syntax.tcons q7 (Syntax.tcons q4 Syntax.tnil)))))))) Syntax.tnil))) Syntax.tnil)))) Syntax.tnil))))) (L._∷_ (11, Rows.any-gone (Syntax.tyStruct (L._∷_ 114 (L._∷_ 117 (L._∷_ 108 (L._∷_ 101 (L._∷_ 115 (L._∷_ 58 (L._∷_ 58 (L._∷_ 102 (L._∷_ 111 (L._∷_ 117 (L._∷_ 110 (L._∷_ 100 (L._∷_ 58 (L._∷_ 58 (L._∷_ 70 (L._∷_ 111 (L._∷_ 117 (L._∷_ 110 (L._∷_ 100 L.[]))))))))))))))))))) (Syntax.tcons Syntax.tyBool (Syntax.tcons Syntax.tyBool (Syntax.tcons (Syntax.tyStruct (L._∷_ 115 (L._∷_ 116 (L._∷_ 101 (L._∷_ 112 (L._∷_ 58 (L._∷_ 58 (L._∷_ 83 (L._∷_ 116 (L._∷_ 101 (L._∷_ 112 L.[])))))))))) (Syntax.tcons (Syntax.tyInt Syntax.w64) (Syntax.tcons (Syntax.tyInt Syntax.w64) (Syntax.tcons (Syntax.tyStruct (L._∷_ 115 (L._∷_ 116 (L._∷_ 101 (L._∷_ 112 (L._∷_ 58 (L._∷_ 58 (L._∷_ 67 (L._∷_ 104 (L._∷_ 97 (L._∷_ 110 (L._∷_ 103 (L._∷_ 101 L.[])))))))))))) (Syntax.tcons (Syntax.tyStruct (L._∷_ 110 (L._∷_ 101 (L._∷_ 116 (L._∷_ 119 (L._∷_ 111 (L._∷_ 114 (L._∷_ 107 (L._∷_ 58 (L._∷_ 58 (L._∷_ 69 (L._∷_ 100 (L._∷_ 105 (L._∷_ 116 L.[]))))))))))))) (Syntax.tcons q7 (Syntax.tcons q7 (Syntax.tcons q7 (Syntax.tcons q7 (Syntax.tcons q2 (Syntax.tcons q2 (Syntax.tcons (Syntax.tyInt Syntax.w64) (Syntax.tcons q6 Syntax.tnil))))))))) (Syntax.tcons (Syntax.tyStruct (L._∷_ 115 (L._∷_ 116 (L._∷_ 101 (L._∷_ 112 (L._∷_ 58 (L._∷_ 58 (L._∷_ 79 (L._∷_ 108 (L._∷_ 100 L.[]))))))))) (Syntax.tcons (Syntax.tyInt Syntax.w64) (Syntax.tcons q6 (Syntax.tcons q7 (Syntax.tcons q7 (Syntax.tcons q7 (Syntax.tcons q7 (Syntax.tcons q4 Syntax.tnil)))))))) Syntax.tnil))) Syntax.tnil)))) Syntax.tnil))))) (L._∷_ q28 (L._∷_ q29 (L._∷_ q30 (L._∷_ q31 L.[])))))))))))))))
 
 abbrev pub t15 : L.List Row.Entry
-t15 = L._∷_ (0, Rows.any-gone (Syntax.tyStruct (L._∷_ 114 (L._∷_ 117 (L._∷_ 108 (L._∷_ 101 (L._∷_ 115 (L._∷_ 58 (L._∷_ 58 (L._∷_ 116 (L._∷_ 114 (L._∷_ 105 (L._∷_ 101 (L._∷_ 100 (L._∷_ 58 (L._∷_ 58 (L._∷_ 76 (L._∷_ 111 (L._∷_ 111 (L._∷_ 107 (L._∷_ 101 (L._∷_ 100 L.[])))))))))))))))))))) (Syntax.tcons (Syntax.tyStruct (L._∷_ 114 (L._∷_ 117 (L._∷_ 108 (L._∷_ 101 (L._∷_ 115 (L._∷_ 58 (L._∷_ 58 (L._∷_ 102 (L._∷_ 111 (L._∷_ 117 (L._∷_ 110 (L._∷_ 100 (L._∷_ 58 (L._∷_ 58 (L._∷_ 70 (L._∷_ 111 (L._∷_ 117 (L._∷_ 110 (L._∷_ 100 L.[]))))))))))))))))))) (Syntax.tcons Syntax.tyBool (Syntax.tcons Syntax.tyBool (Syntax.tcons (Syntax.tyStruct (L._∷_ 115 (L._∷_ 116 (L._∷_ 101 (L._∷_ 112 (L._∷_ 58 (L._∷_ 58 (L._∷_ 83 (L._∷_ 116 (L._∷_ 101 (L._∷_ 112 L.[])))))))))) (Syntax.tcons (Syntax.tyInt Syntax.w64) (Syntax.tcons (Syntax.tyInt Syntax.w64) (Syntax.tcons (Syntax.tyStruct (L._∷_ 115 (L._∷_ 116 (L._∷_ 101 (L._∷_ 112 (L._∷_ 58 (L._∷_ 58 (L._∷_ 67 (L._∷_ 104 (L._∷_ 97 (L._∷_ 110 (L._∷_ 103 (L._∷_ 101 L.[])))))))))))) (Syntax.tcons (Syntax.tyStruct (L._∷_ 110 (L._∷_ 101 (L._∷_ 116 (L._∷_ 119 (L._∷_ 111 (L._∷_ 114 (L._∷_ 107 (L._∷_ 58 (L._∷_ 58 (L._∷_ 69 (L._∷_ 100 (L._∷_ 105 (L._∷_ 116 L.[]))))))))))))) (Syntax.tcons q7 (Syntax.tcons q7 (Syntax.tcons q7 (Syntax.tcons q7 (Syntax.tcons q2 (Syntax.tcons q2 (Syntax.tcons (Syntax.tyInt Syntax.w64) Syntax.tnil)))))))) (Syntax.tcons (Syntax.tyStruct (L._∷_ 115 (L._∷_ 116 (L._∷_ 101 (L._∷_ 112 (L._∷_ 58 (L._∷_ 58 (L._∷_ 79 (L._∷_ 108 (L._∷_ 100 L.[]))))))))) (Syntax.tcons (Syntax.tyInt Syntax.w64) (Syntax.tcons q6 (Syntax.tcons q7 (Syntax.tcons q7 (Syntax.tcons q7 (Syntax.tcons q7 (Syntax.tcons q4 Syntax.tnil)))))))) Syntax.tnil))) Syntax.tnil)))) Syntax.tnil)))) (Syntax.tcons q5 Syntax.tnil)))) (L._∷_ q20 (L._∷_ q11 (L._∷_ q17 (L._∷_ q26 (L._∷_ (5, Rows.any-gone (Syntax.tyStruct (L._∷_ 114 (L._∷_ 117 (L._∷_ 108 (L._∷_ 101 (L._∷_ 115 (L._∷_ 58 (L._∷_ 58 (L._∷_ 102 (L._∷_ 111 (L._∷_ 117 (L._∷_ 110 (L._∷_ 100 (L._∷_ 58 (L._∷_ 58 (L._∷_ 70 (L._∷_ 111 (L._∷_ 117 (L._∷_ 110 (L._∷_ 100 L.[]))))))))))))))))))) (Syntax.tcons Syntax.tyBool (Syntax.tcons Syntax.tyBool (Syntax.tcons (Syntax.tyStruct (L._∷_ 115 (L._∷_ 116 (L._∷_ 101 (L._∷_ 112 (L._∷_ 58 (L._∷_ 58 (L._∷_ 83 (L._∷_ 116 (L._∷_ 101 (L._∷_ 112 L.[])))))))))) (Syntax.tcons (Syntax.tyInt Syntax.w64) (Syntax.tcons (Syntax.tyInt Syntax.w64) (Syntax.tcons (Syntax.tyStruct (L._∷_ 115 (L._∷_ 116 (L._∷_ 101 (L._∷_ 112 (L._∷_ 58 (L._∷_ 58 (L._∷_ 67 (L._∷_ 104 (L._∷_ 97 (L._∷_ 110 (L._∷_ 103 (L._∷_ 101 L.[])))))))))))) (Syntax.tcons (Syntax.tyStruct (L._∷_ 110 (L._∷_ 101 (L._∷_ 116 (L._∷_ 119 (L._∷_ 111 (L._∷_ 114 (L._∷_ 107 (L._∷_ 58 (L._∷_ 58 (L._∷_ 69 (L._∷_ 100 (L._∷_ 105 (L._∷_ 116 L.[]))))))))))))) (Syntax.tcons q7 (Syntax.tcons q7 (Syntax.tcons q7 (Syntax.tcons q7 (Syntax.tcons q2 (Syntax.tcons q2 (Syntax.tcons (Syntax.tyInt Syntax.w64) Syntax.tnil)))))))) (Syntax.tcons (Syntax.tyStruct (L._∷_ 115 (L._∷_ 116 (L._∷_ 101 (L._∷_ 112 (L._∷_ 58 (L._∷_ 58 (L._∷_ 79 (L._∷_ 108 (L._∷_ 100 L.[]))))))))) (Syntax.tcons (Syntax.tyInt Syntax.w64) (Syntax.tcons q6 (Syntax.tcons q7 (Syntax.tcons q7 (Syntax.tcons q7 (Syntax.tcons q7 (Syntax.tcons q4 Syntax.tnil)))))))) Syntax.tnil))) Syntax.tnil)))) Syntax.tnil))))) (L._∷_ q18 (L._∷_ q25 (L._∷_ (8, Rows.sc-here Row.sBool) (L._∷_ (9, Rows.any-gone (Syntax.tyStruct (L._∷_ 114 (L._∷_ 117 (L._∷_ 108 (L._∷_ 101 (L._∷_ 115 (L._∷_ 58 (L._∷_ 58 (L._∷_ 116 (L._∷_ 114 (L._∷_ 105 (L._∷_ 101 (L._∷_ 100 (L._∷_ 58 (L._∷_ 58 (L._∷_ 76 (L._∷_ 111 (L._∷_ 111 (L._∷_ 107 (L._∷_ 101 (L._∷_ 100 L.[])))))))))))))))))))) (Syntax.tcons (Syntax.tyStruct (L._∷_ 114 (L._∷_ 117 (L._∷_ 108 (L._∷_ 101 (L._∷_ 115 (L._∷_ 58 (L._∷_ 58 (L._∷_ 102 (L._∷_ 111 (L._∷_ 117 (L._∷_ 110 (L._∷_ 100 (L._∷_ 58 (L._∷_ 58 (L._∷_ 70 (L._∷_ 111 (L._∷_ 117 (L._∷_ 110 (L._∷_ 100 L.[]))))))))))))))))))) (Syntax.tcons Syntax.tyBool (Syntax.tcons Syntax.tyBool (Syntax.tcons (Syntax.tyStruct (L._∷_ 115 (L._∷_ 116 (L._∷_ 101 (L._∷_ 112 (L._∷_ 58 (L._∷_ 58 (L._∷_ 83 (L._∷_ 116 (L._∷_ 101 (L._∷_ 112 L.[])))))))))) (Syntax.tcons (Syntax.tyInt Syntax.w64) (Syntax.tcons (Syntax.tyInt Syntax.w64) (Syntax.tcons (Syntax.tyStruct (L._∷_ 115 (L._∷_ 116 (L._∷_ 101 (L._∷_ 112 (L._∷_ 58 (L._∷_ 58 (L._∷_ 67 (L._∷_ 104 (L._∷_ 97 (L._∷_ 110 (L._∷_ 103 (L._∷_ 101 L.[])))))))))))) (Syntax.tcons (Syntax.tyStruct (L._∷_ 110 (L._∷_ 101 (L._∷_ 116 (L._∷_ 119 (L._∷_ 111 (L._∷_ 114 (L._∷_ 107 (L._∷_ 58 (L._∷_ 58 (L._∷_ 69 (L._∷_ 100 (L._∷_ 105 (L._∷_ 116 L.[]))))))))))))) (Syntax.tcons q7 (Syntax.tcons q7 (Syntax.tcons q7 (Syntax.tcons q7 (Syntax.tcons q2 (Syntax.tcons q2 (Syntax.tcons (Syntax.tyInt Syntax.w64) Syntax.tnil)))))))) (Syntax.tcons (Syntax.tyStruct (L._∷_ 115 (L._∷_ 116 (L._∷_ 101 (L._∷_ 112 (L._∷_ 58 (L._∷_ 58 (L._∷_ 79 (L._∷_ 108 (L._∷_ 100 L.[]))))))))) (Syntax.tcons (Syntax.tyInt Syntax.w64) (Syntax.tcons q6 (Syntax.tcons q7 (Syntax.tcons q7 (Syntax.tcons q7 (Syntax.tcons q7 (Syntax.tcons q4 Syntax.tnil)))))))) Syntax.tnil))) Syntax.tnil)))) Syntax.tnil)))) (Syntax.tcons q5 Syntax.tnil)))) (L._∷_ (10, Rows.any-gone (Syntax.tyStruct (L._∷_ 114 (L._∷_ 117 (L._∷_ 108 (L._∷_ 101 (L._∷_ 115 (L._∷_ 58 (L._∷_ 58 (L._∷_ 102 (L._∷_ 111 (L._∷_ 117 (L._∷_ 110 (L._∷_ 100 (L._∷_ 58 (L._∷_ 58 (L._∷_ 70 (L._∷_ 111 (L._∷_ 117 (L._∷_ 110 (L._∷_ 100 L.[]))))))))))))))))))) (Syntax.tcons Syntax.tyBool (Syntax.tcons Syntax.tyBool (Syntax.tcons (Syntax.tyStruct (L._∷_ 115 (L._∷_ 116 (L._∷_ 101 (L._∷_ 112 (L._∷_ 58 (L._∷_ 58 (L._∷_ 83 (L._∷_ 116 (L._∷_ 101 (L._∷_ 112 L.[])))))))))) (Syntax.tcons (Syntax.tyInt Syntax.w64) (Syntax.tcons (Syntax.tyInt Syntax.w64) (Syntax.tcons (Syntax.tyStruct (L._∷_ 115 (L._∷_ 116 (L._∷_ 101 (L._∷_ 112 (L._∷_ 58 (L._∷_ 58 (L._∷_ 67 (L._∷_ 104 (L._∷_ 97 (L._∷_ 110 (L._∷_ 103 (L._∷_ 101 L.[])))))))))))) (Syntax.tcons (Syntax.tyStruct (L._∷_ 110 (L._∷_ 101 (L._∷_ 116 (L._∷_ 119 (L._∷_ 111 (L._∷_ 114 (L._∷_ 107 (L._∷_ 58 (L._∷_ 58 (L._∷_ 69 (L._∷_ 100 (L._∷_ 105 (L._∷_ 116 L.[]))))))))))))) (Syntax.tcons q7 (Syntax.tcons q7 (Syntax.tcons q7 (Syntax.tcons q7 (Syntax.tcons q2 (Syntax.tcons q2 (Syntax.tcons (Syntax.tyInt Syntax.w64) Syntax.tnil)))))))) (Syntax.tcons (Syntax.tyStruct (L._∷_ 115 (L._∷_ 116 (L._∷_ 101 (L._∷_ 112 (L._∷_ 58 (L._∷_ 58 (L._∷_ 79 (L._∷_ 108 (L._∷_ 100 L.[]))))))))) (Syntax.tcons (Syntax.tyInt Syntax.w64) (Syntax.tcons q6 (Syntax.tcons q7 (Syntax.tcons q7 (Syntax.tcons q7 (Syntax.tcons q7 (Syntax.tcons q4 Syntax.tnil)))))))) Syntax.tnil))) Syntax.tnil)))) Syntax.tnil))))) (L._∷_ (11, Rows.any-gone (Syntax.tyStruct (L._∷_ 114 (L._∷_ 117 (L._∷_ 108 (L._∷_ 101 (L._∷_ 115 (L._∷_ 58 (L._∷_ 58 (L._∷_ 102 (L._∷_ 111 (L._∷_ 117 (L._∷_ 110 (L._∷_ 100 (L._∷_ 58 (L._∷_ 58 (L._∷_ 70 (L._∷_ 111 (L._∷_ 117 (L._∷_ 110 (L._∷_ 100 L.[]))))))))))))))))))) (Syntax.tcons Syntax.tyBool (Syntax.tcons Syntax.tyBool (Syntax.tcons (Syntax.tyStruct (L._∷_ 115 (L._∷_ 116 (L._∷_ 101 (L._∷_ 112 (L._∷_ 58 (L._∷_ 58 (L._∷_ 83 (L._∷_ 116 (L._∷_ 101 (L._∷_ 112 L.[])))))))))) (Syntax.tcons (Syntax.tyInt Syntax.w64) (Syntax.tcons (Syntax.tyInt Syntax.w64) (Syntax.tcons (Syntax.tyStruct (L._∷_ 115 (L._∷_ 116 (L._∷_ 101 (L._∷_ 112 (L._∷_ 58 (L._∷_ 58 (L._∷_ 67 (L._∷_ 104 (L._∷_ 97 (L._∷_ 110 (L._∷_ 103 (L._∷_ 101 L.[])))))))))))) (Syntax.tcons (Syntax.tyStruct (L._∷_ 110 (L._∷_ 101 (L._∷_ 116 (L._∷_ 119 (L._∷_ 111 (L._∷_ 114 (L._∷_ 107 (L._∷_ 58 (L._∷_ 58 (L._∷_ 69 (L._∷_ 100 (L._∷_ 105 (L._∷_ 116 L.[]))))))))))))) (Syntax.tcons q7 (Syntax.tcons q7 (Syntax.tcons q7 (Syntax.tcons q7 (Syntax.tcons q2 (Syntax.tcons q2 (Syntax.tcons (Syntax.tyInt Syntax.w64) Syntax.tnil)))))))) (Syntax.tcons (Syntax.tyStruct (L._∷_ 115 (L._∷_ 116 (L._∷_ 101 (L._∷_ 112 (L._∷_ 58 (L._∷_ 58 (L._∷_ 79 (L._∷_ 108 (L._∷_ 100 L.[]))))))))) (Syntax.tcons (Syntax.tyInt Syntax.w64) (Syntax.tcons q6 (Syntax.tcons q7 (Syntax.tcons q7 (Syntax.tcons q7 (Syntax.tcons q7 (Syntax.tcons q4 Syntax.tnil)))))))) Syntax.tnil))) Syntax.tnil)))) Syntax.tnil))))) (L._∷_ q28 (L._∷_ (13, Rows.sc-here Row.sBool) (L._∷_ q30 (L._∷_ q31 L.[])))))))))))))))
+t15 = L._∷_ (0, Rows.any-gone (Syntax.tyStruct (L._∷_ 114 (L._∷_ 117 (L._∷_ 108 (L._∷_ 101 (L._∷_ 115 (L._∷_ 58 (L._∷_ 58 (L._∷_ 116 (L._∷_ 114 (L._∷_ 105 (L._∷_ 101 (L._∷_ 100 (L._∷_ 58 (L._∷_ 58 (L._∷_ 76 (L._∷_ 111 (L._∷_ 111 (L._∷_ 107 (L._∷_ 101 (L._∷_ 100 L.[])))))))))))))))))))) (Syntax.tcons (Syntax.tyStruct (L._∷_ 114 (L._∷_ 117 (L._∷_ 108 (L._∷_ 101 (L._∷_ 115 (L._∷_ 58 (L._∷_ 58 (L._∷_ 102 (L._∷_ 111 (L._∷_ 117 (L._∷_ 110 (L._∷_ 100 (L._∷_ 58 (L._∷_ 58 (L._∷_ 70 (L._∷_ 111 (L._∷_ 117 (L._∷_ 110 (L._∷_ 100 L.[]))))))))))))))))))) (Syntax.tcons Syntax.tyBool (Syntax.tcons Syntax.tyBool (Syntax.tcons (Syntax.tyStruct (L._∷_ 115 (L._∷_ 116 (L._∷_ 101 (L._∷_ 112 (L._∷_ 58 (L._∷_ 58 (L._∷_ 83 (L._∷_ 116 (L._∷_ 101 (L._∷_ 112 L.[])))))))))) (Syntax.tcons (Syntax.tyInt Syntax.w64) (Syntax.tcons (Syntax.tyInt Syntax.w64) (Syntax.tcons (Syntax.tyStruct (L._∷_ 115 (L._∷_ 116 (L._∷_ 101 (L._∷_ 112 (L._∷_ 58 (L._∷_ 58 (L._∷_ 67 (L._∷_ 104 (L._∷_ 97 (L._∷_ 110 (L._∷_ 103 (L._∷_ 101 L.[])))))))))))) (Syntax.tcons (Syntax.tyStruct (L._∷_ 110 (L._∷_ 101 (L._∷_ 116 (L._∷_ 119 (L._∷_ 111 (L._∷_ 114 (L._∷_ 107 (L._∷_ 58 (L._∷_ 58 (L._∷_ 69 (L._∷_ 100 (L._∷_ 105 (L._∷_ 116 L.[]))))))))))))) (Syntax.tcons q7 (Syntax.tcons q7 (Syntax.tcons q7 (Syntax.tcons q7 (Syntax.tcons q2 (Syntax.tcons q2 (Syntax.tcons (Syntax.tyInt Syntax.w64) (Syntax.tcons q6 Syntax.tnil))))))))) (Syntax.tcons (Syntax.tyStruct (L._∷_ 115 (L._∷_ 116 (L._∷_ 101 (L._∷_ 112 (L._∷_ 58 (L._∷_ 58 (L._∷_ 79 (L._∷_ 108 (L._∷_ 100 L.[]))))))))) (Syntax.tcons (Syntax.tyInt Syntax.w64) (Syntax.tcons q6 (Syntax.tcons q7 (Syntax.tcons q7 (Syntax.tcons q7 (Syntax.tcons q7 (Syntax.tcons q4 Syntax.tnil)))))))) Syntax.tnil))) Syntax.tnil)))) Syntax.tnil)))) (Syntax.tcons q5 Syntax.tnil)))) (L._∷_ q20 (L._∷_ q11 (L._∷_ q17 (L._∷_ q26 (L._∷_ (5, Rows.any-gone (Syntax.tyStruct (L._∷_ 114 (L._∷_ 117 (L._∷_ 108 (L._∷_ 101 (L._∷_ 115 (L._∷_ 58 (L._∷_ 58 (L._∷_ 102 (L._∷_ 111 (L._∷_ 117 (L._∷_ 110 (L._∷_ 100 (L._∷_ 58 (L._∷_ 58 (L._∷_ 70 (L._∷_ 111 (L._∷_ 117 (L._∷_ 110 (L._∷_ 100 L.[]))))))))))))))))))) (Syntax.tcons Syntax.tyBool (Syntax.tcons Syntax.tyBool (Syntax.tcons (Syntax.tyStruct (L._∷_ 115 (L._∷_ 116 (L._∷_ 101 (L._∷_ 112 (L._∷_ 58 (L._∷_ 58 (L._∷_ 83 (L._∷_ 116 (L._∷_ 101 (L._∷_ 112 L.[])))))))))) (Syntax.tcons (Syntax.tyInt Syntax.w64) (Syntax.tcons (Syntax.tyInt Syntax.w64) (Syntax.tcons (Syntax.tyStruct (L._∷_ 115 (L._∷_ 116 (L._∷_ 101 (L._∷_ 112 (L._∷_ 58 (L._∷_ 58 (L._∷_ 67 (L._∷_ 104 (L._∷_ 97 (L._∷_ 110 (L._∷_ 103 (L._∷_ 101 L.[])))))))))))) (Syntax.tcons (Syntax.tyStruct (L._∷_ 110 (L._∷_ 101 (L._∷_ 116 (L._∷_ 119 (L._∷_ 111 (L._∷_ 114 (L._∷_ 107 (L._∷_ 58 (L._∷_ 58 (L._∷_ 69 (L._∷_ 100 (L._∷_ 105 (L._∷_ 116 L.[]))))))))))))) (Syntax.tcons q7 (Syntax.tcons q7 (Syntax.tcons q7 (Syntax.tcons q7 (Syntax.tcons q2 (Syntax.tcons q2 (Syntax.tcons (Syntax.tyInt Syntax.w64) (Syntax.tcons q6 Syntax.tnil))))))))) (Syntax.tcons (Syntax.tyStruct (L._∷_ 115 (L._∷_ 116 (L._∷_ 101 (L._∷_ 112 (L._∷_ 58 (L._∷_ 58 (L._∷_ 79 (L._∷_ 108 (L._∷_ 100 L.[]))))))))) (Syntax.tcons (Syntax.tyInt Syntax.w64) (Syntax.tcons q6 (Syntax.tcons q7 (Syntax.tcons q7 (Syntax.tcons q7 (Syntax.tcons q7 (Syntax.tcons q4 Syntax.tnil)))))))) Syntax.tnil))) Syntax.tnil)))) Syntax.tnil))))) (L._∷_ q18 (L._∷_ q25 (L._∷_ (8, Rows.sc-here Row.sBool) (L._∷_ (9, Rows.any-gone (Syntax.tyStruct (L._∷_ 114 (L._∷_ 117 (L._∷_ 108 (L._∷_ 101 (L._∷_ 115 (L._∷_ 58 (L._∷_ 58 (L._∷_ 116 (L._∷_ 114 (L._∷_ 105 (L._∷_ 101 (L._∷_ 100 (L._∷_ 58 (L._∷_ 58 (L._∷_ 76 (L._∷_ 111 (L._∷_ 111 (L._∷_ 107 (L._∷_ 101 (L._∷_ 100 L.[])))))))))))))))))))) (Syntax.tcons (Syntax.tyStruct (L._∷_ 114 (L._∷_ 117 (L._∷_ 108 (L._∷_ 101 (L._∷_ 115 (L._∷_ 58 (L._∷_ 58 (L._∷_ 102 (L._∷_ 111 (L._∷_ 117 (L._∷_ 110 (L._∷_ 100 (L._∷_ 58 (L._∷_ 58 (L._∷_ 70 (L._∷_ 111 (L._∷_ 117 (L._∷_ 110 (L._∷_ 100 L.[]))))))))))))))))))) (Syntax.tcons Syntax.tyBool (Syntax.tcons Syntax.tyBool (Syntax.tcons (Syntax.tyStruct (L._∷_ 115 (L._∷_ 116 (L._∷_ 101 (L._∷_ 112 (L._∷_ 58 (L._∷_ 58 (L._∷_ 83 (L._∷_ 116 (L._∷_ 101 (L._∷_ 112 L.[])))))))))) (Syntax.tcons (Syntax.tyInt Syntax.w64) (Syntax.tcons (Syntax.tyInt Syntax.w64) (Syntax.tcons (Syntax.tyStruct (L._∷_ 115 (L._∷_ 116 (L._∷_ 101 (L._∷_ 112 (L._∷_ 58 (L._∷_ 58 (L._∷_ 67 (L._∷_ 104 (L._∷_ 97 (L._∷_ 110 (L._∷_ 103 (L._∷_ 101 L.[])))))))))))) (Syntax.tcons (Syntax.tyStruct (L._∷_ 110 (L._∷_ 101 (L._∷_ 116 (L._∷_ 119 (L._∷_ 111 (L._∷_ 114 (L._∷_ 107 (L._∷_ 58 (L._∷_ 58 (L._∷_ 69 (L._∷_ 100 (L._∷_ 105 (L._∷_ 116 L.[]))))))))))))) (Syntax.tcons q7 (Syntax.tcons q7 (Syntax.tcons q7 (Syntax.tcons q7 (Syntax.tcons q2 (Syntax.tcons q2 (Syntax.tcons (Syntax.tyInt Syntax.w64) (Syntax.tcons q6 Syntax.tnil))))))))) (Syntax.tcons (Syntax.tyStruct (L._∷_ 115 (L._∷_ 116 (L._∷_ 101 (L._∷_ 112 (L._∷_ 58 (L._∷_ 58 (L._∷_ 79 (L._∷_ 108 (L._∷_ 100 L.[]))))))))) (Syntax.tcons (Syntax.tyInt Syntax.w64) (Syntax.tcons q6 (Syntax.tcons q7 (Syntax.tcons q7 (Syntax.tcons q7 (Syntax.tcons q7 (Syntax.tcons q4 Syntax.tnil)))))))) Syntax.tnil))) Syntax.tnil)))) Syntax.tnil)))) (Syntax.tcons q5 Syntax.tnil)))) (L._∷_ (10, Rows.any-gone (Syntax.tyStruct (L._∷_ 114 (L._∷_ 117 (L._∷_ 108 (L._∷_ 101 (L._∷_ 115 (L._∷_ 58 (L._∷_ 58 (L._∷_ 102 (L._∷_ 111 (L._∷_ 117 (L._∷_ 110 (L._∷_ 100 (L._∷_ 58 (L._∷_ 58 (L._∷_ 70 (L._∷_ 111 (L._∷_ 117 (L._∷_ 110 (L._∷_ 100 L.[]))))))))))))))))))) (Syntax.tcons Syntax.tyBool (Syntax.tcons Syntax.tyBool (Syntax.tcons (Syntax.tyStruct (L._∷_ 115 (L._∷_ 116 (L._∷_ 101 (L._∷_ 112 (L._∷_ 58 (L._∷_ 58 (L._∷_ 83 (L._∷_ 116 (L._∷_ 101 (L._∷_ 112 L.[])))))))))) (Syntax.tcons (Syntax.tyInt Syntax.w64) (Syntax.tcons (Syntax.tyInt Syntax.w64) (Syntax.tcons (Syntax.tyStruct (L._∷_ 115 (L._∷_ 116 (L._∷_ 101 (L._∷_ 112 (L._∷_ 58 (L._∷_ 58 (L._∷_ 67 (L._∷_ 104 (L._∷_ 97 (L._∷_ 110 (L._∷_ 103 (L._∷_ 101 L.[])))))))))))) (Syntax.tcons (Syntax.tyStruct (L._∷_ 110 (L._∷_ 101 (L._∷_ 116 (L._∷_ 119 (L._∷_ 111 (L._∷_ 114 (L._∷_ 107 (L._∷_ 58 (L._∷_ 58 (L._∷_ 69 (L._∷_ 100 (L._∷_ 105 (L._∷_ 116 L.[]))))))))))))) (Syntax.tcons q7 (Syntax.tcons q7 (Syntax.tcons q7 (Syntax.tcons q7 (Syntax.tcons q2 (Syntax.tcons q2 (Syntax.tcons (Syntax.tyInt Syntax.w64) (Syntax.tcons q6 Syntax.tnil))))))))) (Syntax.tcons (Syntax.tyStruct (L._∷_ 115 (L._∷_ 116 (L._∷_ 101 (L._∷_ 112 (L._∷_ 58 (L._∷_ 58 (L._∷_ 79 (L._∷_ 108 (L._∷_ 100 L.[]))))))))) (Syntax.tcons (Syntax.tyInt Syntax.w64) (Syntax.tcons q6 (Syntax.tcons q7 (Syntax.tcons q7 (Syntax.tcons q7 (Syntax.tcons q7 (Syntax.tcons q4 Syntax.tnil)))))))) Syntax.tnil))) Syntax.tnil)))) Syntax.tnil))))) (L._∷_ (11, Rows.any-gone (Syntax.tyStruct (L._∷_ 114 (L._∷_ 117 (L._∷_ 108 (L._∷_ 101 (L._∷_ 115 (L._∷_ 58 (L._∷_ 58 (L._∷_ 102 (L._∷_ 111 (L._∷_ 117 (L._∷_ 110 (L._∷_ 100 (L._∷_ 58 (L._∷_ 58 (L._∷_ 70 (L._∷_ 111 (L._∷_ 117 (L._∷_ 110 (L._∷_ 100 L.[]))))))))))))))))))) (Syntax.tcons Syntax.tyBool (Syntax.tcons Syntax.tyBool (Syntax.tcons (Syntax.tyStruct (L._∷_ 115 (L._∷_ 116 (L._∷_ 101 (L._∷_ 112 (L._∷_ 58 (L._∷_ 58 (L._∷_ 83 (L._∷_ 116 (L._∷_ 101 (L._∷_ 112 L.[])))))))))) (Syntax.tcons (Syntax.tyInt Syntax.w64) (Syntax.tcons (Syntax.tyInt Syntax.w64) (Syntax.tcons (Syntax.tyStruct (L._∷_ 115 (L._∷_ 116 (L._∷_ 101 (L._∷_ 112 (L._∷_ 58 (L._∷_ 58 (L._∷_ 67 (L._∷_ 104 (L._∷_ 97 (L._∷_ 110 (L._∷_ 103 (L._∷_ 101 L.[])))))))))))) (Syntax.tcons (Syntax.tyStruct (L._∷_ 110 (L._∷_ 101 (L._∷_ 116 (L._∷_ 119 (L._∷_ 111 (L._∷_ 114 (L._∷_ 107 (L._∷_ 58 (L._∷_ 58 (L._∷_ 69 (L._∷_ 100 (L._∷_ 105 (L._∷_ 116 L.[]))))))))))))) (Syntax.tcons q7 (Syntax.tcons q7 (Syntax.tcons q7 (Syntax.tcons q7 (Syntax.tcons q2 (Syntax.tcons q2 (Syntax.tcons (Syntax.tyInt Syntax.w64) (Syntax.tcons q6 Syntax.tnil))))))))) (Syntax.tcons (Syntax.tyStruct (L._∷_ 115 (L._∷_ 116 (L._∷_ 101 (L._∷_ 112 (L._∷_ 58 (L._∷_ 58 (L._∷_ 79 (L._∷_ 108 (L._∷_ 100 L.[]))))))))) (Syntax.tcons (Syntax.tyInt Syntax.w64) (Syntax.tcons q6 (Syntax.tcons q7 (Syntax.tcons q7 (Syntax.tcons q7 (Syntax.tcons q7 (Syntax.tcons q4 Syntax.tnil)))))))) Syntax.tnil))) Syntax.tnil)))) Syntax.tnil))))) (L._∷_ q28 (L._∷_ (13, Rows.sc-here Row.sBool) (L._∷_ q30 (L._∷_ q31 L.[])))))))))))))))
 
 abbrev pub t16 : L.List Row.Entry
-t16 = L._∷_ (0, Rows.any-gone (Syntax.tyStruct (L._∷_ 114 (L._∷_ 117 (L._∷_ 108 (L._∷_ 101 (L._∷_ 115 (L._∷_ 58 (L._∷_ 58 (L._∷_ 116 (L._∷_ 114 (L._∷_ 105 (L._∷_ 101 (L._∷_ 100 (L._∷_ 58 (L._∷_ 58 (L._∷_ 76 (L._∷_ 111 (L._∷_ 111 (L._∷_ 107 (L._∷_ 101 (L._∷_ 100 L.[])))))))))))))))))))) (Syntax.tcons (Syntax.tyStruct (L._∷_ 114 (L._∷_ 117 (L._∷_ 108 (L._∷_ 101 (L._∷_ 115 (L._∷_ 58 (L._∷_ 58 (L._∷_ 102 (L._∷_ 111 (L._∷_ 117 (L._∷_ 110 (L._∷_ 100 (L._∷_ 58 (L._∷_ 58 (L._∷_ 70 (L._∷_ 111 (L._∷_ 117 (L._∷_ 110 (L._∷_ 100 L.[]))))))))))))))))))) (Syntax.tcons Syntax.tyBool (Syntax.tcons Syntax.tyBool (Syntax.tcons (Syntax.tyStruct (L._∷_ 115 (L._∷_ 116 (L._∷_ 101 (L._∷_ 112 (L._∷_ 58 (L._∷_ 58 (L._∷_ 83 (L._∷_ 116 (L._∷_ 101 (L._∷_ 112 L.[])))))))))) (Syntax.tcons (Syntax.tyInt Syntax.w64) (Syntax.tcons (Syntax.tyInt Syntax.w64) (Syntax.tcons (Syntax.tyStruct (L._∷_ 115 (L._∷_ 116 (L._∷_ 101 (L._∷_ 112 (L._∷_ 58 (L._∷_ 58 (L._∷_ 67 (L._∷_ 104 (L._∷_ 97 (L._∷_ 110 (L._∷_ 103 (L._∷_ 101 L.[])))))))))))) (Syntax.tcons (Syntax.tyStruct (L._∷_ 110 (L._∷_ 101 (L._∷_ 116 (L._∷_ 119 (L._∷_ 111 (L._∷_ 114 (L._∷_ 107 (L._∷_ 58 (L._∷_ 58 (L._∷_ 69 (L._∷_ 100 (L._∷_ 105 (L._∷_ 116 L.[]))))))))))))) (Syntax.tcons q7 (Syntax.tcons q7 (Syntax.tcons q7 (Syntax.tcons q7 (Syntax.tcons q2 (Syntax.tcons q2 (Syntax.tcons (Syntax.tyInt Syntax.w64) Syntax.tnil)))))))) (Syntax.tcons (Syntax.tyStruct (L._∷_ 115 (L._∷_ 116 (L._∷_ 101 (L._∷_ 112 (L._∷_ 58 (L._∷_ 58 (L._∷_ 79 (L._∷_ 108 (L._∷_ 100 L.[]))))))))) (Syntax.tcons (Syntax.tyInt Syntax.w64) (Syntax.tcons q6 (Syntax.tcons q7 (Syntax.tcons q7 (Syntax.tcons q7 (Syntax.tcons q7 (Syntax.tcons q4 Syntax.tnil)))))))) Syntax.tnil))) Syntax.tnil)))) Syntax.tnil)))) (Syntax.tcons q5 Syntax.tnil)))) (L._∷_ q0 (L._∷_ q11 (L._∷_ q17 (L._∷_ q26 (L._∷_ (5, Rows.any-gone (Syntax.tyStruct (L._∷_ 114 (L._∷_ 117 (L._∷_ 108 (L._∷_ 101 (L._∷_ 115 (L._∷_ 58 (L._∷_ 58 (L._∷_ 102 (L._∷_ 111 (L._∷_ 117 (L._∷_ 110 (L._∷_ 100 (L._∷_ 58 (L._∷_ 58 (L._∷_ 70 (L._∷_ 111 (L._∷_ 117 (L._∷_ 110 (L._∷_ 100 L.[]))))))))))))))))))) (Syntax.tcons Syntax.tyBool (Syntax.tcons Syntax.tyBool (Syntax.tcons (Syntax.tyStruct (L._∷_ 115 (L._∷_ 116 (L._∷_ 101 (L._∷_ 112 (L._∷_ 58 (L._∷_ 58 (L._∷_ 83 (L._∷_ 116 (L._∷_ 101 (L._∷_ 112 L.[])))))))))) (Syntax.tcons (Syntax.tyInt Syntax.w64) (Syntax.tcons (Syntax.tyInt Syntax.w64) (Syntax.tcons (Syntax.tyStruct (L._∷_ 115 (L._∷_ 116 (L._∷_ 101 (L._∷_ 112 (L._∷_ 58 (L._∷_ 58 (L._∷_ 67 (L._∷_ 104 (L._∷_ 97 (L._∷_ 110 (L._∷_ 103 (L._∷_ 101 L.[])))))))))))) (Syntax.tcons (Syntax.tyStruct (L._∷_ 110 (L._∷_ 101 (L._∷_ 116 (L._∷_ 119 (L._∷_ 111 (L._∷_ 114 (L._∷_ 107 (L._∷_ 58 (L._∷_ 58 (L._∷_ 69 (L._∷_ 100 (L._∷_ 105 (L._∷_ 116 L.[]))))))))))))) (Syntax.tcons q7 (Syntax.tcons q7 (Syntax.tcons q7 (Syntax.tcons q7 (Syntax.tcons q2 (Syntax.tcons q2 (Syntax.tcons (Syntax.tyInt Syntax.w64) Syntax.tnil)))))))) (Syntax.tcons (Syntax.tyStruct (L._∷_ 115 (L._∷_ 116 (L._∷_ 101 (L._∷_ 112 (L._∷_ 58 (L._∷_ 58 (L._∷_ 79 (L._∷_ 108 (L._∷_ 100 L.[]))))))))) (Syntax.tcons (Syntax.tyInt Syntax.w64) (Syntax.tcons q6 (Syntax.tcons q7 (Syntax.tcons q7 (Syntax.tcons q7 (Syntax.tcons q7 (Syntax.tcons q4 Syntax.tnil)))))))) Syntax.tnil))) Syntax.tnil)))) Syntax.tnil))))) (L._∷_ q18 (L._∷_ q25 (L._∷_ (8, Rows.sc-here Row.sBool) (L._∷_ (9, Rows.any-gone (Syntax.tyStruct (L._∷_ 114 (L._∷_ 117 (L._∷_ 108 (L._∷_ 101 (L._∷_ 115 (L._∷_ 58 (L._∷_ 58 (L._∷_ 116 (L._∷_ 114 (L._∷_ 105 (L._∷_ 101 (L._∷_ 100 (L._∷_ 58 (L._∷_ 58 (L._∷_ 76 (L._∷_ 111 (L._∷_ 111 (L._∷_ 107 (L._∷_ 101 (L._∷_ 100 L.[])))))))))))))))))))) (Syntax.tcons (Syntax.tyStruct (L._∷_ 114 (L._∷_ 117 (L._∷_ 108 (L._∷_ 101 (L._∷_ 115 (L._∷_ 58 (L._∷_ 58 (L._∷_ 102 (L._∷_ 111 (L._∷_ 117 (L._∷_ 110 (L._∷_ 100 (L._∷_ 58 (L._∷_ 58 (L._∷_ 70 (L._∷_ 111 (L._∷_ 117 (L._∷_ 110 (L._∷_ 100 L.[]))))))))))))))))))) (Syntax.tcons Syntax.tyBool (Syntax.tcons Syntax.tyBool (Syntax.tcons (Syntax.tyStruct (L._∷_ 115 (L._∷_ 116 (L._∷_ 101 (L._∷_ 112 (L._∷_ 58 (L._∷_ 58 (L._∷_ 83 (L._∷_ 116 (L._∷_ 101 (L._∷_ 112 L.[])))))))))) (Syntax.tcons (Syntax.tyInt Syntax.w64) (Syntax.tcons (Syntax.tyInt Syntax.w64) (Syntax.tcons (Syntax.tyStruct (L._∷_ 115 (L._∷_ 116 (L._∷_ 101 (L._∷_ 112 (L._∷_ 58 (L._∷_ 58 (L._∷_ 67 (L._∷_ 104 (L._∷_ 97 (L._∷_ 110 (L._∷_ 103 (L._∷_ 101 L.[])))))))))))) (Syntax.tcons (Syntax.tyStruct (L._∷_ 110 (L._∷_ 101 (L._∷_ 116 (L._∷_ 119 (L._∷_ 111 (L._∷_ 114 (L._∷_ 107 (L._∷_ 58 (L._∷_ 58 (L._∷_ 69 (L._∷_ 100 (L._∷_ 105 (L._∷_ 116 L.[]))))))))))))) (Syntax.tcons q7 (Syntax.tcons q7 (Syntax.tcons q7 (Syntax.tcons q7 (Syntax.tcons q2 (Syntax.tcons q2 (Syntax.tcons (Syntax.tyInt Syntax.w64) Syntax.tnil)))))))) (Syntax.tcons (Syntax.tyStruct (L._∷_ 115 (L._∷_ 116 (L._∷_ 101 (L._∷_ 112 (L._∷_ 58 (L._∷_ 58 (L._∷_ 79 (L._∷_ 108 (L._∷_ 100 L.[]))))))))) (Syntax.tcons (Syntax.tyInt Syntax.w64) (Syntax.tcons q6 (Syntax.tcons q7 (Syntax.tcons q7 (Syntax.tcons q7 (Syntax.tcons q7 (Syntax.tcons q4 Syntax.tnil)))))))) Syntax.tnil))) Syntax.tnil)))) Syntax.tnil)))) (Syntax.tcons q5 Syntax.tnil)))) (L._∷_ (10, Rows.any-gone (Syntax.tyStruct (L._∷_ 114 (L._∷_ 117 (L._∷_ 108 (L._∷_ 101 (L._∷_ 115 (L._∷_ 58 (L._∷_ 58 (L._∷_ 102 (L._∷_ 111 (L._∷_ 117 (L._∷_ 110 (L._∷_ 100 (L._∷_ 58 (L._∷_ 58 (L._∷_ 70 (L._∷_ 111 (L._∷_ 117 (L._∷_ 110 (L._∷_ 100 L.[]))))))))))))))))))) (Syntax.tcons Syntax.tyBool (Syntax.tcons Syntax.tyBool (Syntax.tcons (Syntax.tyStruct (L._∷_ 115 (L._∷_ 116 (L._∷_ 101 (L._∷_ 112 (L._∷_ 58 (L._∷_ 58 (L._∷_ 83 (L._∷_ 116 (L._∷_ 101 (L._∷_ 112 L.[])))))))))) (Syntax.tcons (Syntax.tyInt Syntax.w64) (Syntax.tcons (Syntax.tyInt Syntax.w64) (Syntax.tcons (Syntax.tyStruct (L._∷_ 115 (L._∷_ 116 (L._∷_ 101 (L._∷_ 112 (L._∷_ 58 (L._∷_ 58 (L._∷_ 67 (L._∷_ 104 (L._∷_ 97 (L._∷_ 110 (L._∷_ 103 (L._∷_ 101 L.[])))))))))))) (Syntax.tcons (Syntax.tyStruct (L._∷_ 110 (L._∷_ 101 (L._∷_ 116 (L._∷_ 119 (L._∷_ 111 (L._∷_ 114 (L._∷_ 107 (L._∷_ 58 (L._∷_ 58 (L._∷_ 69 (L._∷_ 100 (L._∷_ 105 (L._∷_ 116 L.[]))))))))))))) (Syntax.tcons q7 (Syntax.tcons q7 (Syntax.tcons q7 (Syntax.tcons q7 (Syntax.tcons q2 (Syntax.tcons q2 (Syntax.tcons (Syntax.tyInt Syntax.w64) Syntax.tnil)))))))) (Syntax.tcons (Syntax.tyStruct (L._∷_ 115 (L._∷_ 116 (L._∷_ 101 (L._∷_ 112 (L._∷_ 58 (L._∷_ 58 (L._∷_ 79 (L._∷_ 108 (L._∷_ 100 L.[]))))))))) (Syntax.tcons (Syntax.tyInt Syntax.w64) (Syntax.tcons q6 (Syntax.tcons q7 (Syntax.tcons q7 (Syntax.tcons q7 (Syntax.tcons q7 (Syntax.tcons q4 Syntax.tnil)))))))) Syntax.tnil))) Syntax.tnil)))) Syntax.tnil))))) (L._∷_ (11, Rows.any-gone (Syntax.tyStruct (L._∷_ 114 (L._∷_ 117 (L._∷_ 108 (L._∷_ 101 (L._∷_ 115 (L._∷_ 58 (L._∷_ 58 (L._∷_ 102 (L._∷_ 111 (L._∷_ 117 (L._∷_ 110 (L._∷_ 100 (L._∷_ 58 (L._∷_ 58 (L._∷_ 70 (L._∷_ 111 (L._∷_ 117 (L._∷_ 110 (L._∷_ 100 L.[]))))))))))))))))))) (Syntax.tcons Syntax.tyBool (Syntax.tcons Syntax.tyBool (Syntax.tcons (Syntax.tyStruct (L._∷_ 115 (L._∷_ 116 (L._∷_ 101 (L._∷_ 112 (L._∷_ 58 (L._∷_ 58 (L._∷_ 83 (L._∷_ 116 (L._∷_ 101 (L._∷_ 112 L.[])))))))))) (Syntax.tcons (Syntax.tyInt Syntax.w64) (Syntax.tcons (Syntax.tyInt Syntax.w64) (Syntax.tcons (Syntax.tyStruct (L._∷_ 115 (L._∷_ 116 (L._∷_ 101 (L._∷_ 112 (L._∷_ 58 (L._∷_ 58 (L._∷_ 67 (L._∷_ 104 (L._∷_ 97 (L._∷_ 110 (L._∷_ 103 (L._∷_ 101 L.[])))))))))))) (Syntax.tcons (Syntax.tyStruct (L._∷_ 110 (L._∷_ 101 (L._∷_ 116 (L._∷_ 119 (L._∷_ 111 (L._∷_ 114 (L._∷_ 107 (L._∷_ 58 (L._∷_ 58 (L._∷_ 69 (L._∷_ 100 (L._∷_ 105 (L._∷_ 116 L.[]))))))))))))) (Syntax.tcons q7 (Syntax.tcons q7 (Syntax.tcons q7 (Syntax.tcons q7 (Syntax.tcons q2 (Syntax.tcons q2 (Syntax.tcons (Syntax.tyInt Syntax.w64) Syntax.tnil)))))))) (Syntax.tcons (Syntax.tyStruct (L._∷_ 115 (L._∷_ 116 (L._∷_ 101 (L._∷_ 112 (L._∷_ 58 (L._∷_ 58 (L._∷_ 79 (L._∷_ 108 (L._∷_ 100 L.[]))))))))) (Syntax.tcons (Syntax.tyInt Syntax.w64) (Syntax.tcons q6 (Syntax.tcons q7 (Syntax.tcons q7 (Syntax.tcons q7 (Syntax.tcons q7 (Syntax.tcons q4 Syntax.tnil)))))))) Syntax.tnil))) Syntax.tnil)))) Syntax.tnil))))) (L._∷_ q28 (L._∷_ (13, Rows.sc-here Row.sBool) (L._∷_ q30 (L._∷_ q31 L.[])))))))))))))))
+t16 = L._∷_ (0, Rows.any-gone (Syntax.tyStruct (L._∷_ 114 (L._∷_ 117 (L._∷_ 108 (L._∷_ 101 (L._∷_ 115 (L._∷_ 58 (L._∷_ 58 (L._∷_ 116 (L._∷_ 114 (L._∷_ 105 (L._∷_ 101 (L._∷_ 100 (L._∷_ 58 (L._∷_ 58 (L._∷_ 76 (L._∷_ 111 (L._∷_ 111 (L._∷_ 107 (L._∷_ 101 (L._∷_ 100 L.[])))))))))))))))))))) (Syntax.tcons (Syntax.tyStruct (L._∷_ 114 (L._∷_ 117 (L._∷_ 108 (L._∷_ 101 (L._∷_ 115 (L._∷_ 58 (L._∷_ 58 (L._∷_ 102 (L._∷_ 111 (L._∷_ 117 (L._∷_ 110 (L._∷_ 100 (L._∷_ 58 (L._∷_ 58 (L._∷_ 70 (L._∷_ 111 (L._∷_ 117 (L._∷_ 110 (L._∷_ 100 L.[]))))))))))))))))))) (Syntax.tcons Syntax.tyBool (Syntax.tcons Syntax.tyBool (Syntax.tcons (Syntax.tyStruct (L._∷_ 115 (L._∷_ 116 (L._∷_ 101 (L._∷_ 112 (L._∷_ 58 (L._∷_ 58 (L._∷_ 83 (L._∷_ 116 (L._∷_ 101 (L._∷_ 112 L.[])))))))))) (Syntax.tcons (Syntax.tyInt Syntax.w64) (Syntax.tcons (Syntax.tyInt Syntax.w64) (Syntax.tcons (Syntax.tyStruct (L._∷_ 115 (L._∷_ 116 (L._∷_ 101 (L._∷_ 112 (L._∷_ 58 (L._∷_ 58 (L._∷_ 67 (L._∷_ 104 (L._∷_ 97 (L._∷_ 110 (L._∷_ 103 (L._∷_ 101 L.[])))))))))))) (Syntax.tcons (Syntax.tyStruct (L._∷_ 110 (L._∷_ 101 (L._∷_ 116 (L._∷_ 119 (L._∷_ 111 (L._∷_ 114 (L._∷_ 107 (L._∷_ 58 (L._∷_ 58 (L._∷_ 69 (L._∷_ 100 (L._∷_ 105 (L._∷_ 116 L.[]))))))))))))) (Syntax.tcons q7 (Syntax.tcons q7 (Syntax.tcons q7 (Syntax.tcons q7 (Syntax.tcons q2 (Syntax.tcons q2 (Syntax.tcons (Syntax.tyInt Syntax.w64) (Syntax.tcons q6 Syntax.tnil))))))))) (Syntax.tcons (Syntax.tyStruct (L._∷_ 115 (L._∷_ 116 (L._∷_ 101 (L._∷_ 112 (L._∷_ 58 (L._∷_ 58 (L._∷_ 79 (L._∷_ 108 (L._∷_ 100 L.[]))))))))) (Syntax.tcons (Syntax.tyInt Syntax.w64) (Syntax.tcons q6 (Syntax.tcons q7 (Syntax.tcons q7 (Syntax.tcons q7 (Syntax.tcons q7 (Syntax.tcons q4 Syntax.tnil)))))))) Syntax.tnil))) Syntax.tnil)))) Syntax.tnil)))) (Syntax.tcons q5 Syntax.tnil)))) (L._∷_ q0 (L._∷_ q11 (L._∷_ q17 (L._∷_ q26 (L._∷_ (5, Rows.any-gone (Syntax.tyStruct (L._∷_ 114 (L._∷_ 117 (L._∷_ 108 (L._∷_ 101 (L._∷_ 115 (L._∷_ 58 (L._∷_ 58 (L._∷_ 102 (L._∷_ 111 (L._∷_ 117 (L._∷_ 110 (L._∷_ 100 (L._∷_ 58 (L._∷_ 58 (L._∷_ 70 (L._∷_ 111 (L._∷_ 117 (L._∷_ 110 (L._∷_ 100 L.[]))))))))))))))))))) (Syntax.tcons Syntax.tyBool (Syntax.tcons Syntax.tyBool (Syntax.tcons (Syntax.tyStruct (L._∷_ 115 (L._∷_ 116 (L._∷_ 101 (L._∷_ 112 (L._∷_ 58 (L._∷_ 58 (L._∷_ 83 (L._∷_ 116 (L._∷_ 101 (L._∷_ 112 L.[])))))))))) (Syntax.tcons (Syntax.tyInt Syntax.w64) (Syntax.tcons (Syntax.tyInt Syntax.w64) (Syntax.tcons (Syntax.tyStruct (L._∷_ 115 (L._∷_ 116 (L._∷_ 101 (L._∷_ 112 (L._∷_ 58 (L._∷_ 58 (L._∷_ 67 (L._∷_ 104 (L._∷_ 97 (L._∷_ 110 (L._∷_ 103 (L._∷_ 101 L.[])))))))))))) (Syntax.tcons (Syntax.tyStruct (L._∷_ 110 (L._∷_ 101 (L._∷_ 116 (L._∷_ 119 (L._∷_ 111 (L._∷_ 114 (L._∷_ 107 (L._∷_ 58 (L._∷_ 58 (L._∷_ 69 (L._∷_ 100 (L._∷_ 105 (L._∷_ 116 L.[]))))))))))))) (Syntax.tcons q7 (Syntax.tcons q7 (Syntax.tcons q7 (Syntax.tcons q7 (Syntax.tcons q2 (Syntax.tcons q2 (Syntax.tcons (Syntax.tyInt Syntax.w64) (Syntax.tcons q6 Syntax.tnil))))))))) (Syntax.tcons (Syntax.tyStruct (L._∷_ 115 (L._∷_ 116 (L._∷_ 101 (L._∷_ 112 (L._∷_ 58 (L._∷_ 58 (L._∷_ 79 (L._∷_ 108 (L._∷_ 100 L.[]))))))))) (Syntax.tcons (Syntax.tyInt Syntax.w64) (Syntax.tcons q6 (Syntax.tcons q7 (Syntax.tcons q7 (Syntax.tcons q7 (Syntax.tcons q7 (Syntax.tcons q4 Syntax.tnil)))))))) Syntax.tnil))) Syntax.tnil)))) Syntax.tnil))))) (L._∷_ q18 (L._∷_ q25 (L._∷_ (8, Rows.sc-here Row.sBool) (L._∷_ (9, Rows.any-gone (Syntax.tyStruct (L._∷_ 114 (L._∷_ 117 (L._∷_ 108 (L._∷_ 101 (L._∷_ 115 (L._∷_ 58 (L._∷_ 58 (L._∷_ 116 (L._∷_ 114 (L._∷_ 105 (L._∷_ 101 (L._∷_ 100 (L._∷_ 58 (L._∷_ 58 (L._∷_ 76 (L._∷_ 111 (L._∷_ 111 (L._∷_ 107 (L._∷_ 101 (L._∷_ 100 L.[])))))))))))))))))))) (Syntax.tcons (Syntax.tyStruct (L._∷_ 114 (L._∷_ 117 (L._∷_ 108 (L._∷_ 101 (L._∷_ 115 (L._∷_ 58 (L._∷_ 58 (L._∷_ 102 (L._∷_ 111 (L._∷_ 117 (L._∷_ 110 (L._∷_ 100 (L._∷_ 58 (L._∷_ 58 (L._∷_ 70 (L._∷_ 111 (L._∷_ 117 (L._∷_ 110 (L._∷_ 100 L.[]))))))))))))))))))) (Syntax.tcons Syntax.tyBool (Syntax.tcons Syntax.tyBool (Syntax.tcons (Syntax.tyStruct (L._∷_ 115 (L._∷_ 116 (L._∷_ 101 (L._∷_ 112 (L._∷_ 58 (L._∷_ 58 (L._∷_ 83 (L._∷_ 116 (L._∷_ 101 (L._∷_ 112 L.[])))))))))) (Syntax.tcons (Syntax.tyInt Syntax.w64) (Syntax.tcons (Syntax.tyInt Syntax.w64) (Syntax.tcons (Syntax.tyStruct (L._∷_ 115 (L._∷_ 116 (L._∷_ 101 (L._∷_ 112 (L._∷_ 58 (L._∷_ 58 (L._∷_ 67 (L._∷_ 104 (L._∷_ 97 (L._∷_ 110 (L._∷_ 103 (L._∷_ 101 L.[])))))))))))) (Syntax.tcons (Syntax.tyStruct (L._∷_ 110 (L._∷_ 101 (L._∷_ 116 (L._∷_ 119 (L._∷_ 111 (L._∷_ 114 (L._∷_ 107 (L._∷_ 58 (L._∷_ 58 (L._∷_ 69 (L._∷_ 100 (L._∷_ 105 (L._∷_ 116 L.[]))))))))))))) (Syntax.tcons q7 (Syntax.tcons q7 (Syntax.tcons q7 (Syntax.tcons q7 (Syntax.tcons q2 (Syntax.tcons q2 (Syntax.tcons (Syntax.tyInt Syntax.w64) (Syntax.tcons q6 Syntax.tnil))))))))) (Syntax.tcons (Syntax.tyStruct (L._∷_ 115 (L._∷_ 116 (L._∷_ 101 (L._∷_ 112 (L._∷_ 58 (L._∷_ 58 (L._∷_ 79 (L._∷_ 108 (L._∷_ 100 L.[]))))))))) (Syntax.tcons (Syntax.tyInt Syntax.w64) (Syntax.tcons q6 (Syntax.tcons q7 (Syntax.tcons q7 (Syntax.tcons q7 (Syntax.tcons q7 (Syntax.tcons q4 Syntax.tnil)))))))) Syntax.tnil))) Syntax.tnil)))) Syntax.tnil)))) (Syntax.tcons q5 Syntax.tnil)))) (L._∷_ (10, Rows.any-gone (Syntax.tyStruct (L._∷_ 114 (L._∷_ 117 (L._∷_ 108 (L._∷_ 101 (L._∷_ 115 (L._∷_ 58 (L._∷_ 58 (L._∷_ 102 (L._∷_ 111 (L._∷_ 117 (L._∷_ 110 (L._∷_ 100 (L._∷_ 58 (L._∷_ 58 (L._∷_ 70 (L._∷_ 111 (L._∷_ 117 (L._∷_ 110 (L._∷_ 100 L.[]))))))))))))))))))) (Syntax.tcons Syntax.tyBool (Syntax.tcons Syntax.tyBool (Syntax.tcons (Syntax.tyStruct (L._∷_ 115 (L._∷_ 116 (L._∷_ 101 (L._∷_ 112 (L._∷_ 58 (L._∷_ 58 (L._∷_ 83 (L._∷_ 116 (L._∷_ 101 (L._∷_ 112 L.[])))))))))) (Syntax.tcons (Syntax.tyInt Syntax.w64) (Syntax.tcons (Syntax.tyInt Syntax.w64) (Syntax.tcons (Syntax.tyStruct (L._∷_ 115 (L._∷_ 116 (L._∷_ 101 (L._∷_ 112 (L._∷_ 58 (L._∷_ 58 (L._∷_ 67 (L._∷_ 104 (L._∷_ 97 (L._∷_ 110 (L._∷_ 103 (L._∷_ 101 L.[])))))))))))) (Syntax.tcons (Syntax.tyStruct (L._∷_ 110 (L._∷_ 101 (L._∷_ 116 (L._∷_ 119 (L._∷_ 111 (L._∷_ 114 (L._∷_ 107 (L._∷_ 58 (L._∷_ 58 (L._∷_ 69 (L._∷_ 100 (L._∷_ 105 (L._∷_ 116 L.[]))))))))))))) (Syntax.tcons q7 (Syntax.tcons q7 (Syntax.tcons q7 (Syntax.tcons q7 (Syntax.tcons q2 (Syntax.tcons q2 (Syntax.tcons (Syntax.tyInt Syntax.w64) (Syntax.tcons q6 Syntax.tnil))))))))) (Syntax.tcons (Syntax.tyStruct (L._∷_ 115 (L._∷_ 116 (L._∷_ 101 (L._∷_ 112 (L._∷_ 58 (L._∷_ 58 (L._∷_ 79 (L._∷_ 108 (L._∷_ 100 L.[]))))))))) (Syntax.tcons (Syntax.tyInt Syntax.w64) (Syntax.tcons q6 (Syntax.tcons q7 (Syntax.tcons q7 (Syntax.tcons q7 (Syntax.tcons q7 (Syntax.tcons q4 Syntax.tnil)))))))) Syntax.tnil))) Syntax.tnil)))) Syntax.tnil))))) (L._∷_ (11, Rows.any-gone (Syntax.tyStruct (L._∷_ 114 (L._∷_ 117 (L._∷_ 108 (L._∷_ 101 (L._∷_ 115 (L._∷_ 58 (L._∷_ 58 (L._∷_ 102 (L._∷_ 111 (L._∷_ 117 (L._∷_ 110 (L._∷_ 100 (L._∷_ 58 (L._∷_ 58 (L._∷_ 70 (L._∷_ 111 (L._∷_ 117 (L._∷_ 110 (L._∷_ 100 L.[]))))))))))))))))))) (Syntax.tcons Syntax.tyBool (Syntax.tcons Syntax.tyBool (Syntax.tcons (Syntax.tyStruct (L._∷_ 115 (L._∷_ 116 (L._∷_ 101 (L._∷_ 112 (L._∷_ 58 (L._∷_ 58 (L._∷_ 83 (L._∷_ 116 (L._∷_ 101 (L._∷_ 112 L.[])))))))))) (Syntax.tcons (Syntax.tyInt Syntax.w64) (Syntax.tcons (Syntax.tyInt Syntax.w64) (Syntax.tcons (Syntax.tyStruct (L._∷_ 115 (L._∷_ 116 (L._∷_ 101 (L._∷_ 112 (L._∷_ 58 (L._∷_ 58 (L._∷_ 67 (L._∷_ 104 (L._∷_ 97 (L._∷_ 110 (L._∷_ 103 (L._∷_ 101 L.[])))))))))))) (Syntax.tcons (Syntax.tyStruct (L._∷_ 110 (L._∷_ 101 (L._∷_ 116 (L._∷_ 119 (L._∷_ 111 (L._∷_ 114 (L._∷_ 107 (L._∷_ 58 (L._∷_ 58 (L._∷_ 69 (L._∷_ 100 (L._∷_ 105 (L._∷_ 116 L.[]))))))))))))) (Syntax.tcons q7 (Syntax.tcons q7 (Syntax.tcons q7 (Syntax.tcons q7 (Syntax.tcons q2 (Syntax.tcons q2 (Syntax.tcons (Syntax.tyInt Syntax.w64) (Syntax.tcons q6 Syntax.tnil))))))))) (Syntax.tcons (Syntax.tyStruct (L._∷_ 115 (L._∷_ 116 (L._∷_ 101 (L._∷_ 112 (L._∷_ 58 (L._∷_ 58 (L._∷_ 79 (L._∷_ 108 (L._∷_ 100 L.[]))))))))) (Syntax.tcons (Syntax.tyInt Syntax.w64) (Syntax.tcons q6 (Syntax.tcons q7 (Syntax.tcons q7 (Syntax.tcons q7 (Syntax.tcons q7 (Syntax.tcons q4 Syntax.tnil)))))))) Syntax.tnil))) Syntax.tnil)))) Syntax.tnil))))) (L._∷_ q28 (L._∷_ (13, Rows.sc-here Row.sBool) (L._∷_ q30 (L._∷_ q31 L.[])))))))))))))))
 
 abbrev pub t17 : L.List Row.Entry
-t17 = L._∷_ (0, Rows.any-gone (Syntax.tyStruct (L._∷_ 114 (L._∷_ 117 (L._∷_ 108 (L._∷_ 101 (L._∷_ 115 (L._∷_ 58 (L._∷_ 58 (L._∷_ 116 (L._∷_ 114 (L._∷_ 105 (L._∷_ 101 (L._∷_ 100 (L._∷_ 58 (L._∷_ 58 (L._∷_ 76 (L._∷_ 111 (L._∷_ 111 (L._∷_ 107 (L._∷_ 101 (L._∷_ 100 L.[])))))))))))))))))))) (Syntax.tcons (Syntax.tyStruct (L._∷_ 114 (L._∷_ 117 (L._∷_ 108 (L._∷_ 101 (L._∷_ 115 (L._∷_ 58 (L._∷_ 58 (L._∷_ 102 (L._∷_ 111 (L._∷_ 117 (L._∷_ 110 (L._∷_ 100 (L._∷_ 58 (L._∷_ 58 (L._∷_ 70 (L._∷_ 111 (L._∷_ 117 (L._∷_ 110 (L._∷_ 100 L.[]))))))))))))))))))) (Syntax.tcons Syntax.tyBool (Syntax.tcons Syntax.tyBool (Syntax.tcons (Syntax.tyStruct (L._∷_ 115 (L._∷_ 116 (L._∷_ 101 (L._∷_ 112 (L._∷_ 58 (L._∷_ 58 (L._∷_ 83 (L._∷_ 116 (L._∷_ 101 (L._∷_ 112 L.[])))))))))) (Syntax.tcons (Syntax.tyInt Syntax.w64) (Syntax.tcons (Syntax.tyInt Syntax.w64) (Syntax.tcons (Syntax.tyStruct (L._∷_ 115 (L._∷_ 116 (L._∷_ 101 (L._∷_ 112 (L._∷_ 58 (L._∷_ 58 (L._∷_ 67 (L._∷_ 104 (L._∷_ 97 (L._∷_ 110 (L._∷_ 103 (L._∷_ 101 L.[])))))))))))) (Syntax.tcons (Syntax.tyStruct (L._∷_ 110 (L._∷_ 101 (L._∷_ 116 (L._∷_ 119 (L._∷_ 111 (L._∷_ 114 (L._∷_ 107 (L._∷_ 58 (L._∷_ 58 (L._∷_ 69 (L._∷_ 100 (L._∷_ 105 (L._∷_ 116 L.[]))))))))))))) (Syntax.tcons q7 (Syntax.tcons q7 (Syntax.tcons q7 (Syntax.tcons q7 (Syntax.tcons q2 (Syntax.tcons q2 (Syntax.tcons (Syntax.tyInt Syntax.w64) Syntax.tnil)))))))) (Syntax.tcons (Syntax.tyStruct (L._∷_ 115 (L._∷_ 116 (L._∷_ 101 (L._∷_ 112 (L._∷_ 58 (L._∷_ 58 (L._∷_ 79 (L._∷_ 108 (L._∷_ 100 L.[]))))))))) (Syntax.tcons (Syntax.tyInt Syntax.w64) (Syntax.tcons q6 (Syntax.tcons q7 (Syntax.tcons q7 (Syntax.tcons q7 (Syntax.tcons q7 (Syntax.tcons q4 Syntax.tnil)))))))) Syntax.tnil))) Syntax.tnil)))) Syntax.tnil)))) (Syntax.tcons q5 Syntax.tnil)))) (L._∷_ q0 (L._∷_ q11 (L._∷_ q17 (L._∷_ q26 (L._∷_ (5, Rows.any-gone (Syntax.tyStruct (L._∷_ 114 (L._∷_ 117 (L._∷_ 108 (L._∷_ 101 (L._∷_ 115 (L._∷_ 58 (L._∷_ 58 (L._∷_ 102 (L._∷_ 111 (L._∷_ 117 (L._∷_ 110 (L._∷_ 100 (L._∷_ 58 (L._∷_ 58 (L._∷_ 70 (L._∷_ 111 (L._∷_ 117 (L._∷_ 110 (L._∷_ 100 L.[]))))))))))))))))))) (Syntax.tcons Syntax.tyBool (Syntax.tcons Syntax.tyBool (Syntax.tcons (Syntax.tyStruct (L._∷_ 115 (L._∷_ 116 (L._∷_ 101 (L._∷_ 112 (L._∷_ 58 (L._∷_ 58 (L._∷_ 83 (L._∷_ 116 (L._∷_ 101 (L._∷_ 112 L.[])))))))))) (Syntax.tcons (Syntax.tyInt Syntax.w64) (Syntax.tcons (Syntax.tyInt Syntax.w64) (Syntax.tcons (Syntax.tyStruct (L._∷_ 115 (L._∷_ 116 (L._∷_ 101 (L._∷_ 112 (L._∷_ 58 (L._∷_ 58 (L._∷_ 67 (L._∷_ 104 (L._∷_ 97 (L._∷_ 110 (L._∷_ 103 (L._∷_ 101 L.[])))))))))))) (Syntax.tcons (Syntax.tyStruct (L._∷_ 110 (L._∷_ 101 (L._∷_ 116 (L._∷_ 119 (L._∷_ 111 (L._∷_ 114 (L._∷_ 107 (L._∷_ 58 (L._∷_ 58 (L._∷_ 69 (L._∷_ 100 (L._∷_ 105 (L._∷_ 116 L.[]))))))))))))) (Syntax.tcons q7 (Syntax.tcons q7 (Syntax.tcons q7 (Syntax.tcons q7 (Syntax.tcons q2 (Syntax.tcons q2 (Syntax.tcons (Syntax.tyInt Syntax.w64) Syntax.tnil)))))))) (Syntax.tcons (Syntax.tyStruct (L._∷_ 115 (L._∷_ 116 (L._∷_ 101 (L._∷_ 112 (L._∷_ 58 (L._∷_ 58 (L._∷_ 79 (L._∷_ 108 (L._∷_ 100 L.[]))))))))) (Syntax.tcons (Syntax.tyInt Syntax.w64) (Syntax.tcons q6 (Syntax.tcons q7 (Syntax.tcons q7 (Syntax.tcons q7 (Syntax.tcons q7 (Syntax.tcons q4 Syntax.tnil)))))))) Syntax.tnil))) Syntax.tnil)))) Syntax.tnil))))) (L._∷_ q8 (L._∷_ q25 (L._∷_ (8, Rows.sc-here Row.sBool) (L._∷_ (9, Rows.any-gone (Syntax.tyStruct (L._∷_ 114 (L._∷_ 117 (L._∷_ 108 (L._∷_ 101 (L._∷_ 115 (L._∷_ 58 (L._∷_ 58 (L._∷_ 116 (L._∷_ 114 (L._∷_ 105 (L._∷_ 101 (L._∷_ 100 (L._∷_ 58 (L._∷_ 58 (L._∷_ 76 (L._∷_ 111 (L._∷_ 111 (L._∷_ 107 (L._∷_ 101 (L._∷_ 100 L.[])))))))))))))))))))) (Syntax.tcons (Syntax.tyStruct (L._∷_ 114 (L._∷_ 117 (L._∷_ 108 (L._∷_ 101 (L._∷_ 115 (L._∷_ 58 (L._∷_ 58 (L._∷_ 102 (L._∷_ 111 (L._∷_ 117 (L._∷_ 110 (L._∷_ 100 (L._∷_ 58 (L._∷_ 58 (L._∷_ 70 (L._∷_ 111 (L._∷_ 117 (L._∷_ 110 (L._∷_ 100 L.[]))))))))))))))))))) (Syntax.tcons Syntax.tyBool (Syntax.tcons Syntax.tyBool (Syntax.tcons (Syntax.tyStruct (L._∷_ 115 (L._∷_ 116 (L._∷_ 101 (L._∷_ 112 (L._∷_ 58 (L._∷_ 58 (L._∷_ 83 (L._∷_ 116 (L._∷_ 101 (L._∷_ 112 L.[])))))))))) (Syntax.tcons (Syntax.tyInt Syntax.w64) (Syntax.tcons (Syntax.tyInt Syntax.w64) (Syntax.tcons (Syntax.tyStruct (L._∷_ 115 (L._∷_ 116 (L._∷_ 101 (L._∷_ 112 (L._∷_ 58 (L._∷_ 58 (L._∷_ 67 (L._∷_ 104 (L._∷_ 97 (L._∷_ 110 (L._∷_ 103 (L._∷_ 101 L.[])))))))))))) (Syntax.tcons (Syntax.tyStruct (L._∷_ 110 (L._∷_ 101 (L._∷_ 116 (L._∷_ 119 (L._∷_ 111 (L._∷_ 114 (L._∷_ 107 (L._∷_ 58 (L._∷_ 58 (L._∷_ 69 (L._∷_ 100 (L._∷_ 105 (L._∷_ 116 L.[]))))))))))))) (Syntax.tcons q7 (Syntax.tcons q7 (Syntax.tcons q7 (Syntax.tcons q7 (Syntax.tcons q2 (Syntax.tcons q2 (Syntax.tcons (Syntax.tyInt Syntax.w64) Syntax.tnil)))))))) (Syntax.tcons (Syntax.tyStruct (L._∷_ 115 (L._∷_ 116 (L._∷_ 101 (L._∷_ 112 (L._∷_ 58 (L._∷_ 58 (L._∷_ 79 (L._∷_ 108 (L._∷_ 100 L.[]))))))))) (Syntax.tcons (Syntax.tyInt Syntax.w64) (Syntax.tcons q6 (Syntax.tcons q7 (Syntax.tcons q7 (Syntax.tcons q7 (Syntax.tcons q7 (Syntax.tcons q4 Syntax.tnil)))))))) Syntax.tnil))) Syntax.tnil)))) Syntax.tnil)))) (Syntax.tcons q5 Syntax.tnil)))) (L._∷_ (10, Rows.any-gone (Syntax.tyStruct (L._∷_ 114 (L._∷_ 117 (L._∷_ 108 (L._∷_ 101 (L._∷_ 115 (L._∷_ 58 (L._∷_ 58 (L._∷_ 102 (L._∷_ 111 (L._∷_ 117 (L._∷_ 110 (L._∷_ 100 (L._∷_ 58 (L._∷_ 58 (L._∷_ 70 (L._∷_ 111 (L._∷_ 117 (L._∷_ 110 (L._∷_ 100 L.[]))))))))))))))))))) (Syntax.tcons Syntax.tyBool (Syntax.tcons Syntax.tyBool (Syntax.tcons (Syntax.tyStruct (L._∷_ 115 (L._∷_ 116 (L._∷_ 101 (L._∷_ 112 (L._∷_ 58 (L._∷_ 58 (L._∷_ 83 (L._∷_ 116 (L._∷_ 101 (L._∷_ 112 L.[])))))))))) (Syntax.tcons (Syntax.tyInt Syntax.w64) (Syntax.tcons (Syntax.tyInt Syntax.w64) (Syntax.tcons (Syntax.tyStruct (L._∷_ 115 (L._∷_ 116 (L._∷_ 101 (L._∷_ 112 (L._∷_ 58 (L._∷_ 58 (L._∷_ 67 (L._∷_ 104 (L._∷_ 97 (L._∷_ 110 (L._∷_ 103 (L._∷_ 101 L.[])))))))))))) (Syntax.tcons (Syntax.tyStruct (L._∷_ 110 (L._∷_ 101 (L._∷_ 116 (L._∷_ 119 (L._∷_ 111 (L._∷_ 114 (L._∷_ 107 (L._∷_ 58 (L._∷_ 58 (L._∷_ 69 (L._∷_ 100 (L._∷_ 105 (L._∷_ 116 L.[]))))))))))))) (Syntax.tcons q7 (Syntax.tcons q7 (Syntax.tcons q7 (Syntax.tcons q7 (Syntax.tcons q2 (Syntax.tcons q2 (Syntax.tcons (Syntax.tyInt Syntax.w64) Syntax.tnil)))))))) (Syntax.tcons (Syntax.tyStruct (L._∷_ 115 (L._∷_ 116 (L._∷_ 101 (L._∷_ 112 (L._∷_ 58 (L._∷_ 58 (L._∷_ 79 (L._∷_ 108 (L._∷_ 100 L.[]))))))))) (Syntax.tcons (Syntax.tyInt Syntax.w64) (Syntax.tcons q6 (Syntax.tcons q7 (Syntax.tcons q7 (Syntax.tcons q7 (Syntax.tcons q7 (Syntax.tcons q4 Syntax.tnil)))))))) Syntax.tnil))) Syntax.tnil)))) Syntax.tnil))))) (L._∷_ (11, Rows.any-gone (Syntax.tyStruct (L._∷_ 114 (L._∷_ 117 (L._∷_ 108 (L._∷_ 101 (L._∷_ 115 (L._∷_ 58 (L._∷_ 58 (L._∷_ 102 (L._∷_ 111 (L._∷_ 117 (L._∷_ 110 (L._∷_ 100 (L._∷_ 58 (L._∷_ 58 (L._∷_ 70 (L._∷_ 111 (L._∷_ 117 (L._∷_ 110 (L._∷_ 100 L.[]))))))))))))))))))) (Syntax.tcons Syntax.tyBool (Syntax.tcons Syntax.tyBool (Syntax.tcons (Syntax.tyStruct (L._∷_ 115 (L._∷_ 116 (L._∷_ 101 (L._∷_ 112 (L._∷_ 58 (L._∷_ 58 (L._∷_ 83 (L._∷_ 116 (L._∷_ 101 (L._∷_ 112 L.[])))))))))) (Syntax.tcons (Syntax.tyInt Syntax.w64) (Syntax.tcons (Syntax.tyInt Syntax.w64) (Syntax.tcons (Syntax.tyStruct (L._∷_ 115 (L._∷_ 116 (L._∷_ 101 (L._∷_ 112 (L._∷_ 58 (L._∷_ 58 (L._∷_ 67 (L._∷_ 104 (L._∷_ 97 (L._∷_ 110 (L._∷_ 103 (L._∷_ 101 L.[])))))))))))) (Syntax.tcons (Syntax.tyStruct (L._∷_ 110 (L._∷_ 101 (L._∷_ 116 (L._∷_ 119 (L._∷_ 111 (L._∷_ 114 (L._∷_ 107 (L._∷_ 58 (L._∷_ 58 (L._∷_ 69 (L._∷_ 100 (L._∷_ 105 (L._∷_ 116 L.[]))))))))))))) (Syntax.tcons q7 (Syntax.tcons q7 (Syntax.tcons q7 (Syntax.tcons q7 (Syntax.tcons q2 (Syntax.tcons q2 (Syntax.tcons (Syntax.tyInt Syntax.w64) Syntax.tnil)))))))) (Syntax.tcons (Syntax.tyStruct (L._∷_ 115 (L._∷_ 116 (L._∷_ 101 (L._∷_ 112 (L._∷_ 58 (L._∷_ 58 (L._∷_ 79 (L._∷_ 108 (L._∷_ 100 L.[]))))))))) (Syntax.tcons (Syntax.tyInt Syntax.w64) (Syntax.tcons q6 (Syntax.tcons q7 (Syntax.tcons q7 (Syntax.tcons q7 (Syntax.tcons q7 (Syntax.tcons q4 Syntax.tnil)))))))) Syntax.tnil))) Syntax.tnil)))) Syntax.tnil))))) (L._∷_ q28 (L._∷_ (13, Rows.sc-here Row.sBool) (L._∷_ q30 (L._∷_ q31 L.[])))))))))))))))
+t17 = L._∷_ (0, Rows.any-gone (Syntax.tyStruct (L._∷_ 114 (L._∷_ 117 (L._∷_ 108 (L._∷_ 101 (L._∷_ 115 (L._∷_ 58 (L._∷_ 58 (L._∷_ 116 (L._∷_ 114 (L._∷_ 105 (L._∷_ 101 (L._∷_ 100 (L._∷_ 58 (L._∷_ 58 (L._∷_ 76 (L._∷_ 111 (L._∷_ 111 (L._∷_ 107 (L._∷_ 101 (L._∷_ 100 L.[])))))))))))))))))))) (Syntax.tcons (Syntax.tyStruct (L._∷_ 114 (L._∷_ 117 (L._∷_ 108 (L._∷_ 101 (L._∷_ 115 (L._∷_ 58 (L._∷_ 58 (L._∷_ 102 (L._∷_ 111 (L._∷_ 117 (L._∷_ 110 (L._∷_ 100 (L._∷_ 58 (L._∷_ 58 (L._∷_ 70 (L._∷_ 111 (L._∷_ 117 (L._∷_ 110 (L._∷_ 100 L.[]))))))))))))))))))) (Syntax.tcons Syntax.tyBool (Syntax.tcons Syntax.tyBool (Syntax.tcons (Syntax.tyStruct (L._∷_ 115 (L._∷_ 116 (L._∷_ 101 (L._∷_ 112 (L._∷_ 58 (L._∷_ 58 (L._∷_ 83 (L._∷_ 116 (L._∷_ 101 (L._∷_ 112 L.[])))))))))) (Syntax.tcons (Syntax.tyInt Syntax.w64) (Syntax.tcons (Syntax.tyInt Syntax.w64) (Syntax.tcons (Syntax.tyStruct (L._∷_ 115 (L._∷_ 116 (L._∷_ 101 (L._∷_ 112 (L._∷_ 58 (L._∷_ 58 (L._∷_ 67 (L._∷_ 104 (L._∷_ 97 (L._∷_ 110 (L._∷_ 103 (L._∷_ 101 L.[])))))))))))) (Syntax.tcons (Syntax.tyStruct (L._∷_ 110 (L._∷_ 101 (L._∷_ 116 (L._∷_ 119 (L._∷_ 111 (L._∷_ 114 (L._∷_ 107 (L._∷_ 58 (L._∷_ 58 (L._∷_ 69 (L._∷_ 100 (L._∷_ 105 (L._∷_ 116 L.[]))))))))))))) (Syntax.tcons q7 (Syntax.tcons q7 (Syntax.tcons q7 (Syntax.tcons q7 (Syntax.tcons q2 (Syntax.tcons q2 (Syntax.tcons (Syntax.tyInt Syntax.w64) (Syntax.tcons q6 Syntax.tnil))))))))) (Syntax.tcons (Syntax.tyStruct (L._∷_ 115 (L._∷_ 116 (L._∷_ 101 (L._∷_ 112 (L._∷_ 58 (L._∷_ 58 (L._∷_ 79 (L._∷_ 108 (L._∷_ 100 L.[]))))))))) (Syntax.tcons (Syntax.tyInt Syntax.w64) (Syntax.tcons q6 (Syntax.tcons q7 (Syntax.tcons q7 (Syntax.tcons q7 (Syntax.tcons q7 (Syntax.tcons q4 Syntax.tnil)))))))) Syntax.tnil))) Syntax.tnil)))) Syntax.tnil)))) (Syntax.tcons q5 Syntax.tnil)))) (L._∷_ q0 (L._∷_ q11 (L._∷_ q17 (L._∷_ q26 (L._∷_ (5, Rows.any-gone (Syntax.tyStruct (L._∷_ 114 (L._∷_ 117 (L._∷_ 108 (L._∷_ 101 (L._∷_ 115 (L._∷_ 58 (L._∷_ 58 (L._∷_ 102 (L._∷_ 111 (L._∷_ 117 (L._∷_ 110 (L._∷_ 100 (L._∷_ 58 (L._∷_ 58 (L._∷_ 70 (L._∷_ 111 (L._∷_ 117 (L._∷_ 110 (L._∷_ 100 L.[]))))))))))))))))))) (Syntax.tcons Syntax.tyBool (Syntax.tcons Syntax.tyBool (Syntax.tcons (Syntax.tyStruct (L._∷_ 115 (L._∷_ 116 (L._∷_ 101 (L._∷_ 112 (L._∷_ 58 (L._∷_ 58 (L._∷_ 83 (L._∷_ 116 (L._∷_ 101 (L._∷_ 112 L.[])))))))))) (Syntax.tcons (Syntax.tyInt Syntax.w64) (Syntax.tcons (Syntax.tyInt Syntax.w64) (Syntax.tcons (Syntax.tyStruct (L._∷_ 115 (L._∷_ 116 (L._∷_ 101 (L._∷_ 112 (L._∷_ 58 (L._∷_ 58 (L._∷_ 67 (L._∷_ 104 (L._∷_ 97 (L._∷_ 110 (L._∷_ 103 (L._∷_ 101 L.[])))))))))))) (Syntax.tcons (Syntax.tyStruct (L._∷_ 110 (L._∷_ 101 (L._∷_ 116 (L._∷_ 119 (L._∷_ 111 (L._∷_ 114 (L._∷_ 107 (L._∷_ 58 (L._∷_ 58 (L._∷_ 69 (L._∷_ 100 (L._∷_ 105 (L._∷_ 116 L.[]))))))))))))) (Syntax.tcons q7 (Syntax.tcons q7 (Syntax.tcons q7 (Syntax.tcons q7 (Syntax.tcons q2 (Syntax.tcons q2 (Syntax.tcons (Syntax.tyInt Syntax.w64) (Syntax.tcons q6 Syntax.tnil))))))))) (Syntax.tcons (Syntax.tyStruct (L._∷_ 115 (L._∷_ 116 (L._∷_ 101 (L._∷_ 112 (L._∷_ 58 (L._∷_ 58 (L._∷_ 79 (L._∷_ 108 (L._∷_ 100 L.[]))))))))) (Syntax.tcons (Syntax.tyInt Syntax.w64) (Syntax.tcons q6 (Syntax.tcons q7 (Syntax.tcons q7 (Syntax.tcons q7 (Syntax.tcons q7 (Syntax.tcons q4 Syntax.tnil)))))))) Syntax.tnil))) Syntax.tnil)))) Syntax.tnil))))) (L._∷_ q8 (L._∷_ q25 (L._∷_ (8, Rows.sc-here Row.sBool) (L._∷_ (9, Rows.any-gone (Syntax.tyStruct (L._∷_ 114 (L._∷_ 117 (L._∷_ 108 (L._∷_ 101 (L._∷_ 115 (L._∷_ 58 (L._∷_ 58 (L._∷_ 116 (L._∷_ 114 (L._∷_ 105 (L._∷_ 101 (L._∷_ 100 (L._∷_ 58 (L._∷_ 58 (L._∷_ 76 (L._∷_ 111 (L._∷_ 111 (L._∷_ 107 (L._∷_ 101 (L._∷_ 100 L.[])))))))))))))))))))) (Syntax.tcons (Syntax.tyStruct (L._∷_ 114 (L._∷_ 117 (L._∷_ 108 (L._∷_ 101 (L._∷_ 115 (L._∷_ 58 (L._∷_ 58 (L._∷_ 102 (L._∷_ 111 (L._∷_ 117 (L._∷_ 110 (L._∷_ 100 (L._∷_ 58 (L._∷_ 58 (L._∷_ 70 (L._∷_ 111 (L._∷_ 117 (L._∷_ 110 (L._∷_ 100 L.[]))))))))))))))))))) (Syntax.tcons Syntax.tyBool (Syntax.tcons Syntax.tyBool (Syntax.tcons (Syntax.tyStruct (L._∷_ 115 (L._∷_ 116 (L._∷_ 101 (L._∷_ 112 (L._∷_ 58 (L._∷_ 58 (L._∷_ 83 (L._∷_ 116 (L._∷_ 101 (L._∷_ 112 L.[])))))))))) (Syntax.tcons (Syntax.tyInt Syntax.w64) (Syntax.tcons (Syntax.tyInt Syntax.w64) (Syntax.tcons (Syntax.tyStruct (L._∷_ 115 (L._∷_ 116 (L._∷_ 101 (L._∷_ 112 (L._∷_ 58 (L._∷_ 58 (L._∷_ 67 (L._∷_ 104 (L._∷_ 97 (L._∷_ 110 (L._∷_ 103 (L._∷_ 101 L.[])))))))))))) (Syntax.tcons (Syntax.tyStruct (L._∷_ 110 (L._∷_ 101 (L._∷_ 116 (L._∷_ 119 (L._∷_ 111 (L._∷_ 114 (L._∷_ 107 (L._∷_ 58 (L._∷_ 58 (L._∷_ 69 (L._∷_ 100 (L._∷_ 105 (L._∷_ 116 L.[]))))))))))))) (Syntax.tcons q7 (Syntax.tcons q7 (Syntax.tcons q7 (Syntax.tcons q7 (Syntax.tcons q2 (Syntax.tcons q2 (Syntax.tcons (Syntax.tyInt Syntax.w64) (Syntax.tcons q6 Syntax.tnil))))))))) (Syntax.tcons (Syntax.tyStruct (L._∷_ 115 (L._∷_ 116 (L._∷_ 101 (L._∷_ 112 (L._∷_ 58 (L._∷_ 58 (L._∷_ 79 (L._∷_ 108 (L._∷_ 100 L.[]))))))))) (Syntax.tcons (Syntax.tyInt Syntax.w64) (Syntax.tcons q6 (Syntax.tcons q7 (Syntax.tcons q7 (Syntax.tcons q7 (Syntax.tcons q7 (Syntax.tcons q4 Syntax.tnil)))))))) Syntax.tnil))) Syntax.tnil)))) Syntax.tnil)))) (Syntax.tcons q5 Syntax.tnil)))) (L._∷_ (10, Rows.any-gone (Syntax.tyStruct (L._∷_ 114 (L._∷_ 117 (L._∷_ 108 (L._∷_ 101 (L._∷_ 115 (L._∷_ 58 (L._∷_ 58 (L._∷_ 102 (L._∷_ 111 (L._∷_ 117 (L._∷_ 110 (L._∷_ 100 (L._∷_ 58 (L._∷_ 58 (L._∷_ 70 (L._∷_ 111 (L._∷_ 117 (L._∷_ 110 (L._∷_ 100 L.[]))))))))))))))))))) (Syntax.tcons Syntax.tyBool (Syntax.tcons Syntax.tyBool (Syntax.tcons (Syntax.tyStruct (L._∷_ 115 (L._∷_ 116 (L._∷_ 101 (L._∷_ 112 (L._∷_ 58 (L._∷_ 58 (L._∷_ 83 (L._∷_ 116 (L._∷_ 101 (L._∷_ 112 L.[])))))))))) (Syntax.tcons (Syntax.tyInt Syntax.w64) (Syntax.tcons (Syntax.tyInt Syntax.w64) (Syntax.tcons (Syntax.tyStruct (L._∷_ 115 (L._∷_ 116 (L._∷_ 101 (L._∷_ 112 (L._∷_ 58 (L._∷_ 58 (L._∷_ 67 (L._∷_ 104 (L._∷_ 97 (L._∷_ 110 (L._∷_ 103 (L._∷_ 101 L.[])))))))))))) (Syntax.tcons (Syntax.tyStruct (L._∷_ 110 (L._∷_ 101 (L._∷_ 116 (L._∷_ 119 (L._∷_ 111 (L._∷_ 114 (L._∷_ 107 (L._∷_ 58 (L._∷_ 58 (L._∷_ 69 (L._∷_ 100 (L._∷_ 105 (L._∷_ 116 L.[]))))))))))))) (Syntax.tcons q7 (Syntax.tcons q7 (Syntax.tcons q7 (Syntax.tcons q7 (Syntax.tcons q2 (Syntax.tcons q2 (Syntax.tcons (Syntax.tyInt Syntax.w64) (Syntax.tcons q6 Syntax.tnil))))))))) (Syntax.tcons (Syntax.tyStruct (L._∷_ 115 (L._∷_ 116 (L._∷_ 101 (L._∷_ 112 (L._∷_ 58 (L._∷_ 58 (L._∷_ 79 (L._∷_ 108 (L._∷_ 100 L.[]))))))))) (Syntax.tcons (Syntax.tyInt Syntax.w64) (Syntax.tcons q6 (Syntax.tcons q7 (Syntax.tcons q7 (Syntax.tcons q7 (Syntax.tcons q7 (Syntax.tcons q4 Syntax.tnil)))))))) Syntax.tnil))) Syntax.tnil)))) Syntax.tnil))))) (L._∷_ (11, Rows.any-gone (Syntax.tyStruct (L._∷_ 114 (L._∷_ 117 (L._∷_ 108 (L._∷_ 101 (L._∷_ 115 (L._∷_ 58 (L._∷_ 58 (L._∷_ 102 (L._∷_ 111 (L._∷_ 117 (L._∷_ 110 (L._∷_ 100 (L._∷_ 58 (L._∷_ 58 (L._∷_ 70 (L._∷_ 111 (L._∷_ 117 (L._∷_ 110 (L._∷_ 100 L.[]))))))))))))))))))) (Syntax.tcons Syntax.tyBool (Syntax.tcons Syntax.tyBool (Syntax.tcons (Syntax.tyStruct (L._∷_ 115 (L._∷_ 116 (L._∷_ 101 (L._∷_ 112 (L._∷_ 58 (L._∷_ 58 (L._∷_ 83 (L._∷_ 116 (L._∷_ 101 (L._∷_ 112 L.[])))))))))) (Syntax.tcons (Syntax.tyInt Syntax.w64) (Syntax.tcons (Syntax.tyInt Syntax.w64) (Syntax.tcons (Syntax.tyStruct (L._∷_ 115 (L._∷_ 116 (L._∷_ 101 (L._∷_ 112 (L._∷_ 58 (L._∷_ 58 (L._∷_ 67 (L._∷_ 104 (L._∷_ 97 (L._∷_ 110 (L._∷_ 103 (L._∷_ 101 L.[])))))))))))) (Syntax.tcons (Syntax.tyStruct (L._∷_ 110 (L._∷_ 101 (L._∷_ 116 (L._∷_ 119 (L._∷_ 111 (L._∷_ 114 (L._∷_ 107 (L._∷_ 58 (L._∷_ 58 (L._∷_ 69 (L._∷_ 100 (L._∷_ 105 (L._∷_ 116 L.[]))))))))))))) (Syntax.tcons q7 (Syntax.tcons q7 (Syntax.tcons q7 (Syntax.tcons q7 (Syntax.tcons q2 (Syntax.tcons q2 (Syntax.tcons (Syntax.tyInt Syntax.w64) (Syntax.tcons q6 Syntax.tnil))))))))) (Syntax.tcons (Syntax.tyStruct (L._∷_ 115 (L._∷_ 116 (L._∷_ 101 (L._∷_ 112 (L._∷_ 58 (L._∷_ 58 (L._∷_ 79 (L._∷_ 108 (L._∷_ 100 L.[]))))))))) (Syntax.tcons (Syntax.tyInt Syntax.w64) (Syntax.tcons q6 (Syntax.tcons q7 (Syntax.tcons q7 (Syntax.tcons q7 (Syntax.tcons q7 (Syntax.tcons q4 Syntax.tnil)))))))) Syntax.tnil))) Syntax.tnil)))) Syntax.tnil))))) (L._∷_ q28 (L._∷_ (13, Rows.sc-here Row.sBool) (L._∷_ q30 (L._∷_ q31 L.[])))))))))))))))
 
 abbrev pub t18 : L.List Row.Entry
-t18 = L._∷_ (0, Rows.any-gone (Syntax.tyStruct (L._∷_ 114 (L._∷_ 117 (L._∷_ 108 (L._∷_ 101 (L._∷_ 115 (L._∷_ 58 (L._∷_ 58 (L._∷_ 116 (L._∷_ 114 (L._∷_ 105 (L._∷_ 101 (L._∷_ 100 (L._∷_ 58 (L._∷_ 58 (L._∷_ 76 (L._∷_ 111 (L._∷_ 111 (L._∷_ 107 (L._∷_ 101 (L._∷_ 100 L.[])))))))))))))))))))) (Syntax.tcons (Syntax.tyStruct (L._∷_ 114 (L._∷_ 117 (L._∷_ 108 (L._∷_ 101 (L._∷_ 115 (L._∷_ 58 (L._∷_ 58 (L._∷_ 102 (L._∷_ 111 (L._∷_ 117 (L._∷_ 110 (L._∷_ 100 (L._∷_ 58 (L._∷_ 58 (L._∷_ 70 (L._∷_ 111 (L._∷_ 117 (L._∷_ 110 (L._∷_ 100 L.[]))))))))))))))))))) (Syntax.tcons Syntax.tyBool (Syntax.tcons Syntax.tyBool (Syntax.tcons (Syntax.tyStruct (L._∷_ 115 (L._∷_ 116 (L._∷_ 101 (L._∷_ 112 (L._∷_ 58 (L._∷_ 58 (L._∷_ 83 (L._∷_ 116 (L._∷_ 101 (L._∷_ 112 L.[])))))))))) (Syntax.tcons (Syntax.tyInt Syntax.w64) (Syntax.tcons (Syntax.tyInt Syntax.w64) (Syntax.tcons (Syntax.tyStruct (L._∷_ 115 (L._∷_ 116 (L._∷_ 101 (L._∷_ 112 (L._∷_ 58 (L._∷_ 58 (L._∷_ 67 (L._∷_ 104 (L._∷_ 97 (L._∷_ 110 (L._∷_ 103 (L._∷_ 101 L.[])))))))))))) (Syntax.tcons (Syntax.tyStruct (L._∷_ 110 (L._∷_ 101 (L._∷_ 116 (L._∷_ 119 (L._∷_ 111 (L._∷_ 114 (L._∷_ 107 (L._∷_ 58 (L._∷_ 58 (L._∷_ 69 (L._∷_ 100 (L._∷_ 105 (L._∷_ 116 L.[]))))))))))))) (Syntax.tcons q7 (Syntax.tcons q7 (Syntax.tcons q7 (Syntax.tcons q7 (Syntax.tcons q2 (Syntax.tcons q2 (Syntax.tcons (Syntax.tyInt Syntax.w64) Syntax.tnil)))))))) (Syntax.tcons (Syntax.tyStruct (L._∷_ 115 (L._∷_ 116 (L._∷_ 101 (L._∷_ 112 (L._∷_ 58 (L._∷_ 58 (L._∷_ 79 (L._∷_ 108 (L._∷_ 100 L.[]))))))))) (Syntax.tcons (Syntax.tyInt Syntax.w64) (Syntax.tcons q6 (Syntax.tcons q7 (Syntax.tcons q7 (Syntax.tcons q7 (Syntax.tcons q7 (Syntax.tcons q4 Syntax.tnil)))))))) Syntax.tnil))) Syntax.tnil)))) Syntax.tnil)))) (Syntax.tcons q5 Syntax.tnil)))) (L._∷_ q20 (L._∷_ q11 (L._∷_ q17 (L._∷_ q26 (L._∷_ (5, Rows.any-gone (Syntax.tyStruct (L._∷_ 114 (L._∷_ 117 (L._∷_ 108 (L._∷_ 101 (L._∷_ 115 (L._∷_ 58 (L._∷_ 58 (L._∷_ 102 (L._∷_ 111 (L._∷_ 117 (L._∷_ 110 (L._∷_ 100 (L._∷_ 58 (L._∷_ 58 (L._∷_ 70 (L._∷_ 111 (L._∷_ 117 (L._∷_ 110 (L._∷_ 100 L.[]))))))))))))))))))) (Syntax.tcons Syntax.tyBool (Syntax.tcons Syntax.tyBool (Syntax.tcons (Syntax.tyStruct (L._∷_ 115 (L._∷_ 116 (L._∷_ 101 (L._∷_ 112 (L._∷_ 58 (L._∷_ 58 (L._∷_ 83 (L._∷_ 116 (L._∷_ 101 (L._∷_ 112 L.[])))))))))) (Syntax.tcons (Syntax.tyInt Syntax.w64) (Syntax.tcons (Syntax.tyInt Syntax.w64) (Syntax.tcons (Syntax.tyStruct (L._∷_ 115 (L._∷_ 116 (L._∷_ 101 (L._∷_ 112 (L._∷_ 58 (L._∷_ 58 (L._∷_ 67 (L._∷_ 104 (L._∷_ 97 (L._∷_ 110 (L._∷_ 103 (L._∷_ 101 L.[])))))))))))) (Syntax.tcons (Syntax.tyStruct (L._∷_ 110 (L._∷_ 101 (L._∷_ 116 (L._∷_ 119 (L._∷_ 111 (L._∷_ 114 (L._∷_ 107 (L._∷_ 58 (L._∷_ 58 (L._∷_ 69 (L._∷_ 100 (L._∷_ 105 (L._∷_ 116 L.[]))))))))))))) (Syntax.tcons q7 (Syntax.tcons q7 (Syntax.tcons q7 (Syntax.tcons q7 (Syntax.tcons q2 (Syntax.tcons q2 (Syntax.tcons (Syntax.tyInt Syntax.w64) Syntax.tnil)))))))) (Syntax.tcons (Syntax.tyStruct (L._∷_ 115 (L._∷_ 116 (L._∷_ 101 (L._∷_ 112 (L._∷_ 58 (L._∷_ 58 (L._∷_ 79 (L._∷_ 108 (L._∷_ 100 L.[]))))))))) (Syntax.tcons (Syntax.tyInt Syntax.w64) (Syntax.tcons q6 (Syntax.tcons q7 (Syntax.tcons q7 (Syntax.tcons q7 (Syntax.tcons q7 (Syntax.tcons q4 Syntax.tnil)))))))) Syntax.tnil))) Syntax.tnil)))) Syntax.tnil))))) (L._∷_ q18 (L._∷_ q25 (L._∷_ (8, Rows.sc-here Row.sBool) (L._∷_ q13 (L._∷_ (10, Rows.any-gone (Syntax.tyStruct (L._∷_ 114 (L._∷_ 117 (L._∷_ 108 (L._∷_ 101 (L._∷_ 115 (L._∷_ 58 (L._∷_ 58 (L._∷_ 102 (L._∷_ 111 (L._∷_ 117 (L._∷_ 110 (L._∷_ 100 (L._∷_ 58 (L._∷_ 58 (L._∷_ 70 (L._∷_ 111 (L._∷_ 117 (L._∷_ 110 (L._∷_ 100 L.[]))))))))))))))))))) (Syntax.tcons Syntax.tyBool (Syntax.tcons Syntax.tyBool (Syntax.tcons (Syntax.tyStruct (L._∷_ 115 (L._∷_ 116 (L._∷_ 101 (L._∷_ 112 (L._∷_ 58 (L._∷_ 58 (L._∷_ 83 (L._∷_ 116 (L._∷_ 101 (L._∷_ 112 L.[])))))))))) (Syntax.tcons (Syntax.tyInt Syntax.w64) (Syntax.tcons (Syntax.tyInt Syntax.w64) (Syntax.tcons (Syntax.tyStruct (L._∷_ 115 (L._∷_ 116 (L._∷_ 101 (L._∷_ 112 (L._∷_ 58 (L._∷_ 58 (L._∷_ 67 (L._∷_ 104 (L._∷_ 97 (L._∷_ 110 (L._∷_ 103 (L._∷_ 101 L.[])))))))))))) (Syntax.tcons (Syntax.tyStruct (L._∷_ 110 (L._∷_ 101 (L._∷_ 116 (L._∷_ 119 (L._∷_ 111 (L._∷_ 114 (L._∷_ 107 (L._∷_ 58 (L._∷_ 58 (L._∷_ 69 (L._∷_ 100 (L._∷_ 105 (L._∷_ 116 L.[]))))))))))))) (Syntax.tcons q7 (Syntax.tcons q7 (Syntax.tcons q7 (Syntax.tcons q7 (Syntax.tcons q2 (Syntax.tcons q2 (Syntax.tcons (Syntax.tyInt Syntax.w64) Syntax.tnil)))))))) (Syntax.tcons (Syntax.tyStruct (L._∷_ 115 (L._∷_ 116 (L._∷_ 101 (L._∷_ 112 (L._∷_ 58 (L._∷_ 58 (L._∷_ 79 (L._∷_ 108 (L._∷_ 100 L.[]))))))))) (Syntax.tcons (Syntax.tyInt Syntax.w64) (Syntax.tcons q6 (Syntax.tcons q7 (Syntax.tcons q7 (Syntax.tcons q7 (Syntax.tcons q7 (Syntax.tcons q4 Syntax.tnil)))))))) Syntax.tnil))) Syntax.tnil)))) Syntax.tnil))))) (L._∷_ (11, Rows.any-gone (Syntax.tyStruct (L._∷_ 114 (L._∷_ 117 (L._∷_ 108 (L._∷_ 101 (L._∷_ 115 (L._∷_ 58 (L._∷_ 58 (L._∷_ 102 (L._∷_ 111 (L._∷_ 117 (L._∷_ 110 (L._∷_ 100 (L._∷_ 58 (L._∷_ 58 (L._∷_ 70 (L._∷_ 111 (L._∷_ 117 (L._∷_ 110 (L._∷_ 100 L.[]))))))))))))))))))) (Syntax.tcons Syntax.tyBool (Syntax.tcons Syntax.tyBool (Syntax.tcons (Syntax.tyStruct (L._∷_ 115 (L._∷_ 116 (L._∷_ 101 (L._∷_ 112 (L._∷_ 58 (L._∷_ 58 (L._∷_ 83 (L._∷_ 116 (L._∷_ 101 (L._∷_ 112 L.[])))))))))) (Syntax.tcons (Syntax.tyInt Syntax.w64) (Syntax.tcons (Syntax.tyInt Syntax.w64) (Syntax.tcons (Syntax.tyStruct (L._∷_ 115 (L._∷_ 116 (L._∷_ 101 (L._∷_ 112 (L._∷_ 58 (L._∷_ 58 (L._∷_ 67 (L._∷_ 104 (L._∷_ 97 (L._∷_ 110 (L._∷_ 103 (L._∷_ 101 L.[])))))))))))) (Syntax.tcons (Syntax.tyStruct (L._∷_ 110 (L._∷_ 101 (L._∷_ 116 (L._∷_ 119 (L._∷_ 111 (L._∷_ 114 (L._∷_ 107 (L._∷_ 58 (L._∷_ 58 (L._∷_ 69 (L._∷_ 100 (L._∷_ 105 (L._∷_ 116 L.[]))))))))))))) (Syntax.tcons q7 (Syntax.tcons q7 (Syntax.tcons q7 (Syntax.tcons q7 (Syntax.tcons q2 (Syntax.tcons q2 (Syntax.tcons (Syntax.tyInt Syntax.w64) Syntax.tnil)))))))) (Syntax.tcons (Syntax.tyStruct (L._∷_ 115 (L._∷_ 116 (L._∷_ 101 (L._∷_ 112 (L._∷_ 58 (L._∷_ 58 (L._∷_ 79 (L._∷_ 108 (L._∷_ 100 L.[]))))))))) (Syntax.tcons (Syntax.tyInt Syntax.w64) (Syntax.tcons q6 (Syntax.tcons q7 (Syntax.tcons q7 (Syntax.tcons q7 (Syntax.tcons q7 (Syntax.tcons q4 Syntax.tnil)))))))) Syntax.tnil))) Syntax.tnil)))) Syntax.tnil))))) (L._∷_ q28 (L._∷_ q29 (L._∷_ q30 (L._∷_ q31 L.[])))))))))))))))
+t18 = L._∷_ (0, Rows.any-gone (Syntax.tyStruct (L._∷_ 114 (L._∷_ 117 (L._∷_ 108 (L._∷_ 101 (L._∷_ 115 (L._∷_ 58 (L._∷_ 58 (L._∷_ 116 (L._∷_ 114 (L._∷_ 105 (L._∷_ 101 (L._∷_ 100 (L._∷_ 58 (L._∷_ 58 (L._∷_ 76 (L._∷_ 111 (L._∷_ 111 (L._∷_ 107 (L._∷_ 101 (L._∷_ 100 L.[])))))))))))))))))))) (Syntax.tcons (Syntax.tyStruct (L._∷_ 114 (L._∷_ 117 (L._∷_ 108 (L._∷_ 101 (L._∷_ 115 (L._∷_ 58 (L._∷_ 58 (L._∷_ 102 (L._∷_ 111 (L._∷_ 117 (L._∷_ 110 (L._∷_ 100 (L._∷_ 58 (L._∷_ 58 (L._∷_ 70 (L._∷_ 111 (L._∷_ 117 (L._∷_ 110 (L._∷_ 100 L.[]))))))))))))))))))) (Syntax.tcons Syntax.tyBool (Syntax.tcons Syntax.tyBool (Syntax.tcons (Syntax.tyStruct (L._∷_ 115 (L._∷_ 116 (L._∷_ 101 (L._∷_ 112 (L._∷_ 58 (L._∷_ 58 (L._∷_ 83 (L._∷_ 116 (L._∷_ 101 (L._∷_ 112 L.[])))))))))) (Syntax.tcons (Syntax.tyInt Syntax.w64) (Syntax.tcons (Syntax.tyInt Syntax.w64) (Syntax.tcons (Syntax.tyStruct (L._∷_ 115 (L._∷_ 116 (L._∷_ 101 (L._∷_ 112 (L._∷_ 58 (L._∷_ 58 (L._∷_ 67 (L._∷_ 104 (L._∷_ 97 (L._∷_ 110 (L._∷_ 103 (L._∷_ 101 L.[])))))))))))) (Syntax.tcons (Syntax.tyStruct (L._∷_ 110 (L._∷_ 101 (L._∷_ 116 (L._∷_ 119 (L._∷_ 111 (L._∷_ 114 (L._∷_ 107 (L._∷_ 58 (L._∷_ 58 (L._∷_ 69 (L._∷_ 100 (L._∷_ 105 (L._∷_ 116 L.[]))))))))))))) (Syntax.tcons q7 (Syntax.tcons q7 (Syntax.tcons q7 (Syntax.tcons q7 (Syntax.tcons q2 (Syntax.tcons q2 (Syntax.tcons (Syntax.tyInt Syntax.w64) (Syntax.tcons q6 Syntax.tnil))))))))) (Syntax.tcons (Syntax.tyStruct (L._∷_ 115 (L._∷_ 116 (L._∷_ 101 (L._∷_ 112 (L._∷_ 58 (L._∷_ 58 (L._∷_ 79 (L._∷_ 108 (L._∷_ 100 L.[]))))))))) (Syntax.tcons (Syntax.tyInt Syntax.w64) (Syntax.tcons q6 (Syntax.tcons q7 (Syntax.tcons q7 (Syntax.tcons q7 (Syntax.tcons q7 (Syntax.tcons q4 Syntax.tnil)))))))) Syntax.tnil))) Syntax.tnil)))) Syntax.tnil)))) (Syntax.tcons q5 Syntax.tnil)))) (L._∷_ q20 (L._∷_ q11 (L._∷_ q17 (L._∷_ q26 (L._∷_ (5, Rows.any-gone (Syntax.tyStruct (L._∷_ 114 (L._∷_ 117 (L._∷_ 108 (L._∷_ 101 (L._∷_ 115 (L._∷_ 58 (L._∷_ 58 (L._∷_ 102 (L._∷_ 111 (L._∷_ 117 (L._∷_ 110 (L._∷_ 100 (L._∷_ 58 (L._∷_ 58 (L._∷_ 70 (L._∷_ 111 (L._∷_ 117 (L._∷_ 110 (L._∷_ 100 L.[]))))))))))))))))))) (Syntax.tcons Syntax.tyBool (Syntax.tcons Syntax.tyBool (Syntax.tcons (Syntax.tyStruct (L._∷_ 115 (L._∷_ 116 (L._∷_ 101 (L._∷_ 112 (L._∷_ 58 (L._∷_ 58 (L._∷_ 83 (L._∷_ 116 (L._∷_ 101 (L._∷_ 112 L.[])))))))))) (Syntax.tcons (Syntax.tyInt Syntax.w64) (Syntax.tcons (Syntax.tyInt Syntax.w64) (Syntax.tcons (Syntax.tyStruct (L._∷_ 115 (L._∷_ 116 (L._∷_ 101 (L._∷_ 112 (L._∷_ 58 (L._∷_ 58 (L._∷_ 67 (L._∷_ 104 (L._∷_ 97 (L._∷_ 110 (L._∷_ 103 (L._∷_ 101 L.[])))))))))))) (Syntax.tcons (Syntax.tyStruct (L._∷_ 110 (L._∷_ 101 (L._∷_ 116 (L._∷_ 119 (L._∷_ 111 (L._∷_ 114 (L._∷_ 107 (L._∷_ 58 (L._∷_ 58 (L._∷_ 69 (L._∷_ 100 (L._∷_ 105 (L._∷_ 116 L.[]))))))))))))) (Syntax.tcons q7 (Syntax.tcons q7 (Syntax.tcons q7 (Syntax.tcons q7 (Syntax.tcons q2 (Syntax.tcons q2 (Syntax.tcons (Syntax.tyInt Syntax.w64) (Syntax.tcons q6 Syntax.tnil))))))))) (Syntax.tcons (Syntax.tyStruct (L._∷_ 115 (L._∷_ 116 (L._∷_ 101 (L._∷_ 112 (L._∷_ 58 (L._∷_ 58 (L._∷_ 79 (L._∷_ 108 (L._∷_ 100 L.[]))))))))) (Syntax.tcons (Syntax.tyInt Syntax.w64) (Syntax.tcons q6 (Syntax.tcons q7 (Syntax.tcons q7 (Syntax.tcons q7 (Syntax.tcons q7 (Syntax.tcons q4 Syntax.tnil)))))))) Syntax.tnil))) Syntax.tnil)))) Syntax.tnil))))) (L._∷_ q18 (L._∷_ q25 (L._∷_ (8, Rows.sc-here Row.sBool) (L._∷_ q13 (L._∷_ (10, Rows.any-gone (Syntax.tyStruct (L._∷_ 114 (L._∷_ 117 (L._∷_ 108 (L._∷_ 101 (L._∷_ 115 (L._∷_ 58 (L._∷_ 58 (L._∷_ 102 (L._∷_ 111 (L._∷_ 117 (L._∷_ 110 (L._∷_ 100 (L._∷_ 58 (L._∷_ 58 (L._∷_ 70 (L._∷_ 111 (L._∷_ 117 (L._∷_ 110 (L._∷_ 100 L.[]))))))))))))))))))) (Syntax.tcons Syntax.tyBool (Syntax.tcons Syntax.tyBool (Syntax.tcons (Syntax.tyStruct (L._∷_ 115 (L._∷_ 116 (L._∷_ 101 (L._∷_ 112 (L._∷_ 58 (L._∷_ 58 (L._∷_ 83 (L._∷_ 116 (L._∷_ 101 (L._∷_ 112 L.[])))))))))) (Syntax.tcons (Syntax.tyInt Syntax.w64) (Syntax.tcons (Syntax.tyInt Syntax.w64) (Syntax.tcons (Syntax.tyStruct (L._∷_ 115 (L._∷_ 116 (L._∷_ 101 (L._∷_ 112 (L._∷_ 58 (L._∷_ 58 (L._∷_ 67 (L._∷_ 104 (L._∷_ 97 (L._∷_ 110 (L._∷_ 103 (L._∷_ 101 L.[])))))))))))) (Syntax.tcons (Syntax.tyStruct (L._∷_ 110 (L._∷_ 101 (L._∷_ 116 (L._∷_ 119 (L._∷_ 111 (L._∷_ 114 (L._∷_ 107 (L._∷_ 58 (L._∷_ 58 (L._∷_ 69 (L._∷_ 100 (L._∷_ 105 (L._∷_ 116 L.[]))))))))))))) (Syntax.tcons q7 (Syntax.tcons q7 (Syntax.tcons q7 (Syntax.tcons q7 (Syntax.tcons q2 (Syntax.tcons q2 (Syntax.tcons (Syntax.tyInt Syntax.w64) (Syntax.tcons q6 Syntax.tnil))))))))) (Syntax.tcons (Syntax.tyStruct (L._∷_ 115 (L._∷_ 116 (L._∷_ 101 (L._∷_ 112 (L._∷_ 58 (L._∷_ 58 (L._∷_ 79 (L._∷_ 108 (L._∷_ 100 L.[]))))))))) (Syntax.tcons (Syntax.tyInt Syntax.w64) (Syntax.tcons q6 (Syntax.tcons q7 (Syntax.tcons q7 (Syntax.tcons q7 (Syntax.tcons q7 (Syntax.tcons q4 Syntax.tnil)))))))) Syntax.tnil))) Syntax.tnil)))) Syntax.tnil))))) (L._∷_ (11, Rows.any-gone (Syntax.tyStruct (L._∷_ 114 (L._∷_ 117 (L._∷_ 108 (L._∷_ 101 (L._∷_ 115 (L._∷_ 58 (L._∷_ 58 (L._∷_ 102 (L._∷_ 111 (L._∷_ 117 (L._∷_ 110 (L._∷_ 100 (L._∷_ 58 (L._∷_ 58 (L._∷_ 70 (L._∷_ 111 (L._∷_ 117 (L._∷_ 110 (L._∷_ 100 L.[]))))))))))))))))))) (Syntax.tcons Syntax.tyBool (Syntax.tcons Syntax.tyBool (Syntax.tcons (Syntax.tyStruct (L._∷_ 115 (L._∷_ 116 (L._∷_ 101 (L._∷_ 112 (L._∷_ 58 (L._∷_ 58 (L._∷_ 83 (L._∷_ 116 (L._∷_ 101 (L._∷_ 112 L.[])))))))))) (Syntax.tcons (Syntax.tyInt Syntax.w64) (Syntax.tcons (Syntax.tyInt Syntax.w64) (Syntax.tcons (Syntax.tyStruct (L._∷_ 115 (L._∷_ 116 (L._∷_ 101 (L._∷_ 112 (L._∷_ 58 (L._∷_ 58 (L._∷_ 67 (L._∷_ 104 (L._∷_ 97 (L._∷_ 110 (L._∷_ 103 (L._∷_ 101 L.[])))))))))))) (Syntax.tcons (Syntax.tyStruct (L._∷_ 110 (L._∷_ 101 (L._∷_ 116 (L._∷_ 119 (L._∷_ 111 (L._∷_ 114 (L._∷_ 107 (L._∷_ 58 (L._∷_ 58 (L._∷_ 69 (L._∷_ 100 (L._∷_ 105 (L._∷_ 116 L.[]))))))))))))) (Syntax.tcons q7 (Syntax.tcons q7 (Syntax.tcons q7 (Syntax.tcons q7 (Syntax.tcons q2 (Syntax.tcons q2 (Syntax.tcons (Syntax.tyInt Syntax.w64) (Syntax.tcons q6 Syntax.tnil))))))))) (Syntax.tcons (Syntax.tyStruct (L._∷_ 115 (L._∷_ 116 (L._∷_ 101 (L._∷_ 112 (L._∷_ 58 (L._∷_ 58 (L._∷_ 79 (L._∷_ 108 (L._∷_ 100 L.[]))))))))) (Syntax.tcons (Syntax.tyInt Syntax.w64) (Syntax.tcons q6 (Syntax.tcons q7 (Syntax.tcons q7 (Syntax.tcons q7 (Syntax.tcons q7 (Syntax.tcons q4 Syntax.tnil)))))))) Syntax.tnil))) Syntax.tnil)))) Syntax.tnil))))) (L._∷_ q28 (L._∷_ q29 (L._∷_ q30 (L._∷_ q31 L.[])))))))))))))))
 
 abbrev pub t19 : L.List Row.Entry
-t19 = L._∷_ (0, Rows.any-gone (Syntax.tyStruct (L._∷_ 114 (L._∷_ 117 (L._∷_ 108 (L._∷_ 101 (L._∷_ 115 (L._∷_ 58 (L._∷_ 58 (L._∷_ 116 (L._∷_ 114 (L._∷_ 105 (L._∷_ 101 (L._∷_ 100 (L._∷_ 58 (L._∷_ 58 (L._∷_ 76 (L._∷_ 111 (L._∷_ 111 (L._∷_ 107 (L._∷_ 101 (L._∷_ 100 L.[])))))))))))))))))))) (Syntax.tcons (Syntax.tyStruct (L._∷_ 114 (L._∷_ 117 (L._∷_ 108 (L._∷_ 101 (L._∷_ 115 (L._∷_ 58 (L._∷_ 58 (L._∷_ 102 (L._∷_ 111 (L._∷_ 117 (L._∷_ 110 (L._∷_ 100 (L._∷_ 58 (L._∷_ 58 (L._∷_ 70 (L._∷_ 111 (L._∷_ 117 (L._∷_ 110 (L._∷_ 100 L.[]))))))))))))))))))) (Syntax.tcons Syntax.tyBool (Syntax.tcons Syntax.tyBool (Syntax.tcons (Syntax.tyStruct (L._∷_ 115 (L._∷_ 116 (L._∷_ 101 (L._∷_ 112 (L._∷_ 58 (L._∷_ 58 (L._∷_ 83 (L._∷_ 116 (L._∷_ 101 (L._∷_ 112 L.[])))))))))) (Syntax.tcons (Syntax.tyInt Syntax.w64) (Syntax.tcons (Syntax.tyInt Syntax.w64) (Syntax.tcons (Syntax.tyStruct (L._∷_ 115 (L._∷_ 116 (L._∷_ 101 (L._∷_ 112 (L._∷_ 58 (L._∷_ 58 (L._∷_ 67 (L._∷_ 104 (L._∷_ 97 (L._∷_ 110 (L._∷_ 103 (L._∷_ 101 L.[])))))))))))) (Syntax.tcons (Syntax.tyStruct (L._∷_ 110 (L._∷_ 101 (L._∷_ 116 (L._∷_ 119 (L._∷_ 111 (L._∷_ 114 (L._∷_ 107 (L._∷_ 58 (L._∷_ 58 (L._∷_ 69 (L._∷_ 100 (L._∷_ 105 (L._∷_ 116 L.[]))))))))))))) (Syntax.tcons q7 (Syntax.tcons q7 (Syntax.tcons q7 (Syntax.tcons q7 (Syntax.tcons q2 (Syntax.tcons q2 (Syntax.tcons (Syntax.tyInt Syntax.w64) Syntax.tnil)))))))) (Syntax.tcons (Syntax.tyStruct (L._∷_ 115 (L._∷_ 116 (L._∷_ 101 (L._∷_ 112 (L._∷_ 58 (L._∷_ 58 (L._∷_ 79 (L._∷_ 108 (L._∷_ 100 L.[]))))))))) (Syntax.tcons (Syntax.tyInt Syntax.w64) (Syntax.tcons q6 (Syntax.tcons q7 (Syntax.tcons q7 (Syntax.tcons q7 (Syntax.tcons q7 (Syntax.tcons q4 Syntax.tnil)))))))) Syntax.tnil))) Syntax.tnil)))) Syntax.tnil)))) (Syntax.tcons q5 Syntax.tnil)))) (L._∷_ q20 (L._∷_ q11 (L._∷_ q3 (L._∷_ q26 (L._∷_ (5, Rows.any-gone (Syntax.tyStruct (L._∷_ 114 (L._∷_ 117 (L._∷_ 108 (L._∷_ 101 (L._∷_ 115 (L._∷_ 58 (L._∷_ 58 (L._∷_ 102 (L._∷_ 111 (L._∷_ 117 (L._∷_ 110 (L._∷_ 100 (L._∷_ 58 (L._∷_ 58 (L._∷_ 70 (L._∷_ 111 (L._∷_ 117 (L._∷_ 110 (L._∷_ 100 L.[]))))))))))))))))))) (Syntax.tcons Syntax.tyBool (Syntax.tcons Syntax.tyBool (Syntax.tcons (Syntax.tyStruct (L._∷_ 115 (L._∷_ 116 (L._∷_ 101 (L._∷_ 112 (L._∷_ 58 (L._∷_ 58 (L._∷_ 83 (L._∷_ 116 (L._∷_ 101 (L._∷_ 112 L.[])))))))))) (Syntax.tcons (Syntax.tyInt Syntax.w64) (Syntax.tcons (Syntax.tyInt Syntax.w64) (Syntax.tcons (Syntax.tyStruct (L._∷_ 115 (L._∷_ 116 (L._∷_ 101 (L._∷_ 112 (L._∷_ 58 (L._∷_ 58 (L._∷_ 67 (L._∷_ 104 (L._∷_ 97 (L._∷_ 110 (L._∷_ 103 (L._∷_ 101 L.[])))))))))))) (Syntax.tcons (Syntax.tyStruct (L._∷_ 110 (L._∷_ 101 (L._∷_ 116 (L._∷_ 119 (L._∷_ 111 (L._∷_ 114 (L._∷_ 107 (L._∷_ 58 (L._∷_ 58 (L._∷_ 69 (L._∷_ 100 (L._∷_ 105 (L._∷_ 116 L.[]))))))))))))) (Syntax.tcons q7 (Syntax.tcons q7 (Syntax.tcons q7 (Syntax.tcons q7 (Syntax.tcons q2 (Syntax.tcons q2 (Syntax.tcons (Syntax.tyInt Syntax.w64) Syntax.tnil)))))))) (Syntax.tcons (Syntax.tyStruct (L._∷_ 115 (L._∷_ 116 (L._∷_ 101 (L._∷_ 112 (L._∷_ 58 (L._∷_ 58 (L._∷_ 79 (L._∷_ 108 (L._∷_ 100 L.[]))))))))) (Syntax.tcons (Syntax.tyInt Syntax.w64) (Syntax.tcons q6 (Syntax.tcons q7 (Syntax.tcons q7 (Syntax.tcons q7 (Syntax.tcons q7 (Syntax.tcons q4 Syntax.tnil)))))))) Syntax.tnil))) Syntax.tnil)))) Syntax.tnil))))) (L._∷_ q18 (L._∷_ q25 (L._∷_ (8, Rows.sc-here Row.sBool) (L._∷_ q13 (L._∷_ (10, Rows.any-gone (Syntax.tyStruct (L._∷_ 114 (L._∷_ 117 (L._∷_ 108 (L._∷_ 101 (L._∷_ 115 (L._∷_ 58 (L._∷_ 58 (L._∷_ 102 (L._∷_ 111 (L._∷_ 117 (L._∷_ 110 (L._∷_ 100 (L._∷_ 58 (L._∷_ 58 (L._∷_ 70 (L._∷_ 111 (L._∷_ 117 (L._∷_ 110 (L._∷_ 100 L.[]))))))))))))))))))) (Syntax.tcons Syntax.tyBool (Syntax.tcons Syntax.tyBool (Syntax.tcons (Syntax.tyStruct (L._∷_ 115 (L._∷_ 116 (L._∷_ 101 (L._∷_ 112 (L._∷_ 58 (L._∷_ 58 (L._∷_ 83 (L._∷_ 116 (L._∷_ 101 (L._∷_ 112 L.[])))))))))) (Syntax.tcons (Syntax.tyInt Syntax.w64) (Syntax.tcons (Syntax.tyInt Syntax.w64) (Syntax.tcons (Syntax.tyStruct (L._∷_ 115 (L._∷_ 116 (L._∷_ 101 (L._∷_ 112 (L._∷_ 58 (L._∷_ 58 (L._∷_ 67 (L._∷_ 104 (L._∷_ 97 (L._∷_ 110 (L._∷_ 103 (L._∷_ 101 L.[])))))))))))) (Syntax.tcons (Syntax.tyStruct (L._∷_ 110 (L._∷_ 101 (L._∷_ 116 (L._∷_ 119 (L._∷_ 111 (L._∷_ 114 (L._∷_ 107 (L._∷_ 58 (L._∷_ 58 (L._∷_ 69 (L._∷_ 100 (L._∷_ 105 (L._∷_ 116 L.[]))))))))))))) (Syntax.tcons q7 (Syntax.tcons q7 (Syntax.tcons q7 (Syntax.tcons q7 (Syntax.tcons q2 (Syntax.tcons q2 (Syntax.tcons (Syntax.tyInt Syntax.w64) Syntax.tnil)))))))) (Syntax.tcons (Syntax.tyStruct (L._∷_ 115 (L._∷_ 116 (L._∷_ 101 (L._∷_ 112 (L._∷_ 58 (L._∷_ 58 (L._∷_ 79 (L._∷_ 108 (L._∷_ 100 L.[]))))))))) (Syntax.tcons (Syntax.tyInt Syntax.w64) (Syntax.tcons q6 (Syntax.tcons q7 (Syntax.tcons q7 (Syntax.tcons q7 (Syntax.tcons q7 (Syntax.tcons q4 Syntax.tnil)))))))) Syntax.tnil))) Syntax.tnil)))) Syntax.tnil))))) (L._∷_ (11, Rows.any-gone (Syntax.tyStruct (L._∷_ 114 (L._∷_ 117 (L._∷_ 108 (L._∷_ 101 (L._∷_ 115 (L._∷_ 58 (L._∷_ 58 (L._∷_ 102 (L._∷_ 111 (L._∷_ 117 (L._∷_ 110 (L._∷_ 100 (L._∷_ 58 (L._∷_ 58 (L._∷_ 70 (L._∷_ 111 (L._∷_ 117 (L._∷_ 110 (L._∷_ 100 L.[]))))))))))))))))))) (Syntax.tcons Syntax.tyBool (Syntax.tcons Syntax.tyBool (Syntax.tcons (Syntax.tyStruct (L._∷_ 115 (L._∷_ 116 (L._∷_ 101 (L._∷_ 112 (L._∷_ 58 (L._∷_ 58 (L._∷_ 83 (L._∷_ 116 (L._∷_ 101 (L._∷_ 112 L.[])))))))))) (Syntax.tcons (Syntax.tyInt Syntax.w64) (Syntax.tcons (Syntax.tyInt Syntax.w64) (Syntax.tcons (Syntax.tyStruct (L._∷_ 115 (L._∷_ 116 (L._∷_ 101 (L._∷_ 112 (L._∷_ 58 (L._∷_ 58 (L._∷_ 67 (L._∷_ 104 (L._∷_ 97 (L._∷_ 110 (L._∷_ 103 (L._∷_ 101 L.[])))))))))))) (Syntax.tcons (Syntax.tyStruct (L._∷_ 110 (L._∷_ 101 (L._∷_ 116 (L._∷_ 119 (L._∷_ 111 (L._∷_ 114 (L._∷_ 107 (L._∷_ 58 (L._∷_ 58 (L._∷_ 69 (L._∷_ 100 (L._∷_ 105 (L._∷_ 116 L.[]))))))))))))) (Syntax.tcons q7 (Syntax.tcons q7 (Syntax.tcons q7 (Syntax.tcons q7 (Syntax.tcons q2 (Syntax.tcons q2 (Syntax.tcons (Syntax.tyInt Syntax.w64) Syntax.tnil)))))))) (Syntax.tcons (Syntax.tyStruct (L._∷_ 115 (L._∷_ 116 (L._∷_ 101 (L._∷_ 112 (L._∷_ 58 (L._∷_ 58 (L._∷_ 79 (L._∷_ 108 (L._∷_ 100 L.[]))))))))) (Syntax.tcons (Syntax.tyInt Syntax.w64) (Syntax.tcons q6 (Syntax.tcons q7 (Syntax.tcons q7 (Syntax.tcons q7 (Syntax.tcons q7 (Syntax.tcons q4 Syntax.tnil)))))))) Syntax.tnil))) Syntax.tnil)))) Syntax.tnil))))) (L._∷_ q28 (L._∷_ q29 (L._∷_ q30 (L._∷_ q31 L.[])))))))))))))))
+t19 = L._∷_ (0, Rows.any-gone (Syntax.tyStruct (L._∷_ 114 (L._∷_ 117 (L._∷_ 108 (L._∷_ 101 (L._∷_ 115 (L._∷_ 58 (L._∷_ 58 (L._∷_ 116 (L._∷_ 114 (L._∷_ 105 (L._∷_ 101 (L._∷_ 100 (L._∷_ 58 (L._∷_ 58 (L._∷_ 76 (L._∷_ 111 (L._∷_ 111 (L._∷_ 107 (L._∷_ 101 (L._∷_ 100 L.[])))))))))))))))))))) (Syntax.tcons (Syntax.tyStruct (L._∷_ 114 (L._∷_ 117 (L._∷_ 108 (L._∷_ 101 (L._∷_ 115 (L._∷_ 58 (L._∷_ 58 (L._∷_ 102 (L._∷_ 111 (L._∷_ 117 (L._∷_ 110 (L._∷_ 100 (L._∷_ 58 (L._∷_ 58 (L._∷_ 70 (L._∷_ 111 (L._∷_ 117 (L._∷_ 110 (L._∷_ 100 L.[]))))))))))))))))))) (Syntax.tcons Syntax.tyBool (Syntax.tcons Syntax.tyBool (Syntax.tcons (Syntax.tyStruct (L._∷_ 115 (L._∷_ 116 (L._∷_ 101 (L._∷_ 112 (L._∷_ 58 (L._∷_ 58 (L._∷_ 83 (L._∷_ 116 (L._∷_ 101 (L._∷_ 112 L.[])))))))))) (Syntax.tcons (Syntax.tyInt Syntax.w64) (Syntax.tcons (Syntax.tyInt Syntax.w64) (Syntax.tcons (Syntax.tyStruct (L._∷_ 115 (L._∷_ 116 (L._∷_ 101 (L._∷_ 112 (L._∷_ 58 (L._∷_ 58 (L._∷_ 67 (L._∷_ 104 (L._∷_ 97 (L._∷_ 110 (L._∷_ 103 (L._∷_ 101 L.[])))))))))))) (Syntax.tcons (Syntax.tyStruct (L._∷_ 110 (L._∷_ 101 (L._∷_ 116 (L._∷_ 119 (L._∷_ 111 (L._∷_ 114 (L._∷_ 107 (L._∷_ 58 (L._∷_ 58 (L._∷_ 69 (L._∷_ 100 (L._∷_ 105 (L._∷_ 116 L.[]))))))))))))) (Syntax.tcons q7 (Syntax.tcons q7 (Syntax.tcons q7 (Syntax.tcons q7 (Syntax.tcons q2 (Syntax.tcons q2 (Syntax.tcons (Syntax.tyInt Syntax.w64) (Syntax.tcons q6 Syntax.tnil))))))))) (Syntax.tcons (Syntax.tyStruct (L._∷_ 115 (L._∷_ 116 (L._∷_ 101 (L._∷_ 112 (L._∷_ 58 (L._∷_ 58 (L._∷_ 79 (L._∷_ 108 (L._∷_ 100 L.[]))))))))) (Syntax.tcons (Syntax.tyInt Syntax.w64) (Syntax.tcons q6 (Syntax.tcons q7 (Syntax.tcons q7 (Syntax.tcons q7 (Syntax.tcons q7 (Syntax.tcons q4 Syntax.tnil)))))))) Syntax.tnil))) Syntax.tnil)))) Syntax.tnil)))) (Syntax.tcons q5 Syntax.tnil)))) (L._∷_ q20 (L._∷_ q11 (L._∷_ q3 (L._∷_ q26 (L._∷_ (5, Rows.any-gone (Syntax.tyStruct (L._∷_ 114 (L._∷_ 117 (L._∷_ 108 (L._∷_ 101 (L._∷_ 115 (L._∷_ 58 (L._∷_ 58 (L._∷_ 102 (L._∷_ 111 (L._∷_ 117 (L._∷_ 110 (L._∷_ 100 (L._∷_ 58 (L._∷_ 58 (L._∷_ 70 (L._∷_ 111 (L._∷_ 117 (L._∷_ 110 (L._∷_ 100 L.[]))))))))))))))))))) (Syntax.tcons Syntax.tyBool (Syntax.tcons Syntax.tyBool (Syntax.tcons (Syntax.tyStruct (L._∷_ 115 (L._∷_ 116 (L._∷_ 101 (L._∷_ 112 (L._∷_ 58 (L._∷_ 58 (L._∷_ 83 (L._∷_ 116 (L._∷_ 101 (L._∷_ 112 L.[])))))))))) (Syntax.tcons (Syntax.tyInt Syntax.w64) (Syntax.tcons (Syntax.tyInt Syntax.w64) (Syntax.tcons (Syntax.tyStruct (L._∷_ 115 (L._∷_ 116 (L._∷_ 101 (L._∷_ 112 (L._∷_ 58 (L._∷_ 58 (L._∷_ 67 (L._∷_ 104 (L._∷_ 97 (L._∷_ 110 (L._∷_ 103 (L._∷_ 101 L.[])))))))))))) (Syntax.tcons (Syntax.tyStruct (L._∷_ 110 (L._∷_ 101 (L._∷_ 116 (L._∷_ 119 (L._∷_ 111 (L._∷_ 114 (L._∷_ 107 (L._∷_ 58 (L._∷_ 58 (L._∷_ 69 (L._∷_ 100 (L._∷_ 105 (L._∷_ 116 L.[]))))))))))))) (Syntax.tcons q7 (Syntax.tcons q7 (Syntax.tcons q7 (Syntax.tcons q7 (Syntax.tcons q2 (Syntax.tcons q2 (Syntax.tcons (Syntax.tyInt Syntax.w64) (Syntax.tcons q6 Syntax.tnil))))))))) (Syntax.tcons (Syntax.tyStruct (L._∷_ 115 (L._∷_ 116 (L._∷_ 101 (L._∷_ 112 (L._∷_ 58 (L._∷_ 58 (L._∷_ 79 (L._∷_ 108 (L._∷_ 100 L.[]))))))))) (Syntax.tcons (Syntax.tyInt Syntax.w64) (Syntax.tcons q6 (Syntax.tcons q7 (Syntax.tcons q7 (Syntax.tcons q7 (Syntax.tcons q7 (Syntax.tcons q4 Syntax.tnil)))))))) Syntax.tnil))) Syntax.tnil)))) Syntax.tnil))))) (L._∷_ q18 (L._∷_ q25 (L._∷_ (8, Rows.sc-here Row.sBool) (L._∷_ q13 (L._∷_ (10, Rows.any-gone (Syntax.tyStruct (L._∷_ 114 (L._∷_ 117 (L._∷_ 108 (L._∷_ 101 (L._∷_ 115 (L._∷_ 58 (L._∷_ 58 (L._∷_ 102 (L._∷_ 111 (L._∷_ 117 (L._∷_ 110 (L._∷_ 100 (L._∷_ 58 (L._∷_ 58 (L._∷_ 70 (L._∷_ 111 (L._∷_ 117 (L._∷_ 110 (L._∷_ 100 L.[]))))))))))))))))))) (Syntax.tcons Syntax.tyBool (Syntax.tcons Syntax.tyBool (Syntax.tcons (Syntax.tyStruct (L._∷_ 115 (L._∷_ 116 (L._∷_ 101 (L._∷_ 112 (L._∷_ 58 (L._∷_ 58 (L._∷_ 83 (L._∷_ 116 (L._∷_ 101 (L._∷_ 112 L.[])))))))))) (Syntax.tcons (Syntax.tyInt Syntax.w64) (Syntax.tcons (Syntax.tyInt Syntax.w64) (Syntax.tcons (Syntax.tyStruct (L._∷_ 115 (L._∷_ 116 (L._∷_ 101 (L._∷_ 112 (L._∷_ 58 (L._∷_ 58 (L._∷_ 67 (L._∷_ 104 (L._∷_ 97 (L._∷_ 110 (L._∷_ 103 (L._∷_ 101 L.[])))))))))))) (Syntax.tcons (Syntax.tyStruct (L._∷_ 110 (L._∷_ 101 (L._∷_ 116 (L._∷_ 119 (L._∷_ 111 (L._∷_ 114 (L._∷_ 107 (L._∷_ 58 (L._∷_ 58 (L._∷_ 69 (L._∷_ 100 (L._∷_ 105 (L._∷_ 116 L.[]))))))))))))) (Syntax.tcons q7 (Syntax.tcons q7 (Syntax.tcons q7 (Syntax.tcons q7 (Syntax.tcons q2 (Syntax.tcons q2 (Syntax.tcons (Syntax.tyInt Syntax.w64) (Syntax.tcons q6 Syntax.tnil))))))))) (Syntax.tcons (Syntax.tyStruct (L._∷_ 115 (L._∷_ 116 (L._∷_ 101 (L._∷_ 112 (L._∷_ 58 (L._∷_ 58 (L._∷_ 79 (L._∷_ 108 (L._∷_ 100 L.[]))))))))) (Syntax.tcons (Syntax.tyInt Syntax.w64) (Syntax.tcons q6 (Syntax.tcons q7 (Syntax.tcons q7 (Syntax.tcons q7 (Syntax.tcons q7 (Syntax.tcons q4 Syntax.tnil)))))))) Syntax.tnil))) Syntax.tnil)))) Syntax.tnil))))) (L._∷_ (11, Rows.any-gone (Syntax.tyStruct (L._∷_ 114 (L._∷_ 117 (L._∷_ 108 (L._∷_ 101 (L._∷_ 115 (L._∷_ 58 (L._∷_ 58 (L._∷_ 102 (L._∷_ 111 (L._∷_ 117 (L._∷_ 110 (L._∷_ 100 (L._∷_ 58 (L._∷_ 58 (L._∷_ 70 (L._∷_ 111 (L._∷_ 117 (L._∷_ 110 (L._∷_ 100 L.[]))))))))))))))))))) (Syntax.tcons Syntax.tyBool (Syntax.tcons Syntax.tyBool (Syntax.tcons (Syntax.tyStruct (L._∷_ 115 (L._∷_ 116 (L._∷_ 101 (L._∷_ 112 (L._∷_ 58 (L._∷_ 58 (L._∷_ 83 (L._∷_ 116 (L._∷_ 101 (L._∷_ 112 L.[])))))))))) (Syntax.tcons (Syntax.tyInt Syntax.w64) (Syntax.tcons (Syntax.tyInt Syntax.w64) (Syntax.tcons (Syntax.tyStruct (L._∷_ 115 (L._∷_ 116 (L._∷_ 101 (L._∷_ 112 (L._∷_ 58 (L._∷_ 58 (L._∷_ 67 (L._∷_ 104 (L._∷_ 97 (L._∷_ 110 (L._∷_ 103 (L._∷_ 101 L.[])))))))))))) (Syntax.tcons (Syntax.tyStruct (L._∷_ 110 (L._∷_ 101 (L._∷_ 116 (L._∷_ 119 (L._∷_ 111 (L._∷_ 114 (L._∷_ 107 (L._∷_ 58 (L._∷_ 58 (L._∷_ 69 (L._∷_ 100 (L._∷_ 105 (L._∷_ 116 L.[]))))))))))))) (Syntax.tcons q7 (Syntax.tcons q7 (Syntax.tcons q7 (Syntax.tcons q7 (Syntax.tcons q2 (Syntax.tcons q2 (Syntax.tcons (Syntax.tyInt Syntax.w64) (Syntax.tcons q6 Syntax.tnil))))))))) (Syntax.tcons (Syntax.tyStruct (L._∷_ 115 (L._∷_ 116 (L._∷_ 101 (L._∷_ 112 (L._∷_ 58 (L._∷_ 58 (L._∷_ 79 (L._∷_ 108 (L._∷_ 100 L.[]))))))))) (Syntax.tcons (Syntax.tyInt Syntax.w64) (Syntax.tcons q6 (Syntax.tcons q7 (Syntax.tcons q7 (Syntax.tcons q7 (Syntax.tcons q7 (Syntax.tcons q4 Syntax.tnil)))))))) Syntax.tnil))) Syntax.tnil)))) Syntax.tnil))))) (L._∷_ q28 (L._∷_ q29 (L._∷_ q30 (L._∷_ q31 L.[])))))))))))))))
 
 abbrev pub t20 : L.List Row.Entry
-t20 = L._∷_ (0, Rows.any-gone (Syntax.tyStruct (L._∷_ 114 (L._∷_ 117 (L._∷_ 108 (L._∷_ 101 (L._∷_ 115 (L._∷_ 58 (L._∷_ 58 (L._∷_ 116 (L._∷_ 114 (L._∷_ 105 (L._∷_ 101 (L._∷_ 100 (L._∷_ 58 (L._∷_ 58 (L._∷_ 76 (L._∷_ 111 (L._∷_ 111 (L._∷_ 107 (L._∷_ 101 (L._∷_ 100 L.[])))))))))))))))))))) (Syntax.tcons (Syntax.tyStruct (L._∷_ 114 (L._∷_ 117 (L._∷_ 108 (L._∷_ 101 (L._∷_ 115 (L._∷_ 58 (L._∷_ 58 (L._∷_ 102 (L._∷_ 111 (L._∷_ 117 (L._∷_ 110 (L._∷_ 100 (L._∷_ 58 (L._∷_ 58 (L._∷_ 70 (L._∷_ 111 (L._∷_ 117 (L._∷_ 110 (L._∷_ 100 L.[]))))))))))))))))))) (Syntax.tcons Syntax.tyBool (Syntax.tcons Syntax.tyBool (Syntax.tcons (Syntax.tyStruct (L._∷_ 115 (L._∷_ 116 (L._∷_ 101 (L._∷_ 112 (L._∷_ 58 (L._∷_ 58 (L._∷_ 83 (L._∷_ 116 (L._∷_ 101 (L._∷_ 112 L.[])))))))))) (Syntax.tcons (Syntax.tyInt Syntax.w64) (Syntax.tcons (Syntax.tyInt Syntax.w64) (Syntax.tcons (Syntax.tyStruct (L._∷_ 115 (L._∷_ 116 (L._∷_ 101 (L._∷_ 112 (L._∷_ 58 (L._∷_ 58 (L._∷_ 67 (L._∷_ 104 (L._∷_ 97 (L._∷_ 110 (L._∷_ 103 (L._∷_ 101 L.[])))))))))))) (Syntax.tcons (Syntax.tyStruct (L._∷_ 110 (L._∷_ 101 (L._∷_ 116 (L._∷_ 119 (L._∷_ 111 (L._∷_ 114 (L._∷_ 107 (L._∷_ 58 (L._∷_ 58 (L._∷_ 69 (L._∷_ 100 (L._∷_ 105 (L._∷_ 116 L.[]))))))))))))) (Syntax.tcons q7 (Syntax.tcons q7 (Syntax.tcons q7 (Syntax.tcons q7 (Syntax.tcons q2 (Syntax.tcons q2 (Syntax.tcons (Syntax.tyInt Syntax.w64) Syntax.tnil)))))))) (Syntax.tcons (Syntax.tyStruct (L._∷_ 115 (L._∷_ 116 (L._∷_ 101 (L._∷_ 112 (L._∷_ 58 (L._∷_ 58 (L._∷_ 79 (L._∷_ 108 (L._∷_ 100 L.[]))))))))) (Syntax.tcons (Syntax.tyInt Syntax.w64) (Syntax.tcons q6 (Syntax.tcons q7 (Syntax.tcons q7 (Syntax.tcons q7 (Syntax.tcons q7 (Syntax.tcons q4 Syntax.tnil)))))))) Syntax.tnil))) Syntax.tnil)))) Syntax.tnil)))) (Syntax.tcons q5 Syntax.tnil)))) (L._∷_ q20 (L._∷_ q11 (L._∷_ q3 (L._∷_ q26 (L._∷_ (5, Rows.any-gone (Syntax.tyStruct (L._∷_ 114 (L._∷_ 117 (L._∷_ 108 (L._∷_ 101 (L._∷_ 115 (L._∷_ 58 (L._∷_ 58 (L._∷_ 102 (L._∷_ 111 (L._∷_ 117 (L._∷_ 110 (L._∷_ 100 (L._∷_ 58 (L._∷_ 58 (L._∷_ 70 (L._∷_ 111 (L._∷_ 117 (L._∷_ 110 (L._∷_ 100 L.[]))))))))))))))))))) (Syntax.tcons Syntax.tyBool (Syntax.tcons Syntax.tyBool (Syntax.tcons (Syntax.tyStruct (L._∷_ 115 (L._∷_ 116 (L._∷_ 101 (L._∷_ 112 (L._∷_ 58 (L._∷_ 58 (L._∷_ 83 (L._∷_ 116 (L._∷_ 101 (L._∷_ 112 L.[])))))))))) (Syntax.tcons (Syntax.tyInt Syntax.w64) (Syntax.tcons (Syntax.tyInt Syntax.w64) (Syntax.tcons (Syntax.tyStruct (L._∷_ 115 (L._∷_ 116 (L._∷_ 101 (L._∷_ 112 (L._∷_ 58 (L._∷_ 58 (L._∷_ 67 (L._∷_ 104 (L._∷_ 97 (L._∷_ 110 (L._∷_ 103 (L._∷_ 101 L.[])))))))))))) (Syntax.tcons (Syntax.tyStruct (L._∷_ 110 (L._∷_ 101 (L._∷_ 116 (L._∷_ 119 (L._∷_ 111 (L._∷_ 114 (L._∷_ 107 (L._∷_ 58 (L._∷_ 58 (L._∷_ 69 (L._∷_ 100 (L._∷_ 105 (L._∷_ 116 L.[]))))))))))))) (Syntax.tcons q7 (Syntax.tcons q7 (Syntax.tcons q7 (Syntax.tcons q7 (Syntax.tcons q2 (Syntax.tcons q2 (Syntax.tcons (Syntax.tyInt Syntax.w64) Syntax.tnil)))))))) (Syntax.tcons (Syntax.tyStruct (L._∷_ 115 (L._∷_ 116 (L._∷_ 101 (L._∷_ 112 (L._∷_ 58 (L._∷_ 58 (L._∷_ 79 (L._∷_ 108 (L._∷_ 100 L.[]))))))))) (Syntax.tcons (Syntax.tyInt Syntax.w64) (Syntax.tcons q6 (Syntax.tcons q7 (Syntax.tcons q7 (Syntax.tcons q7 (Syntax.tcons q7 (Syntax.tcons q4 Syntax.tnil)))))))) Syntax.tnil))) Syntax.tnil)))) Syntax.tnil))))) (L._∷_ q18 (L._∷_ q25 (L._∷_ (8, Rows.sc-here Row.sBool) (L._∷_ q13 (L._∷_ (10, Rows.any-gone (Syntax.tyStruct (L._∷_ 114 (L._∷_ 117 (L._∷_ 108 (L._∷_ 101 (L._∷_ 115 (L._∷_ 58 (L._∷_ 58 (L._∷_ 102 (L._∷_ 111 (L._∷_ 117 (L._∷_ 110 (L._∷_ 100 (L._∷_ 58 (L._∷_ 58 (L._∷_ 70 (L._∷_ 111 (L._∷_ 117 (L._∷_ 110 (L._∷_ 100 L.[]))))))))))))))))))) (Syntax.tcons Syntax.tyBool (Syntax.tcons Syntax.tyBool (Syntax.tcons (Syntax.tyStruct (L._∷_ 115 (L._∷_ 116 (L._∷_ 101 (L._∷_ 112 (L._∷_ 58 (L._∷_ 58 (L._∷_ 83 (L._∷_ 116 (L._∷_ 101 (L._∷_ 112 L.[])))))))))) (Syntax.tcons (Syntax.tyInt Syntax.w64) (Syntax.tcons (Syntax.tyInt Syntax.w64) (Syntax.tcons (Syntax.tyStruct (L._∷_ 115 (L._∷_ 116 (L._∷_ 101 (L._∷_ 112 (L._∷_ 58 (L._∷_ 58 (L._∷_ 67 (L._∷_ 104 (L._∷_ 97 (L._∷_ 110 (L._∷_ 103 (L._∷_ 101 L.[])))))))))))) (Syntax.tcons (Syntax.tyStruct (L._∷_ 110 (L._∷_ 101 (L._∷_ 116 (L._∷_ 119 (L._∷_ 111 (L._∷_ 114 (L._∷_ 107 (L._∷_ 58 (L._∷_ 58 (L._∷_ 69 (L._∷_ 100 (L._∷_ 105 (L._∷_ 116 L.[]))))))))))))) (Syntax.tcons q7 (Syntax.tcons q7 (Syntax.tcons q7 (Syntax.tcons q7 (Syntax.tcons q2 (Syntax.tcons q2 (Syntax.tcons (Syntax.tyInt Syntax.w64) Syntax.tnil)))))))) (Syntax.tcons (Syntax.tyStruct (L._∷_ 115 (L._∷_ 116 (L._∷_ 101 (L._∷_ 112 (L._∷_ 58 (L._∷_ 58 (L._∷_ 79 (L._∷_ 108 (L._∷_ 100 L.[]))))))))) (Syntax.tcons (Syntax.tyInt Syntax.w64) (Syntax.tcons q6 (Syntax.tcons q7 (Syntax.tcons q7 (Syntax.tcons q7 (Syntax.tcons q7 (Syntax.tcons q4 Syntax.tnil)))))))) Syntax.tnil))) Syntax.tnil)))) Syntax.tnil))))) (L._∷_ (11, Rows.any-gone (Syntax.tyStruct (L._∷_ 114 (L._∷_ 117 (L._∷_ 108 (L._∷_ 101 (L._∷_ 115 (L._∷_ 58 (L._∷_ 58 (L._∷_ 102 (L._∷_ 111 (L._∷_ 117 (L._∷_ 110 (L._∷_ 100 (L._∷_ 58 (L._∷_ 58 (L._∷_ 70 (L._∷_ 111 (L._∷_ 117 (L._∷_ 110 (L._∷_ 100 L.[]))))))))))))))))))) (Syntax.tcons Syntax.tyBool (Syntax.tcons Syntax.tyBool (Syntax.tcons (Syntax.tyStruct (L._∷_ 115 (L._∷_ 116 (L._∷_ 101 (L._∷_ 112 (L._∷_ 58 (L._∷_ 58 (L._∷_ 83 (L._∷_ 116 (L._∷_ 101 (L._∷_ 112 L.[])))))))))) (Syntax.tcons (Syntax.tyInt Syntax.w64) (Syntax.tcons (Syntax.tyInt Syntax.w64) (Syntax.tcons (Syntax.tyStruct (L._∷_ 115 (L._∷_ 116 (L._∷_ 101 (L._∷_ 112 (L._∷_ 58 (L._∷_ 58 (L._∷_ 67 (L._∷_ 104 (L._∷_ 97 (L._∷_ 110 (L._∷_ 103 (L._∷_ 101 L.[])))))))))))) (Syntax.tcons (Syntax.tyStruct (L._∷_ 110 (L._∷_ 101 (L._∷_ 116 (L._∷_ 119 (L._∷_ 111 (L._∷_ 114 (L._∷_ 107 (L._∷_ 58 (L._∷_ 58 (L._∷_ 69 (L._∷_ 100 (L._∷_ 105 (L._∷_ 116 L.[]))))))))))))) (Syntax.tcons q7 (Syntax.tcons q7 (Syntax.tcons q7 (Syntax.tcons q7 (Syntax.tcons q2 (Syntax.tcons q2 (Syntax.tcons (Syntax.tyInt Syntax.w64) Syntax.tnil)))))))) (Syntax.tcons (Syntax.tyStruct (L._∷_ 115 (L._∷_ 116 (L._∷_ 101 (L._∷_ 112 (L._∷_ 58 (L._∷_ 58 (L._∷_ 79 (L._∷_ 108 (L._∷_ 100 L.[]))))))))) (Syntax.tcons (Syntax.tyInt Syntax.w64) (Syntax.tcons q6 (Syntax.tcons q7 (Syntax.tcons q7 (Syntax.tcons q7 (Syntax.tcons q7 (Syntax.tcons q4 Syntax.tnil)))))))) Syntax.tnil))) Syntax.tnil)))) Syntax.tnil))))) (L._∷_ q28 (L._∷_ q29 (L._∷_ (14, Rows.sc-here Row.sBool) (L._∷_ q31 L.[])))))))))))))))
+t20 = L._∷_ (0, Rows.any-gone (Syntax.tyStruct (L._∷_ 114 (L._∷_ 117 (L._∷_ 108 (L._∷_ 101 (L._∷_ 115 (L._∷_ 58 (L._∷_ 58 (L._∷_ 116 (L._∷_ 114 (L._∷_ 105 (L._∷_ 101 (L._∷_ 100 (L._∷_ 58 (L._∷_ 58 (L._∷_ 76 (L._∷_ 111 (L._∷_ 111 (L._∷_ 107 (L._∷_ 101 (L._∷_ 100 L.[])))))))))))))))))))) (Syntax.tcons (Syntax.tyStruct (L._∷_ 114 (L._∷_ 117 (L._∷_ 108 (L._∷_ 101 (L._∷_ 115 (L._∷_ 58 (L._∷_ 58 (L._∷_ 102 (L._∷_ 111 (L._∷_ 117 (L._∷_ 110 (L._∷_ 100 (L._∷_ 58 (L._∷_ 58 (L._∷_ 70 (L._∷_ 111 (L._∷_ 117 (L._∷_ 110 (L._∷_ 100 L.[]))))))))))))))))))) (Syntax.tcons Syntax.tyBool (Syntax.tcons Syntax.tyBool (Syntax.tcons (Syntax.tyStruct (L._∷_ 115 (L._∷_ 116 (L._∷_ 101 (L._∷_ 112 (L._∷_ 58 (L._∷_ 58 (L._∷_ 83 (L._∷_ 116 (L._∷_ 101 (L._∷_ 112 L.[])))))))))) (Syntax.tcons (Syntax.tyInt Syntax.w64) (Syntax.tcons (Syntax.tyInt Syntax.w64) (Syntax.tcons (Syntax.tyStruct (L._∷_ 115 (L._∷_ 116 (L._∷_ 101 (L._∷_ 112 (L._∷_ 58 (L._∷_ 58 (L._∷_ 67 (L._∷_ 104 (L._∷_ 97 (L._∷_ 110 (L._∷_ 103 (L._∷_ 101 L.[])))))))))))) (Syntax.tcons (Syntax.tyStruct (L._∷_ 110 (L._∷_ 101 (L._∷_ 116 (L._∷_ 119 (L._∷_ 111 (L._∷_ 114 (L._∷_ 107 (L._∷_ 58 (L._∷_ 58 (L._∷_ 69 (L._∷_ 100 (L._∷_ 105 (L._∷_ 116 L.[]))))))))))))) (Syntax.tcons q7 (Syntax.tcons q7 (Syntax.tcons q7 (Syntax.tcons q7 (Syntax.tcons q2 (Syntax.tcons q2 (Syntax.tcons (Syntax.tyInt Syntax.w64) (Syntax.tcons q6 Syntax.tnil))))))))) (Syntax.tcons (Syntax.tyStruct (L._∷_ 115 (L._∷_ 116 (L._∷_ 101 (L._∷_ 112 (L._∷_ 58 (L._∷_ 58 (L._∷_ 79 (L._∷_ 108 (L._∷_ 100 L.[]))))))))) (Syntax.tcons (Syntax.tyInt Syntax.w64) (Syntax.tcons q6 (Syntax.tcons q7 (Syntax.tcons q7 (Syntax.tcons q7 (Syntax.tcons q7 (Syntax.tcons q4 Syntax.tnil)))))))) Syntax.tnil))) Syntax.tnil)))) Syntax.tnil)))) (Syntax.tcons q5 Syntax.tnil)))) (L._∷_ q20 (L._∷_ q11 (L._∷_ q3 (L._∷_ q26 (L._∷_ (5, Rows.any-gone (Syntax.tyStruct (L._∷_ 114 (L._∷_ 117 (L._∷_ 108 (L._∷_ 101 (L._∷_ 115 (L._∷_ 58 (L._∷_ 58 (L._∷_ 102 (L._∷_ 111 (L._∷_ 117 (L._∷_ 110 (L._∷_ 100 (L._∷_ 58 (L._∷_ 58 (L._∷_ 70 (L._∷_ 111 (L._∷_ 117 (L._∷_ 110 (L._∷_ 100 L.[]))))))))))))))))))) (Syntax.tcons Syntax.tyBool (Syntax.tcons Syntax.tyBool (Syntax.tcons (Syntax.tyStruct (L._∷_ 115 (L._∷_ 116 (L._∷_ 101 (L._∷_ 112 (L._∷_ 58 (L._∷_ 58 (L._∷_ 83 (L._∷_ 116 (L._∷_ 101 (L._∷_ 112 L.[])))))))))) (Syntax.tcons (Syntax.tyInt Syntax.w64) (Syntax.tcons (Syntax.tyInt Syntax.w64) (Syntax.tcons (Syntax.tyStruct (L._∷_ 115 (L._∷_ 116 (L._∷_ 101 (L._∷_ 112 (L._∷_ 58 (L._∷_ 58 (L._∷_ 67 (L._∷_ 104 (L._∷_ 97 (L._∷_ 110 (L._∷_ 103 (L._∷_ 101 L.[])))))))))))) (Syntax.tcons (Syntax.tyStruct (L._∷_ 110 (L._∷_ 101 (L._∷_ 116 (L._∷_ 119 (L._∷_ 111 (L._∷_ 114 (L._∷_ 107 (L._∷_ 58 (L._∷_ 58 (L._∷_ 69 (L._∷_ 100 (L._∷_ 105 (L._∷_ 116 L.[]))))))))))))) (Syntax.tcons q7 (Syntax.tcons q7 (Syntax.tcons q7 (Syntax.tcons q7 (Syntax.tcons q2 (Syntax.tcons q2 (Syntax.tcons (Syntax.tyInt Syntax.w64) (Syntax.tcons q6 Syntax.tnil))))))))) (Syntax.tcons (Syntax.tyStruct (L._∷_ 115 (L._∷_ 116 (L._∷_ 101 (L._∷_ 112 (L._∷_ 58 (L._∷_ 58 (L._∷_ 79 (L._∷_ 108 (L._∷_ 100 L.[]))))))))) (Syntax.tcons (Syntax.tyInt Syntax.w64) (Syntax.tcons q6 (Syntax.tcons q7 (Syntax.tcons q7 (Syntax.tcons q7 (Syntax.tcons q7 (Syntax.tcons q4 Syntax.tnil)))))))) Syntax.tnil))) Syntax.tnil)))) Syntax.tnil))))) (L._∷_ q18 (L._∷_ q25 (L._∷_ (8, Rows.sc-here Row.sBool) (L._∷_ q13 (L._∷_ (10, Rows.any-gone (Syntax.tyStruct (L._∷_ 114 (L._∷_ 117 (L._∷_ 108 (L._∷_ 101 (L._∷_ 115 (L._∷_ 58 (L._∷_ 58 (L._∷_ 102 (L._∷_ 111 (L._∷_ 117 (L._∷_ 110 (L._∷_ 100 (L._∷_ 58 (L._∷_ 58 (L._∷_ 70 (L._∷_ 111 (L._∷_ 117 (L._∷_ 110 (L._∷_ 100 L.[]))))))))))))))))))) (Syntax.tcons Syntax.tyBool (Syntax.tcons Syntax.tyBool (Syntax.tcons (Syntax.tyStruct (L._∷_ 115 (L._∷_ 116 (L._∷_ 101 (L._∷_ 112 (L._∷_ 58 (L._∷_ 58 (L._∷_ 83 (L._∷_ 116 (L._∷_ 101 (L._∷_ 112 L.[])))))))))) (Syntax.tcons (Syntax.tyInt Syntax.w64) (Syntax.tcons (Syntax.tyInt Syntax.w64) (Syntax.tcons (Syntax.tyStruct (L._∷_ 115 (L._∷_ 116 (L._∷_ 101 (L._∷_ 112 (L._∷_ 58 (L._∷_ 58 (L._∷_ 67 (L._∷_ 104 (L._∷_ 97 (L._∷_ 110 (L._∷_ 103 (L._∷_ 101 L.[])))))))))))) (Syntax.tcons (Syntax.tyStruct (L._∷_ 110 (L._∷_ 101 (L._∷_ 116 (L._∷_ 119 (L._∷_ 111 (L._∷_ 114 (L._∷_ 107 (L._∷_ 58 (L._∷_ 58 (L._∷_ 69 (L._∷_ 100 (L._∷_ 105 (L._∷_ 116 L.[]))))))))))))) (Syntax.tcons q7 (Syntax.tcons q7 (Syntax.tcons q7 (Syntax.tcons q7 (Syntax.tcons q2 (Syntax.tcons q2 (Syntax.tcons (Syntax.tyInt Syntax.w64) (Syntax.tcons q6 Syntax.tnil))))))))) (Syntax.tcons (Syntax.tyStruct (L._∷_ 115 (L._∷_ 116 (L._∷_ 101 (L._∷_ 112 (L._∷_ 58 (L._∷_ 58 (L._∷_ 79 (L._∷_ 108 (L._∷_ 100 L.[]))))))))) (Syntax.tcons (Syntax.tyInt Syntax.w64) (Syntax.tcons q6 (Syntax.tcons q7 (Syntax.tcons q7 (Syntax.tcons q7 (Syntax.tcons q7 (Syntax.tcons q4 Syntax.tnil)))))))) Syntax.tnil))) Syntax.tnil)))) Syntax.tnil))))) (L._∷_ (11, Rows.any-gone (Syntax.tyStruct (L._∷_ 114 (L._∷_ 117 (L._∷_ 108 (L._∷_ 101 (L._∷_ 115 (L._∷_ 58 (L._∷_ 58 (L._∷_ 102 (L._∷_ 111 (L._∷_ 117 (L._∷_ 110 (L._∷_ 100 (L._∷_ 58 (L._∷_ 58 (L._∷_ 70 (L._∷_ 111 (L._∷_ 117 (L._∷_ 110 (L._∷_ 100 L.[]))))))))))))))))))) (Syntax.tcons Syntax.tyBool (Syntax.tcons Syntax.tyBool (Syntax.tcons (Syntax.tyStruct (L._∷_ 115 (L._∷_ 116 (L._∷_ 101 (L._∷_ 112 (L._∷_ 58 (L._∷_ 58 (L._∷_ 83 (L._∷_ 116 (L._∷_ 101 (L._∷_ 112 L.[])))))))))) (Syntax.tcons (Syntax.tyInt Syntax.w64) (Syntax.tcons (Syntax.tyInt Syntax.w64) (Syntax.tcons (Syntax.tyStruct (L._∷_ 115 (L._∷_ 116 (L._∷_ 101 (L._∷_ 112 (L._∷_ 58 (L._∷_ 58 (L._∷_ 67 (L._∷_ 104 (L._∷_ 97 (L._∷_ 110 (L._∷_ 103 (L._∷_ 101 L.[])))))))))))) (Syntax.tcons (Syntax.tyStruct (L._∷_ 110 (L._∷_ 101 (L._∷_ 116 (L._∷_ 119 (L._∷_ 111 (L._∷_ 114 (L._∷_ 107 (L._∷_ 58 (L._∷_ 58 (L._∷_ 69 (L._∷_ 100 (L._∷_ 105 (L._∷_ 116 L.[]))))))))))))) (Syntax.tcons q7 (Syntax.tcons q7 (Syntax.tcons q7 (Syntax.tcons q7 (Syntax.tcons q2 (Syntax.tcons q2 (Syntax.tcons (Syntax.tyInt Syntax.w64) (Syntax.tcons q6 Syntax.tnil))))))))) (Syntax.tcons (Syntax.tyStruct (L._∷_ 115 (L._∷_ 116 (L._∷_ 101 (L._∷_ 112 (L._∷_ 58 (L._∷_ 58 (L._∷_ 79 (L._∷_ 108 (L._∷_ 100 L.[]))))))))) (Syntax.tcons (Syntax.tyInt Syntax.w64) (Syntax.tcons q6 (Syntax.tcons q7 (Syntax.tcons q7 (Syntax.tcons q7 (Syntax.tcons q7 (Syntax.tcons q4 Syntax.tnil)))))))) Syntax.tnil))) Syntax.tnil)))) Syntax.tnil))))) (L._∷_ q28 (L._∷_ q29 (L._∷_ (14, Rows.sc-here Row.sBool) (L._∷_ q31 L.[])))))))))))))))
 
 abbrev pub t21 : L.List Row.Entry
-t21 = L._∷_ (0, Rows.any-gone (Syntax.tyStruct (L._∷_ 114 (L._∷_ 117 (L._∷_ 108 (L._∷_ 101 (L._∷_ 115 (L._∷_ 58 (L._∷_ 58 (L._∷_ 116 (L._∷_ 114 (L._∷_ 105 (L._∷_ 101 (L._∷_ 100 (L._∷_ 58 (L._∷_ 58 (L._∷_ 76 (L._∷_ 111 (L._∷_ 111 (L._∷_ 107 (L._∷_ 101 (L._∷_ 100 L.[])))))))))))))))))))) (Syntax.tcons (Syntax.tyStruct (L._∷_ 114 (L._∷_ 117 (L._∷_ 108 (L._∷_ 101 (L._∷_ 115 (L._∷_ 58 (L._∷_ 58 (L._∷_ 102 (L._∷_ 111 (L._∷_ 117 (L._∷_ 110 (L._∷_ 100 (L._∷_ 58 (L._∷_ 58 (L._∷_ 70 (L._∷_ 111 (L._∷_ 117 (L._∷_ 110 (L._∷_ 100 L.[]))))))))))))))))))) (Syntax.tcons Syntax.tyBool (Syntax.tcons Syntax.tyBool (Syntax.tcons (Syntax.tyStruct (L._∷_ 115 (L._∷_ 116 (L._∷_ 101 (L._∷_ 112 (L._∷_ 58 (L._∷_ 58 (L._∷_ 83 (L._∷_ 116 (L._∷_ 101 (L._∷_ 112 L.[])))))))))) (Syntax.tcons (Syntax.tyInt Syntax.w64) (Syntax.tcons (Syntax.tyInt Syntax.w64) (Syntax.tcons (Syntax.tyStruct (L._∷_ 115 (L._∷_ 116 (L._∷_ 101 (L._∷_ 112 (L._∷_ 58 (L._∷_ 58 (L._∷_ 67 (L._∷_ 104 (L._∷_ 97 (L._∷_ 110 (L._∷_ 103 (L._∷_ 101 L.[])))))))))))) (Syntax.tcons (Syntax.tyStruct (L._∷_ 110 (L._∷_ 101 (L._∷_ 116 (L._∷_ 119 (L._∷_ 111 (L._∷_ 114 (L._∷_ 107 (L._∷_ 58 (L._∷_ 58 (L._∷_ 69 (L._∷_ 100 (L._∷_ 105 (L._∷_ 116 L.[]))))))))))))) (Syntax.tcons q7 (Syntax.tcons q7 (Syntax.tcons q7 (Syntax.tcons q7 (Syntax.tcons q2 (Syntax.tcons q2 (Syntax.tcons (Syntax.tyInt Syntax.w64) Syntax.tnil)))))))) (Syntax.tcons (Syntax.tyStruct (L._∷_ 115 (L._∷_ 116 (L._∷_ 101 (L._∷_ 112 (L._∷_ 58 (L._∷_ 58 (L._∷_ 79 (L._∷_ 108 (L._∷_ 100 L.[]))))))))) (Syntax.tcons (Syntax.tyInt Syntax.w64) (Syntax.tcons q6 (Syntax.tcons q7 (Syntax.tcons q7 (Syntax.tcons q7 (Syntax.tcons q7 (Syntax.tcons q4 Syntax.tnil)))))))) Syntax.tnil))) Syntax.tnil)))) Syntax.tnil)))) (Syntax.tcons q5 Syntax.tnil)))) (L._∷_ q20 (L._∷_ q11 (L._∷_ q3 (L._∷_ q26 (L._∷_ (5, Rows.any-gone (Syntax.tyStruct (L._∷_ 114 (L._∷_ 117 (L._∷_ 108 (L._∷_ 101 (L._∷_ 115 (L._∷_ 58 (L._∷_ 58 (L._∷_ 102 (L._∷_ 111 (L._∷_ 117 (L._∷_ 110 (L._∷_ 100 (L._∷_ 58 (L._∷_ 58 (L._∷_ 70 (L._∷_ 111 (L._∷_ 117 (L._∷_ 110 (L._∷_ 100 L.[]))))))))))))))))))) (Syntax.tcons Syntax.tyBool (Syntax.tcons Syntax.tyBool (Syntax.tcons (Syntax.tyStruct (L._∷_ 115 (L._∷_ 116 (L._∷_ 101 (L._∷_ 112 (L._∷_ 58 (L._∷_ 58 (L._∷_ 83 (L._∷_ 116 (L._∷_ 101 (L._∷_ 112 L.[])))))))))) (Syntax.tcons (Syntax.tyInt Syntax.w64) (Syntax.tcons (Syntax.tyInt Syntax.w64) (Syntax.tcons (Syntax.tyStruct (L._∷_ 115 (L._∷_ 116 (L._∷_ 101 (L._∷_ 112 (L._∷_ 58 (L._∷_ 58 (L._∷_ 67 (L._∷_ 104 (L._∷_ 97 (L._∷_ 110 (L._∷_ 103 (L._∷_ 101 L.[])))))))))))) (Syntax.tcons (Syntax.tyStruct (L._∷_ 110 (L._∷_ 101 (L._∷_ 116 (L._∷_ 119 (L._∷_ 111 (L._∷_ 114 (L._∷_ 107 (L._∷_ 58 (L._∷_ 58 (L._∷_ 69 (L._∷_ 100 (L._∷_ 105 (L._∷_ 116 L.[]))))))))))))) (Syntax.tcons q7 (Syntax.tcons q7 (Syntax.tcons q7 (Syntax.tcons q7 (Syntax.tcons q2 (Syntax.tcons q2 (Syntax.tcons (Syntax.tyInt Syntax.w64) Syntax.tnil)))))))) (Syntax.tcons (Syntax.tyStruct (L._∷_ 115 (L._∷_ 116 (L._∷_ 101 (L._∷_ 112 (L._∷_ 58 (L._∷_ 58 (L._∷_ 79 (L._∷_ 108 (L._∷_ 100 L.[]))))))))) (Syntax.tcons (Syntax.tyInt Syntax.w64) (Syntax.tcons q6 (Syntax.tcons q7 (Syntax.tcons q7 (Syntax.tcons q7 (Syntax.tcons q7 (Syntax.tcons q4 Syntax.tnil)))))))) Syntax.tnil))) Syntax.tnil)))) Syntax.tnil))))) (L._∷_ q18 (L._∷_ q25 (L._∷_ q32 (L._∷_ q13 (L._∷_ (10, Rows.any-gone (Syntax.tyStruct (L._∷_ 114 (L._∷_ 117 (L._∷_ 108 (L._∷_ 101 (L._∷_ 115 (L._∷_ 58 (L._∷_ 58 (L._∷_ 102 (L._∷_ 111 (L._∷_ 117 (L._∷_ 110 (L._∷_ 100 (L._∷_ 58 (L._∷_ 58 (L._∷_ 70 (L._∷_ 111 (L._∷_ 117 (L._∷_ 110 (L._∷_ 100 L.[]))))))))))))))))))) (Syntax.tcons Syntax.tyBool (Syntax.tcons Syntax.tyBool (Syntax.tcons (Syntax.tyStruct (L._∷_ 115 (L._∷_ 116 (L._∷_ 101 (L._∷_ 112 (L._∷_ 58 (L._∷_ 58 (L._∷_ 83 (L._∷_ 116 (L._∷_ 101 (L._∷_ 112 L.[])))))))))) (Syntax.tcons (Syntax.tyInt Syntax.w64) (Syntax.tcons (Syntax.tyInt Syntax.w64) (Syntax.tcons (Syntax.tyStruct (L._∷_ 115 (L._∷_ 116 (L._∷_ 101 (L._∷_ 112 (L._∷_ 58 (L._∷_ 58 (L._∷_ 67 (L._∷_ 104 (L._∷_ 97 (L._∷_ 110 (L._∷_ 103 (L._∷_ 101 L.[])))))))))))) (Syntax.tcons (Syntax.tyStruct (L._∷_ 110 (L._∷_ 101 (L._∷_ 116 (L._∷_ 119 (L._∷_ 111 (L._∷_ 114 (L._∷_ 107 (L._∷_ 58 (L._∷_ 58 (L._∷_ 69 (L._∷_ 100 (L._∷_ 105 (L._∷_ 116 L.[]))))))))))))) (Syntax.tcons q7 (Syntax.tcons q7 (Syntax.tcons q7 (Syntax.tcons q7 (Syntax.tcons q2 (Syntax.tcons q2 (Syntax.tcons (Syntax.tyInt Syntax.w64) Syntax.tnil)))))))) (Syntax.tcons (Syntax.tyStruct (L._∷_ 115 (L._∷_ 116 (L._∷_ 101 (L._∷_ 112 (L._∷_ 58 (L._∷_ 58 (L._∷_ 79 (L._∷_ 108 (L._∷_ 100 L.[]))))))))) (Syntax.tcons (Syntax.tyInt Syntax.w64) (Syntax.tcons q6 (Syntax.tcons q7 (Syntax.tcons q7 (Syntax.tcons q7 (Syntax.tcons q7 (Syntax.tcons q4 Syntax.tnil)))))))) Syntax.tnil))) Syntax.tnil)))) Syntax.tnil))))) (L._∷_ (11, Rows.any-gone (Syntax.tyStruct (L._∷_ 114 (L._∷_ 117 (L._∷_ 108 (L._∷_ 101 (L._∷_ 115 (L._∷_ 58 (L._∷_ 58 (L._∷_ 102 (L._∷_ 111 (L._∷_ 117 (L._∷_ 110 (L._∷_ 100 (L._∷_ 58 (L._∷_ 58 (L._∷_ 70 (L._∷_ 111 (L._∷_ 117 (L._∷_ 110 (L._∷_ 100 L.[]))))))))))))))))))) (Syntax.tcons Syntax.tyBool (Syntax.tcons Syntax.tyBool (Syntax.tcons (Syntax.tyStruct (L._∷_ 115 (L._∷_ 116 (L._∷_ 101 (L._∷_ 112 (L._∷_ 58 (L._∷_ 58 (L._∷_ 83 (L._∷_ 116 (L._∷_ 101 (L._∷_ 112 L.[])))))))))) (Syntax.tcons (Syntax.tyInt Syntax.w64) (Syntax.tcons (Syntax.tyInt Syntax.w64) (Syntax.tcons (Syntax.tyStruct (L._∷_ 115 (L._∷_ 116 (L._∷_ 101 (L._∷_ 112 (L._∷_ 58 (L._∷_ 58 (L._∷_ 67 (L._∷_ 104 (L._∷_ 97 (L._∷_ 110 (L._∷_ 103 (L._∷_ 101 L.[])))))))))))) (Syntax.tcons (Syntax.tyStruct (L._∷_ 110 (L._∷_ 101 (L._∷_ 116 (L._∷_ 119 (L._∷_ 111 (L._∷_ 114 (L._∷_ 107 (L._∷_ 58 (L._∷_ 58 (L._∷_ 69 (L._∷_ 100 (L._∷_ 105 (L._∷_ 116 L.[]))))))))))))) (Syntax.tcons q7 (Syntax.tcons q7 (Syntax.tcons q7 (Syntax.tcons q7 (Syntax.tcons q2 (Syntax.tcons q2 (Syntax.tcons (Syntax.tyInt Syntax.w64) Syntax.tnil)))))))) (Syntax.tcons (Syntax.tyStruct (L._∷_ 115 (L._∷_ 116 (L._∷_ 101 (L._∷_ 112 (L._∷_ 58 (L._∷_ 58 (L._∷_ 79 (L._∷_ 108 (L._∷_ 100 L.[]))))))))) (Syntax.tcons (Syntax.tyInt Syntax.w64) (Syntax.tcons q6 (Syntax.tcons q7 (Syntax.tcons q7 (Syntax.tcons q7 (Syntax.tcons q7 (Syntax.tcons q4 Syntax.tnil)))))))) Syntax.tnil))) Syntax.tnil)))) Syntax.tnil))))) (L._∷_ q28 (L._∷_ q29 (L._∷_ q30 (L._∷_ q31 L.[])))))))))))))))
+t21 = L._∷_ (0, Rows.any-gone (Syntax.tyStruct (L._∷_ 114 (L._∷_ 117 (L._∷_ 108 (L._∷_ 101 (L._∷_ 115 (L._∷_ 58 (L._∷_ 58 (L._∷_ 116 (L._∷_ 114 (L._∷_ 105 (L._∷_ 101 (L._∷_ 100 (L._∷_ 58 (L._∷_ 58 (L._∷_ 76 (L._∷_ 111 (L._∷_ 111 (L._∷_ 107 (L._∷_ 101 (L._∷_ 100 L.[])))))))))))))))))))) (Syntax.tcons (Syntax.tyStruct (L._∷_ 114 (L._∷_ 117 (L._∷_ 108 (L._∷_ 101 (L._∷_ 115 (L._∷_ 58 (L._∷_ 58 (L._∷_ 102 (L._∷_ 111 (L._∷_ 117 (L._∷_ 110 (L._∷_ 100 (L._∷_ 58 (L._∷_ 58 (L._∷_ 70 (L._∷_ 111 (L._∷_ 117 (L._∷_ 110 (L._∷_ 100 L.[]))))))))))))))))))) (Syntax.tcons Syntax.tyBool (Syntax.tcons Syntax.tyBool (Syntax.tcons (Syntax.tyStruct (L._∷_ 115 (L._∷_ 116 (L._∷_ 101 (L._∷_ 112 (L._∷_ 58 (L._∷_ 58 (L._∷_ 83 (L._∷_ 116 (L._∷_ 101 (L._∷_ 112 L.[])))))))))) (Syntax.tcons (Syntax.tyInt Syntax.w64) (Syntax.tcons (Syntax.tyInt Syntax.w64) (Syntax.tcons (Syntax.tyStruct (L._∷_ 115 (L._∷_ 116 (L._∷_ 101 (L._∷_ 112 (L._∷_ 58 (L._∷_ 58 (L._∷_ 67 (L._∷_ 104 (L._∷_ 97 (L._∷_ 110 (L._∷_ 103 (L._∷_ 101 L.[])))))))))))) (Syntax.tcons (Syntax.tyStruct (L._∷_ 110 (L._∷_ 101 (L._∷_ 116 (L._∷_ 119 (L._∷_ 111 (L._∷_ 114 (L._∷_ 107 (L._∷_ 58 (L._∷_ 58 (L._∷_ 69 (L._∷_ 100 (L._∷_ 105 (L._∷_ 116 L.[]))))))))))))) (Syntax.tcons q7 (Syntax.tcons q7 (Syntax.tcons q7 (Syntax.tcons q7 (Syntax.tcons q2 (Syntax.tcons q2 (Syntax.tcons (Syntax.tyInt Syntax.w64) (Syntax.tcons q6 Syntax.tnil))))))))) (Syntax.tcons (Syntax.tyStruct (L._∷_ 115 (L._∷_ 116 (L._∷_ 101 (L._∷_ 112 (L._∷_ 58 (L._∷_ 58 (L._∷_ 79 (L._∷_ 108 (L._∷_ 100 L.[]))))))))) (Syntax.tcons (Syntax.tyInt Syntax.w64) (Syntax.tcons q6 (Syntax.tcons q7 (Syntax.tcons q7 (Syntax.tcons q7 (Syntax.tcons q7 (Syntax.tcons q4 Syntax.tnil)))))))) Syntax.tnil))) Syntax.tnil)))) Syntax.tnil)))) (Syntax.tcons q5 Syntax.tnil)))) (L._∷_ q20 (L._∷_ q11 (L._∷_ q3 (L._∷_ q26 (L._∷_ (5, Rows.any-gone (Syntax.tyStruct (L._∷_ 114 (L._∷_ 117 (L._∷_ 108 (L._∷_ 101 (L._∷_ 115 (L._∷_ 58 (L._∷_ 58 (L._∷_ 102 (L._∷_ 111 (L._∷_ 117 (L._∷_ 110 (L._∷_ 100 (L._∷_ 58 (L._∷_ 58 (L._∷_ 70 (L._∷_ 111 (L._∷_ 117 (L._∷_ 110 (L._∷_ 100 L.[]))))))))))))))))))) (Syntax.tcons Syntax.tyBool (Syntax.tcons Syntax.tyBool (Syntax.tcons (Syntax.tyStruct (L._∷_ 115 (L._∷_ 116 (L._∷_ 101 (L._∷_ 112 (L._∷_ 58 (L._∷_ 58 (L._∷_ 83 (L._∷_ 116 (L._∷_ 101 (L._∷_ 112 L.[])))))))))) (Syntax.tcons (Syntax.tyInt Syntax.w64) (Syntax.tcons (Syntax.tyInt Syntax.w64) (Syntax.tcons (Syntax.tyStruct (L._∷_ 115 (L._∷_ 116 (L._∷_ 101 (L._∷_ 112 (L._∷_ 58 (L._∷_ 58 (L._∷_ 67 (L._∷_ 104 (L._∷_ 97 (L._∷_ 110 (L._∷_ 103 (L._∷_ 101 L.[])))))))))))) (Syntax.tcons (Syntax.tyStruct (L._∷_ 110 (L._∷_ 101 (L._∷_ 116 (L._∷_ 119 (L._∷_ 111 (L._∷_ 114 (L._∷_ 107 (L._∷_ 58 (L._∷_ 58 (L._∷_ 69 (L._∷_ 100 (L._∷_ 105 (L._∷_ 116 L.[]))))))))))))) (Syntax.tcons q7 (Syntax.tcons q7 (Syntax.tcons q7 (Syntax.tcons q7 (Syntax.tcons q2 (Syntax.tcons q2 (Syntax.tcons (Syntax.tyInt Syntax.w64) (Syntax.tcons q6 Syntax.tnil))))))))) (Syntax.tcons (Syntax.tyStruct (L._∷_ 115 (L._∷_ 116 (L._∷_ 101 (L._∷_ 112 (L._∷_ 58 (L._∷_ 58 (L._∷_ 79 (L._∷_ 108 (L._∷_ 100 L.[]))))))))) (Syntax.tcons (Syntax.tyInt Syntax.w64) (Syntax.tcons q6 (Syntax.tcons q7 (Syntax.tcons q7 (Syntax.tcons q7 (Syntax.tcons q7 (Syntax.tcons q4 Syntax.tnil)))))))) Syntax.tnil))) Syntax.tnil)))) Syntax.tnil))))) (L._∷_ q18 (L._∷_ q25 (L._∷_ q32 (L._∷_ q13 (L._∷_ (10, Rows.any-gone (Syntax.tyStruct (L._∷_ 114 (L._∷_ 117 (L._∷_ 108 (L._∷_ 101 (L._∷_ 115 (L._∷_ 58 (L._∷_ 58 (L._∷_ 102 (L._∷_ 111 (L._∷_ 117 (L._∷_ 110 (L._∷_ 100 (L._∷_ 58 (L._∷_ 58 (L._∷_ 70 (L._∷_ 111 (L._∷_ 117 (L._∷_ 110 (L._∷_ 100 L.[]))))))))))))))))))) (Syntax.tcons Syntax.tyBool (Syntax.tcons Syntax.tyBool (Syntax.tcons (Syntax.tyStruct (L._∷_ 115 (L._∷_ 116 (L._∷_ 101 (L._∷_ 112 (L._∷_ 58 (L._∷_ 58 (L._∷_ 83 (L._∷_ 116 (L._∷_ 101 (L._∷_ 112 L.[])))))))))) (Syntax.tcons (Syntax.tyInt Syntax.w64) (Syntax.tcons (Syntax.tyInt Syntax.w64) (Syntax.tcons (Syntax.tyStruct (L._∷_ 115 (L._∷_ 116 (L._∷_ 101 (L._∷_ 112 (L._∷_ 58 (L._∷_ 58 (L._∷_ 67 (L._∷_ 104 (L._∷_ 97 (L._∷_ 110 (L._∷_ 103 (L._∷_ 101 L.[])))))))))))) (Syntax.tcons (Syntax.tyStruct (L._∷_ 110 (L._∷_ 101 (L._∷_ 116 (L._∷_ 119 (L._∷_ 111 (L._∷_ 114 (L._∷_ 107 (L._∷_ 58 (L._∷_ 58 (L._∷_ 69 (L._∷_ 100 (L._∷_ 105 (L._∷_ 116 L.[]))))))))))))) (Syntax.tcons q7 (Syntax.tcons q7 (Syntax.tcons q7 (Syntax.tcons q7 (Syntax.tcons q2 (Syntax.tcons q2 (Syntax.tcons (Syntax.tyInt Syntax.w64) (Syntax.tcons q6 Syntax.tnil))))))))) (Syntax.tcons (Syntax.tyStruct (L._∷_ 115 (L._∷_ 116 (L._∷_ 101 (L._∷_ 112 (L._∷_ 58 (L._∷_ 58 (L._∷_ 79 (L._∷_ 108 (L._∷_ 100 L.[]))))))))) (Syntax.tcons (Syntax.tyInt Syntax.w64) (Syntax.tcons q6 (Syntax.tcons q7 (Syntax.tcons q7 (Syntax.tcons q7 (Syntax.tcons q7 (Syntax.tcons q4 Syntax.tnil)))))))) Syntax.tnil))) Syntax.tnil)))) Syntax.tnil))))) (L._∷_ (11, Rows.any-gone (Syntax.tyStruct (L._∷_ 114 (L._∷_ 117 (L._∷_ 108 (L._∷_ 101 (L._∷_ 115 (L._∷_ 58 (L._∷_ 58 (L._∷_ 102 (L._∷_ 111 (L._∷_ 117 (L._∷_ 110 (L._∷_ 100 (L._∷_ 58 (L._∷_ 58 (L._∷_ 70 (L._∷_ 111 (L._∷_ 117 (L._∷_ 110 (L._∷_ 100 L.[]))))))))))))))))))) (Syntax.tcons Syntax.tyBool (Syntax.tcons Syntax.tyBool (Syntax.tcons (Syntax.tyStruct (L._∷_ 115 (L._∷_ 116 (L._∷_ 101 (L._∷_ 112 (L._∷_ 58 (L._∷_ 58 (L._∷_ 83 (L._∷_ 116 (L._∷_ 101 (L._∷_ 112 L.[])))))))))) (Syntax.tcons (Syntax.tyInt Syntax.w64) (Syntax.tcons (Syntax.tyInt Syntax.w64) (Syntax.tcons (Syntax.tyStruct (L._∷_ 115 (L._∷_ 116 (L._∷_ 101 (L._∷_ 112 (L._∷_ 58 (L._∷_ 58 (L._∷_ 67 (L._∷_ 104 (L._∷_ 97 (L._∷_ 110 (L._∷_ 103 (L._∷_ 101 L.[])))))))))))) (Syntax.tcons (Syntax.tyStruct (L._∷_ 110 (L._∷_ 101 (L._∷_ 116 (L._∷_ 119 (L._∷_ 111 (L._∷_ 114 (L._∷_ 107 (L._∷_ 58 (L._∷_ 58 (L._∷_ 69 (L._∷_ 100 (L._∷_ 105 (L._∷_ 116 L.[]))))))))))))) (Syntax.tcons q7 (Syntax.tcons q7 (Syntax.tcons q7 (Syntax.tcons q7 (Syntax.tcons q2 (Syntax.tcons q2 (Syntax.tcons (Syntax.tyInt Syntax.w64) (Syntax.tcons q6 Syntax.tnil))))))))) (Syntax.tcons (Syntax.tyStruct (L._∷_ 115 (L._∷_ 116 (L._∷_ 101 (L._∷_ 112 (L._∷_ 58 (L._∷_ 58 (L._∷_ 79 (L._∷_ 108 (L._∷_ 100 L.[]))))))))) (Syntax.tcons (Syntax.tyInt Syntax.w64) (Syntax.tcons q6 (Syntax.tcons q7 (Syntax.tcons q7 (Syntax.tcons q7 (Syntax.tcons q7 (Syntax.tcons q4 Syntax.tnil)))))))) Syntax.tnil))) Syntax.tnil)))) Syntax.tnil))))) (L._∷_ q28 (L._∷_ q29 (L._∷_ q30 (L._∷_ q31 L.[])))))))))))))))
 
 abbrev pub t22 : L.List Row.Entry
-t22 = L._∷_ (0, Rows.any-gone (Syntax.tyStruct (L._∷_ 114 (L._∷_ 117 (L._∷_ 108 (L._∷_ 101 (L._∷_ 115 (L._∷_ 58 (L._∷_ 58 (L._∷_ 116 (L._∷_ 114 (L._∷_ 105 (L._∷_ 101 (L._∷_ 100 (L._∷_ 58 (L._∷_ 58 (L._∷_ 76 (L._∷_ 111 (L._∷_ 111 (L._∷_ 107 (L._∷_ 101 (L._∷_ 100 L.[])))))))))))))))))))) (Syntax.tcons (Syntax.tyStruct (L._∷_ 114 (L._∷_ 117 (L._∷_ 108 (L._∷_ 101 (L._∷_ 115 (L._∷_ 58 (L._∷_ 58 (L._∷_ 102 (L._∷_ 111 (L._∷_ 117 (L._∷_ 110 (L._∷_ 100 (L._∷_ 58 (L._∷_ 58 (L._∷_ 70 (L._∷_ 111 (L._∷_ 117 (L._∷_ 110 (L._∷_ 100 L.[]))))))))))))))))))) (Syntax.tcons Syntax.tyBool (Syntax.tcons Syntax.tyBool (Syntax.tcons (Syntax.tyStruct (L._∷_ 115 (L._∷_ 116 (L._∷_ 101 (L._∷_ 112 (L._∷_ 58 (L._∷_ 58 (L._∷_ 83 (L._∷_ 116 (L._∷_ 101 (L._∷_ 112 L.[])))))))))) (Syntax.tcons (Syntax.tyInt Syntax.w64) (Syntax.tcons (Syntax.tyInt Syntax.w64) (Syntax.tcons (Syntax.tyStruct (L._∷_ 115 (L._∷_ 116 (L._∷_ 101 (L._∷_ 112 (L._∷_ 58 (L._∷_ 58 (L._∷_ 67 (L._∷_ 104 (L._∷_ 97 (L._∷_ 110 (L._∷_ 103 (L._∷_ 101 L.[])))))))))))) (Syntax.tcons (Syntax.tyStruct (L._∷_ 110 (L._∷_ 101 (L._∷_ 116 (L._∷_ 119 (L._∷_ 111 (L._∷_ 114 (L._∷_ 107 (L._∷_ 58 (L._∷_ 58 (L._∷_ 69 (L._∷_ 100 (L._∷_ 105 (L._∷_ 116 L.[]))))))))))))) (Syntax.tcons q7 (Syntax.tcons q7 (Syntax.tcons q7 (Syntax.tcons q7 (Syntax.tcons q2 (Syntax.tcons q2 (Syntax.tcons (Syntax.tyInt Syntax.w64) Syntax.tnil)))))))) (Syntax.tcons (Syntax.tyStruct (L._∷_ 115 (L._∷_ 116 (L._∷_ 101 (L._∷_ 112 (L._∷_ 58 (L._∷_ 58 (L._∷_ 79 (L._∷_ 108 (L._∷_ 100 L.[]))))))))) (Syntax.tcons (Syntax.tyInt Syntax.w64) (Syntax.tcons q6 (Syntax.tcons q7 (Syntax.tcons q7 (Syntax.tcons q7 (Syntax.tcons q7 (Syntax.tcons q4 Syntax.tnil)))))))) Syntax.tnil))) Syntax.tnil)))) Syntax.tnil)))) (Syntax.tcons q5 Syntax.tnil)))) (L._∷_ q0 (L._∷_ q11 (L._∷_ q3 (L._∷_ q26 (L._∷_ (5, Rows.any-gone (Syntax.tyStruct (L._∷_ 114 (L._∷_ 117 (L._∷_ 108 (L._∷_ 101 (L._∷_ 115 (L._∷_ 58 (L._∷_ 58 (L._∷_ 102 (L._∷_ 111 (L._∷_ 117 (L._∷_ 110 (L._∷_ 100 (L._∷_ 58 (L._∷_ 58 (L._∷_ 70 (L._∷_ 111 (L._∷_ 117 (L._∷_ 110 (L._∷_ 100 L.[]))))))))))))))))))) (Syntax.tcons Syntax.tyBool (Syntax.tcons Syntax.tyBool (Syntax.tcons (Syntax.tyStruct (L._∷_ 115 (L._∷_ 116 (L._∷_ 101 (L._∷_ 112 (L._∷_ 58 (L._∷_ 58 (L._∷_ 83 (L._∷_ 116 (L._∷_ 101 (L._∷_ 112 L.[])))))))))) (Syntax.tcons (Syntax.tyInt Syntax.w64) (Syntax.tcons (Syntax.tyInt Syntax.w64) (Syntax.tcons (Syntax.tyStruct (L._∷_ 115 (L._∷_ 116 (L._∷_ 101 (L._∷_ 112 (L._∷_ 58 (L._∷_ 58 (L._∷_ 67 (L._∷_ 104 (L._∷_ 97 (L._∷_ 110 (L._∷_ 103 (L._∷_ 101 L.[])))))))))))) (Syntax.tcons (Syntax.tyStruct (L._∷_ 110 (L._∷_ 101 (L._∷_ 116 (L._∷_ 119 (L._∷_ 111 (L._∷_ 114 (L._∷_ 107 (L._∷_ 58 (L._∷_ 58 (L._∷_ 69 (L._∷_ 100 (L._∷_ 105 (L._∷_ 116 L.[]))))))))))))) (Syntax.tcons q7 (Syntax.tcons q7 (Syntax.tcons q7 (Syntax.tcons q7 (Syntax.tcons q2 (Syntax.tcons q2 (Syntax.tcons (Syntax.tyInt Syntax.w64) Syntax.tnil)))))))) (Syntax.tcons (Syntax.tyStruct (L._∷_ 115 (L._∷_ 116 (L._∷_ 101 (L._∷_ 112 (L._∷_ 58 (L._∷_ 58 (L._∷_ 79 (L._∷_ 108 (L._∷_ 100 L.[]))))))))) (Syntax.tcons (Syntax.tyInt Syntax.w64) (Syntax.tcons q6 (Syntax.tcons q7 (Syntax.tcons q7 (Syntax.tcons q7 (Syntax.tcons q7 (Syntax.tcons q4 Syntax.tnil)))))))) Syntax.tnil))) Syntax.tnil)))) Syntax.tnil))))) (L._∷_ q18 (L._∷_ q25 (L._∷_ (8, Rows.sc-here Row.sBool) (L._∷_ q13 (L._∷_ (10, Rows.any-gone (Syntax.tyStruct (L._∷_ 114 (L._∷_ 117 (L._∷_ 108 (L._∷_ 101 (L._∷_ 115 (L._∷_ 58 (L._∷_ 58 (L._∷_ 102 (L._∷_ 111 (L._∷_ 117 (L._∷_ 110 (L._∷_ 100 (L._∷_ 58 (L._∷_ 58 (L._∷_ 70 (L._∷_ 111 (L._∷_ 117 (L._∷_ 110 (L._∷_ 100 L.[]))))))))))))))))))) (Syntax.tcons Syntax.tyBool (Syntax.tcons Syntax.tyBool (Syntax.tcons (Syntax.tyStruct (L._∷_ 115 (L._∷_ 116 (L._∷_ 101 (L._∷_ 112 (L._∷_ 58 (L._∷_ 58 (L._∷_ 83 (L._∷_ 116 (L._∷_ 101 (L._∷_ 112 L.[])))))))))) (Syntax.tcons (Syntax.tyInt Syntax.w64) (Syntax.tcons (Syntax.tyInt Syntax.w64) (Syntax.tcons (Syntax.tyStruct (L._∷_ 115 (L._∷_ 116 (L._∷_ 101 (L._∷_ 112 (L._∷_ 58 (L._∷_ 58 (L._∷_ 67 (L._∷_ 104 (L._∷_ 97 (L._∷_ 110 (L._∷_ 103 (L._∷_ 101 L.[])))))))))))) (Syntax.tcons (Syntax.tyStruct (L._∷_ 110 (L._∷_ 101 (L._∷_ 116 (L._∷_ 119 (L._∷_ 111 (L._∷_ 114 (L._∷_ 107 (L._∷_ 58 (L._∷_ 58 (L._∷_ 69 (L._∷_ 100 (L._∷_ 105 (L._∷_ 116 L.[]))))))))))))) (Syntax.tcons q7 (Syntax.tcons q7 (Syntax.tcons q7 (Syntax.tcons q7 (Syntax.tcons q2 (Syntax.tcons q2 (Syntax.tcons (Syntax.tyInt Syntax.w64) Syntax.tnil)))))))) (Syntax.tcons (Syntax.tyStruct (L._∷_ 115 (L._∷_ 116 (L._∷_ 101 (L._∷_ 112 (L._∷_ 58 (L._∷_ 58 (L._∷_ 79 (L._∷_ 108 (L._∷_ 100 L.[]))))))))) (Syntax.tcons (Syntax.tyInt Syntax.w64) (Syntax.tcons q6 (Syntax.tcons q7 (Syntax.tcons q7 (Syntax.tcons q7 (Syntax.tcons q7 (Syntax.tcons q4 Syntax.tnil)))))))) Syntax.tnil))) Syntax.tnil)))) Syntax.tnil))))) (L._∷_ (11, Rows.any-gone (Syntax.tyStruct (L._∷_ 114 (L._∷_ 117 (L._∷_ 108 (L._∷_ 101 (L._∷_ 115 (L._∷_ 58 (L._∷_ 58 (L._∷_ 102 (L._∷_ 111 (L._∷_ 117 (L._∷_ 110 (L._∷_ 100 (L._∷_ 58 (L._∷_ 58 (L._∷_ 70 (L._∷_ 111 (L._∷_ 117 (L._∷_ 110 (L._∷_ 100 L.[]))))))))))))))))))) (Syntax.tcons Syntax.tyBool (Syntax.tcons Syntax.tyBool (Syntax.tcons (Syntax.tyStruct (L._∷_ 115 (L._∷_ 116 (L._∷_ 101 (L._∷_ 112 (L._∷_ 58 (L._∷_ 58 (L._∷_ 83 (L._∷_ 116 (L._∷_ 101 (L._∷_ 112 L.[])))))))))) (Syntax.tcons (Syntax.tyInt Syntax.w64) (Syntax.tcons (Syntax.tyInt Syntax.w64) (Syntax.tcons (Syntax.tyStruct (L._∷_ 115 (L._∷_ 116 (L._∷_ 101 (L._∷_ 112 (L._∷_ 58 (L._∷_ 58 (L._∷_ 67 (L._∷_ 104 (L._∷_ 97 (L._∷_ 110 (L._∷_ 103 (L._∷_ 101 L.[])))))))))))) (Syntax.tcons (Syntax.tyStruct (L._∷_ 110 (L._∷_ 101 (L._∷_ 116 (L._∷_ 119 (L._∷_ 111 (L._∷_ 114 (L._∷_ 107 (L._∷_ 58 (L._∷_ 58 (L._∷_ 69 (L._∷_ 100 (L._∷_ 105 (L._∷_ 116 L.[]))))))))))))) (Syntax.tcons q7 (Syntax.tcons q7 (Syntax.tcons q7 (Syntax.tcons q7 (Syntax.tcons q2 (Syntax.tcons q2 (Syntax.tcons (Syntax.tyInt Syntax.w64) Syntax.tnil)))))))) (Syntax.tcons (Syntax.tyStruct (L._∷_ 115 (L._∷_ 116 (L._∷_ 101 (L._∷_ 112 (L._∷_ 58 (L._∷_ 58 (L._∷_ 79 (L._∷_ 108 (L._∷_ 100 L.[]))))))))) (Syntax.tcons (Syntax.tyInt Syntax.w64) (Syntax.tcons q6 (Syntax.tcons q7 (Syntax.tcons q7 (Syntax.tcons q7 (Syntax.tcons q7 (Syntax.tcons q4 Syntax.tnil)))))))) Syntax.tnil))) Syntax.tnil)))) Syntax.tnil))))) (L._∷_ q28 (L._∷_ q29 (L._∷_ (14, Rows.sc-here Row.sBool) (L._∷_ q31 L.[])))))))))))))))
+t22 = L._∷_ (0, Rows.any-gone (Syntax.tyStruct (L._∷_ 114 (L._∷_ 117 (L._∷_ 108 (L._∷_ 101 (L._∷_ 115 (L._∷_ 58 (L._∷_ 58 (L._∷_ 116 (L._∷_ 114 (L._∷_ 105 (L._∷_ 101 (L._∷_ 100 (L._∷_ 58 (L._∷_ 58 (L._∷_ 76 (L._∷_ 111 (L._∷_ 111 (L._∷_ 107 (L._∷_ 101 (L._∷_ 100 L.[])))))))))))))))))))) (Syntax.tcons (Syntax.tyStruct (L._∷_ 114 (L._∷_ 117 (L._∷_ 108 (L._∷_ 101 (L._∷_ 115 (L._∷_ 58 (L._∷_ 58 (L._∷_ 102 (L._∷_ 111 (L._∷_ 117 (L._∷_ 110 (L._∷_ 100 (L._∷_ 58 (L._∷_ 58 (L._∷_ 70 (L._∷_ 111 (L._∷_ 117 (L._∷_ 110 (L._∷_ 100 L.[]))))))))))))))))))) (Syntax.tcons Syntax.tyBool (Syntax.tcons Syntax.tyBool (Syntax.tcons (Syntax.tyStruct (L._∷_ 115 (L._∷_ 116 (L._∷_ 101 (L._∷_ 112 (L._∷_ 58 (L._∷_ 58 (L._∷_ 83 (L._∷_ 116 (L._∷_ 101 (L._∷_ 112 L.[])))))))))) (Syntax.tcons (Syntax.tyInt Syntax.w64) (Syntax.tcons (Syntax.tyInt Syntax.w64) (Syntax.tcons (Syntax.tyStruct (L._∷_ 115 (L._∷_ 116 (L._∷_ 101 (L._∷_ 112 (L._∷_ 58 (L._∷_ 58 (L._∷_ 67 (L._∷_ 104 (L._∷_ 97 (L._∷_ 110 (L._∷_ 103 (L._∷_ 101 L.[])))))))))))) (Syntax.tcons (Syntax.tyStruct (L._∷_ 110 (L._∷_ 101 (L._∷_ 116 (L._∷_ 119 (L._∷_ 111 (L._∷_ 114 (L._∷_ 107 (L._∷_ 58 (L._∷_ 58 (L._∷_ 69 (L._∷_ 100 (L._∷_ 105 (L._∷_ 116 L.[]))))))))))))) (Syntax.tcons q7 (Syntax.tcons q7 (Syntax.tcons q7 (Syntax.tcons q7 (Syntax.tcons q2 (Syntax.tcons q2 (Syntax.tcons (Syntax.tyInt Syntax.w64) (Syntax.tcons q6 Syntax.tnil))))))))) (Syntax.tcons (Syntax.tyStruct (L._∷_ 115 (L._∷_ 116 (L._∷_ 101 (L._∷_ 112 (L._∷_ 58 (L._∷_ 58 (L._∷_ 79 (L._∷_ 108 (L._∷_ 100 L.[]))))))))) (Syntax.tcons (Syntax.tyInt Syntax.w64) (Syntax.tcons q6 (Syntax.tcons q7 (Syntax.tcons q7 (Syntax.tcons q7 (Syntax.tcons q7 (Syntax.tcons q4 Syntax.tnil)))))))) Syntax.tnil))) Syntax.tnil)))) Syntax.tnil)))) (Syntax.tcons q5 Syntax.tnil)))) (L._∷_ q0 (L._∷_ q11 (L._∷_ q3 (L._∷_ q26 (L._∷_ (5, Rows.any-gone (Syntax.tyStruct (L._∷_ 114 (L._∷_ 117 (L._∷_ 108 (L._∷_ 101 (L._∷_ 115 (L._∷_ 58 (L._∷_ 58 (L._∷_ 102 (L._∷_ 111 (L._∷_ 117 (L._∷_ 110 (L._∷_ 100 (L._∷_ 58 (L._∷_ 58 (L._∷_ 70 (L._∷_ 111 (L._∷_ 117 (L._∷_ 110 (L._∷_ 100 L.[]))))))))))))))))))) (Syntax.tcons Syntax.tyBool (Syntax.tcons Syntax.tyBool (Syntax.tcons (Syntax.tyStruct (L._∷_ 115 (L._∷_ 116 (L._∷_ 101 (L._∷_ 112 (L._∷_ 58 (L._∷_ 58 (L._∷_ 83 (L._∷_ 116 (L._∷_ 101 (L._∷_ 112 L.[])))))))))) (Syntax.tcons (Syntax.tyInt Syntax.w64) (Syntax.tcons (Syntax.tyInt Syntax.w64) (Syntax.tcons (Syntax.tyStruct (L._∷_ 115 (L._∷_ 116 (L._∷_ 101 (L._∷_ 112 (L._∷_ 58 (L._∷_ 58 (L._∷_ 67 (L._∷_ 104 (L._∷_ 97 (L._∷_ 110 (L._∷_ 103 (L._∷_ 101 L.[])))))))))))) (Syntax.tcons (Syntax.tyStruct (L._∷_ 110 (L._∷_ 101 (L._∷_ 116 (L._∷_ 119 (L._∷_ 111 (L._∷_ 114 (L._∷_ 107 (L._∷_ 58 (L._∷_ 58 (L._∷_ 69 (L._∷_ 100 (L._∷_ 105 (L._∷_ 116 L.[]))))))))))))) (Syntax.tcons q7 (Syntax.tcons q7 (Syntax.tcons q7 (Syntax.tcons q7 (Syntax.tcons q2 (Syntax.tcons q2 (Syntax.tcons (Syntax.tyInt Syntax.w64) (Syntax.tcons q6 Syntax.tnil))))))))) (Syntax.tcons (Syntax.tyStruct (L._∷_ 115 (L._∷_ 116 (L._∷_ 101 (L._∷_ 112 (L._∷_ 58 (L._∷_ 58 (L._∷_ 79 (L._∷_ 108 (L._∷_ 100 L.[]))))))))) (Syntax.tcons (Syntax.tyInt Syntax.w64) (Syntax.tcons q6 (Syntax.tcons q7 (Syntax.tcons q7 (Syntax.tcons q7 (Syntax.tcons q7 (Syntax.tcons q4 Syntax.tnil)))))))) Syntax.tnil))) Syntax.tnil)))) Syntax.tnil))))) (L._∷_ q18 (L._∷_ q25 (L._∷_ (8, Rows.sc-here Row.sBool) (L._∷_ q13 (L._∷_ (10, Rows.any-gone (Syntax.tyStruct (L._∷_ 114 (L._∷_ 117 (L._∷_ 108 (L._∷_ 101 (L._∷_ 115 (L._∷_ 58 (L._∷_ 58 (L._∷_ 102 (L._∷_ 111 (L._∷_ 117 (L._∷_ 110 (L._∷_ 100 (L._∷_ 58 (L._∷_ 58 (L._∷_ 70 (L._∷_ 111 (L._∷_ 117 (L._∷_ 110 (L._∷_ 100 L.[]))))))))))))))))))) (Syntax.tcons Syntax.tyBool (Syntax.tcons Syntax.tyBool (Syntax.tcons (Syntax.tyStruct (L._∷_ 115 (L._∷_ 116 (L._∷_ 101 (L._∷_ 112 (L._∷_ 58 (L._∷_ 58 (L._∷_ 83 (L._∷_ 116 (L._∷_ 101 (L._∷_ 112 L.[])))))))))) (Syntax.tcons (Syntax.tyInt Syntax.w64) (Syntax.tcons (Syntax.tyInt Syntax.w64) (Syntax.tcons (Syntax.tyStruct (L._∷_ 115 (L._∷_ 116 (L._∷_ 101 (L._∷_ 112 (L._∷_ 58 (L._∷_ 58 (L._∷_ 67 (L._∷_ 104 (L._∷_ 97 (L._∷_ 110 (L._∷_ 103 (L._∷_ 101 L.[])))))))))))) (Syntax.tcons (Syntax.tyStruct (L._∷_ 110 (L._∷_ 101 (L._∷_ 116 (L._∷_ 119 (L._∷_ 111 (L._∷_ 114 (L._∷_ 107 (L._∷_ 58 (L._∷_ 58 (L._∷_ 69 (L._∷_ 100 (L._∷_ 105 (L._∷_ 116 L.[]))))))))))))) (Syntax.tcons q7 (Syntax.tcons q7 (Syntax.tcons q7 (Syntax.tcons q7 (Syntax.tcons q2 (Syntax.tcons q2 (Syntax.tcons (Syntax.tyInt Syntax.w64) (Syntax.tcons q6 Syntax.tnil))))))))) (Syntax.tcons (Syntax.tyStruct (L._∷_ 115 (L._∷_ 116 (L._∷_ 101 (L._∷_ 112 (L._∷_ 58 (L._∷_ 58 (L._∷_ 79 (L._∷_ 108 (L._∷_ 100 L.[]))))))))) (Syntax.tcons (Syntax.tyInt Syntax.w64) (Syntax.tcons q6 (Syntax.tcons q7 (Syntax.tcons q7 (Syntax.tcons q7 (Syntax.tcons q7 (Syntax.tcons q4 Syntax.tnil)))))))) Syntax.tnil))) Syntax.tnil)))) Syntax.tnil))))) (L._∷_ (11, Rows.any-gone (Syntax.tyStruct (L._∷_ 114 (L._∷_ 117 (L._∷_ 108 (L._∷_ 101 (L._∷_ 115 (L._∷_ 58 (L._∷_ 58 (L._∷_ 102 (L._∷_ 111 (L._∷_ 117 (L._∷_ 110 (L._∷_ 100 (L._∷_ 58 (L._∷_ 58 (L._∷_ 70 (L._∷_ 111 (L._∷_ 117 (L._∷_ 110 (L._∷_ 100 L.[]))))))))))))))))))) (Syntax.tcons Syntax.tyBool (Syntax.tcons Syntax.tyBool (Syntax.tcons (Syntax.tyStruct (L._∷_ 115 (L._∷_ 116 (L._∷_ 101 (L._∷_ 112 (L._∷_ 58 (L._∷_ 58 (L._∷_ 83 (L._∷_ 116 (L._∷_ 101 (L._∷_ 112 L.[])))))))))) (Syntax.tcons (Syntax.tyInt Syntax.w64) (Syntax.tcons (Syntax.tyInt Syntax.w64) (Syntax.tcons (Syntax.tyStruct (L._∷_ 115 (L._∷_ 116 (L._∷_ 101 (L._∷_ 112 (L._∷_ 58 (L._∷_ 58 (L._∷_ 67 (L._∷_ 104 (L._∷_ 97 (L._∷_ 110 (L._∷_ 103 (L._∷_ 101 L.[])))))))))))) (Syntax.tcons (Syntax.tyStruct (L._∷_ 110 (L._∷_ 101 (L._∷_ 116 (L._∷_ 119 (L._∷_ 111 (L._∷_ 114 (L._∷_ 107 (L._∷_ 58 (L._∷_ 58 (L._∷_ 69 (L._∷_ 100 (L._∷_ 105 (L._∷_ 116 L.[]))))))))))))) (Syntax.tcons q7 (Syntax.tcons q7 (Syntax.tcons q7 (Syntax.tcons q7 (Syntax.tcons q2 (Syntax.tcons q2 (Syntax.tcons (Syntax.tyInt Syntax.w64) (Syntax.tcons q6 Syntax.tnil))))))))) (Syntax.tcons (Syntax.tyStruct (L._∷_ 115 (L._∷_ 116 (L._∷_ 101 (L._∷_ 112 (L._∷_ 58 (L._∷_ 58 (L._∷_ 79 (L._∷_ 108 (L._∷_ 100 L.[]))))))))) (Syntax.tcons (Syntax.tyInt Syntax.w64) (Syntax.tcons q6 (Syntax.tcons q7 (Syntax.tcons q7 (Syntax.tcons q7 (Syntax.tcons q7 (Syntax.tcons q4 Syntax.tnil)))))))) Syntax.tnil))) Syntax.tnil)))) Syntax.tnil))))) (L._∷_ q28 (L._∷_ q29 (L._∷_ (14, Rows.sc-here Row.sBool) (L._∷_ q31 L.[])))))))))))))))
 
 abbrev pub t23 : L.List Row.Entry
-t23 = L._∷_ (0, Rows.any-gone (Syntax.tyStruct (L._∷_ 114 (L._∷_ 117 (L._∷_ 108 (L._∷_ 101 (L._∷_ 115 (L._∷_ 58 (L._∷_ 58 (L._∷_ 116 (L._∷_ 114 (L._∷_ 105 (L._∷_ 101 (L._∷_ 100 (L._∷_ 58 (L._∷_ 58 (L._∷_ 76 (L._∷_ 111 (L._∷_ 111 (L._∷_ 107 (L._∷_ 101 (L._∷_ 100 L.[])))))))))))))))))))) (Syntax.tcons (Syntax.tyStruct (L._∷_ 114 (L._∷_ 117 (L._∷_ 108 (L._∷_ 101 (L._∷_ 115 (L._∷_ 58 (L._∷_ 58 (L._∷_ 102 (L._∷_ 111 (L._∷_ 117 (L._∷_ 110 (L._∷_ 100 (L._∷_ 58 (L._∷_ 58 (L._∷_ 70 (L._∷_ 111 (L._∷_ 117 (L._∷_ 110 (L._∷_ 100 L.[]))))))))))))))))))) (Syntax.tcons Syntax.tyBool (Syntax.tcons Syntax.tyBool (Syntax.tcons (Syntax.tyStruct (L._∷_ 115 (L._∷_ 116 (L._∷_ 101 (L._∷_ 112 (L._∷_ 58 (L._∷_ 58 (L._∷_ 83 (L._∷_ 116 (L._∷_ 101 (L._∷_ 112 L.[])))))))))) (Syntax.tcons (Syntax.tyInt Syntax.w64) (Syntax.tcons (Syntax.tyInt Syntax.w64) (Syntax.tcons (Syntax.tyStruct (L._∷_ 115 (L._∷_ 116 (L._∷_ 101 (L._∷_ 112 (L._∷_ 58 (L._∷_ 58 (L._∷_ 67 (L._∷_ 104 (L._∷_ 97 (L._∷_ 110 (L._∷_ 103 (L._∷_ 101 L.[])))))))))))) (Syntax.tcons (Syntax.tyStruct (L._∷_ 110 (L._∷_ 101 (L._∷_ 116 (L._∷_ 119 (L._∷_ 111 (L._∷_ 114 (L._∷_ 107 (L._∷_ 58 (L._∷_ 58 (L._∷_ 69 (L._∷_ 100 (L._∷_ 105 (L._∷_ 116 L.[]))))))))))))) (Syntax.tcons q7 (Syntax.tcons q7 (Syntax.tcons q7 (Syntax.tcons q7 (Syntax.tcons q2 (Syntax.tcons q2 (Syntax.tcons (Syntax.tyInt Syntax.w64) Syntax.tnil)))))))) (Syntax.tcons (Syntax.tyStruct (L._∷_ 115 (L._∷_ 116 (L._∷_ 101 (L._∷_ 112 (L._∷_ 58 (L._∷_ 58 (L._∷_ 79 (L._∷_ 108 (L._∷_ 100 L.[]))))))))) (Syntax.tcons (Syntax.tyInt Syntax.w64) (Syntax.tcons q6 (Syntax.tcons q7 (Syntax.tcons q7 (Syntax.tcons q7 (Syntax.tcons q7 (Syntax.tcons q4 Syntax.tnil)))))))) Syntax.tnil))) Syntax.tnil)))) Syntax.tnil)))) (Syntax.tcons q5 Syntax.tnil)))) (L._∷_ q0 (L._∷_ q11 (L._∷_ q3 (L._∷_ q26 (L._∷_ (5, Rows.any-gone (Syntax.tyStruct (L._∷_ 114 (L._∷_ 117 (L._∷_ 108 (L._∷_ 101 (L._∷_ 115 (L._∷_ 58 (L._∷_ 58 (L._∷_ 102 (L._∷_ 111 (L._∷_ 117 (L._∷_ 110 (L._∷_ 100 (L._∷_ 58 (L._∷_ 58 (L._∷_ 70 (L._∷_ 111 (L._∷_ 117 (L._∷_ 110 (L._∷_ 100 L.[]))))))))))))))))))) (Syntax.tcons Syntax.tyBool (Syntax.tcons Syntax.tyBool (Syntax.tcons (Syntax.tyStruct (L._∷_ 115 (L._∷_ 116 (L._∷_ 101 (L._∷_ 112 (L._∷_ 58 (L._∷_ 58 (L._∷_ 83 (L._∷_ 116 (L._∷_ 101 (L._∷_ 112 L.[])))))))))) (Syntax.tcons (Syntax.tyInt Syntax.w64) (Syntax.tcons (Syntax.tyInt Syntax.w64) (Syntax.tcons (Syntax.tyStruct (L._∷_ 115 (L._∷_ 116 (L._∷_ 101 (L._∷_ 112 (L._∷_ 58 (L._∷_ 58 (L._∷_ 67 (L._∷_ 104 (L._∷_ 97 (L._∷_ 110 (L._∷_ 103 (L._∷_ 101 L.[])))))))))))) (Syntax.tcons (Syntax.tyStruct (L._∷_ 110 (L._∷_ 101 (L._∷_ 116 (L._∷_ 119 (L._∷_ 111 (L._∷_ 114 (L._∷_ 107 (L._∷_ 58 (L._∷_ 58 (L._∷_ 69 (L._∷_ 100 (L._∷_ 105 (L._∷_ 116 L.[]))))))))))))) (Syntax.tcons q7 (Syntax.tcons q7 (Syntax.tcons q7 (Syntax.tcons q7 (Syntax.tcons q2 (Syntax.tcons q2 (Syntax.tcons (Syntax.tyInt Syntax.w64) Syntax.tnil)))))))) (Syntax.tcons (Syntax.tyStruct (L._∷_ 115 (L._∷_ 116 (L._∷_ 101 (L._∷_ 112 (L._∷_ 58 (L._∷_ 58 (L._∷_ 79 (L._∷_ 108 (L._∷_ 100 L.[]))))))))) (Syntax.tcons (Syntax.tyInt Syntax.w64) (Syntax.tcons q6 (Syntax.tcons q7 (Syntax.tcons q7 (Syntax.tcons q7 (Syntax.tcons q7 (Syntax.tcons q4 Syntax.tnil)))))))) Syntax.tnil))) Syntax.tnil)))) Syntax.tnil))))) (L._∷_ q8 (L._∷_ q25 (L._∷_ (8, Rows.sc-here Row.sBool) (L._∷_ q13 (L._∷_ (10, Rows.any-gone (Syntax.tyStruct (L._∷_ 114 (L._∷_ 117 (L._∷_ 108 (L._∷_ 101 (L._∷_ 115 (L._∷_ 58 (L._∷_ 58 (L._∷_ 102 (L._∷_ 111 (L._∷_ 117 (L._∷_ 110 (L._∷_ 100 (L._∷_ 58 (L._∷_ 58 (L._∷_ 70 (L._∷_ 111 (L._∷_ 117 (L._∷_ 110 (L._∷_ 100 L.[]))))))))))))))))))) (Syntax.tcons Syntax.tyBool (Syntax.tcons Syntax.tyBool (Syntax.tcons (Syntax.tyStruct (L._∷_ 115 (L._∷_ 116 (L._∷_ 101 (L._∷_ 112 (L._∷_ 58 (L._∷_ 58 (L._∷_ 83 (L._∷_ 116 (L._∷_ 101 (L._∷_ 112 L.[])))))))))) (Syntax.tcons (Syntax.tyInt Syntax.w64) (Syntax.tcons (Syntax.tyInt Syntax.w64) (Syntax.tcons (Syntax.tyStruct (L._∷_ 115 (L._∷_ 116 (L._∷_ 101 (L._∷_ 112 (L._∷_ 58 (L._∷_ 58 (L._∷_ 67 (L._∷_ 104 (L._∷_ 97 (L._∷_ 110 (L._∷_ 103 (L._∷_ 101 L.[])))))))))))) (Syntax.tcons (Syntax.tyStruct (L._∷_ 110 (L._∷_ 101 (L._∷_ 116 (L._∷_ 119 (L._∷_ 111 (L._∷_ 114 (L._∷_ 107 (L._∷_ 58 (L._∷_ 58 (L._∷_ 69 (L._∷_ 100 (L._∷_ 105 (L._∷_ 116 L.[]))))))))))))) (Syntax.tcons q7 (Syntax.tcons q7 (Syntax.tcons q7 (Syntax.tcons q7 (Syntax.tcons q2 (Syntax.tcons q2 (Syntax.tcons (Syntax.tyInt Syntax.w64) Syntax.tnil)))))))) (Syntax.tcons (Syntax.tyStruct (L._∷_ 115 (L._∷_ 116 (L._∷_ 101 (L._∷_ 112 (L._∷_ 58 (L._∷_ 58 (L._∷_ 79 (L._∷_ 108 (L._∷_ 100 L.[]))))))))) (Syntax.tcons (Syntax.tyInt Syntax.w64) (Syntax.tcons q6 (Syntax.tcons q7 (Syntax.tcons q7 (Syntax.tcons q7 (Syntax.tcons q7 (Syntax.tcons q4 Syntax.tnil)))))))) Syntax.tnil))) Syntax.tnil)))) Syntax.tnil))))) (L._∷_ (11, Rows.any-gone (Syntax.tyStruct (L._∷_ 114 (L._∷_ 117 (L._∷_ 108 (L._∷_ 101 (L._∷_ 115 (L._∷_ 58 (L._∷_ 58 (L._∷_ 102 (L._∷_ 111 (L._∷_ 117 (L._∷_ 110 (L._∷_ 100 (L._∷_ 58 (L._∷_ 58 (L._∷_ 70 (L._∷_ 111 (L._∷_ 117 (L._∷_ 110 (L._∷_ 100 L.[]))))))))))))))))))) (Syntax.tcons Syntax.tyBool (Syntax.tcons Syntax.tyBool (Syntax.tcons (Syntax.tyStruct (L._∷_ 115 (L._∷_ 116 (L._∷_ 101 (L._∷_ 112 (L._∷_ 58 (L._∷_ 58 (L._∷_ 83 (L._∷_ 116 (L._∷_ 101 (L._∷_ 112 L.[])))))))))) (Syntax.tcons (Syntax.tyInt Syntax.w64) (Syntax.tcons (Syntax.tyInt Syntax.w64) (Syntax.tcons (Syntax.tyStruct (L._∷_ 115 (L._∷_ 116 (L._∷_ 101 (L._∷_ 112 (L._∷_ 58 (L._∷_ 58 (L._∷_ 67 (L._∷_ 104 (L._∷_ 97 (L._∷_ 110 (L._∷_ 103 (L._∷_ 101 L.[])))))))))))) (Syntax.tcons (Syntax.tyStruct (L._∷_ 110 (L._∷_ 101 (L._∷_ 116 (L._∷_ 119 (L._∷_ 111 (L._∷_ 114 (L._∷_ 107 (L._∷_ 58 (L._∷_ 58 (L._∷_ 69 (L._∷_ 100 (L._∷_ 105 (L._∷_ 116 L.[]))))))))))))) (Syntax.tcons q7 (Syntax.tcons q7 (Syntax.tcons q7 (Syntax.tcons q7 (Syntax.tcons q2 (Syntax.tcons q2 (Syntax.tcons (Syntax.tyInt Syntax.w64) Syntax.tnil)))))))) (Syntax.tcons (Syntax.tyStruct (L._∷_ 115 (L._∷_ 116 (L._∷_ 101 (L._∷_ 112 (L._∷_ 58 (L._∷_ 58 (L._∷_ 79 (L._∷_ 108 (L._∷_ 100 L.[]))))))))) (Syntax.tcons (Syntax.tyInt Syntax.w64) (Syntax.tcons q6 (Syntax.tcons q7 (Syntax.tcons q7 (Syntax.tcons q7 (Syntax.tcons q7 (Syntax.tcons q4 Syntax.tnil)))))))) Syntax.tnil))) Syntax.tnil)))) Syntax.tnil))))) (L._∷_ q28 (L._∷_ q29 (L._∷_ (14, Rows.sc-here Row.sBool) (L._∷_ q31 L.[])))))))))))))))
+t23 = L._∷_ (0, Rows.any-gone (Syntax.tyStruct (L._∷_ 114 (L._∷_ 117 (L._∷_ 108 (L._∷_ 101 (L._∷_ 115 (L._∷_ 58 (L._∷_ 58 (L._∷_ 116 (L._∷_ 114 (L._∷_ 105 (L._∷_ 101 (L._∷_ 100 (L._∷_ 58 (L._∷_ 58 (L._∷_ 76 (L._∷_ 111 (L._∷_ 111 (L._∷_ 107 (L._∷_ 101 (L._∷_ 100 L.[])))))))))))))))))))) (Syntax.tcons (Syntax.tyStruct (L._∷_ 114 (L._∷_ 117 (L._∷_ 108 (L._∷_ 101 (L._∷_ 115 (L._∷_ 58 (L._∷_ 58 (L._∷_ 102 (L._∷_ 111 (L._∷_ 117 (L._∷_ 110 (L._∷_ 100 (L._∷_ 58 (L._∷_ 58 (L._∷_ 70 (L._∷_ 111 (L._∷_ 117 (L._∷_ 110 (L._∷_ 100 L.[]))))))))))))))))))) (Syntax.tcons Syntax.tyBool (Syntax.tcons Syntax.tyBool (Syntax.tcons (Syntax.tyStruct (L._∷_ 115 (L._∷_ 116 (L._∷_ 101 (L._∷_ 112 (L._∷_ 58 (L._∷_ 58 (L._∷_ 83 (L._∷_ 116 (L._∷_ 101 (L._∷_ 112 L.[])))))))))) (Syntax.tcons (Syntax.tyInt Syntax.w64) (Syntax.tcons (Syntax.tyInt Syntax.w64) (Syntax.tcons (Syntax.tyStruct (L._∷_ 115 (L._∷_ 116 (L._∷_ 101 (L._∷_ 112 (L._∷_ 58 (L._∷_ 58 (L._∷_ 67 (L._∷_ 104 (L._∷_ 97 (L._∷_ 110 (L._∷_ 103 (L._∷_ 101 L.[])))))))))))) (Syntax.tcons (Syntax.tyStruct (L._∷_ 110 (L._∷_ 101 (L._∷_ 116 (L._∷_ 119 (L._∷_ 111 (L._∷_ 114 (L._∷_ 107 (L._∷_ 58 (L._∷_ 58 (L._∷_ 69 (L._∷_ 100 (L._∷_ 105 (L._∷_ 116 L.[]))))))))))))) (Syntax.tcons q7 (Syntax.tcons q7 (Syntax.tcons q7 (Syntax.tcons q7 (Syntax.tcons q2 (Syntax.tcons q2 (Syntax.tcons (Syntax.tyInt Syntax.w64) (Syntax.tcons q6 Syntax.tnil))))))))) (Syntax.tcons (Syntax.tyStruct (L._∷_ 115 (L._∷_ 116 (L._∷_ 101 (L._∷_ 112 (L._∷_ 58 (L._∷_ 58 (L._∷_ 79 (L._∷_ 108 (L._∷_ 100 L.[]))))))))) (Syntax.tcons (Syntax.tyInt Syntax.w64) (Syntax.tcons q6 (Syntax.tcons q7 (Syntax.tcons q7 (Syntax.tcons q7 (Syntax.tcons q7 (Syntax.tcons q4 Syntax.tnil)))))))) Syntax.tnil))) Syntax.tnil)))) Syntax.tnil)))) (Syntax.tcons q5 Syntax.tnil)))) (L._∷_ q0 (L._∷_ q11 (L._∷_ q3 (L._∷_ q26 (L._∷_ (5, Rows.any-gone (Syntax.tyStruct (L._∷_ 114 (L._∷_ 117 (L._∷_ 108 (L._∷_ 101 (L._∷_ 115 (L._∷_ 58 (L._∷_ 58 (L._∷_ 102 (L._∷_ 111 (L._∷_ 117 (L._∷_ 110 (L._∷_ 100 (L._∷_ 58 (L._∷_ 58 (L._∷_ 70 (L._∷_ 111 (L._∷_ 117 (L._∷_ 110 (L._∷_ 100 L.[]))))))))))))))))))) (Syntax.tcons Syntax.tyBool (Syntax.tcons Syntax.tyBool (Syntax.tcons (Syntax.tyStruct (L._∷_ 115 (L._∷_ 116 (L._∷_ 101 (L._∷_ 112 (L._∷_ 58 (L._∷_ 58 (L._∷_ 83 (L._∷_ 116 (L._∷_ 101 (L._∷_ 112 L.[])))))))))) (Syntax.tcons (Syntax.tyInt Syntax.w64) (Syntax.tcons (Syntax.tyInt Syntax.w64) (Syntax.tcons (Syntax.tyStruct (L._∷_ 115 (L._∷_ 116 (L._∷_ 101 (L._∷_ 112 (L._∷_ 58 (L._∷_ 58 (L._∷_ 67 (L._∷_ 104 (L._∷_ 97 (L._∷_ 110 (L._∷_ 103 (L._∷_ 101 L.[])))))))))))) (Syntax.tcons (Syntax.tyStruct (L._∷_ 110 (L._∷_ 101 (L._∷_ 116 (L._∷_ 119 (L._∷_ 111 (L._∷_ 114 (L._∷_ 107 (L._∷_ 58 (L._∷_ 58 (L._∷_ 69 (L._∷_ 100 (L._∷_ 105 (L._∷_ 116 L.[]))))))))))))) (Syntax.tcons q7 (Syntax.tcons q7 (Syntax.tcons q7 (Syntax.tcons q7 (Syntax.tcons q2 (Syntax.tcons q2 (Syntax.tcons (Syntax.tyInt Syntax.w64) (Syntax.tcons q6 Syntax.tnil))))))))) (Syntax.tcons (Syntax.tyStruct (L._∷_ 115 (L._∷_ 116 (L._∷_ 101 (L._∷_ 112 (L._∷_ 58 (L._∷_ 58 (L._∷_ 79 (L._∷_ 108 (L._∷_ 100 L.[]))))))))) (Syntax.tcons (Syntax.tyInt Syntax.w64) (Syntax.tcons q6 (Syntax.tcons q7 (Syntax.tcons q7 (Syntax.tcons q7 (Syntax.tcons q7 (Syntax.tcons q4 Syntax.tnil)))))))) Syntax.tnil))) Syntax.tnil)))) Syntax.tnil))))) (L._∷_ q8 (L._∷_ q25 (L._∷_ (8, Rows.sc-here Row.sBool) (L._∷_ q13 (L._∷_ (10, Rows.any-gone (Syntax.tyStruct (L._∷_ 114 (L._∷_ 117 (L._∷_ 108 (L._∷_ 101 (L._∷_ 115 (L._∷_ 58 (L._∷_ 58 (L._∷_ 102 (L._∷_ 111 (L._∷_ 117 (L._∷_ 110 (L._∷_ 100 (L._∷_ 58 (L._∷_ 58 (L._∷_ 70 (L._∷_ 111 (L._∷_ 117 (L._∷_ 110 (L._∷_ 100 L.[]))))))))))))))))))) (Syntax.tcons Syntax.tyBool (Syntax.tcons Syntax.tyBool (Syntax.tcons (Syntax.tyStruct (L._∷_ 115 (L._∷_ 116 (L._∷_ 101 (L._∷_ 112 (L._∷_ 58 (L._∷_ 58 (L._∷_ 83 (L._∷_ 116 (L._∷_ 101 (L._∷_ 112 L.[])))))))))) (Syntax.tcons (Syntax.tyInt Syntax.w64) (Syntax.tcons (Syntax.tyInt Syntax.w64) (Syntax.tcons (Syntax.tyStruct (L._∷_ 115 (L._∷_ 116 (L._∷_ 101 (L._∷_ 112 (L._∷_ 58 (L._∷_ 58 (L._∷_ 67 (L._∷_ 104 (L._∷_ 97 (L._∷_ 110 (L._∷_ 103 (L._∷_ 101 L.[])))))))))))) (Syntax.tcons (Syntax.tyStruct (L._∷_ 110 (L._∷_ 101 (L._∷_ 116 (L._∷_ 119 (L._∷_ 111 (L._∷_ 114 (L._∷_ 107 (L._∷_ 58 (L._∷_ 58 (L._∷_ 69 (L._∷_ 100 (L._∷_ 105 (L._∷_ 116 L.[]))))))))))))) (Syntax.tcons q7 (Syntax.tcons q7 (Syntax.tcons q7 (Syntax.tcons q7 (Syntax.tcons q2 (Syntax.tcons q2 (Syntax.tcons (Syntax.tyInt Syntax.w64) (Syntax.tcons q6 Syntax.tnil))))))))) (Syntax.tcons (Syntax.tyStruct (L._∷_ 115 (L._∷_ 116 (L._∷_ 101 (L._∷_ 112 (L._∷_ 58 (L._∷_ 58 (L._∷_ 79 (L._∷_ 108 (L._∷_ 100 L.[]))))))))) (Syntax.tcons (Syntax.tyInt Syntax.w64) (Syntax.tcons q6 (Syntax.tcons q7 (Syntax.tcons q7 (Syntax.tcons q7 (Syntax.tcons q7 (Syntax.tcons q4 Syntax.tnil)))))))) Syntax.tnil))) Syntax.tnil)))) Syntax.tnil))))) (L._∷_ (11, Rows.any-gone (Syntax.tyStruct (L._∷_ 114 (L._∷_ 117 (L._∷_ 108 (L._∷_ 101 (L._∷_ 115 (L._∷_ 58 (L._∷_ 58 (L._∷_ 102 (L._∷_ 111 (L._∷_ 117 (L._∷_ 110 (L._∷_ 100 (L._∷_ 58 (L._∷_ 58 (L._∷_ 70 (L._∷_ 111 (L._∷_ 117 (L._∷_ 110 (L._∷_ 100 L.[]))))))))))))))))))) (Syntax.tcons Syntax.tyBool (Syntax.tcons Syntax.tyBool (Syntax.tcons (Syntax.tyStruct (L._∷_ 115 (L._∷_ 116 (L._∷_ 101 (L._∷_ 112 (L._∷_ 58 (L._∷_ 58 (L._∷_ 83 (L._∷_ 116 (L._∷_ 101 (L._∷_ 112 L.[])))))))))) (Syntax.tcons (Syntax.tyInt Syntax.w64) (Syntax.tcons (Syntax.tyInt Syntax.w64) (Syntax.tcons (Syntax.tyStruct (L._∷_ 115 (L._∷_ 116 (L._∷_ 101 (L._∷_ 112 (L._∷_ 58 (L._∷_ 58 (L._∷_ 67 (L._∷_ 104 (L._∷_ 97 (L._∷_ 110 (L._∷_ 103 (L._∷_ 101 L.[])))))))))))) (Syntax.tcons (Syntax.tyStruct (L._∷_ 110 (L._∷_ 101 (L._∷_ 116 (L._∷_ 119 (L._∷_ 111 (L._∷_ 114 (L._∷_ 107 (L._∷_ 58 (L._∷_ 58 (L._∷_ 69 (L._∷_ 100 (L._∷_ 105 (L._∷_ 116 L.[]))))))))))))) (Syntax.tcons q7 (Syntax.tcons q7 (Syntax.tcons q7 (Syntax.tcons q7 (Syntax.tcons q2 (Syntax.tcons q2 (Syntax.tcons (Syntax.tyInt Syntax.w64) (Syntax.tcons q6 Syntax.tnil))))))))) (Syntax.tcons (Syntax.tyStruct (L._∷_ 115 (L._∷_ 116 (L._∷_ 101 (L._∷_ 112 (L._∷_ 58 (L._∷_ 58 (L._∷_ 79 (L._∷_ 108 (L._∷_ 100 L.[]))))))))) (Syntax.tcons (Syntax.tyInt Syntax.w64) (Syntax.tcons q6 (Syntax.tcons q7 (Syntax.tcons q7 (Syntax.tcons q7 (Syntax.tcons q7 (Syntax.tcons q4 Syntax.tnil)))))))) Syntax.tnil))) Syntax.tnil)))) Syntax.tnil))))) (L._∷_ q28 (L._∷_ q29 (L._∷_ (14, Rows.sc-here Row.sBool) (L._∷_ q31 L.[])))))))))))))))
 
 abbrev pub t24 : L.List Row.Entry
-t24 = L._∷_ (0, Rows.any-gone (Syntax.tyStruct (L._∷_ 114 (L._∷_ 117 (L._∷_ 108 (L._∷_ 101 (L._∷_ 115 (L._∷_ 58 (L._∷_ 58 (L._∷_ 116 (L._∷_ 114 (L._∷_ 105 (L._∷_ 101 (L._∷_ 100 (L._∷_ 58 (L._∷_ 58 (L._∷_ 76 (L._∷_ 111 (L._∷_ 111 (L._∷_ 107 (L._∷_ 101 (L._∷_ 100 L.[])))))))))))))))))))) (Syntax.tcons (Syntax.tyStruct (L._∷_ 114 (L._∷_ 117 (L._∷_ 108 (L._∷_ 101 (L._∷_ 115 (L._∷_ 58 (L._∷_ 58 (L._∷_ 102 (L._∷_ 111 (L._∷_ 117 (L._∷_ 110 (L._∷_ 100 (L._∷_ 58 (L._∷_ 58 (L._∷_ 70 (L._∷_ 111 (L._∷_ 117 (L._∷_ 110 (L._∷_ 100 L.[]))))))))))))))))))) (Syntax.tcons Syntax.tyBool (Syntax.tcons Syntax.tyBool (Syntax.tcons (Syntax.tyStruct (L._∷_ 115 (L._∷_ 116 (L._∷_ 101 (L._∷_ 112 (L._∷_ 58 (L._∷_ 58 (L._∷_ 83 (L._∷_ 116 (L._∷_ 101 (L._∷_ 112 L.[])))))))))) (Syntax.tcons (Syntax.tyInt Syntax.w64) (Syntax.tcons (Syntax.tyInt Syntax.w64) (Syntax.tcons (Syntax.tyStruct (L._∷_ 115 (L._∷_ 116 (L._∷_ 101 (L._∷_ 112 (L._∷_ 58 (L._∷_ 58 (L._∷_ 67 (L._∷_ 104 (L._∷_ 97 (L._∷_ 110 (L._∷_ 103 (L._∷_ 101 L.[])))))))))))) (Syntax.tcons (Syntax.tyStruct (L._∷_ 110 (L._∷_ 101 (L._∷_ 116 (L._∷_ 119 (L._∷_ 111 (L._∷_ 114 (L._∷_ 107 (L._∷_ 58 (L._∷_ 58 (L._∷_ 69 (L._∷_ 100 (L._∷_ 105 (L._∷_ 116 L.[]))))))))))))) (Syntax.tcons q7 (Syntax.tcons q7 (Syntax.tcons q7 (Syntax.tcons q7 (Syntax.tcons q2 (Syntax.tcons q2 (Syntax.tcons (Syntax.tyInt Syntax.w64) Syntax.tnil)))))))) (Syntax.tcons (Syntax.tyStruct (L._∷_ 115 (L._∷_ 116 (L._∷_ 101 (L._∷_ 112 (L._∷_ 58 (L._∷_ 58 (L._∷_ 79 (L._∷_ 108 (L._∷_ 100 L.[]))))))))) (Syntax.tcons (Syntax.tyInt Syntax.w64) (Syntax.tcons q6 (Syntax.tcons q7 (Syntax.tcons q7 (Syntax.tcons q7 (Syntax.tcons q7 (Syntax.tcons q4 Syntax.tnil)))))))) Syntax.tnil))) Syntax.tnil)))) Syntax.tnil)))) (Syntax.tcons q5 Syntax.tnil)))) (L._∷_ q0 (L._∷_ q11 (L._∷_ q3 (L._∷_ q26 (L._∷_ (5, Rows.any-gone (Syntax.tyStruct (L._∷_ 114 (L._∷_ 117 (L._∷_ 108 (L._∷_ 101 (L._∷_ 115 (L._∷_ 58 (L._∷_ 58 (L._∷_ 102 (L._∷_ 111 (L._∷_ 117 (L._∷_ 110 (L._∷_ 100 (L._∷_ 58 (L._∷_ 58 (L._∷_ 70 (L._∷_ 111 (L._∷_ 117 (L._∷_ 110 (L._∷_ 100 L.[]))))))))))))))))))) (Syntax.tcons Syntax.tyBool (Syntax.tcons Syntax.tyBool (Syntax.tcons (Syntax.tyStruct (L._∷_ 115 (L._∷_ 116 (L._∷_ 101 (L._∷_ 112 (L._∷_ 58 (L._∷_ 58 (L._∷_ 83 (L._∷_ 116 (L._∷_ 101 (L._∷_ 112 L.[])))))))))) (Syntax.tcons (Syntax.tyInt Syntax.w64) (Syntax.tcons (Syntax.tyInt Syntax.w64) (Syntax.tcons (Syntax.tyStruct (L._∷_ 115 (L._∷_ 116 (L._∷_ 101 (L._∷_ 112 (L._∷_ 58 (L._∷_ 58 (L._∷_ 67 (L._∷_ 104 (L._∷_ 97 (L._∷_ 110 (L._∷_ 103 (L._∷_ 101 L.[])))))))))))) (Syntax.tcons (Syntax.tyStruct (L._∷_ 110 (L._∷_ 101 (L._∷_ 116 (L._∷_ 119 (L._∷_ 111 (L._∷_ 114 (L._∷_ 107 (L._∷_ 58 (L._∷_ 58 (L._∷_ 69 (L._∷_ 100 (L._∷_ 105 (L._∷_ 116 L.[]))))))))))))) (Syntax.tcons q7 (Syntax.tcons q7 (Syntax.tcons q7 (Syntax.tcons q7 (Syntax.tcons q2 (Syntax.tcons q2 (Syntax.tcons (Syntax.tyInt Syntax.w64) Syntax.tnil)))))))) (Syntax.tcons (Syntax.tyStruct (L._∷_ 115 (L._∷_ 116 (L._∷_ 101 (L._∷_ 112 (L._∷_ 58 (L._∷_ 58 (L._∷_ 79 (L._∷_ 108 (L._∷_ 100 L.[]))))))))) (Syntax.tcons (Syntax.tyInt Syntax.w64) (Syntax.tcons q6 (Syntax.tcons q7 (Syntax.tcons q7 (Syntax.tcons q7 (Syntax.tcons q7 (Syntax.tcons q4 Syntax.tnil)))))))) Syntax.tnil))) Syntax.tnil)))) Syntax.tnil))))) (L._∷_ q8 (L._∷_ q25 (L._∷_ (8, Rows.sc-here Row.sBool) (L._∷_ q13 (L._∷_ (10, Rows.any-gone (Syntax.tyStruct (L._∷_ 114 (L._∷_ 117 (L._∷_ 108 (L._∷_ 101 (L._∷_ 115 (L._∷_ 58 (L._∷_ 58 (L._∷_ 102 (L._∷_ 111 (L._∷_ 117 (L._∷_ 110 (L._∷_ 100 (L._∷_ 58 (L._∷_ 58 (L._∷_ 70 (L._∷_ 111 (L._∷_ 117 (L._∷_ 110 (L._∷_ 100 L.[]))))))))))))))))))) (Syntax.tcons Syntax.tyBool (Syntax.tcons Syntax.tyBool (Syntax.tcons (Syntax.tyStruct (L._∷_ 115 (L._∷_ 116 (L._∷_ 101 (L._∷_ 112 (L._∷_ 58 (L._∷_ 58 (L._∷_ 83 (L._∷_ 116 (L._∷_ 101 (L._∷_ 112 L.[])))))))))) (Syntax.tcons (Syntax.tyInt Syntax.w64) (Syntax.tcons (Syntax.tyInt Syntax.w64) (Syntax.tcons (Syntax.tyStruct (L._∷_ 115 (L._∷_ 116 (L._∷_ 101 (L._∷_ 112 (L._∷_ 58 (L._∷_ 58 (L._∷_ 67 (L._∷_ 104 (L._∷_ 97 (L._∷_ 110 (L._∷_ 103 (L._∷_ 101 L.[])))))))))))) (Syntax.tcons (Syntax.tyStruct (L._∷_ 110 (L._∷_ 101 (L._∷_ 116 (L._∷_ 119 (L._∷_ 111 (L._∷_ 114 (L._∷_ 107 (L._∷_ 58 (L._∷_ 58 (L._∷_ 69 (L._∷_ 100 (L._∷_ 105 (L._∷_ 116 L.[]))))))))))))) (Syntax.tcons q7 (Syntax.tcons q7 (Syntax.tcons q7 (Syntax.tcons q7 (Syntax.tcons q2 (Syntax.tcons q2 (Syntax.tcons (Syntax.tyInt Syntax.w64) Syntax.tnil)))))))) (Syntax.tcons (Syntax.tyStruct (L._∷_ 115 (L._∷_ 116 (L._∷_ 101 (L._∷_ 112 (L._∷_ 58 (L._∷_ 58 (L._∷_ 79 (L._∷_ 108 (L._∷_ 100 L.[]))))))))) (Syntax.tcons (Syntax.tyInt Syntax.w64) (Syntax.tcons q6 (Syntax.tcons q7 (Syntax.tcons q7 (Syntax.tcons q7 (Syntax.tcons q7 (Syntax.tcons q4 Syntax.tnil)))))))) Syntax.tnil))) Syntax.tnil)))) Syntax.tnil))))) (L._∷_ (11, Rows.any-gone (Syntax.tyStruct (L._∷_ 114 (L._∷_ 117 (L._∷_ 108 (L._∷_ 101 (L._∷_ 115 (L._∷_ 58 (L._∷_ 58 (L._∷_ 102 (L._∷_ 111 (L._∷_ 117 (L._∷_ 110 (L._∷_ 100 (L._∷_ 58 (L._∷_ 58 (L._∷_ 70 (L._∷_ 111 (L._∷_ 117 (L._∷_ 110 (L._∷_ 100 L.[]))))))))))))))))))) (Syntax.tcons Syntax.tyBool (Syntax.tcons Syntax.tyBool (Syntax.tcons (Syntax.tyStruct (L._∷_ 115 (L._∷_ 116 (L._∷_ 101 (L._∷_ 112 (L._∷_ 58 (L._∷_ 58 (L._∷_ 83 (L._∷_ 116 (L._∷_ 101 (L._∷_ 112 L.[])))))))))) (Syntax.tcons (Syntax.tyInt Syntax.w64) (Syntax.tcons (Syntax.tyInt Syntax.w64) (Syntax.tcons (Syntax.tyStruct (L._∷_ 115 (L._∷_ 116 (L._∷_ 101 (L._∷_ 112 (L._∷_ 58 (L._∷_ 58 (L._∷_ 67 (L._∷_ 104 (L._∷_ 97 (L._∷_ 110 (L._∷_ 103 (L._∷_ 101 L.[])))))))))))) (Syntax.tcons (Syntax.tyStruct (L._∷_ 110 (L._∷_ 101 (L._∷_ 116 (L._∷_ 119 (L._∷_ 111 (L._∷_ 114 (L._∷_ 107 (L._∷_ 58 (L._∷_ 58 (L._∷_ 69 (L._∷_ 100 (L._∷_ 105 (L._∷_ 116 L.[]))))))))))))) (Syntax.tcons q7 (Syntax.tcons q7 (Syntax.tcons q7 (Syntax.tcons q7 (Syntax.tcons q2 (Syntax.tcons q2 (Syntax.tcons (Syntax.tyInt Syntax.w64) Syntax.tnil)))))))) (Syntax.tcons (Syntax.tyStruct (L._∷_ 115 (L._∷_ 116 (L._∷_ 101 (L._∷_ 112 (L._∷_ 58 (L._∷_ 58 (L._∷_ 79 (L._∷_ 108 (L._∷_ 100 L.[]))))))))) (Syntax.tcons (Syntax.tyInt Syntax.w64) (Syntax.tcons q6 (Syntax.tcons q7 (Syntax.tcons q7 (Syntax.tcons q7 (Syntax.tcons q7 (Syntax.tcons q4 Syntax.tnil)))))))) Syntax.tnil))) Syntax.tnil)))) Syntax.tnil))))) (L._∷_ q28 (L._∷_ q29 (L._∷_ q30 (L._∷_ q31 L.[])))))))))))))))
+t24 = L._∷_ (0, Rows.any-gone (Syntax.tyStruct (L._∷_ 114 (L._∷_ 117 (L._∷_ 108 (L._∷_ 101 (L._∷_ 115 (L._∷_ 58 (L._∷_ 58 (L._∷_ 116 (L._∷_ 114 (L._∷_ 105 (L._∷_ 101 (L._∷_ 100 (L._∷_ 58 (L._∷_ 58 (L._∷_ 76 (L._∷_ 111 (L._∷_ 111 (L._∷_ 107 (L._∷_ 101 (L._∷_ 100 L.[])))))))))))))))))))) (Syntax.tcons (Syntax.tyStruct (L._∷_ 114 (L._∷_ 117 (L._∷_ 108 (L._∷_ 101 (L._∷_ 115 (L._∷_ 58 (L._∷_ 58 (L._∷_ 102 (L._∷_ 111 (L._∷_ 117 (L._∷_ 110 (L._∷_ 100 (L._∷_ 58 (L._∷_ 58 (L._∷_ 70 (L._∷_ 111 (L._∷_ 117 (L._∷_ 110 (L._∷_ 100 L.[]))))))))))))))))))) (Syntax.tcons Syntax.tyBool (Syntax.tcons Syntax.tyBool (Syntax.tcons (Syntax.tyStruct (L._∷_ 115 (L._∷_ 116 (L._∷_ 101 (L._∷_ 112 (L._∷_ 58 (L._∷_ 58 (L._∷_ 83 (L._∷_ 116 (L._∷_ 101 (L._∷_ 112 L.[])))))))))) (Syntax.tcons (Syntax.tyInt Syntax.w64) (Syntax.tcons (Syntax.tyInt Syntax.w64) (Syntax.tcons (Syntax.tyStruct (L._∷_ 115 (L._∷_ 116 (L._∷_ 101 (L._∷_ 112 (L._∷_ 58 (L._∷_ 58 (L._∷_ 67 (L._∷_ 104 (L._∷_ 97 (L._∷_ 110 (L._∷_ 103 (L._∷_ 101 L.[])))))))))))) (Syntax.tcons (Syntax.tyStruct (L._∷_ 110 (L._∷_ 101 (L._∷_ 116 (L._∷_ 119 (L._∷_ 111 (L._∷_ 114 (L._∷_ 107 (L._∷_ 58 (L._∷_ 58 (L._∷_ 69 (L._∷_ 100 (L._∷_ 105 (L._∷_ 116 L.[]))))))))))))) (Syntax.tcons q7 (Syntax.tcons q7 (Syntax.tcons q7 (Syntax.tcons q7 (Syntax.tcons q2 (Syntax.tcons q2 (Syntax.tcons (Syntax.tyInt Syntax.w64) (Syntax.tcons q6 Syntax.tnil))))))))) (Syntax.tcons (Syntax.tyStruct (L._∷_ 115 (L._∷_ 116 (L._∷_ 101 (L._∷_ 112 (L._∷_ 58 (L._∷_ 58 (L._∷_ 79 (L._∷_ 108 (L._∷_ 100 L.[]))))))))) (Syntax.tcons (Syntax.tyInt Syntax.w64) (Syntax.tcons q6 (Syntax.tcons q7 (Syntax.tcons q7 (Syntax.tcons q7 (Syntax.tcons q7 (Syntax.tcons q4 Syntax.tnil)))))))) Syntax.tnil))) Syntax.tnil)))) Syntax.tnil)))) (Syntax.tcons q5 Syntax.tnil)))) (L._∷_ q0 (L._∷_ q11 (L._∷_ q3 (L._∷_ q26 (L._∷_ (5, Rows.any-gone (Syntax.tyStruct (L._∷_ 114 (L._∷_ 117 (L._∷_ 108 (L._∷_ 101 (L._∷_ 115 (L._∷_ 58 (L._∷_ 58 (L._∷_ 102 (L._∷_ 111 (L._∷_ 117 (L._∷_ 110 (L._∷_ 100 (L._∷_ 58 (L._∷_ 58 (L._∷_ 70 (L._∷_ 111 (L._∷_ 117 (L._∷_ 110 (L._∷_ 100 L.[]))))))))))))))))))) (Syntax.tcons Syntax.tyBool (Syntax.tcons Syntax.tyBool (Syntax.tcons (Syntax.tyStruct (L._∷_ 115 (L._∷_ 116 (L._∷_ 101 (L._∷_ 112 (L._∷_ 58 (L._∷_ 58 (L._∷_ 83 (L._∷_ 116 (L._∷_ 101 (L._∷_ 112 L.[])))))))))) (Syntax.tcons (Syntax.tyInt Syntax.w64) (Syntax.tcons (Syntax.tyInt Syntax.w64) (Syntax.tcons (Syntax.tyStruct (L._∷_ 115 (L._∷_ 116 (L._∷_ 101 (L._∷_ 112 (L._∷_ 58 (L._∷_ 58 (L._∷_ 67 (L._∷_ 104 (L._∷_ 97 (L._∷_ 110 (L._∷_ 103 (L._∷_ 101 L.[])))))))))))) (Syntax.tcons (Syntax.tyStruct (L._∷_ 110 (L._∷_ 101 (L._∷_ 116 (L._∷_ 119 (L._∷_ 111 (L._∷_ 114 (L._∷_ 107 (L._∷_ 58 (L._∷_ 58 (L._∷_ 69 (L._∷_ 100 (L._∷_ 105 (L._∷_ 116 L.[]))))))))))))) (Syntax.tcons q7 (Syntax.tcons q7 (Syntax.tcons q7 (Syntax.tcons q7 (Syntax.tcons q2 (Syntax.tcons q2 (Syntax.tcons (Syntax.tyInt Syntax.w64) (Syntax.tcons q6 Syntax.tnil))))))))) (Syntax.tcons (Syntax.tyStruct (L._∷_ 115 (L._∷_ 116 (L._∷_ 101 (L._∷_ 112 (L._∷_ 58 (L._∷_ 58 (L._∷_ 79 (L._∷_ 108 (L._∷_ 100 L.[]))))))))) (Syntax.tcons (Syntax.tyInt Syntax.w64) (Syntax.tcons q6 (Syntax.tcons q7 (Syntax.tcons q7 (Syntax.tcons q7 (Syntax.tcons q7 (Syntax.tcons q4 Syntax.tnil)))))))) Syntax.tnil))) Syntax.tnil)))) Syntax.tnil))))) (L._∷_ q8 (L._∷_ q25 (L._∷_ (8, Rows.sc-here Row.sBool) (L._∷_ q13 (L._∷_ (10, Rows.any-gone (Syntax.tyStruct (L._∷_ 114 (L._∷_ 117 (L._∷_ 108 (L._∷_ 101 (L._∷_ 115 (L._∷_ 58 (L._∷_ 58 (L._∷_ 102 (L._∷_ 111 (L._∷_ 117 (L._∷_ 110 (L._∷_ 100 (L._∷_ 58 (L._∷_ 58 (L._∷_ 70 (L._∷_ 111 (L._∷_ 117 (L._∷_ 110 (L._∷_ 100 L.[]))))))))))))))))))) (Syntax.tcons Syntax.tyBool (Syntax.tcons Syntax.tyBool (Syntax.tcons (Syntax.tyStruct (L._∷_ 115 (L._∷_ 116 (L._∷_ 101 (L._∷_ 112 (L._∷_ 58 (L._∷_ 58 (L._∷_ 83 (L._∷_ 116 (L._∷_ 101 (L._∷_ 112 L.[])))))))))) (Syntax.tcons (Syntax.tyInt Syntax.w64) (Syntax.tcons (Syntax.tyInt Syntax.w64) (Syntax.tcons (Syntax.tyStruct (L._∷_ 115 (L._∷_ 116 (L._∷_ 101 (L._∷_ 112 (L._∷_ 58 (L._∷_ 58 (L._∷_ 67 (L._∷_ 104 (L._∷_ 97 (L._∷_ 110 (L._∷_ 103 (L._∷_ 101 L.[])))))))))))) (Syntax.tcons (Syntax.tyStruct (L._∷_ 110 (L._∷_ 101 (L._∷_ 116 (L._∷_ 119 (L._∷_ 111 (L._∷_ 114 (L._∷_ 107 (L._∷_ 58 (L._∷_ 58 (L._∷_ 69 (L._∷_ 100 (L._∷_ 105 (L._∷_ 116 L.[]))))))))))))) (Syntax.tcons q7 (Syntax.tcons q7 (Syntax.tcons q7 (Syntax.tcons q7 (Syntax.tcons q2 (Syntax.tcons q2 (Syntax.tcons (Syntax.tyInt Syntax.w64) (Syntax.tcons q6 Syntax.tnil))))))))) (Syntax.tcons (Syntax.tyStruct (L._∷_ 115 (L._∷_ 116 (L._∷_ 101 (L._∷_ 112 (L._∷_ 58 (L._∷_ 58 (L._∷_ 79 (L._∷_ 108 (L._∷_ 100 L.[]))))))))) (Syntax.tcons (Syntax.tyInt Syntax.w64) (Syntax.tcons q6 (Syntax.tcons q7 (Syntax.tcons q7 (Syntax.tcons q7 (Syntax.tcons q7 (Syntax.tcons q4 Syntax.tnil)))))))) Syntax.tnil))) Syntax.tnil)))) Syntax.tnil))))) (L._∷_ (11, Rows.any-gone (Syntax.tyStruct (L._∷_ 114 (L._∷_ 117 (L._∷_ 108 (L._∷_ 101 (L._∷_ 115 (L._∷_ 58 (L._∷_ 58 (L._∷_ 102 (L._∷_ 111 (L._∷_ 117 (L._∷_ 110 (L._∷_ 100 (L._∷_ 58 (L._∷_ 58 (L._∷_ 70 (L._∷_ 111 (L._∷_ 117 (L._∷_ 110 (L._∷_ 100 L.[]))))))))))))))))))) (Syntax.tcons Syntax.tyBool (Syntax.tcons Syntax.tyBool (Syntax.tcons (Syntax.tyStruct (L._∷_ 115 (L._∷_ 116 (L._∷_ 101 (L._∷_ 112 (L._∷_ 58 (L._∷_ 58 (L._∷_ 83 (L._∷_ 116 (L._∷_ 101 (L._∷_ 112 L.[])))))))))) (Syntax.tcons (Syntax.tyInt Syntax.w64) (Syntax.tcons (Syntax.tyInt Syntax.w64) (Syntax.tcons (Syntax.tyStruct (L._∷_ 115 (L._∷_ 116 (L._∷_ 101 (L._∷_ 112 (L._∷_ 58 (L._∷_ 58 (L._∷_ 67 (L._∷_ 104 (L._∷_ 97 (L._∷_ 110 (L._∷_ 103 (L._∷_ 101 L.[])))))))))))) (Syntax.tcons (Syntax.tyStruct (L._∷_ 110 (L._∷_ 101 (L._∷_ 116 (L._∷_ 119 (L._∷_ 111 (L._∷_ 114 (L._∷_ 107 (L._∷_ 58 (L._∷_ 58 (L._∷_ 69 (L._∷_ 100 (L._∷_ 105 (L._∷_ 116 L.[]))))))))))))) (Syntax.tcons q7 (Syntax.tcons q7 (Syntax.tcons q7 (Syntax.tcons q7 (Syntax.tcons q2 (Syntax.tcons q2 (Syntax.tcons (Syntax.tyInt Syntax.w64) (Syntax.tcons q6 Syntax.tnil))))))))) (Syntax.tcons (Syntax.tyStruct (L._∷_ 115 (L._∷_ 116 (L._∷_ 101 (L._∷_ 112 (L._∷_ 58 (L._∷_ 58 (L._∷_ 79 (L._∷_ 108 (L._∷_ 100 L.[]))))))))) (Syntax.tcons (Syntax.tyInt Syntax.w64) (Syntax.tcons q6 (Syntax.tcons q7 (Syntax.tcons q7 (Syntax.tcons q7 (Syntax.tcons q7 (Syntax.tcons q4 Syntax.tnil)))))))) Syntax.tnil))) Syntax.tnil)))) Syntax.tnil))))) (L._∷_ q28 (L._∷_ q29 (L._∷_ q30 (L._∷_ q31 L.[])))))))))))))))
 
 abbrev pub t25 : L.List Row.Entry
-t25 = L._∷_ q12 (L._∷_ q0 (L._∷_ q11 (L._∷_ q3 (L._∷_ q26 (L._∷_ (5, Rows.any-gone (Syntax.tyStruct (L._∷_ 114 (L._∷_ 117 (L._∷_ 108 (L._∷_ 101 (L._∷_ 115 (L._∷_ 58 (L._∷_ 58 (L._∷_ 102 (L._∷_ 111 (L._∷_ 117 (L._∷_ 110 (L._∷_ 100 (L._∷_ 58 (L._∷_ 58 (L._∷_ 70 (L._∷_ 111 (L._∷_ 117 (L._∷_ 110 (L._∷_ 100 L.[]))))))))))))))))))) (Syntax.tcons Syntax.tyBool (Syntax.tcons Syntax.tyBool (Syntax.tcons (Syntax.tyStruct (L._∷_ 115 (L._∷_ 116 (L._∷_ 101 (L._∷_ 112 (L._∷_ 58 (L._∷_ 58 (L._∷_ 83 (L._∷_ 116 (L._∷_ 101 (L._∷_ 112 L.[])))))))))) (Syntax.tcons (Syntax.tyInt Syntax.w64) (Syntax.tcons (Syntax.tyInt Syntax.w64) (Syntax.tcons (Syntax.tyStruct (L._∷_ 115 (L._∷_ 116 (L._∷_ 101 (L._∷_ 112 (L._∷_ 58 (L._∷_ 58 (L._∷_ 67 (L._∷_ 104 (L._∷_ 97 (L._∷_ 110 (L._∷_ 103 (L._∷_ 101 L.[])))))))))))) (Syntax.tcons (Syntax.tyStruct (L._∷_ 110 (L._∷_ 101 (L._∷_ 116 (L._∷_ 119 (L._∷_ 111 (L._∷_ 114 (L._∷_ 107 (L._∷_ 58 (L._∷_ 58 (L._∷_ 69 (L._∷_ 100 (L._∷_ 105 (L._∷_ 116 L.[]))))))))))))) (Syntax.tcons q7 (Syntax.tcons q7 (Syntax.tcons q7 (Syntax.tcons q7 (Syntax.tcons q2 (Syntax.tcons q2 (Syntax.tcons (Syntax.tyInt Syntax.w64) Syntax.tnil)))))))) (Syntax.tcons (Syntax.tyStruct (L._∷_ 115 (L._∷_ 116 (L._∷_ 101 (L._∷_ 112 (L._∷_ 58 (L._∷_ 58 (L._∷_ 79 (L._∷_ 108 (L._∷_ 100 L.[]))))))))) (Syntax.tcons (Syntax.tyInt Syntax.w64) (Syntax.tcons q6 (Syntax.tcons q7 (Syntax.tcons q7 (Syntax.tcons q7 (Syntax.tcons q7 (Syntax.tcons q4 Syntax.tnil)))))))) Syntax.tnil))) Syntax.tnil)))) Syntax.tnil))))) (L._∷_ q8 (L._∷_ q25 (L._∷_ (8, Rows.sc-here Row.sBool) (L._∷_ q13 (L._∷_ (10, Rows.any-gone (Syntax.tyStruct (L._∷_ 114 (L._∷_ 117 (L._∷_ 108 (L._∷_ 101 (L._∷_ 115 (L._∷_ 58 (L._∷_ 58 (L._∷_ 102 (L._∷_ 111 (L._∷_ 117 (L._∷_ 110 (L._∷_ 100 (L._∷_ 58 (L._∷_ 58 (L._∷_ 70 (L._∷_ 111 (L._∷_ 117 (L._∷_ 110 (L._∷_ 100 L.[]))))))))))))))))))) (Syntax.tcons Syntax.tyBool (Syntax.tcons Syntax.tyBool (Syntax.tcons (Syntax.tyStruct (L._∷_ 115 (L._∷_ 116 (L._∷_ 101 (L._∷_ 112 (L._∷_ 58 (L._∷_ 58 (L._∷_ 83 (L._∷_ 116 (L._∷_ 101 (L._∷_ 112 L.[])))))))))) (Syntax.tcons (Syntax.tyInt Syntax.w64) (Syntax.tcons (Syntax.tyInt Syntax.w64) (Syntax.tcons (Syntax.tyStruct (L._∷_ 115 (L._∷_ 116 (L._∷_ 101 (L._∷_ 112 (L._∷_ 58 (L._∷_ 58 (L._∷_ 67 (L._∷_ 104 (L._∷_ 97 (L._∷_ 110 (L._∷_ 103 (L._∷_ 101 L.[])))))))))))) (Syntax.tcons (Syntax.tyStruct (L._∷_ 110 (L._∷_ 101 (L._∷_ 116 (L._∷_ 119 (L._∷_ 111 (L._∷_ 114 (L._∷_ 107 (L._∷_ 58 (L._∷_ 58 (L._∷_ 69 (L._∷_ 100 (L._∷_ 105 (L._∷_ 116 L.[]))))))))))))) (Syntax.tcons q7 (Syntax.tcons q7 (Syntax.tcons q7 (Syntax.tcons q7 (Syntax.tcons q2 (Syntax.tcons q2 (Syntax.tcons (Syntax.tyInt Syntax.w64) Syntax.tnil)))))))) (Syntax.tcons (Syntax.tyStruct (L._∷_ 115 (L._∷_ 116 (L._∷_ 101 (L._∷_ 112 (L._∷_ 58 (L._∷_ 58 (L._∷_ 79 (L._∷_ 108 (L._∷_ 100 L.[]))))))))) (Syntax.tcons (Syntax.tyInt Syntax.w64) (Syntax.tcons q6 (Syntax.tcons q7 (Syntax.tcons q7 (Syntax.tcons q7 (Syntax.tcons q7 (Syntax.tcons q4 Syntax.tnil)))))))) Syntax.tnil))) Syntax.tnil)))) Syntax.tnil))))) (L._∷_ (11, Rows.any-gone (Syntax.tyStruct (L._∷_ 114 (L._∷_ 117 (L._∷_ 108 (L._∷_ 101 (L._∷_ 115 (L._∷_ 58 (L._∷_ 58 (L._∷_ 102 (L._∷_ 111 (L._∷_ 117 (L._∷_ 110 (L._∷_ 100 (L._∷_ 58 (L._∷_ 58 (L._∷_ 70 (L._∷_ 111 (L._∷_ 117 (L._∷_ 110 (L._∷_ 100 L.[]))))))))))))))))))) (Syntax.tcons Syntax.tyBool (Syntax.tcons Syntax.tyBool (Syntax.tcons (Syntax.tyStruct (L._∷_ 115 (L._∷_ 116 (L._∷_ 101 (L._∷_ 112 (L._∷_ 58 (L._∷_ 58 (L._∷_ 83 (L._∷_ 116 (L._∷_ 101 (L._∷_ 112 L.[])))))))))) (Syntax.tcons (Syntax.tyInt Syntax.w64) (Syntax.tcons (Syntax.tyInt Syntax.w64) (Syntax.tcons (Syntax.tyStruct (L._∷_ 115 (L._∷_ 116 (L._∷_ 101 (L._∷_ 112 (L._∷_ 58 (L._∷_ 58 (L._∷_ 67 (L._∷_ 104 (L._∷_ 97 (L._∷_ 110 (L._∷_ 103 (L._∷_ 101 L.[])))))))))))) (Syntax.tcons (Syntax.tyStruct (L._∷_ 110 (L._∷_ 101 (L._∷_ 116 (L._∷_ 119 (L._∷_ 111 (L._∷_ 114 (L._∷_ 107 (L._∷_ 58 (L._∷_ 58 (L._∷_ 69 (L._∷_ 100 (L._∷_ 105 (L._∷_ 116 L.[]))))))))))))) (Syntax.tcons q7 (Syntax.tcons q7 (Syntax.tcons q7 (Syntax.tcons q7 (Syntax.tcons q2 (Syntax.tcons q2 (Syntax.tcons (Syntax.tyInt Syntax.w64) Syntax.tnil)))))))) (Syntax.tcons (Syntax.tyStruct (L._∷_ 115 (L._∷_ 116 (L._∷_ 101 (L._∷_ 112 (L._∷_ 58 (L._∷_ 58 (L._∷_ 79 (L._∷_ 108 (L._∷_ 100 L.[]))))))))) (Syntax.tcons (Syntax.tyInt Syntax.w64) (Syntax.tcons q6 (Syntax.tcons q7 (Syntax.tcons q7 (Syntax.tcons q7 (Syntax.tcons q7 (Syntax.tcons q4 Syntax.tnil)))))))) Syntax.tnil))) Syntax.tnil)))) Syntax.tnil))))) (L._∷_ q28 (L._∷_ q29 (L._∷_ q30 (L._∷_ q31 L.[])))))))))))))))
+t25 = L._∷_ q12 (L._∷_ q0 (L._∷_ q11 (L._∷_ q3 (L._∷_ q26 (L._∷_ (5, Rows.any-gone (Syntax.tyStruct (L._∷_ 114 (L._∷_ 117 (L._∷_ 108 (L._∷_ 101 (L._∷_ 115 (L._∷_ 58 (L._∷_ 58 (L._∷_ 102 (L._∷_ 111 (L._∷_ 117 (L._∷_ 110 (L._∷_ 100 (L._∷_ 58 (L._∷_ 58 (L._∷_ 70 (L._∷_ 111 (L._∷_ 117 (L._∷_ 110 (L._∷_ 100 L.[]))))))))))))))))))) (Syntax.tcons Syntax.tyBool (Syntax.tcons Syntax.tyBool (Syntax.tcons (Syntax.tyStruct (L._∷_ 115 (L._∷_ 116 (L._∷_ 101 (L._∷_ 112 (L._∷_ 58 (L._∷_ 58 (L._∷_ 83 (L._∷_ 116 (L._∷_ 101 (L._∷_ 112 L.[])))))))))) (Syntax.tcons (Syntax.tyInt Syntax.w64) (Syntax.tcons (Syntax.tyInt Syntax.w64) (Syntax.tcons (Syntax.tyStruct (L._∷_ 115 (L._∷_ 116 (L._∷_ 101 (L._∷_ 112 (L._∷_ 58 (L._∷_ 58 (L._∷_ 67 (L._∷_ 104 (L._∷_ 97 (L._∷_ 110 (L._∷_ 103 (L._∷_ 101 L.[])))))))))))) (Syntax.tcons (Syntax.tyStruct (L._∷_ 110 (L._∷_ 101 (L._∷_ 116 (L._∷_ 119 (L._∷_ 111 (L._∷_ 114 (L._∷_ 107 (L._∷_ 58 (L._∷_ 58 (L._∷_ 69 (L._∷_ 100 (L._∷_ 105 (L._∷_ 116 L.[]))))))))))))) (Syntax.tcons q7 (Syntax.tcons q7 (Syntax.tcons q7 (Syntax.tcons q7 (Syntax.tcons q2 (Syntax.tcons q2 (Syntax.tcons (Syntax.tyInt Syntax.w64) (Syntax.tcons q6 Syntax.tnil))))))))) (Syntax.tcons (Syntax.tyStruct (L._∷_ 115 (L._∷_ 116 (L._∷_ 101 (L._∷_ 112 (L._∷_ 58 (L._∷_ 58 (L._∷_ 79 (L._∷_ 108 (L._∷_ 100 L.[]))))))))) (Syntax.tcons (Syntax.tyInt Syntax.w64) (Syntax.tcons q6 (Syntax.tcons q7 (Syntax.tcons q7 (Syntax.tcons q7 (Syntax.tcons q7 (Syntax.tcons q4 Syntax.tnil)))))))) Syntax.tnil))) Syntax.tnil)))) Syntax.tnil))))) (L._∷_ q8 (L._∷_ q25 (L._∷_ (8, Rows.sc-here Row.sBool) (L._∷_ q13 (L._∷_ (10, Rows.any-gone (Syntax.tyStruct (L._∷_ 114 (L._∷_ 117 (L._∷_ 108 (L._∷_ 101 (L._∷_ 115 (L._∷_ 58 (L._∷_ 58 (L._∷_ 102 (L._∷_ 111 (L._∷_ 117 (L._∷_ 110 (L._∷_ 100 (L._∷_ 58 (L._∷_ 58 (L._∷_ 70 (L._∷_ 111 (L._∷_ 117 (L._∷_ 110 (L._∷_ 100 L.[]))))))))))))))))))) (Syntax.tcons Syntax.tyBool (Syntax.tcons Syntax.tyBool (Syntax.tcons (Syntax.tyStruct (L._∷_ 115 (L._∷_ 116 (L._∷_ 101 (L._∷_ 112 (L._∷_ 58 (L._∷_ 58 (L._∷_ 83 (L._∷_ 116 (L._∷_ 101 (L._∷_ 112 L.[])))))))))) (Syntax.tcons (Syntax.tyInt Syntax.w64) (Syntax.tcons (Syntax.tyInt Syntax.w64) (Syntax.tcons (Syntax.tyStruct (L._∷_ 115 (L._∷_ 116 (L._∷_ 101 (L._∷_ 112 (L._∷_ 58 (L._∷_ 58 (L._∷_ 67 (L._∷_ 104 (L._∷_ 97 (L._∷_ 110 (L._∷_ 103 (L._∷_ 101 L.[])))))))))))) (Syntax.tcons (Syntax.tyStruct (L._∷_ 110 (L._∷_ 101 (L._∷_ 116 (L._∷_ 119 (L._∷_ 111 (L._∷_ 114 (L._∷_ 107 (L._∷_ 58 (L._∷_ 58 (L._∷_ 69 (L._∷_ 100 (L._∷_ 105 (L._∷_ 116 L.[]))))))))))))) (Syntax.tcons q7 (Syntax.tcons q7 (Syntax.tcons q7 (Syntax.tcons q7 (Syntax.tcons q2 (Syntax.tcons q2 (Syntax.tcons (Syntax.tyInt Syntax.w64) (Syntax.tcons q6 Syntax.tnil))))))))) (Syntax.tcons (Syntax.tyStruct (L._∷_ 115 (L._∷_ 116 (L._∷_ 101 (L._∷_ 112 (L._∷_ 58 (L._∷_ 58 (L._∷_ 79 (L._∷_ 108 (L._∷_ 100 L.[]))))))))) (Syntax.tcons (Syntax.tyInt Syntax.w64) (Syntax.tcons q6 (Syntax.tcons q7 (Syntax.tcons q7 (Syntax.tcons q7 (Syntax.tcons q7 (Syntax.tcons q4 Syntax.tnil)))))))) Syntax.tnil))) Syntax.tnil)))) Syntax.tnil))))) (L._∷_ (11, Rows.any-gone (Syntax.tyStruct (L._∷_ 114 (L._∷_ 117 (L._∷_ 108 (L._∷_ 101 (L._∷_ 115 (L._∷_ 58 (L._∷_ 58 (L._∷_ 102 (L._∷_ 111 (L._∷_ 117 (L._∷_ 110 (L._∷_ 100 (L._∷_ 58 (L._∷_ 58 (L._∷_ 70 (L._∷_ 111 (L._∷_ 117 (L._∷_ 110 (L._∷_ 100 L.[]))))))))))))))))))) (Syntax.tcons Syntax.tyBool (Syntax.tcons Syntax.tyBool (Syntax.tcons (Syntax.tyStruct (L._∷_ 115 (L._∷_ 116 (L._∷_ 101 (L._∷_ 112 (L._∷_ 58 (L._∷_ 58 (L._∷_ 83 (L._∷_ 116 (L._∷_ 101 (L._∷_ 112 L.[])))))))))) (Syntax.tcons (Syntax.tyInt Syntax.w64) (Syntax.tcons (Syntax.tyInt Syntax.w64) (Syntax.tcons (Syntax.tyStruct (L._∷_ 115 (L._∷_ 116 (L._∷_ 101 (L._∷_ 112 (L._∷_ 58 (L._∷_ 58 (L._∷_ 67 (L._∷_ 104 (L._∷_ 97 (L._∷_ 110 (L._∷_ 103 (L._∷_ 101 L.[])))))))))))) (Syntax.tcons (Syntax.tyStruct (L._∷_ 110 (L._∷_ 101 (L._∷_ 116 (L._∷_ 119 (L._∷_ 111 (L._∷_ 114 (L._∷_ 107 (L._∷_ 58 (L._∷_ 58 (L._∷_ 69 (L._∷_ 100 (L._∷_ 105 (L._∷_ 116 L.[]))))))))))))) (Syntax.tcons q7 (Syntax.tcons q7 (Syntax.tcons q7 (Syntax.tcons q7 (Syntax.tcons q2 (Syntax.tcons q2 (Syntax.tcons (Syntax.tyInt Syntax.w64) (Syntax.tcons q6 Syntax.tnil))))))))) (Syntax.tcons (Syntax.tyStruct (L._∷_ 115 (L._∷_ 116 (L._∷_ 101 (L._∷_ 112 (L._∷_ 58 (L._∷_ 58 (L._∷_ 79 (L._∷_ 108 (L._∷_ 100 L.[]))))))))) (Syntax.tcons (Syntax.tyInt Syntax.w64) (Syntax.tcons q6 (Syntax.tcons q7 (Syntax.tcons q7 (Syntax.tcons q7 (Syntax.tcons q7 (Syntax.tcons q4 Syntax.tnil)))))))) Syntax.tnil))) Syntax.tnil)))) Syntax.tnil))))) (L._∷_ q28 (L._∷_ q29 (L._∷_ q30 (L._∷_ q31 L.[])))))))))))))))
 
 abbrev pub t26 : L.List Row.Entry
-t26 = L._∷_ q12 (L._∷_ q0 (L._∷_ q11 (L._∷_ q3 (L._∷_ q26 (L._∷_ (5, Rows.any-gone (Syntax.tyStruct (L._∷_ 114 (L._∷_ 117 (L._∷_ 108 (L._∷_ 101 (L._∷_ 115 (L._∷_ 58 (L._∷_ 58 (L._∷_ 102 (L._∷_ 111 (L._∷_ 117 (L._∷_ 110 (L._∷_ 100 (L._∷_ 58 (L._∷_ 58 (L._∷_ 70 (L._∷_ 111 (L._∷_ 117 (L._∷_ 110 (L._∷_ 100 L.[]))))))))))))))))))) (Syntax.tcons Syntax.tyBool (Syntax.tcons Syntax.tyBool (Syntax.tcons (Syntax.tyStruct (L._∷_ 115 (L._∷_ 116 (L._∷_ 101 (L._∷_ 112 (L._∷_ 58 (L._∷_ 58 (L._∷_ 83 (L._∷_ 116 (L._∷_ 101 (L._∷_ 112 L.[])))))))))) (Syntax.tcons (Syntax.tyInt Syntax.w64) (Syntax.tcons (Syntax.tyInt Syntax.w64) (Syntax.tcons (Syntax.tyStruct (L._∷_ 115 (L._∷_ 116 (L._∷_ 101 (L._∷_ 112 (L._∷_ 58 (L._∷_ 58 (L._∷_ 67 (L._∷_ 104 (L._∷_ 97 (L._∷_ 110 (L._∷_ 103 (L._∷_ 101 L.[])))))))))))) (Syntax.tcons (Syntax.tyStruct (L._∷_ 110 (L._∷_ 101 (L._∷_ 116 (L._∷_ 119 (L._∷_ 111 (L._∷_ 114 (L._∷_ 107 (L._∷_ 58 (L._∷_ 58 (L._∷_ 69 (L._∷_ 100 (L._∷_ 105 (L._∷_ 116 L.[]))))))))))))) (Syntax.tcons q7 (Syntax.tcons q7 (Syntax.tcons q7 (Syntax.tcons q7 (Syntax.tcons q2 (Syntax.tcons q2 (Syntax.tcons (Syntax.tyInt Syntax.w64) Syntax.tnil)))))))) (Syntax.tcons (Syntax.tyStruct (L._∷_ 115 (L._∷_ 116 (L._∷_ 101 (L._∷_ 112 (L._∷_ 58 (L._∷_ 58 (L._∷_ 79 (L._∷_ 108 (L._∷_ 100 L.[]))))))))) (Syntax.tcons (Syntax.tyInt Syntax.w64) (Syntax.tcons q6 (Syntax.tcons q7 (Syntax.tcons q7 (Syntax.tcons q7 (Syntax.tcons q7 (Syntax.tcons q4 Syntax.tnil)))))))) Syntax.tnil))) Syntax.tnil)))) Syntax.tnil))))) (L._∷_ q8 (L._∷_ q25 (L._∷_ (8, Rows.sc-here Row.sBool) (L._∷_ (9, Rows.any-gone (Syntax.tyStruct (L._∷_ 114 (L._∷_ 117 (L._∷_ 108 (L._∷_ 101 (L._∷_ 115 (L._∷_ 58 (L._∷_ 58 (L._∷_ 116 (L._∷_ 114 (L._∷_ 105 (L._∷_ 101 (L._∷_ 100 (L._∷_ 58 (L._∷_ 58 (L._∷_ 76 (L._∷_ 111 (L._∷_ 111 (L._∷_ 107 (L._∷_ 101 (L._∷_ 100 L.[])))))))))))))))))))) (Syntax.tcons (Syntax.tyStruct (L._∷_ 114 (L._∷_ 117 (L._∷_ 108 (L._∷_ 101 (L._∷_ 115 (L._∷_ 58 (L._∷_ 58 (L._∷_ 102 (L._∷_ 111 (L._∷_ 117 (L._∷_ 110 (L._∷_ 100 (L._∷_ 58 (L._∷_ 58 (L._∷_ 70 (L._∷_ 111 (L._∷_ 117 (L._∷_ 110 (L._∷_ 100 L.[]))))))))))))))))))) (Syntax.tcons Syntax.tyBool (Syntax.tcons Syntax.tyBool (Syntax.tcons (Syntax.tyStruct (L._∷_ 115 (L._∷_ 116 (L._∷_ 101 (L._∷_ 112 (L._∷_ 58 (L._∷_ 58 (L._∷_ 83 (L._∷_ 116 (L._∷_ 101 (L._∷_ 112 L.[])))))))))) (Syntax.tcons (Syntax.tyInt Syntax.w64) (Syntax.tcons (Syntax.tyInt Syntax.w64) (Syntax.tcons (Syntax.tyStruct (L._∷_ 115 (L._∷_ 116 (L._∷_ 101 (L._∷_ 112 (L._∷_ 58 (L._∷_ 58 (L._∷_ 67 (L._∷_ 104 (L._∷_ 97 (L._∷_ 110 (L._∷_ 103 (L._∷_ 101 L.[])))))))))))) (Syntax.tcons (Syntax.tyStruct (L._∷_ 110 (L._∷_ 101 (L._∷_ 116 (L._∷_ 119 (L._∷_ 111 (L._∷_ 114 (L._∷_ 107 (L._∷_ 58 (L._∷_ 58 (L._∷_ 69 (L._∷_ 100 (L._∷_ 105 (L._∷_ 116 L.[]))))))))))))) (Syntax.tcons q7 (Syntax.tcons q7 (Syntax.tcons q7 (Syntax.tcons q7 (Syntax.tcons q2 (Syntax.tcons q2 (Syntax.tcons (Syntax.tyInt Syntax.w64) Syntax.tnil)))))))) (Syntax.tcons (Syntax.tyStruct (L._∷_ 115 (L._∷_ 116 (L._∷_ 101 (L._∷_ 112 (L._∷_ 58 (L._∷_ 58 (L._∷_ 79 (L._∷_ 108 (L._∷_ 100 L.[]))))))))) (Syntax.tcons (Syntax.tyInt Syntax.w64) (Syntax.tcons q6 (Syntax.tcons q7 (Syntax.tcons q7 (Syntax.tcons q7 (Syntax.tcons q7 (Syntax.tcons q4 Syntax.tnil)))))))) Syntax.tnil))) Syntax.tnil)))) Syntax.tnil)))) (Syntax.tcons q5 Syntax.tnil)))) (L._∷_ (10, Rows.any-gone (Syntax.tyStruct (L._∷_ 114 (L._∷_ 117 (L._∷_ 108 (L._∷_ 101 (L._∷_ 115 (L._∷_ 58 (L._∷_ 58 (L._∷_ 102 (L._∷_ 111 (L._∷_ 117 (L._∷_ 110 (L._∷_ 100 (L._∷_ 58 (L._∷_ 58 (L._∷_ 70 (L._∷_ 111 (L._∷_ 117 (L._∷_ 110 (L._∷_ 100 L.[]))))))))))))))))))) (Syntax.tcons Syntax.tyBool (Syntax.tcons Syntax.tyBool (Syntax.tcons (Syntax.tyStruct (L._∷_ 115 (L._∷_ 116 (L._∷_ 101 (L._∷_ 112 (L._∷_ 58 (L._∷_ 58 (L._∷_ 83 (L._∷_ 116 (L._∷_ 101 (L._∷_ 112 L.[])))))))))) (Syntax.tcons (Syntax.tyInt Syntax.w64) (Syntax.tcons (Syntax.tyInt Syntax.w64) (Syntax.tcons (Syntax.tyStruct (L._∷_ 115 (L._∷_ 116 (L._∷_ 101 (L._∷_ 112 (L._∷_ 58 (L._∷_ 58 (L._∷_ 67 (L._∷_ 104 (L._∷_ 97 (L._∷_ 110 (L._∷_ 103 (L._∷_ 101 L.[])))))))))))) (Syntax.tcons (Syntax.tyStruct (L._∷_ 110 (L._∷_ 101 (L._∷_ 116 (L._∷_ 119 (L._∷_ 111 (L._∷_ 114 (L._∷_ 107 (L._∷_ 58 (L._∷_ 58 (L._∷_ 69 (L._∷_ 100 (L._∷_ 105 (L._∷_ 116 L.[]))))))))))))) (Syntax.tcons q7 (Syntax.tcons q7 (Syntax.tcons q7 (Syntax.tcons q7 (Syntax.tcons q2 (Syntax.tcons q2 (Syntax.tcons (Syntax.tyInt Syntax.w64) Syntax.tnil)))))))) (Syntax.tcons (Syntax.tyStruct (L._∷_ 115 (L._∷_ 116 (L._∷_ 101 (L._∷_ 112 (L._∷_ 58 (L._∷_ 58 (L._∷_ 79 (L._∷_ 108 (L._∷_ 100 L.[]))))))))) (Syntax.tcons (Syntax.tyInt Syntax.w64) (Syntax.tcons q6 (Syntax.tcons q7 (Syntax.tcons q7 (Syntax.tcons q7 (Syntax.tcons q7 (Syntax.tcons q4 Syntax.tnil)))))))) Syntax.tnil))) Syntax.tnil)))) Syntax.tnil))))) (L._∷_ (11, Rows.any-gone (Syntax.tyStruct (L._∷_ 114 (L._∷_ 117 (L._∷_ 108 (L._∷_ 101 (L._∷_ 115 (L._∷_ 58 (L._∷_ 58 (L._∷_ 102 (L._∷_ 111 (L._∷_ 117 (L._∷_ 110 (L._∷_ 100 (L._∷_ 58 (L._∷_ 58 (L._∷_ 70 (L._∷_ 111 (L._∷_ 117 (L._∷_ 110 (L._∷_ 100 L.[]))))))))))))))))))) (Syntax.tcons Syntax.tyBool (Syntax.tcons Syntax.tyBool (Syntax.tcons (Syntax.tyStruct (L._∷_ 115 (L._∷_ 116 (L._∷_ 101 (L._∷_ 112 (L._∷_ 58 (L._∷_ 58 (L._∷_ 83 (L._∷_ 116 (L._∷_ 101 (L._∷_ 112 L.[])))))))))) (Syntax.tcons (Syntax.tyInt Syntax.w64) (Syntax.tcons (Syntax.tyInt Syntax.w64) (Syntax.tcons (Syntax.tyStruct (L._∷_ 115 (L._∷_ 116 (L._∷_ 101 (L._∷_ 112 (L._∷_ 58 (L._∷_ 58 (L._∷_ 67 (L._∷_ 104 (L._∷_ 97 (L._∷_ 110 (L._∷_ 103 (L._∷_ 101 L.[])))))))))))) (Syntax.tcons (Syntax.tyStruct (L._∷_ 110 (L._∷_ 101 (L._∷_ 116 (L._∷_ 119 (L._∷_ 111 (L._∷_ 114 (L._∷_ 107 (L._∷_ 58 (L._∷_ 58 (L._∷_ 69 (L._∷_ 100 (L._∷_ 105 (L._∷_ 116 L.[]))))))))))))) (Syntax.tcons q7 (Syntax.tcons q7 (Syntax.tcons q7 (Syntax.tcons q7 (Syntax.tcons q2 (Syntax.tcons q2 (Syntax.tcons (Syntax.tyInt Syntax.w64) Syntax.tnil)))))))) (Syntax.tcons (Syntax.tyStruct (L._∷_ 115 (L._∷_ 116 (L._∷_ 101 (L._∷_ 112 (L._∷_ 58 (L._∷_ 58 (L._∷_ 79 (L._∷_ 108 (L._∷_ 100 L.[]))))))))) (Syntax.tcons (Syntax.tyInt Syntax.w64) (Syntax.tcons q6 (Syntax.tcons q7 (Syntax.tcons q7 (Syntax.tcons q7 (Syntax.tcons q7 (Syntax.tcons q4 Syntax.tnil)))))))) Syntax.tnil))) Syntax.tnil)))) Syntax.tnil))))) (L._∷_ q28 (L._∷_ q29 (L._∷_ q30 (L._∷_ q31 L.[])))))))))))))))
+t26 = L._∷_ q12 (L._∷_ q0 (L._∷_ q11 (L._∷_ q3 (L._∷_ q26 (L._∷_ (5, Rows.any-gone (Syntax.tyStruct (L._∷_ 114 (L._∷_ 117 (L._∷_ 108 (L._∷_ 101 (L._∷_ 115 (L._∷_ 58 (L._∷_ 58 (L._∷_ 102 (L._∷_ 111 (L._∷_ 117 (L._∷_ 110 (L._∷_ 100 (L._∷_ 58 (L._∷_ 58 (L._∷_ 70 (L._∷_ 111 (L._∷_ 117 (L._∷_ 110 (L._∷_ 100 L.[]))))))))))))))))))) (Syntax.tcons Syntax.tyBool (Syntax.tcons Syntax.tyBool (Syntax.tcons (Syntax.tyStruct (L._∷_ 115 (L._∷_ 116 (L._∷_ 101 (L._∷_ 112 (L._∷_ 58 (L._∷_ 58 (L._∷_ 83 (L._∷_ 116 (L._∷_ 101 (L._∷_ 112 L.[])))))))))) (Syntax.tcons (Syntax.tyInt Syntax.w64) (Syntax.tcons (Syntax.tyInt Syntax.w64) (Syntax.tcons (Syntax.tyStruct (L._∷_ 115 (L._∷_ 116 (L._∷_ 101 (L._∷_ 112 (L._∷_ 58 (L._∷_ 58 (L._∷_ 67 (L._∷_ 104 (L._∷_ 97 (L._∷_ 110 (L._∷_ 103 (L._∷_ 101 L.[])))))))))))) (Syntax.tcons (Syntax.tyStruct (L._∷_ 110 (L._∷_ 101 (L._∷_ 116 (L._∷_ 119 (L._∷_ 111 (L._∷_ 114 (L._∷_ 107 (L._∷_ 58 (L._∷_ 58 (L._∷_ 69 (L._∷_ 100 (L._∷_ 105 (L._∷_ 116 L.[]))))))))))))) (Syntax.tcons q7 (Syntax.tcons q7 (Syntax.tcons q7 (Syntax.tcons q7 (Syntax.tcons q2 (Syntax.tcons q2 (Syntax.tcons (Syntax.tyInt Syntax.w64) (Syntax.tcons q6 Syntax.tnil))))))))) (Syntax.tcons (Syntax.tyStruct (L._∷_ 115 (L._∷_ 116 (L._∷_ 101 (L._∷_ 112 (L._∷_ 58 (L._∷_ 58 (L._∷_ 79 (L._∷_ 108 (L._∷_ 100 L.[]))))))))) (Syntax.tcons (Syntax.tyInt Syntax.w64) (Syntax.tcons q6 (Syntax.tcons q7 (Syntax.tcons q7 (Syntax.tcons q7 (Syntax.tcons q7 (Syntax.tcons q4 Syntax.tnil)))))))) Syntax.tnil))) Syntax.tnil)))) Syntax.tnil))))) (L._∷_ q8 (L._∷_ q25 (L._∷_ (8, Rows.sc-here Row.sBool) (L._∷_ (9, Rows.any-gone (Syntax.tyStruct (L._∷_ 114 (L._∷_ 117 (L._∷_ 108 (L._∷_ 101 (L._∷_ 115 (L._∷_ 58 (L._∷_ 58 (L._∷_ 116 (L._∷_ 114 (L._∷_ 105 (L._∷_ 101 (L._∷_ 100 (L._∷_ 58 (L._∷_ 58 (L._∷_ 76 (L._∷_ 111 (L._∷_ 111 (L._∷_ 107 (L._∷_ 101 (L._∷_ 100 L.[])))))))))))))))))))) (Syntax.tcons (Syntax.tyStruct (L._∷_ 114 (L._∷_ 117 (L._∷_ 108 (L._∷_ 101 (L._∷_ 115 (L._∷_ 58 (L._∷_ 58 (L._∷_ 102 (L._∷_ 111 (L._∷_ 117 (L._∷_ 110 (L._∷_ 100 (L._∷_ 58 (L._∷_ 58 (L._∷_ 70 (L._∷_ 111 (L._∷_ 117 (L._∷_ 110 (L._∷_ 100 L.[]))))))))))))))))))) (Syntax.tcons Syntax.tyBool (Syntax.tcons Syntax.tyBool (Syntax.tcons (Syntax.tyStruct (L._∷_ 115 (L._∷_ 116 (L._∷_ 101 (L._∷_ 112 (L._∷_ 58 (L._∷_ 58 (L._∷_ 83 (L._∷_ 116 (L._∷_ 101 (L._∷_ 112 L.[])))))))))) (Syntax.tcons (Syntax.tyInt Syntax.w64) (Syntax.tcons (Syntax.tyInt Syntax.w64) (Syntax.tcons (Syntax.tyStruct (L._∷_ 115 (L._∷_ 116 (L._∷_ 101 (L._∷_ 112 (L._∷_ 58 (L._∷_ 58 (L._∷_ 67 (L._∷_ 104 (L._∷_ 97 (L._∷_ 110 (L._∷_ 103 (L._∷_ 101 L.[])))))))))))) (Syntax.tcons (Syntax.tyStruct (L._∷_ 110 (L._∷_ 101 (L._∷_ 116 (L._∷_ 119 (L._∷_ 111 (L._∷_ 114 (L._∷_ 107 (L._∷_ 58 (L._∷_ 58 (L._∷_ 69 (L._∷_ 100 (L._∷_ 105 (L._∷_ 116 L.[]))))))))))))) (Syntax.tcons q7 (Syntax.tcons q7 (Syntax.tcons q7 (Syntax.tcons q7 (Syntax.tcons q2 (Syntax.tcons q2 (Syntax.tcons (Syntax.tyInt Syntax.w64) (Syntax.tcons q6 Syntax.tnil))))))))) (Syntax.tcons (Syntax.tyStruct (L._∷_ 115 (L._∷_ 116 (L._∷_ 101 (L._∷_ 112 (L._∷_ 58 (L._∷_ 58 (L._∷_ 79 (L._∷_ 108 (L._∷_ 100 L.[]))))))))) (Syntax.tcons (Syntax.tyInt Syntax.w64) (Syntax.tcons q6 (Syntax.tcons q7 (Syntax.tcons q7 (Syntax.tcons q7 (Syntax.tcons q7 (Syntax.tcons q4 Syntax.tnil)))))))) Syntax.tnil))) Syntax.tnil)))) Syntax.tnil)))) (Syntax.tcons q5 Syntax.tnil)))) (L._∷_ (10, Rows.any-gone (Syntax.tyStruct (L._∷_ 114 (L._∷_ 117 (L._∷_ 108 (L._∷_ 101 (L._∷_ 115 (L._∷_ 58 (L._∷_ 58 (L._∷_ 102 (L._∷_ 111 (L._∷_ 117 (L._∷_ 110 (L._∷_ 100 (L._∷_ 58 (L._∷_ 58 (L._∷_ 70 (L._∷_ 111 (L._∷_ 117 (L._∷_ 110 (L._∷_ 100 L.[]))))))))))))))))))) (Syntax.tcons Syntax.tyBool (Syntax.tcons Syntax.tyBool (Syntax.tcons (Syntax.tyStruct (L._∷_ 115 (L._∷_ 116 (L._∷_ 101 (L._∷_ 112 (L._∷_ 58 (L._∷_ 58 (L._∷_ 83 (L._∷_ 116 (L._∷_ 101 (L._∷_ 112 L.[])))))))))) (Syntax.tcons (Syntax.tyInt Syntax.w64) (Syntax.tcons (Syntax.tyInt Syntax.w64) (Syntax.tcons (Syntax.tyStruct (L._∷_ 115 (L._∷_ 116 (L._∷_ 101 (L._∷_ 112 (L._∷_ 58 (L._∷_ 58 (L._∷_ 67 (L._∷_ 104 (L._∷_ 97 (L._∷_ 110 (L._∷_ 103 (L._∷_ 101 L.[])))))))))))) (Syntax.tcons (Syntax.tyStruct (L._∷_ 110 (L._∷_ 101 (L._∷_ 116 (L._∷_ 119 (L._∷_ 111 (L._∷_ 114 (L._∷_ 107 (L._∷_ 58 (L._∷_ 58 (L._∷_ 69 (L._∷_ 100 (L._∷_ 105 (L._∷_ 116 L.[]))))))))))))) (Syntax.tcons q7 (Syntax.tcons q7 (Syntax.tcons q7 (Syntax.tcons q7 (Syntax.tcons q2 (Syntax.tcons q2 (Syntax.tcons (Syntax.tyInt Syntax.w64) (Syntax.tcons q6 Syntax.tnil))))))))) (Syntax.tcons (Syntax.tyStruct (L._∷_ 115 (L._∷_ 116 (L._∷_ 101 (L._∷_ 112 (L._∷_ 58 (L._∷_ 58 (L._∷_ 79 (L._∷_ 108 (L._∷_ 100 L.[]))))))))) (Syntax.tcons (Syntax.tyInt Syntax.w64) (Syntax.tcons q6 (Syntax.tcons q7 (Syntax.tcons q7 (Syntax.tcons q7 (Syntax.tcons q7 (Syntax.tcons q4 Syntax.tnil)))))))) Syntax.tnil))) Syntax.tnil)))) Syntax.tnil))))) (L._∷_ (11, Rows.any-gone (Syntax.tyStruct (L._∷_ 114 (L._∷_ 117 (L._∷_ 108 (L._∷_ 101 (L._∷_ 115 (L._∷_ 58 (L._∷_ 58 (L._∷_ 102 (L._∷_ 111 (L._∷_ 117 (L._∷_ 110 (L._∷_ 100 (L._∷_ 58 (L._∷_ 58 (L._∷_ 70 (L._∷_ 111 (L._∷_ 117 (L._∷_ 110 (L._∷_ 100 L.[]))))))))))))))))))) (Syntax.tcons Syntax.tyBool (Syntax.tcons Syntax.tyBool (Syntax.tcons (Syntax.tyStruct (L._∷_ 115 (L._∷_ 116 (L._∷_ 101 (L._∷_ 112 (L._∷_ 58 (L._∷_ 58 (L._∷_ 83 (L._∷_ 116 (L._∷_ 101 (L._∷_ 112 L.[])))))))))) (Syntax.tcons (Syntax.tyInt Syntax.w64) (Syntax.tcons (Syntax.tyInt Syntax.w64) (Syntax.tcons (Syntax.tyStruct (L._∷_ 115 (L._∷_ 116 (L._∷_ 101 (L._∷_ 112 (L._∷_ 58 (L._∷_ 58 (L._∷_ 67 (L._∷_ 104 (L._∷_ 97 (L._∷_ 110 (L._∷_ 103 (L._∷_ 101 L.[])))))))))))) (Syntax.tcons (Syntax.tyStruct (L._∷_ 110 (L._∷_ 101 (L._∷_ 116 (L._∷_ 119 (L._∷_ 111 (L._∷_ 114 (L._∷_ 107 (L._∷_ 58 (L._∷_ 58 (L._∷_ 69 (L._∷_ 100 (L._∷_ 105 (L._∷_ 116 L.[]))))))))))))) (Syntax.tcons q7 (Syntax.tcons q7 (Syntax.tcons q7 (Syntax.tcons q7 (Syntax.tcons q2 (Syntax.tcons q2 (Syntax.tcons (Syntax.tyInt Syntax.w64) (Syntax.tcons q6 Syntax.tnil))))))))) (Syntax.tcons (Syntax.tyStruct (L._∷_ 115 (L._∷_ 116 (L._∷_ 101 (L._∷_ 112 (L._∷_ 58 (L._∷_ 58 (L._∷_ 79 (L._∷_ 108 (L._∷_ 100 L.[]))))))))) (Syntax.tcons (Syntax.tyInt Syntax.w64) (Syntax.tcons q6 (Syntax.tcons q7 (Syntax.tcons q7 (Syntax.tcons q7 (Syntax.tcons q7 (Syntax.tcons q4 Syntax.tnil)))))))) Syntax.tnil))) Syntax.tnil)))) Syntax.tnil))))) (L._∷_ q28 (L._∷_ q29 (L._∷_ q30 (L._∷_ q31 L.[])))))))))))))))
 
 abbrev pub t27 : L.List Row.Entry
-t27 = L._∷_ q12 (L._∷_ q0 (L._∷_ q11 (L._∷_ q3 (L._∷_ q24 (L._∷_ (5, Rows.any-gone (Syntax.tyStruct (L._∷_ 114 (L._∷_ 117 (L._∷_ 108 (L._∷_ 101 (L._∷_ 115 (L._∷_ 58 (L._∷_ 58 (L._∷_ 102 (L._∷_ 111 (L._∷_ 117 (L._∷_ 110 (L._∷_ 100 (L._∷_ 58 (L._∷_ 58 (L._∷_ 70 (L._∷_ 111 (L._∷_ 117 (L._∷_ 110 (L._∷_ 100 L.[]))))))))))))))))))) (Syntax.tcons Syntax.tyBool (Syntax.tcons Syntax.tyBool (Syntax.tcons (Syntax.tyStruct (L._∷_ 115 (L._∷_ 116 (L._∷_ 101 (L._∷_ 112 (L._∷_ 58 (L._∷_ 58 (L._∷_ 83 (L._∷_ 116 (L._∷_ 101 (L._∷_ 112 L.[])))))))))) (Syntax.tcons (Syntax.tyInt Syntax.w64) (Syntax.tcons (Syntax.tyInt Syntax.w64) (Syntax.tcons (Syntax.tyStruct (L._∷_ 115 (L._∷_ 116 (L._∷_ 101 (L._∷_ 112 (L._∷_ 58 (L._∷_ 58 (L._∷_ 67 (L._∷_ 104 (L._∷_ 97 (L._∷_ 110 (L._∷_ 103 (L._∷_ 101 L.[])))))))))))) (Syntax.tcons (Syntax.tyStruct (L._∷_ 110 (L._∷_ 101 (L._∷_ 116 (L._∷_ 119 (L._∷_ 111 (L._∷_ 114 (L._∷_ 107 (L._∷_ 58 (L._∷_ 58 (L._∷_ 69 (L._∷_ 100 (L._∷_ 105 (L._∷_ 116 L.[]))))))))))))) (Syntax.tcons q7 (Syntax.tcons q7 (Syntax.tcons q7 (Syntax.tcons q7 (Syntax.tcons q2 (Syntax.tcons q2 (Syntax.tcons (Syntax.tyInt Syntax.w64) Syntax.tnil)))))))) (Syntax.tcons (Syntax.tyStruct (L._∷_ 115 (L._∷_ 116 (L._∷_ 101 (L._∷_ 112 (L._∷_ 58 (L._∷_ 58 (L._∷_ 79 (L._∷_ 108 (L._∷_ 100 L.[]))))))))) (Syntax.tcons (Syntax.tyInt Syntax.w64) (Syntax.tcons q6 (Syntax.tcons q7 (Syntax.tcons q7 (Syntax.tcons q7 (Syntax.tcons q7 (Syntax.tcons q4 Syntax.tnil)))))))) Syntax.tnil))) Syntax.tnil)))) Syntax.tnil))))) (L._∷_ q8 (L._∷_ q25 (L._∷_ (8, Rows.sc-here Row.sBool) (L._∷_ (9, Rows.any-gone (Syntax.tyStruct (L._∷_ 114 (L._∷_ 117 (L._∷_ 108 (L._∷_ 101 (L._∷_ 115 (L._∷_ 58 (L._∷_ 58 (L._∷_ 116 (L._∷_ 114 (L._∷_ 105 (L._∷_ 101 (L._∷_ 100 (L._∷_ 58 (L._∷_ 58 (L._∷_ 76 (L._∷_ 111 (L._∷_ 111 (L._∷_ 107 (L._∷_ 101 (L._∷_ 100 L.[])))))))))))))))))))) (Syntax.tcons (Syntax.tyStruct (L._∷_ 114 (L._∷_ 117 (L._∷_ 108 (L._∷_ 101 (L._∷_ 115 (L._∷_ 58 (L._∷_ 58 (L._∷_ 102 (L._∷_ 111 (L._∷_ 117 (L._∷_ 110 (L._∷_ 100 (L._∷_ 58 (L._∷_ 58 (L._∷_ 70 (L._∷_ 111 (L._∷_ 117 (L._∷_ 110 (L._∷_ 100 L.[]))))))))))))))))))) (Syntax.tcons Syntax.tyBool (Syntax.tcons Syntax.tyBool (Syntax.tcons (Syntax.tyStruct (L._∷_ 115 (L._∷_ 116 (L._∷_ 101 (L._∷_ 112 (L._∷_ 58 (L._∷_ 58 (L._∷_ 83 (L._∷_ 116 (L._∷_ 101 (L._∷_ 112 L.[])))))))))) (Syntax.tcons (Syntax.tyInt Syntax.w64) (Syntax.tcons (Syntax.tyInt Syntax.w64) (Syntax.tcons (Syntax.tyStruct (L._∷_ 115 (L._∷_ 116 (L._∷_ 101 (L._∷_ 112 (L._∷_ 58 (L._∷_ 58 (L._∷_ 67 (L._∷_ 104 (L._∷_ 97 (L._∷_ 110 (L._∷_ 103 (L._∷_ 101 L.[])))))))))))) (Syntax.tcons (Syntax.tyStruct (L._∷_ 110 (L._∷_ 101 (L._∷_ 116 (L._∷_ 119 (L._∷_ 111 (L._∷_ 114 (L._∷_ 107 (L._∷_ 58 (L._∷_ 58 (L._∷_ 69 (L._∷_ 100 (L._∷_ 105 (L._∷_ 116 L.[]))))))))))))) (Syntax.tcons q7 (Syntax.tcons q7 (Syntax.tcons q7 (Syntax.tcons q7 (Syntax.tcons q2 (Syntax.tcons q2 (Syntax.tcons (Syntax.tyInt Syntax.w64) Syntax.tnil)))))))) (Syntax.tcons (Syntax.tyStruct (L._∷_ 115 (L._∷_ 116 (L._∷_ 101 (L._∷_ 112 (L._∷_ 58 (L._∷_ 58 (L._∷_ 79 (L._∷_ 108 (L._∷_ 100 L.[]))))))))) (Syntax.tcons (Syntax.tyInt Syntax.w64) (Syntax.tcons q6 (Syntax.tcons q7 (Syntax.tcons q7 (Syntax.tcons q7 (Syntax.tcons q7 (Syntax.tcons q4 Syntax.tnil)))))))) Syntax.tnil))) Syntax.tnil)))) Syntax.tnil)))) (Syntax.tcons q5 Syntax.tnil)))) (L._∷_ (10, Rows.any-gone (Syntax.tyStruct (L._∷_ 114 (L._∷_ 117 (L._∷_ 108 (L._∷_ 101 (L._∷_ 115 (L._∷_ 58 (L._∷_ 58 (L._∷_ 102 (L._∷_ 111 (L._∷_ 117 (L._∷_ 110 (L._∷_ 100 (L._∷_ 58 (L._∷_ 58 (L._∷_ 70 (L._∷_ 111 (L._∷_ 117 (L._∷_ 110 (L._∷_ 100 L.[]))))))))))))))))))) (Syntax.tcons Syntax.tyBool (Syntax.tcons Syntax.tyBool (Syntax.tcons (Syntax.tyStruct (L._∷_ 115 (L._∷_ 116 (L._∷_ 101 (L._∷_ 112 (L._∷_ 58 (L._∷_ 58 (L._∷_ 83 (L._∷_ 116 (L._∷_ 101 (L._∷_ 112 L.[])))))))))) (Syntax.tcons (Syntax.tyInt Syntax.w64) (Syntax.tcons (Syntax.tyInt Syntax.w64) (Syntax.tcons (Syntax.tyStruct (L._∷_ 115 (L._∷_ 116 (L._∷_ 101 (L._∷_ 112 (L._∷_ 58 (L._∷_ 58 (L._∷_ 67 (L._∷_ 104 (L._∷_ 97 (L._∷_ 110 (L._∷_ 103 (L._∷_ 101 L.[])))))))))))) (Syntax.tcons (Syntax.tyStruct (L._∷_ 110 (L._∷_ 101 (L._∷_ 116 (L._∷_ 119 (L._∷_ 111 (L._∷_ 114 (L._∷_ 107 (L._∷_ 58 (L._∷_ 58 (L._∷_ 69 (L._∷_ 100 (L._∷_ 105 (L._∷_ 116 L.[]))))))))))))) (Syntax.tcons q7 (Syntax.tcons q7 (Syntax.tcons q7 (Syntax.tcons q7 (Syntax.tcons q2 (Syntax.tcons q2 (Syntax.tcons (Syntax.tyInt Syntax.w64) Syntax.tnil)))))))) (Syntax.tcons (Syntax.tyStruct (L._∷_ 115 (L._∷_ 116 (L._∷_ 101 (L._∷_ 112 (L._∷_ 58 (L._∷_ 58 (L._∷_ 79 (L._∷_ 108 (L._∷_ 100 L.[]))))))))) (Syntax.tcons (Syntax.tyInt Syntax.w64) (Syntax.tcons q6 (Syntax.tcons q7 (Syntax.tcons q7 (Syntax.tcons q7 (Syntax.tcons q7 (Syntax.tcons q4 Syntax.tnil)))))))) Syntax.tnil))) Syntax.tnil)))) Syntax.tnil))))) (L._∷_ (11, Rows.any-gone (Syntax.tyStruct (L._∷_ 114 (L._∷_ 117 (L._∷_ 108 (L._∷_ 101 (L._∷_ 115 (L._∷_ 58 (L._∷_ 58 (L._∷_ 102 (L._∷_ 111 (L._∷_ 117 (L._∷_ 110 (L._∷_ 100 (L._∷_ 58 (L._∷_ 58 (L._∷_ 70 (L._∷_ 111 (L._∷_ 117 (L._∷_ 110 (L._∷_ 100 L.[]))))))))))))))))))) (Syntax.tcons Syntax.tyBool (Syntax.tcons Syntax.tyBool (Syntax.tcons (Syntax.tyStruct (L._∷_ 115 (L._∷_ 116 (L._∷_ 101 (L._∷_ 112 (L._∷_ 58 (L._∷_ 58 (L._∷_ 83 (L._∷_ 116 (L._∷_ 101 (L._∷_ 112 L.[])))))))))) (Syntax.tcons (Syntax.tyInt Syntax.w64) (Syntax.tcons (Syntax.tyInt Syntax.w64) (Syntax.tcons (Syntax.tyStruct (L._∷_ 115 (L._∷_ 116 (L._∷_ 101 (L._∷_ 112 (L._∷_ 58 (L._∷_ 58 (L._∷_ 67 (L._∷_ 104 (L._∷_ 97 (L._∷_ 110 (L._∷_ 103 (L._∷_ 101 L.[])))))))))))) (Syntax.tcons (Syntax.tyStruct (L._∷_ 110 (L._∷_ 101 (L._∷_ 116 (L._∷_ 119 (L._∷_ 111 (L._∷_ 114 (L._∷_ 107 (L._∷_ 58 (L._∷_ 58 (L._∷_ 69 (L._∷_ 100 (L._∷_ 105 (L._∷_ 116 L.[]))))))))))))) (Syntax.tcons q7 (Syntax.tcons q7 (Syntax.tcons q7 (Syntax.tcons q7 (Syntax.tcons q2 (Syntax.tcons q2 (Syntax.tcons (Syntax.tyInt Syntax.w64) Syntax.tnil)))))))) (Syntax.tcons (Syntax.tyStruct (L._∷_ 115 (L._∷_ 116 (L._∷_ 101 (L._∷_ 112 (L._∷_ 58 (L._∷_ 58 (L._∷_ 79 (L._∷_ 108 (L._∷_ 100 L.[]))))))))) (Syntax.tcons (Syntax.tyInt Syntax.w64) (Syntax.tcons q6 (Syntax.tcons q7 (Syntax.tcons q7 (Syntax.tcons q7 (Syntax.tcons q7 (Syntax.tcons q4 Syntax.tnil)))))))) Syntax.tnil))) Syntax.tnil)))) Syntax.tnil))))) (L._∷_ q28 (L._∷_ q29 (L._∷_ q30 (L._∷_ q31 L.[])))))))))))))))
+t27 = L._∷_ q12 (L._∷_ q0 (L._∷_ q11 (L._∷_ q3 (L._∷_ q24 (L._∷_ (5, Rows.any-gone (Syntax.tyStruct (L._∷_ 114 (L._∷_ 117 (L._∷_ 108 (L._∷_ 101 (L._∷_ 115 (L._∷_ 58 (L._∷_ 58 (L._∷_ 102 (L._∷_ 111 (L._∷_ 117 (L._∷_ 110 (L._∷_ 100 (L._∷_ 58 (L._∷_ 58 (L._∷_ 70 (L._∷_ 111 (L._∷_ 117 (L._∷_ 110 (L._∷_ 100 L.[]))))))))))))))))))) (Syntax.tcons Syntax.tyBool (Syntax.tcons Syntax.tyBool (Syntax.tcons (Syntax.tyStruct (L._∷_ 115 (L._∷_ 116 (L._∷_ 101 (L._∷_ 112 (L._∷_ 58 (L._∷_ 58 (L._∷_ 83 (L._∷_ 116 (L._∷_ 101 (L._∷_ 112 L.[])))))))))) (Syntax.tcons (Syntax.tyInt Syntax.w64) (Syntax.tcons (Syntax.tyInt Syntax.w64) (Syntax.tcons (Syntax.tyStruct (L._∷_ 115 (L._∷_ 116 (L._∷_ 101 (L._∷_ 112 (L._∷_ 58 (L._∷_ 58 (L._∷_ 67 (L._∷_ 104 (L._∷_ 97 (L._∷_ 110 (L._∷_ 103 (L._∷_ 101 L.[])))))))))))) (Syntax.tcons (Syntax.tyStruct (L._∷_ 110 (L._∷_ 101 (L._∷_ 116 (L._∷_ 119 (L._∷_ 111 (L._∷_ 114 (L._∷_ 107 (L._∷_ 58 (L._∷_ 58 (L._∷_ 69 (L._∷_ 100 (L._∷_ 105 (L._∷_ 116 L.[]))))))))))))) (Syntax.tcons q7 (Syntax.tcons q7 (Syntax.tcons q7 (Syntax.tcons q7 (Syntax.tcons q2 (Syntax.tcons q2 (Syntax.tcons (Syntax.tyInt Syntax.w64) (Syntax.tcons q6 Syntax.tnil))))))))) (Syntax.tcons (Syntax.tyStruct (L._∷_ 115 (L._∷_ 116 (L._∷_ 101 (L._∷_ 112 (L._∷_ 58 (L._∷_ 58 (L._∷_ 79 (L._∷_ 108 (L._∷_ 100 L.[]))))))))) (Syntax.tcons (Syntax.tyInt Syntax.w64) (Syntax.tcons q6 (Syntax.tcons q7 (Syntax.tcons q7 (Syntax.tcons q7 (Syntax.tcons q7 (Syntax.tcons q4 Syntax.tnil)))))))) Syntax.tnil))) Syntax.tnil)))) Syntax.tnil))))) (L._∷_ q8 (L._∷_ q25 (L._∷_ (8, Rows.sc-here Row.sBool) (L._∷_ (9, Rows.any-gone (Syntax.tyStruct (L._∷_ 114 (L._∷_ 117 (L._∷_ 108 (L._∷_ 101 (L._∷_ 115 (L._∷_ 58 (L._∷_ 58 (L._∷_ 116 (L._∷_ 114 (L._∷_ 105 (L._∷_ 101 (L._∷_ 100 (L._∷_ 58 (L._∷_ 58 (L._∷_ 76 (L._∷_ 111 (L._∷_ 111 (L._∷_ 107 (L._∷_ 101 (L._∷_ 100 L.[])))))))))))))))))))) (Syntax.tcons (Syntax.tyStruct (L._∷_ 114 (L._∷_ 117 (L._∷_ 108 (L._∷_ 101 (L._∷_ 115 (L._∷_ 58 (L._∷_ 58 (L._∷_ 102 (L._∷_ 111 (L._∷_ 117 (L._∷_ 110 (L._∷_ 100 (L._∷_ 58 (L._∷_ 58 (L._∷_ 70 (L._∷_ 111 (L._∷_ 117 (L._∷_ 110 (L._∷_ 100 L.[]))))))))))))))))))) (Syntax.tcons Syntax.tyBool (Syntax.tcons Syntax.tyBool (Syntax.tcons (Syntax.tyStruct (L._∷_ 115 (L._∷_ 116 (L._∷_ 101 (L._∷_ 112 (L._∷_ 58 (L._∷_ 58 (L._∷_ 83 (L._∷_ 116 (L._∷_ 101 (L._∷_ 112 L.[])))))))))) (Syntax.tcons (Syntax.tyInt Syntax.w64) (Syntax.tcons (Syntax.tyInt Syntax.w64) (Syntax.tcons (Syntax.tyStruct (L._∷_ 115 (L._∷_ 116 (L._∷_ 101 (L._∷_ 112 (L._∷_ 58 (L._∷_ 58 (L._∷_ 67 (L._∷_ 104 (L._∷_ 97 (L._∷_ 110 (L._∷_ 103 (L._∷_ 101 L.[])))))))))))) (Syntax.tcons (Syntax.tyStruct (L._∷_ 110 (L._∷_ 101 (L._∷_ 116 (L._∷_ 119 (L._∷_ 111 (L._∷_ 114 (L._∷_ 107 (L._∷_ 58 (L._∷_ 58 (L._∷_ 69 (L._∷_ 100 (L._∷_ 105 (L._∷_ 116 L.[]))))))))))))) (Syntax.tcons q7 (Syntax.tcons q7 (Syntax.tcons q7 (Syntax.tcons q7 (Syntax.tcons q2 (Syntax.tcons q2 (Syntax.tcons (Syntax.tyInt Syntax.w64) (Syntax.tcons q6 Syntax.tnil))))))))) (Syntax.tcons (Syntax.tyStruct (L._∷_ 115 (L._∷_ 116 (L._∷_ 101 (L._∷_ 112 (L._∷_ 58 (L._∷_ 58 (L._∷_ 79 (L._∷_ 108 (L._∷_ 100 L.[]))))))))) (Syntax.tcons (Syntax.tyInt Syntax.w64) (Syntax.tcons q6 (Syntax.tcons q7 (Syntax.tcons q7 (Syntax.tcons q7 (Syntax.tcons q7 (Syntax.tcons q4 Syntax.tnil)))))))) Syntax.tnil))) Syntax.tnil)))) Syntax.tnil)))) (Syntax.tcons q5 Syntax.tnil)))) (L._∷_ (10, Rows.any-gone (Syntax.tyStruct (L._∷_ 114 (L._∷_ 117 (L._∷_ 108 (L._∷_ 101 (L._∷_ 115 (L._∷_ 58 (L._∷_ 58 (L._∷_ 102 (L._∷_ 111 (L._∷_ 117 (L._∷_ 110 (L._∷_ 100 (L._∷_ 58 (L._∷_ 58 (L._∷_ 70 (L._∷_ 111 (L._∷_ 117 (L._∷_ 110 (L._∷_ 100 L.[]))))))))))))))))))) (Syntax.tcons Syntax.tyBool (Syntax.tcons Syntax.tyBool (Syntax.tcons (Syntax.tyStruct (L._∷_ 115 (L._∷_ 116 (L._∷_ 101 (L._∷_ 112 (L._∷_ 58 (L._∷_ 58 (L._∷_ 83 (L._∷_ 116 (L._∷_ 101 (L._∷_ 112 L.[])))))))))) (Syntax.tcons (Syntax.tyInt Syntax.w64) (Syntax.tcons (Syntax.tyInt Syntax.w64) (Syntax.tcons (Syntax.tyStruct (L._∷_ 115 (L._∷_ 116 (L._∷_ 101 (L._∷_ 112 (L._∷_ 58 (L._∷_ 58 (L._∷_ 67 (L._∷_ 104 (L._∷_ 97 (L._∷_ 110 (L._∷_ 103 (L._∷_ 101 L.[])))))))))))) (Syntax.tcons (Syntax.tyStruct (L._∷_ 110 (L._∷_ 101 (L._∷_ 116 (L._∷_ 119 (L._∷_ 111 (L._∷_ 114 (L._∷_ 107 (L._∷_ 58 (L._∷_ 58 (L._∷_ 69 (L._∷_ 100 (L._∷_ 105 (L._∷_ 116 L.[]))))))))))))) (Syntax.tcons q7 (Syntax.tcons q7 (Syntax.tcons q7 (Syntax.tcons q7 (Syntax.tcons q2 (Syntax.tcons q2 (Syntax.tcons (Syntax.tyInt Syntax.w64) (Syntax.tcons q6 Syntax.tnil))))))))) (Syntax.tcons (Syntax.tyStruct (L._∷_ 115 (L._∷_ 116 (L._∷_ 101 (L._∷_ 112 (L._∷_ 58 (L._∷_ 58 (L._∷_ 79 (L._∷_ 108 (L._∷_ 100 L.[]))))))))) (Syntax.tcons (Syntax.tyInt Syntax.w64) (Syntax.tcons q6 (Syntax.tcons q7 (Syntax.tcons q7 (Syntax.tcons q7 (Syntax.tcons q7 (Syntax.tcons q4 Syntax.tnil)))))))) Syntax.tnil))) Syntax.tnil)))) Syntax.tnil))))) (L._∷_ (11, Rows.any-gone (Syntax.tyStruct (L._∷_ 114 (L._∷_ 117 (L._∷_ 108 (L._∷_ 101 (L._∷_ 115 (L._∷_ 58 (L._∷_ 58 (L._∷_ 102 (L._∷_ 111 (L._∷_ 117 (L._∷_ 110 (L._∷_ 100 (L._∷_ 58 (L._∷_ 58 (L._∷_ 70 (L._∷_ 111 (L._∷_ 117 (L._∷_ 110 (L._∷_ 100 L.[]))))))))))))))))))) (Syntax.tcons Syntax.tyBool (Syntax.tcons Syntax.tyBool (Syntax.tcons (Syntax.tyStruct (L._∷_ 115 (L._∷_ 116 (L._∷_ 101 (L._∷_ 112 (L._∷_ 58 (L._∷_ 58 (L._∷_ 83 (L._∷_ 116 (L._∷_ 101 (L._∷_ 112 L.[])))))))))) (Syntax.tcons (Syntax.tyInt Syntax.w64) (Syntax.tcons (Syntax.tyInt Syntax.w64) (Syntax.tcons (Syntax.tyStruct (L._∷_ 115 (L._∷_ 116 (L._∷_ 101 (L._∷_ 112 (L._∷_ 58 (L._∷_ 58 (L._∷_ 67 (L._∷_ 104 (L._∷_ 97 (L._∷_ 110 (L._∷_ 103 (L._∷_ 101 L.[])))))))))))) (Syntax.tcons (Syntax.tyStruct (L._∷_ 110 (L._∷_ 101 (L._∷_ 116 (L._∷_ 119 (L._∷_ 111 (L._∷_ 114 (L._∷_ 107 (L._∷_ 58 (L._∷_ 58 (L._∷_ 69 (L._∷_ 100 (L._∷_ 105 (L._∷_ 116 L.[]))))))))))))) (Syntax.tcons q7 (Syntax.tcons q7 (Syntax.tcons q7 (Syntax.tcons q7 (Syntax.tcons q2 (Syntax.tcons q2 (Syntax.tcons (Syntax.tyInt Syntax.w64) (Syntax.tcons q6 Syntax.tnil))))))))) (Syntax.tcons (Syntax.tyStruct (L._∷_ 115 (L._∷_ 116 (L._∷_ 101 (L._∷_ 112 (L._∷_ 58 (L._∷_ 58 (L._∷_ 79 (L._∷_ 108 (L._∷_ 100 L.[]))))))))) (Syntax.tcons (Syntax.tyInt Syntax.w64) (Syntax.tcons q6 (Syntax.tcons q7 (Syntax.tcons q7 (Syntax.tcons q7 (Syntax.tcons q7 (Syntax.tcons q4 Syntax.tnil)))))))) Syntax.tnil))) Syntax.tnil)))) Syntax.tnil))))) (L._∷_ q28 (L._∷_ q29 (L._∷_ q30 (L._∷_ q31 L.[])))))))))))))))
 
 abbrev pub t28 : L.List Row.Entry
-t28 = L._∷_ q12 (L._∷_ q0 (L._∷_ q11 (L._∷_ q3 (L._∷_ q24 (L._∷_ (5, Rows.any-gone (Syntax.tyStruct (L._∷_ 114 (L._∷_ 117 (L._∷_ 108 (L._∷_ 101 (L._∷_ 115 (L._∷_ 58 (L._∷_ 58 (L._∷_ 102 (L._∷_ 111 (L._∷_ 117 (L._∷_ 110 (L._∷_ 100 (L._∷_ 58 (L._∷_ 58 (L._∷_ 70 (L._∷_ 111 (L._∷_ 117 (L._∷_ 110 (L._∷_ 100 L.[]))))))))))))))))))) (Syntax.tcons Syntax.tyBool (Syntax.tcons Syntax.tyBool (Syntax.tcons (Syntax.tyStruct (L._∷_ 115 (L._∷_ 116 (L._∷_ 101 (L._∷_ 112 (L._∷_ 58 (L._∷_ 58 (L._∷_ 83 (L._∷_ 116 (L._∷_ 101 (L._∷_ 112 L.[])))))))))) (Syntax.tcons (Syntax.tyInt Syntax.w64) (Syntax.tcons (Syntax.tyInt Syntax.w64) (Syntax.tcons (Syntax.tyStruct (L._∷_ 115 (L._∷_ 116 (L._∷_ 101 (L._∷_ 112 (L._∷_ 58 (L._∷_ 58 (L._∷_ 67 (L._∷_ 104 (L._∷_ 97 (L._∷_ 110 (L._∷_ 103 (L._∷_ 101 L.[])))))))))))) (Syntax.tcons (Syntax.tyStruct (L._∷_ 110 (L._∷_ 101 (L._∷_ 116 (L._∷_ 119 (L._∷_ 111 (L._∷_ 114 (L._∷_ 107 (L._∷_ 58 (L._∷_ 58 (L._∷_ 69 (L._∷_ 100 (L._∷_ 105 (L._∷_ 116 L.[]))))))))))))) (Syntax.tcons q7 (Syntax.tcons q7 (Syntax.tcons q7 (Syntax.tcons q7 (Syntax.tcons q2 (Syntax.tcons q2 (Syntax.tcons (Syntax.tyInt Syntax.w64) Syntax.tnil)))))))) (Syntax.tcons (Syntax.tyStruct (L._∷_ 115 (L._∷_ 116 (L._∷_ 101 (L._∷_ 112 (L._∷_ 58 (L._∷_ 58 (L._∷_ 79 (L._∷_ 108 (L._∷_ 100 L.[]))))))))) (Syntax.tcons (Syntax.tyInt Syntax.w64) (Syntax.tcons q6 (Syntax.tcons q7 (Syntax.tcons q7 (Syntax.tcons q7 (Syntax.tcons q7 (Syntax.tcons q4 Syntax.tnil)))))))) Syntax.tnil))) Syntax.tnil)))) Syntax.tnil))))) (L._∷_ q8 (L._∷_ q23 (L._∷_ (8, Rows.sc-here Row.sBool) (L._∷_ (9, Rows.any-gone (Syntax.tyStruct (L._∷_ 114 (L._∷_ 117 (L._∷_ 108 (L._∷_ 101 (L._∷_ 115 (L._∷_ 58 (L._∷_ 58 (L._∷_ 116 (L._∷_ 114 (L._∷_ 105 (L._∷_ 101 (L._∷_ 100 (L._∷_ 58 (L._∷_ 58 (L._∷_ 76 (L._∷_ 111 (L._∷_ 111 (L._∷_ 107 (L._∷_ 101 (L._∷_ 100 L.[])))))))))))))))))))) (Syntax.tcons (Syntax.tyStruct (L._∷_ 114 (L._∷_ 117 (L._∷_ 108 (L._∷_ 101 (L._∷_ 115 (L._∷_ 58 (L._∷_ 58 (L._∷_ 102 (L._∷_ 111 (L._∷_ 117 (L._∷_ 110 (L._∷_ 100 (L._∷_ 58 (L._∷_ 58 (L._∷_ 70 (L._∷_ 111 (L._∷_ 117 (L._∷_ 110 (L._∷_ 100 L.[]))))))))))))))))))) (Syntax.tcons Syntax.tyBool (Syntax.tcons Syntax.tyBool (Syntax.tcons (Syntax.tyStruct (L._∷_ 115 (L._∷_ 116 (L._∷_ 101 (L._∷_ 112 (L._∷_ 58 (L._∷_ 58 (L._∷_ 83 (L._∷_ 116 (L._∷_ 101 (L._∷_ 112 L.[])))))))))) (Syntax.tcons (Syntax.tyInt Syntax.w64) (Syntax.tcons (Syntax.tyInt Syntax.w64) (Syntax.tcons (Syntax.tyStruct (L._∷_ 115 (L._∷_ 116 (L._∷_ 101 (L._∷_ 112 (L._∷_ 58 (L._∷_ 58 (L._∷_ 67 (L._∷_ 104 (L._∷_ 97 (L._∷_ 110 (L._∷_ 103 (L._∷_ 101 L.[])))))))))))) (Syntax.tcons (Syntax.tyStruct (L._∷_ 110 (L._∷_ 101 (L._∷_ 116 (L._∷_ 119 (L._∷_ 111 (L._∷_ 114 (L._∷_ 107 (L._∷_ 58 (L._∷_ 58 (L._∷_ 69 (L._∷_ 100 (L._∷_ 105 (L._∷_ 116 L.[]))))))))))))) (Syntax.tcons q7 (Syntax.tcons q7 (Syntax.tcons q7 (Syntax.tcons q7 (Syntax.tcons q2 (Syntax.tcons q2 (Syntax.tcons (Syntax.tyInt Syntax.w64) Syntax.tnil)))))))) (Syntax.tcons (Syntax.tyStruct (L._∷_ 115 (L._∷_ 116 (L._∷_ 101 (L._∷_ 112 (L._∷_ 58 (L._∷_ 58 (L._∷_ 79 (L._∷_ 108 (L._∷_ 100 L.[]))))))))) (Syntax.tcons (Syntax.tyInt Syntax.w64) (Syntax.tcons q6 (Syntax.tcons q7 (Syntax.tcons q7 (Syntax.tcons q7 (Syntax.tcons q7 (Syntax.tcons q4 Syntax.tnil)))))))) Syntax.tnil))) Syntax.tnil)))) Syntax.tnil)))) (Syntax.tcons q5 Syntax.tnil)))) (L._∷_ (10, Rows.any-gone (Syntax.tyStruct (L._∷_ 114 (L._∷_ 117 (L._∷_ 108 (L._∷_ 101 (L._∷_ 115 (L._∷_ 58 (L._∷_ 58 (L._∷_ 102 (L._∷_ 111 (L._∷_ 117 (L._∷_ 110 (L._∷_ 100 (L._∷_ 58 (L._∷_ 58 (L._∷_ 70 (L._∷_ 111 (L._∷_ 117 (L._∷_ 110 (L._∷_ 100 L.[]))))))))))))))))))) (Syntax.tcons Syntax.tyBool (Syntax.tcons Syntax.tyBool (Syntax.tcons (Syntax.tyStruct (L._∷_ 115 (L._∷_ 116 (L._∷_ 101 (L._∷_ 112 (L._∷_ 58 (L._∷_ 58 (L._∷_ 83 (L._∷_ 116 (L._∷_ 101 (L._∷_ 112 L.[])))))))))) (Syntax.tcons (Syntax.tyInt Syntax.w64) (Syntax.tcons (Syntax.tyInt Syntax.w64) (Syntax.tcons (Syntax.tyStruct (L._∷_ 115 (L._∷_ 116 (L._∷_ 101 (L._∷_ 112 (L._∷_ 58 (L._∷_ 58 (L._∷_ 67 (L._∷_ 104 (L._∷_ 97 (L._∷_ 110 (L._∷_ 103 (L._∷_ 101 L.[])))))))))))) (Syntax.tcons (Syntax.tyStruct (L._∷_ 110 (L._∷_ 101 (L._∷_ 116 (L._∷_ 119 (L._∷_ 111 (L._∷_ 114 (L._∷_ 107 (L._∷_ 58 (L._∷_ 58 (L._∷_ 69 (L._∷_ 100 (L._∷_ 105 (L._∷_ 116 L.[]))))))))))))) (Syntax.tcons q7 (Syntax.tcons q7 (Syntax.tcons q7 (Syntax.tcons q7 (Syntax.tcons q2 (Syntax.tcons q2 (Syntax.tcons (Syntax.tyInt Syntax.w64) Syntax.tnil)))))))) (Syntax.tcons (Syntax.tyStruct (L._∷_ 115 (L._∷_ 116 (L._∷_ 101 (L._∷_ 112 (L._∷_ 58 (L._∷_ 58 (L._∷_ 79 (L._∷_ 108 (L._∷_ 100 L.[]))))))))) (Syntax.tcons (Syntax.tyInt Syntax.w64) (Syntax.tcons q6 (Syntax.tcons q7 (Syntax.tcons q7 (Syntax.tcons q7 (Syntax.tcons q7 (Syntax.tcons q4 Syntax.tnil)))))))) Syntax.tnil))) Syntax.tnil)))) Syntax.tnil))))) (L._∷_ (11, Rows.any-gone (Syntax.tyStruct (L._∷_ 114 (L._∷_ 117 (L._∷_ 108 (L._∷_ 101 (L._∷_ 115 (L._∷_ 58 (L._∷_ 58 (L._∷_ 102 (L._∷_ 111 (L._∷_ 117 (L._∷_ 110 (L._∷_ 100 (L._∷_ 58 (L._∷_ 58 (L._∷_ 70 (L._∷_ 111 (L._∷_ 117 (L._∷_ 110 (L._∷_ 100 L.[]))))))))))))))))))) (Syntax.tcons Syntax.tyBool (Syntax.tcons Syntax.tyBool (Syntax.tcons (Syntax.tyStruct (L._∷_ 115 (L._∷_ 116 (L._∷_ 101 (L._∷_ 112 (L._∷_ 58 (L._∷_ 58 (L._∷_ 83 (L._∷_ 116 (L._∷_ 101 (L._∷_ 112 L.[])))))))))) (Syntax.tcons (Syntax.tyInt Syntax.w64) (Syntax.tcons (Syntax.tyInt Syntax.w64) (Syntax.tcons (Syntax.tyStruct (L._∷_ 115 (L._∷_ 116 (L._∷_ 101 (L._∷_ 112 (L._∷_ 58 (L._∷_ 58 (L._∷_ 67 (L._∷_ 104 (L._∷_ 97 (L._∷_ 110 (L._∷_ 103 (L._∷_ 101 L.[])))))))))))) (Syntax.tcons (Syntax.tyStruct (L._∷_ 110 (L._∷_ 101 (L._∷_ 116 (L._∷_ 119 (L._∷_ 111 (L._∷_ 114 (L._∷_ 107 (L._∷_ 58 (L._∷_ 58 (L._∷_ 69 (L._∷_ 100 (L._∷_ 105 (L._∷_ 116 L.[]))))))))))))) (Syntax.tcons q7 (Syntax.tcons q7 (Syntax.tcons q7 (Syntax.tcons q7 (Syntax.tcons q2 (Syntax.tcons q2 (Syntax.tcons (Syntax.tyInt Syntax.w64) Syntax.tnil)))))))) (Syntax.tcons (Syntax.tyStruct (L._∷_ 115 (L._∷_ 116 (L._∷_ 101 (L._∷_ 112 (L._∷_ 58 (L._∷_ 58 (L._∷_ 79 (L._∷_ 108 (L._∷_ 100 L.[]))))))))) (Syntax.tcons (Syntax.tyInt Syntax.w64) (Syntax.tcons q6 (Syntax.tcons q7 (Syntax.tcons q7 (Syntax.tcons q7 (Syntax.tcons q7 (Syntax.tcons q4 Syntax.tnil)))))))) Syntax.tnil))) Syntax.tnil)))) Syntax.tnil))))) (L._∷_ q28 (L._∷_ q29 (L._∷_ q30 (L._∷_ q31 L.[])))))))))))))))
+t28 = L._∷_ q12 (L._∷_ q0 (L._∷_ q11 (L._∷_ q3 (L._∷_ q24 (L._∷_ (5, Rows.any-gone (Syntax.tyStruct (L._∷_ 114 (L._∷_ 117 (L._∷_ 108 (L._∷_ 101 (L._∷_ 115 (L._∷_ 58 (L._∷_ 58 (L._∷_ 102 (L._∷_ 111 (L._∷_ 117 (L._∷_ 110 (L._∷_ 100 (L._∷_ 58 (L._∷_ 58 (L._∷_ 70 (L._∷_ 111 (L._∷_ 117 (L._∷_ 110 (L._∷_ 100 L.[]))))))))))))))))))) (Syntax.tcons Syntax.tyBool (Syntax.tcons Syntax.tyBool (Syntax.tcons (Syntax.tyStruct (L._∷_ 115 (L._∷_ 116 (L._∷_ 101 (L._∷_ 112 (L._∷_ 58 (L._∷_ 58 (L._∷_ 83 (L._∷_ 116 (L._∷_ 101 (L._∷_ 112 L.[])))))))))) (Syntax.tcons (Syntax.tyInt Syntax.w64) (Syntax.tcons (Syntax.tyInt Syntax.w64) (Syntax.tcons (Syntax.tyStruct (L._∷_ 115 (L._∷_ 116 (L._∷_ 101 (L._∷_ 112 (L._∷_ 58 (L._∷_ 58 (L._∷_ 67 (L._∷_ 104 (L._∷_ 97 (L._∷_ 110 (L._∷_ 103 (L._∷_ 101 L.[])))))))))))) (Syntax.tcons (Syntax.tyStruct (L._∷_ 110 (L._∷_ 101 (L._∷_ 116 (L._∷_ 119 (L._∷_ 111 (L._∷_ 114 (L._∷_ 107 (L._∷_ 58 (L._∷_ 58 (L._∷_ 69 (L._∷_ 100 (L._∷_ 105 (L._∷_ 116 L.[]))))))))))))) (Syntax.tcons q7 (Syntax.tcons q7 (Syntax.tcons q7 (Syntax.tcons q7 (Syntax.tcons q2 (Syntax.tcons q2 (Syntax.tcons (Syntax.tyInt Syntax.w64) (Syntax.tcons q6 Syntax.tnil))))))))) (Syntax.tcons (Syntax.tyStruct (L._∷_ 115 (L._∷_ 116 (L._∷_ 101 (L._∷_ 112 (L._∷_ 58 (L._∷_ 58 (L._∷_ 79 (L._∷_ 108 (L._∷_ 100 L.[]))))))))) (Syntax.tcons (Syntax.tyInt Syntax.w64) (Syntax.tcons q6 (Syntax.tcons q7 (Syntax.tcons q7 (Syntax.tcons q7 (Syntax.tcons q7 (Syntax.tcons q4 Syntax.tnil)))))))) Syntax.tnil))) Syntax.tnil)))) Syntax.tnil))))) (L._∷_ q8 (L._∷_ q23 (L._∷_ (8, Rows.sc-here Row.sBool) (L._∷_ (9, Rows.any-gone (Syntax.tyStruct (L._∷_ 114 (L._∷_ 117 (L._∷_ 108 (L._∷_ 101 (L._∷_ 115 (L._∷_ 58 (L._∷_ 58 (L._∷_ 116 (L._∷_ 114 (L._∷_ 105 (L._∷_ 101 (L._∷_ 100 (L._∷_ 58 (L._∷_ 58 (L._∷_ 76 (L._∷_ 111 (L._∷_ 111 (L._∷_ 107 (L._∷_ 101 (L._∷_ 100 L.[])))))))))))))))))))) (Syntax.tcons (Syntax.tyStruct (L._∷_ 114 (L._∷_ 117 (L._∷_ 108 (L._∷_ 101 (L._∷_ 115 (L._∷_ 58 (L._∷_ 58 (L._∷_ 102 (L._∷_ 111 (L._∷_ 117 (L._∷_ 110 (L._∷_ 100 (L._∷_ 58 (L._∷_ 58 (L._∷_ 70 (L._∷_ 111 (L._∷_ 117 (L._∷_ 110 (L._∷_ 100 L.[]))))))))))))))))))) (Syntax.tcons Syntax.tyBool (Syntax.tcons Syntax.tyBool (Syntax.tcons (Syntax.tyStruct (L._∷_ 115 (L._∷_ 116 (L._∷_ 101 (L._∷_ 112 (L._∷_ 58 (L._∷_ 58 (L._∷_ 83 (L._∷_ 116 (L._∷_ 101 (L._∷_ 112 L.[])))))))))) (Syntax.tcons (Syntax.tyInt Syntax.w64) (Syntax.tcons (Syntax.tyInt Syntax.w64) (Syntax.tcons (Syntax.tyStruct (L._∷_ 115 (L._∷_ 116 (L._∷_ 101 (L._∷_ 112 (L._∷_ 58 (L._∷_ 58 (L._∷_ 67 (L._∷_ 104 (L._∷_ 97 (L._∷_ 110 (L._∷_ 103 (L._∷_ 101 L.[])))))))))))) (Syntax.tcons (Syntax.tyStruct (L._∷_ 110 (L._∷_ 101 (L._∷_ 116 (L._∷_ 119 (L._∷_ 111 (L._∷_ 114 (L._∷_ 107 (L._∷_ 58 (L._∷_ 58 (L._∷_ 69 (L._∷_ 100 (L._∷_ 105 (L._∷_ 116 L.[]))))))))))))) (Syntax.tcons q7 (Syntax.tcons q7 (Syntax.tcons q7 (Syntax.tcons q7 (Syntax.tcons q2 (Syntax.tcons q2 (Syntax.tcons (Syntax.tyInt Syntax.w64) (Syntax.tcons q6 Syntax.tnil))))))))) (Syntax.tcons (Syntax.tyStruct (L._∷_ 115 (L._∷_ 116 (L._∷_ 101 (L._∷_ 112 (L._∷_ 58 (L._∷_ 58 (L._∷_ 79 (L._∷_ 108 (L._∷_ 100 L.[]))))))))) (Syntax.tcons (Syntax.tyInt Syntax.w64) (Syntax.tcons q6 (Syntax.tcons q7 (Syntax.tcons q7 (Syntax.tcons q7 (Syntax.tcons q7 (Syntax.tcons q4 Syntax.tnil)))))))) Syntax.tnil))) Syntax.tnil)))) Syntax.tnil)))) (Syntax.tcons q5 Syntax.tnil)))) (L._∷_ (10, Rows.any-gone (Syntax.tyStruct (L._∷_ 114 (L._∷_ 117 (L._∷_ 108 (L._∷_ 101 (L._∷_ 115 (L._∷_ 58 (L._∷_ 58 (L._∷_ 102 (L._∷_ 111 (L._∷_ 117 (L._∷_ 110 (L._∷_ 100 (L._∷_ 58 (L._∷_ 58 (L._∷_ 70 (L._∷_ 111 (L._∷_ 117 (L._∷_ 110 (L._∷_ 100 L.[]))))))))))))))))))) (Syntax.tcons Syntax.tyBool (Syntax.tcons Syntax.tyBool (Syntax.tcons (Syntax.tyStruct (L._∷_ 115 (L._∷_ 116 (L._∷_ 101 (L._∷_ 112 (L._∷_ 58 (L._∷_ 58 (L._∷_ 83 (L._∷_ 116 (L._∷_ 101 (L._∷_ 112 L.[])))))))))) (Syntax.tcons (Syntax.tyInt Syntax.w64) (Syntax.tcons (Syntax.tyInt Syntax.w64) (Syntax.tcons (Syntax.tyStruct (L._∷_ 115 (L._∷_ 116 (L._∷_ 101 (L._∷_ 112 (L._∷_ 58 (L._∷_ 58 (L._∷_ 67 (L._∷_ 104 (L._∷_ 97 (L._∷_ 110 (L._∷_ 103 (L._∷_ 101 L.[])))))))))))) (Syntax.tcons (Syntax.tyStruct (L._∷_ 110 (L._∷_ 101 (L._∷_ 116 (L._∷_ 119 (L._∷_ 111 (L._∷_ 114 (L._∷_ 107 (L._∷_ 58 (L._∷_ 58 (L._∷_ 69 (L._∷_ 100 (L._∷_ 105 (L._∷_ 116 L.[]))))))))))))) (Syntax.tcons q7 (Syntax.tcons q7 (Syntax.tcons q7 (Syntax.tcons q7 (Syntax.tcons q2 (Syntax.tcons q2 (Syntax.tcons (Syntax.tyInt Syntax.w64) (Syntax.tcons q6 Syntax.tnil))))))))) (Syntax.tcons (Syntax.tyStruct (L._∷_ 115 (L._∷_ 116 (L._∷_ 101 (L._∷_ 112 (L._∷_ 58 (L._∷_ 58 (L._∷_ 79 (L._∷_ 108 (L._∷_ 100 L.[]))))))))) (Syntax.tcons (Syntax.tyInt Syntax.w64) (Syntax.tcons q6 (Syntax.tcons q7 (Syntax.tcons q7 (Syntax.tcons q7 (Syntax.tcons q7 (Syntax.tcons q4 Syntax.tnil)))))))) Syntax.tnil))) Syntax.tnil)))) Syntax.tnil))))) (L._∷_ (11, Rows.any-gone (Syntax.tyStruct (L._∷_ 114 (L._∷_ 117 (L._∷_ 108 (L._∷_ 101 (L._∷_ 115 (L._∷_ 58 (L._∷_ 58 (L._∷_ 102 (L._∷_ 111 (L._∷_ 117 (L._∷_ 110 (L._∷_ 100 (L._∷_ 58 (L._∷_ 58 (L._∷_ 70 (L._∷_ 111 (L._∷_ 117 (L._∷_ 110 (L._∷_ 100 L.[]))))))))))))))))))) (Syntax.tcons Syntax.tyBool (Syntax.tcons Syntax.tyBool (Syntax.tcons (Syntax.tyStruct (L._∷_ 115 (L._∷_ 116 (L._∷_ 101 (L._∷_ 112 (L._∷_ 58 (L._∷_ 58 (L._∷_ 83 (L._∷_ 116 (L._∷_ 101 (L._∷_ 112 L.[])))))))))) (Syntax.tcons (Syntax.tyInt Syntax.w64) (Syntax.tcons (Syntax.tyInt Syntax.w64) (Syntax.tcons (Syntax.tyStruct (L._∷_ 115 (L._∷_ 116 (L._∷_ 101 (L._∷_ 112 (L._∷_ 58 (L._∷_ 58 (L._∷_ 67 (L._∷_ 104 (L._∷_ 97 (L._∷_ 110 (L._∷_ 103 (L._∷_ 101 L.[])))))))))))) (Syntax.tcons (Syntax.tyStruct (L._∷_ 110 (L._∷_ 101 (L._∷_ 116 (L._∷_ 119 (L._∷_ 111 (L._∷_ 114 (L._∷_ 107 (L._∷_ 58 (L._∷_ 58 (L._∷_ 69 (L._∷_ 100 (L._∷_ 105 (L._∷_ 116 L.[]))))))))))))) (Syntax.tcons q7 (Syntax.tcons q7 (Syntax.tcons q7 (Syntax.tcons q7 (Syntax.tcons q2 (Syntax.tcons q2 (Syntax.tcons (Syntax.tyInt Syntax.w64) (Syntax.tcons q6 Syntax.tnil))))))))) (Syntax.tcons (Syntax.tyStruct (L._∷_ 115 (L._∷_ 116 (L._∷_ 101 (L._∷_ 112 (L._∷_ 58 (L._∷_ 58 (L._∷_ 79 (L._∷_ 108 (L._∷_ 100 L.[]))))))))) (Syntax.tcons (Syntax.tyInt Syntax.w64) (Syntax.tcons q6 (Syntax.tcons q7 (Syntax.tcons q7 (Syntax.tcons q7 (Syntax.tcons q7 (Syntax.tcons q4 Syntax.tnil)))))))) Syntax.tnil))) Syntax.tnil)))) Syntax.tnil))))) (L._∷_ q28 (L._∷_ q29 (L._∷_ q30 (L._∷_ q31 L.[])))))))))))))))
 
 abbrev pub t29 : L.List Row.Entry
-t29 = L._∷_ (0, Rows.any-gone (Syntax.tyStruct (L._∷_ 114 (L._∷_ 117 (L._∷_ 108 (L._∷_ 101 (L._∷_ 115 (L._∷_ 58 (L._∷_ 58 (L._∷_ 116 (L._∷_ 114 (L._∷_ 105 (L._∷_ 101 (L._∷_ 100 (L._∷_ 58 (L._∷_ 58 (L._∷_ 76 (L._∷_ 111 (L._∷_ 111 (L._∷_ 107 (L._∷_ 101 (L._∷_ 100 L.[])))))))))))))))))))) (Syntax.tcons (Syntax.tyStruct (L._∷_ 114 (L._∷_ 117 (L._∷_ 108 (L._∷_ 101 (L._∷_ 115 (L._∷_ 58 (L._∷_ 58 (L._∷_ 102 (L._∷_ 111 (L._∷_ 117 (L._∷_ 110 (L._∷_ 100 (L._∷_ 58 (L._∷_ 58 (L._∷_ 70 (L._∷_ 111 (L._∷_ 117 (L._∷_ 110 (L._∷_ 100 L.[]))))))))))))))))))) (Syntax.tcons Syntax.tyBool (Syntax.tcons Syntax.tyBool (Syntax.tcons (Syntax.tyStruct (L._∷_ 115 (L._∷_ 116 (L._∷_ 101 (L._∷_ 112 (L._∷_ 58 (L._∷_ 58 (L._∷_ 83 (L._∷_ 116 (L._∷_ 101 (L._∷_ 112 L.[])))))))))) (Syntax.tcons (Syntax.tyInt Syntax.w64) (Syntax.tcons (Syntax.tyInt Syntax.w64) (Syntax.tcons (Syntax.tyStruct (L._∷_ 115 (L._∷_ 116 (L._∷_ 101 (L._∷_ 112 (L._∷_ 58 (L._∷_ 58 (L._∷_ 67 (L._∷_ 104 (L._∷_ 97 (L._∷_ 110 (L._∷_ 103 (L._∷_ 101 L.[])))))))))))) (Syntax.tcons (Syntax.tyStruct (L._∷_ 110 (L._∷_ 101 (L._∷_ 116 (L._∷_ 119 (L._∷_ 111 (L._∷_ 114 (L._∷_ 107 (L._∷_ 58 (L._∷_ 58 (L._∷_ 69 (L._∷_ 100 (L._∷_ 105 (L._∷_ 116 L.[]))))))))))))) (Syntax.tcons q7 (Syntax.tcons q7 (Syntax.tcons q7 (Syntax.tcons q7 (Syntax.tcons q2 (Syntax.tcons q2 (Syntax.tcons (Syntax.tyInt Syntax.w64) Syntax.tnil)))))))) (Syntax.tcons (Syntax.tyStruct (L._∷_ 115 (L._∷_ 116 (L._∷_ 101 (L._∷_ 112 (L._∷_ 58 (L._∷_ 58 (L._∷_ 79 (L._∷_ 108 (L._∷_ 100 L.[]))))))))) (Syntax.tcons (Syntax.tyInt Syntax.w64) (Syntax.tcons q6 (Syntax.tcons q7 (Syntax.tcons q7 (Syntax.tcons q7 (Syntax.tcons q7 (Syntax.tcons q4 Syntax.tnil)))))))) Syntax.tnil))) Syntax.tnil)))) Syntax.tnil)))) (Syntax.tcons q5 Syntax.tnil)))) (L._∷_ q20 (L._∷_ q11 (L._∷_ q3 (L._∷_ q26 (L._∷_ (5, Rows.any-gone (Syntax.tyStruct (L._∷_ 114 (L._∷_ 117 (L._∷_ 108 (L._∷_ 101 (L._∷_ 115 (L._∷_ 58 (L._∷_ 58 (L._∷_ 102 (L._∷_ 111 (L._∷_ 117 (L._∷_ 110 (L._∷_ 100 (L._∷_ 58 (L._∷_ 58 (L._∷_ 70 (L._∷_ 111 (L._∷_ 117 (L._∷_ 110 (L._∷_ 100 L.[]))))))))))))))))))) (Syntax.tcons Syntax.tyBool (Syntax.tcons Syntax.tyBool (Syntax.tcons (Syntax.tyStruct (L._∷_ 115 (L._∷_ 116 (L._∷_ 101 (L._∷_ 112 (L._∷_ 58 (L._∷_ 58 (L._∷_ 83 (L._∷_ 116 (L._∷_ 101 (L._∷_ 112 L.[])))))))))) (Syntax.tcons (Syntax.tyInt Syntax.w64) (Syntax.tcons (Syntax.tyInt Syntax.w64) (Syntax.tcons (Syntax.tyStruct (L._∷_ 115 (L._∷_ 116 (L._∷_ 101 (L._∷_ 112 (L._∷_ 58 (L._∷_ 58 (L._∷_ 67 (L._∷_ 104 (L._∷_ 97 (L._∷_ 110 (L._∷_ 103 (L._∷_ 101 L.[])))))))))))) (Syntax.tcons (Syntax.tyStruct (L._∷_ 110 (L._∷_ 101 (L._∷_ 116 (L._∷_ 119 (L._∷_ 111 (L._∷_ 114 (L._∷_ 107 (L._∷_ 58 (L._∷_ 58 (L._∷_ 69 (L._∷_ 100 (L._∷_ 105 (L._∷_ 116 L.[]))))))))))))) (Syntax.tcons q7 (Syntax.tcons q7 (Syntax.tcons q7 (Syntax.tcons q7 (Syntax.tcons q2 (Syntax.tcons q2 (Syntax.tcons (Syntax.tyInt Syntax.w64) Syntax.tnil)))))))) (Syntax.tcons (Syntax.tyStruct (L._∷_ 115 (L._∷_ 116 (L._∷_ 101 (L._∷_ 112 (L._∷_ 58 (L._∷_ 58 (L._∷_ 79 (L._∷_ 108 (L._∷_ 100 L.[]))))))))) (Syntax.tcons (Syntax.tyInt Syntax.w64) (Syntax.tcons q6 (Syntax.tcons q7 (Syntax.tcons q7 (Syntax.tcons q7 (Syntax.tcons q7 (Syntax.tcons q4 Syntax.tnil)))))))) Syntax.tnil))) Syntax.tnil)))) Syntax.tnil))))) (L._∷_ q18 (L._∷_ q25 (L._∷_ q32 (L._∷_ q13 (L._∷_ (10, Rows.any-gone (Syntax.tyStruct (L._∷_ 114 (L._∷_ 117 (L._∷_ 108 (L._∷_ 101 (L._∷_ 115 (L._∷_ 58 (L._∷_ 58 (L._∷_ 102 (L._∷_ 111 (L._∷_ 117 (L._∷_ 110 (L._∷_ 100 (L._∷_ 58 (L._∷_ 58 (L._∷_ 70 (L._∷_ 111 (L._∷_ 117 (L._∷_ 110 (L._∷_ 100 L.[]))))))))))))))))))) (Syntax.tcons Syntax.tyBool (Syntax.tcons Syntax.tyBool (Syntax.tcons (Syntax.tyStruct (L._∷_ 115 (L._∷_ 116 (L._∷_ 101 (L._∷_ 112 (L._∷_ 58 (L._∷_ 58 (L._∷_ 83 (L._∷_ 116 (L._∷_ 101 (L._∷_ 112 L.[])))))))))) (Syntax.tcons (Syntax.tyInt Syntax.w64) (Syntax.tcons (Syntax.tyInt Syntax.w64) (Syntax.tcons (Syntax.tyStruct (L._∷_ 115 (L._∷_ 116 (L._∷_ 101 (L._∷_ 112 (L._∷_ 58 (L._∷_ 58 (L._∷_ 67 (L._∷_ 104 (L._∷_ 97 (L._∷_ 110 (L._∷_ 103 (L._∷_ 101 L.[])))))))))))) (Syntax.tcons (Syntax.tyStruct (L._∷_ 110 (L._∷_ 101 (L._∷_ 116 (L._∷_ 119 (L._∷_ 111 (L._∷_ 114 (L._∷_ 107 (L._∷_ 58 (L._∷_ 58 (L._∷_ 69 (L._∷_ 100 (L._∷_ 105 (L._∷_ 116 L.[]))))))))))))) (Syntax.tcons q7 (Syntax.tcons q7 (Syntax.tcons q7 (Syntax.tcons q7 (Syntax.tcons q2 (Syntax.tcons q2 (Syntax.tcons (Syntax.tyInt Syntax.w64) Syntax.tnil)))))))) (Syntax.tcons (Syntax.tyStruct (L._∷_ 115 (L._∷_ 116 (L._∷_ 101 (L._∷_ 112 (L._∷_ 58 (L._∷_ 58 (L._∷_ 79 (L._∷_ 108 (L._∷_ 100 L.[]))))))))) (Syntax.tcons (Syntax.tyInt Syntax.w64) (Syntax.tcons q6 (Syntax.tcons q7 (Syntax.tcons q7 (Syntax.tcons q7 (Syntax.tcons q7 (Syntax.tcons q4 Syntax.tnil)))))))) Syntax.tnil))) Syntax.tnil)))) Syntax.tnil))))) (L._∷_ (11, Rows.any-gone (Syntax.tyStruct (L._∷_ 114 (L._∷_ 117 (L._∷_ 108 (L._∷_ 101 (L._∷_ 115 (L._∷_ 58 (L._∷_ 58 (L._∷_ 102 (L._∷_ 111 (L._∷_ 117 (L._∷_ 110 (L._∷_ 100 (L._∷_ 58 (L._∷_ 58 (L._∷_ 70 (L._∷_ 111 (L._∷_ 117 (L._∷_ 110 (L._∷_ 100 L.[]))))))))))))))))))) (Syntax.tcons Syntax.tyBool (Syntax.tcons Syntax.tyBool (Syntax.tcons (Syntax.tyStruct (L._∷_ 115 (L._∷_ 116 (L._∷_ 101 (L._∷_ 112 (L._∷_ 58 (L._∷_ 58 (L._∷_ 83 (L._∷_ 116 (L._∷_ 101 (L._∷_ 112 L.[])))))))))) (Syntax.tcons (Syntax.tyInt Syntax.w64) (Syntax.tcons (Syntax.tyInt Syntax.w64) (Syntax.tcons (Syntax.tyStruct (L._∷_ 115 (L._∷_ 116 (L._∷_ 101 (L._∷_ 112 (L._∷_ 58 (L._∷_ 58 (L._∷_ 67 (L._∷_ 104 (L._∷_ 97 (L._∷_ 110 (L._∷_ 103 (L._∷_ 101 L.[])))))))))))) (Syntax.tcons (Syntax.tyStruct (L._∷_ 110 (L._∷_ 101 (L._∷_ 116 (L._∷_ 119 (L._∷_ 111 (L._∷_ 114 (L._∷_ 107 (L._∷_ 58 (L._∷_ 58 (L._∷_ 69 (L._∷_ 100 (L._∷_ 105 (L._∷_ 116 L.[]))))))))))))) (Syntax.tcons q7 (Syntax.tcons q7 (Syntax.tcons q7 (Syntax.tcons q7 (Syntax.tcons q2 (Syntax.tcons q2 (Syntax.tcons (Syntax.tyInt Syntax.w64) Syntax.tnil)))))))) (Syntax.tcons (Syntax.tyStruct (L._∷_ 115 (L._∷_ 116 (L._∷_ 101 (L._∷_ 112 (L._∷_ 58 (L._∷_ 58 (L._∷_ 79 (L._∷_ 108 (L._∷_ 100 L.[]))))))))) (Syntax.tcons (Syntax.tyInt Syntax.w64) (Syntax.tcons q6 (Syntax.tcons q7 (Syntax.tcons q7 (Syntax.tcons q7 (Syntax.tcons q7 (Syntax.tcons q4 Syntax.tnil)))))))) Syntax.tnil))) Syntax.tnil)))) Syntax.tnil))))) (L._∷_ q28 (L._∷_ q29 (L._∷_ (14, Rows.sc-here Row.sBool) (L._∷_ q31 L.[])))))))))))))))
+t29 = L._∷_ (0, Rows.any-gone (Syntax.tyStruct (L._∷_ 114 (L._∷_ 117 (L._∷_ 108 (L._∷_ 101 (L._∷_ 115 (L._∷_ 58 (L._∷_ 58 (L._∷_ 116 (L._∷_ 114 (L._∷_ 105 (L._∷_ 101 (L._∷_ 100 (L._∷_ 58 (L._∷_ 58 (L._∷_ 76 (L._∷_ 111 (L._∷_ 111 (L._∷_ 107 (L._∷_ 101 (L._∷_ 100 L.[])))))))))))))))))))) (Syntax.tcons (Syntax.tyStruct (L._∷_ 114 (L._∷_ 117 (L._∷_ 108 (L._∷_ 101 (L._∷_ 115 (L._∷_ 58 (L._∷_ 58 (L._∷_ 102 (L._∷_ 111 (L._∷_ 117 (L._∷_ 110 (L._∷_ 100 (L._∷_ 58 (L._∷_ 58 (L._∷_ 70 (L._∷_ 111 (L._∷_ 117 (L._∷_ 110 (L._∷_ 100 L.[]))))))))))))))))))) (Syntax.tcons Syntax.tyBool (Syntax.tcons Syntax.tyBool (Syntax.tcons (Syntax.tyStruct (L._∷_ 115 (L._∷_ 116 (L._∷_ 101 (L._∷_ 112 (L._∷_ 58 (L._∷_ 58 (L._∷_ 83 (L._∷_ 116 (L._∷_ 101 (L._∷_ 112 L.[])))))))))) (Syntax.tcons (Syntax.tyInt Syntax.w64) (Syntax.tcons (Syntax.tyInt Syntax.w64) (Syntax.tcons (Syntax.tyStruct (L._∷_ 115 (L._∷_ 116 (L._∷_ 101 (L._∷_ 112 (L._∷_ 58 (L._∷_ 58 (L._∷_ 67 (L._∷_ 104 (L._∷_ 97 (L._∷_ 110 (L._∷_ 103 (L._∷_ 101 L.[])))))))))))) (Syntax.tcons (Syntax.tyStruct (L._∷_ 110 (L._∷_ 101 (L._∷_ 116 (L._∷_ 119 (L._∷_ 111 (L._∷_ 114 (L._∷_ 107 (L._∷_ 58 (L._∷_ 58 (L._∷_ 69 (L._∷_ 100 (L._∷_ 105 (L._∷_ 116 L.[]))))))))))))) (Syntax.tcons q7 (Syntax.tcons q7 (Syntax.tcons q7 (Syntax.tcons q7 (Syntax.tcons q2 (Syntax.tcons q2 (Syntax.tcons (Syntax.tyInt Syntax.w64) (Syntax.tcons q6 Syntax.tnil))))))))) (Syntax.tcons (Syntax.tyStruct (L._∷_ 115 (L._∷_ 116 (L._∷_ 101 (L._∷_ 112 (L._∷_ 58 (L._∷_ 58 (L._∷_ 79 (L._∷_ 108 (L._∷_ 100 L.[]))))))))) (Syntax.tcons (Syntax.tyInt Syntax.w64) (Syntax.tcons q6 (Syntax.tcons q7 (Syntax.tcons q7 (Syntax.tcons q7 (Syntax.tcons q7 (Syntax.tcons q4 Syntax.tnil)))))))) Syntax.tnil))) Syntax.tnil)))) Syntax.tnil)))) (Syntax.tcons q5 Syntax.tnil)))) (L._∷_ q20 (L._∷_ q11 (L._∷_ q3 (L._∷_ q26 (L._∷_ (5, Rows.any-gone (Syntax.tyStruct (L._∷_ 114 (L._∷_ 117 (L._∷_ 108 (L._∷_ 101 (L._∷_ 115 (L._∷_ 58 (L._∷_ 58 (L._∷_ 102 (L._∷_ 111 (L._∷_ 117 (L._∷_ 110 (L._∷_ 100 (L._∷_ 58 (L._∷_ 58 (L._∷_ 70 (L._∷_ 111 (L._∷_ 117 (L._∷_ 110 (L._∷_ 100 L.[]))))))))))))))))))) (Syntax.tcons Syntax.tyBool (Syntax.tcons Syntax.tyBool (Syntax.tcons (Syntax.tyStruct (L._∷_ 115 (L._∷_ 116 (L._∷_ 101 (L._∷_ 112 (L._∷_ 58 (L._∷_ 58 (L._∷_ 83 (L._∷_ 116 (L._∷_ 101 (L._∷_ 112 L.[])))))))))) (Syntax.tcons (Syntax.tyInt Syntax.w64) (Syntax.tcons (Syntax.tyInt Syntax.w64) (Syntax.tcons (Syntax.tyStruct (L._∷_ 115 (L._∷_ 116 (L._∷_ 101 (L._∷_ 112 (L._∷_ 58 (L._∷_ 58 (L._∷_ 67 (L._∷_ 104 (L._∷_ 97 (L._∷_ 110 (L._∷_ 103 (L._∷_ 101 L.[])))))))))))) (Syntax.tcons (Syntax.tyStruct (L._∷_ 110 (L._∷_ 101 (L._∷_ 116 (L._∷_ 119 (L._∷_ 111 (L._∷_ 114 (L._∷_ 107 (L._∷_ 58 (L._∷_ 58 (L._∷_ 69 (L._∷_ 100 (L._∷_ 105 (L._∷_ 116 L.[]))))))))))))) (Syntax.tcons q7 (Syntax.tcons q7 (Syntax.tcons q7 (Syntax.tcons q7 (Syntax.tcons q2 (Syntax.tcons q2 (Syntax.tcons (Syntax.tyInt Syntax.w64) (Syntax.tcons q6 Syntax.tnil))))))))) (Syntax.tcons (Syntax.tyStruct (L._∷_ 115 (L._∷_ 116 (L._∷_ 101 (L._∷_ 112 (L._∷_ 58 (L._∷_ 58 (L._∷_ 79 (L._∷_ 108 (L._∷_ 100 L.[]))))))))) (Syntax.tcons (Syntax.tyInt Syntax.w64) (Syntax.tcons q6 (Syntax.tcons q7 (Syntax.tcons q7 (Syntax.tcons q7 (Syntax.tcons q7 (Syntax.tcons q4 Syntax.tnil)))))))) Syntax.tnil))) Syntax.tnil)))) Syntax.tnil))))) (L._∷_ q18 (L._∷_ q25 (L._∷_ q32 (L._∷_ q13 (L._∷_ (10, Rows.any-gone (Syntax.tyStruct (L._∷_ 114 (L._∷_ 117 (L._∷_ 108 (L._∷_ 101 (L._∷_ 115 (L._∷_ 58 (L._∷_ 58 (L._∷_ 102 (L._∷_ 111 (L._∷_ 117 (L._∷_ 110 (L._∷_ 100 (L._∷_ 58 (L._∷_ 58 (L._∷_ 70 (L._∷_ 111 (L._∷_ 117 (L._∷_ 110 (L._∷_ 100 L.[]))))))))))))))))))) (Syntax.tcons Syntax.tyBool (Syntax.tcons Syntax.tyBool (Syntax.tcons (Syntax.tyStruct (L._∷_ 115 (L._∷_ 116 (L._∷_ 101 (L._∷_ 112 (L._∷_ 58 (L._∷_ 58 (L._∷_ 83 (L._∷_ 116 (L._∷_ 101 (L._∷_ 112 L.[])))))))))) (Syntax.tcons (Syntax.tyInt Syntax.w64) (Syntax.tcons (Syntax.tyInt Syntax.w64) (Syntax.tcons (Syntax.tyStruct (L._∷_ 115 (L._∷_ 116 (L._∷_ 101 (L._∷_ 112 (L._∷_ 58 (L._∷_ 58 (L._∷_ 67 (L._∷_ 104 (L._∷_ 97 (L._∷_ 110 (L._∷_ 103 (L._∷_ 101 L.[])))))))))))) (Syntax.tcons (Syntax.tyStruct (L._∷_ 110 (L._∷_ 101 (L._∷_ 116 (L._∷_ 119 (L._∷_ 111 (L._∷_ 114 (L._∷_ 107 (L._∷_ 58 (L._∷_ 58 (L._∷_ 69 (L._∷_ 100 (L._∷_ 105 (L._∷_ 116 L.[]))))))))))))) (Syntax.tcons q7 (Syntax.tcons q7 (Syntax.tcons q7 (Syntax.tcons q7 (Syntax.tcons q2 (Syntax.tcons q2 (Syntax.tcons (Syntax.tyInt Syntax.w64) (Syntax.tcons q6 Syntax.tnil))))))))) (Syntax.tcons (Syntax.tyStruct (L._∷_ 115 (L._∷_ 116 (L._∷_ 101 (L._∷_ 112 (L._∷_ 58 (L._∷_ 58 (L._∷_ 79 (L._∷_ 108 (L._∷_ 100 L.[]))))))))) (Syntax.tcons (Syntax.tyInt Syntax.w64) (Syntax.tcons q6 (Syntax.tcons q7 (Syntax.tcons q7 (Syntax.tcons q7 (Syntax.tcons q7 (Syntax.tcons q4 Syntax.tnil)))))))) Syntax.tnil))) Syntax.tnil)))) Syntax.tnil))))) (L._∷_ (11, Rows.any-gone (Syntax.tyStruct (L._∷_ 114 (L._∷_ 117 (L._∷_ 108 (L._∷_ 101 (L._∷_ 115 (L._∷_ 58 (L._∷_ 58 (L._∷_ 102 (L._∷_ 111 (L._∷_ 117 (L._∷_ 110 (L._∷_ 100 (L._∷_ 58 (L._∷_ 58 (L._∷_ 70 (L._∷_ 111 (L._∷_ 117 (L._∷_ 110 (L._∷_ 100 L.[]))))))))))))))))))) (Syntax.tcons Syntax.tyBool (Syntax.tcons Syntax.tyBool (Syntax.tcons (Syntax.tyStruct (L._∷_ 115 (L._∷_ 116 (L._∷_ 101 (L._∷_ 112 (L._∷_ 58 (L._∷_ 58 (L._∷_ 83 (L._∷_ 116 (L._∷_ 101 (L._∷_ 112 L.[])))))))))) (Syntax.tcons (Syntax.tyInt Syntax.w64) (Syntax.tcons (Syntax.tyInt Syntax.w64) (Syntax.tcons (Syntax.tyStruct (L._∷_ 115 (L._∷_ 116 (L._∷_ 101 (L._∷_ 112 (L._∷_ 58 (L._∷_ 58 (L._∷_ 67 (L._∷_ 104 (L._∷_ 97 (L._∷_ 110 (L._∷_ 103 (L._∷_ 101 L.[])))))))))))) (Syntax.tcons (Syntax.tyStruct (L._∷_ 110 (L._∷_ 101 (L._∷_ 116 (L._∷_ 119 (L._∷_ 111 (L._∷_ 114 (L._∷_ 107 (L._∷_ 58 (L._∷_ 58 (L._∷_ 69 (L._∷_ 100 (L._∷_ 105 (L._∷_ 116 L.[]))))))))))))) (Syntax.tcons q7 (Syntax.tcons q7 (Syntax.tcons q7 (Syntax.tcons q7 (Syntax.tcons q2 (Syntax.tcons q2 (Syntax.tcons (Syntax.tyInt Syntax.w64) (Syntax.tcons q6 Syntax.tnil))))))))) (Syntax.tcons (Syntax.tyStruct (L._∷_ 115 (L._∷_ 116 (L._∷_ 101 (L._∷_ 112 (L._∷_ 58 (L._∷_ 58 (L._∷_ 79 (L._∷_ 108 (L._∷_ 100 L.[]))))))))) (Syntax.tcons (Syntax.tyInt Syntax.w64) (Syntax.tcons q6 (Syntax.tcons q7 (Syntax.tcons q7 (Syntax.tcons q7 (Syntax.tcons q7 (Syntax.tcons q4 Syntax.tnil)))))))) Syntax.tnil))) Syntax.tnil)))) Syntax.tnil))))) (L._∷_ q28 (L._∷_ q29 (L._∷_ (14, Rows.sc-here Row.sBool) (L._∷_ q31 L.[])))))))))))))))
 
 abbrev pub t30 : L.List Row.Entry
-t30 = L._∷_ (0, Rows.any-gone (Syntax.tyStruct (L._∷_ 114 (L._∷_ 117 (L._∷_ 108 (L._∷_ 101 (L._∷_ 115 (L._∷_ 58 (L._∷_ 58 (L._∷_ 116 (L._∷_ 114 (L._∷_ 105 (L._∷_ 101 (L._∷_ 100 (L._∷_ 58 (L._∷_ 58 (L._∷_ 76 (L._∷_ 111 (L._∷_ 111 (L._∷_ 107 (L._∷_ 101 (L._∷_ 100 L.[])))))))))))))))))))) (Syntax.tcons (Syntax.tyStruct (L._∷_ 114 (L._∷_ 117 (L._∷_ 108 (L._∷_ 101 (L._∷_ 115 (L._∷_ 58 (L._∷_ 58 (L._∷_ 102 (L._∷_ 111 (L._∷_ 117 (L._∷_ 110 (L._∷_ 100 (L._∷_ 58 (L._∷_ 58 (L._∷_ 70 (L._∷_ 111 (L._∷_ 117 (L._∷_ 110 (L._∷_ 100 L.[]))))))))))))))))))) (Syntax.tcons Syntax.tyBool (Syntax.tcons Syntax.tyBool (Syntax.tcons (Syntax.tyStruct (L._∷_ 115 (L._∷_ 116 (L._∷_ 101 (L._∷_ 112 (L._∷_ 58 (L._∷_ 58 (L._∷_ 83 (L._∷_ 116 (L._∷_ 101 (L._∷_ 112 L.[])))))))))) (Syntax.tcons (Syntax.tyInt Syntax.w64) (Syntax.tcons (Syntax.tyInt Syntax.w64) (Syntax.tcons (Syntax.tyStruct (L._∷_ 115 (L._∷_ 116 (L._∷_ 101 (L._∷_ 112 (L._∷_ 58 (L._∷_ 58 (L._∷_ 67 (L._∷_ 104 (L._∷_ 97 (L._∷_ 110 (L._∷_ 103 (L._∷_ 101 L.[])))))))))))) (Syntax.tcons (Syntax.tyStruct (L._∷_ 110 (L._∷_ 101 (L._∷_ 116 (L._∷_ 119 (L._∷_ 111 (L._∷_ 114 (L._∷_ 107 (L._∷_ 58 (L._∷_ 58 (L._∷_ 69 (L._∷_ 100 (L._∷_ 105 (L._∷_ 116 L.[]))))))))))))) (Syntax.tcons q7 (Syntax.tcons q7 (Syntax.tcons q7 (Syntax.tcons q7 (Syntax.tcons q2 (Syntax.tcons q2 (Syntax.tcons (Syntax.tyInt Syntax.w64) Syntax.tnil)))))))) (Syntax.tcons (Syntax.tyStruct (L._∷_ 115 (L._∷_ 116 (L._∷_ 101 (L._∷_ 112 (L._∷_ 58 (L._∷_ 58 (L._∷_ 79 (L._∷_ 108 (L._∷_ 100 L.[]))))))))) (Syntax.tcons (Syntax.tyInt Syntax.w64) (Syntax.tcons q6 (Syntax.tcons q7 (Syntax.tcons q7 (Syntax.tcons q7 (Syntax.tcons q7 (Syntax.tcons q4 Syntax.tnil)))))))) Syntax.tnil))) Syntax.tnil)))) Syntax.tnil)))) (Syntax.tcons q5 Syntax.tnil)))) (L._∷_ q20 (L._∷_ q11 (L._∷_ q17 (L._∷_ q26 (L._∷_ (5, Rows.any-gone (Syntax.tyStruct (L._∷_ 114 (L._∷_ 117 (L._∷_ 108 (L._∷_ 101 (L._∷_ 115 (L._∷_ 58 (L._∷_ 58 (L._∷_ 102 (L._∷_ 111 (L._∷_ 117 (L._∷_ 110 (L._∷_ 100 (L._∷_ 58 (L._∷_ 58 (L._∷_ 70 (L._∷_ 111 (L._∷_ 117 (L._∷_ 110 (L._∷_ 100 L.[]))))))))))))))))))) (Syntax.tcons Syntax.tyBool (Syntax.tcons Syntax.tyBool (Syntax.tcons (Syntax.tyStruct (L._∷_ 115 (L._∷_ 116 (L._∷_ 101 (L._∷_ 112 (L._∷_ 58 (L._∷_ 58 (L._∷_ 83 (L._∷_ 116 (L._∷_ 101 (L._∷_ 112 L.[])))))))))) (Syntax.tcons (Syntax.tyInt Syntax.w64) (Syntax.tcons (Syntax.tyInt Syntax.w64) (Syntax.tcons (Syntax.tyStruct (L._∷_ 115 (L._∷_ 116 (L._∷_ 101 (L._∷_ 112 (L._∷_ 58 (L._∷_ 58 (L._∷_ 67 (L._∷_ 104 (L._∷_ 97 (L._∷_ 110 (L._∷_ 103 (L._∷_ 101 L.[])))))))))))) (Syntax.tcons (Syntax.tyStruct (L._∷_ 110 (L._∷_ 101 (L._∷_ 116 (L._∷_ 119 (L._∷_ 111 (L._∷_ 114 (L._∷_ 107 (L._∷_ 58 (L._∷_ 58 (L._∷_ 69 (L._∷_ 100 (L._∷_ 105 (L._∷_ 116 L.[]))))))))))))) (Syntax.tcons q7 (Syntax.tcons q7 (Syntax.tcons q7 (Syntax.tcons q7 (Syntax.tcons q2 (Syntax.tcons q2 (Syntax.tcons (Syntax.tyInt Syntax.w64) Syntax.tnil)))))))) (Syntax.tcons (Syntax.tyStruct (L._∷_ 115 (L._∷_ 116 (L._∷_ 101 (L._∷_ 112 (L._∷_ 58 (L._∷_ 58 (L._∷_ 79 (L._∷_ 108 (L._∷_ 100 L.[]))))))))) (Syntax.tcons (Syntax.tyInt Syntax.w64) (Syntax.tcons q6 (Syntax.tcons q7 (Syntax.tcons q7 (Syntax.tcons q7 (Syntax.tcons q7 (Syntax.tcons q4 Syntax.tnil)))))))) Syntax.tnil))) Syntax.tnil)))) Syntax.tnil))))) (L._∷_ q18 (L._∷_ q25 (L._∷_ q32 (L._∷_ q13 (L._∷_ (10, Rows.any-gone (Syntax.tyStruct (L._∷_ 114 (L._∷_ 117 (L._∷_ 108 (L._∷_ 101 (L._∷_ 115 (L._∷_ 58 (L._∷_ 58 (L._∷_ 102 (L._∷_ 111 (L._∷_ 117 (L._∷_ 110 (L._∷_ 100 (L._∷_ 58 (L._∷_ 58 (L._∷_ 70 (L._∷_ 111 (L._∷_ 117 (L._∷_ 110 (L._∷_ 100 L.[]))))))))))))))))))) (Syntax.tcons Syntax.tyBool (Syntax.tcons Syntax.tyBool (Syntax.tcons (Syntax.tyStruct (L._∷_ 115 (L._∷_ 116 (L._∷_ 101 (L._∷_ 112 (L._∷_ 58 (L._∷_ 58 (L._∷_ 83 (L._∷_ 116 (L._∷_ 101 (L._∷_ 112 L.[])))))))))) (Syntax.tcons (Syntax.tyInt Syntax.w64) (Syntax.tcons (Syntax.tyInt Syntax.w64) (Syntax.tcons (Syntax.tyStruct (L._∷_ 115 (L._∷_ 116 (L._∷_ 101 (L._∷_ 112 (L._∷_ 58 (L._∷_ 58 (L._∷_ 67 (L._∷_ 104 (L._∷_ 97 (L._∷_ 110 (L._∷_ 103 (L._∷_ 101 L.[])))))))))))) (Syntax.tcons (Syntax.tyStruct (L._∷_ 110 (L._∷_ 101 (L._∷_ 116 (L._∷_ 119 (L._∷_ 111 (L._∷_ 114 (L._∷_ 107 (L._∷_ 58 (L._∷_ 58 (L._∷_ 69 (L._∷_ 100 (L._∷_ 105 (L._∷_ 116 L.[]))))))))))))) (Syntax.tcons q7 (Syntax.tcons q7 (Syntax.tcons q7 (Syntax.tcons q7 (Syntax.tcons q2 (Syntax.tcons q2 (Syntax.tcons (Syntax.tyInt Syntax.w64) Syntax.tnil)))))))) (Syntax.tcons (Syntax.tyStruct (L._∷_ 115 (L._∷_ 116 (L._∷_ 101 (L._∷_ 112 (L._∷_ 58 (L._∷_ 58 (L._∷_ 79 (L._∷_ 108 (L._∷_ 100 L.[]))))))))) (Syntax.tcons (Syntax.tyInt Syntax.w64) (Syntax.tcons q6 (Syntax.tcons q7 (Syntax.tcons q7 (Syntax.tcons q7 (Syntax.tcons q7 (Syntax.tcons q4 Syntax.tnil)))))))) Syntax.tnil))) Syntax.tnil)))) Syntax.tnil))))) (L._∷_ (11, Rows.any-gone (Syntax.tyStruct (L._∷_ 114 (L._∷_ 117 (L._∷_ 108 (L._∷_ 101 (L._∷_ 115 (L._∷_ 58 (L._∷_ 58 (L._∷_ 102 (L._∷_ 111 (L._∷_ 117 (L._∷_ 110 (L._∷_ 100 (L._∷_ 58 (L._∷_ 58 (L._∷_ 70 (L._∷_ 111 (L._∷_ 117 (L._∷_ 110 (L._∷_ 100 L.[]))))))))))))))))))) (Syntax.tcons Syntax.tyBool (Syntax.tcons Syntax.tyBool (Syntax.tcons (Syntax.tyStruct (L._∷_ 115 (L._∷_ 116 (L._∷_ 101 (L._∷_ 112 (L._∷_ 58 (L._∷_ 58 (L._∷_ 83 (L._∷_ 116 (L._∷_ 101 (L._∷_ 112 L.[])))))))))) (Syntax.tcons (Syntax.tyInt Syntax.w64) (Syntax.tcons (Syntax.tyInt Syntax.w64) (Syntax.tcons (Syntax.tyStruct (L._∷_ 115 (L._∷_ 116 (L._∷_ 101 (L._∷_ 112 (L._∷_ 58 (L._∷_ 58 (L._∷_ 67 (L._∷_ 104 (L._∷_ 97 (L._∷_ 110 (L._∷_ 103 (L._∷_ 101 L.[])))))))))))) (Syntax.tcons (Syntax.tyStruct (L._∷_ 110 (L._∷_ 101 (L._∷_ 116 (L._∷_ 119 (L._∷_ 111 (L._∷_ 114 (L._∷_ 107 (L._∷_ 58 (L._∷_ 58 (L._∷_ 69 (L._∷_ 100 (L._∷_ 105 (L._∷_ 116 L.[]))))))))))))) (Syntax.tcons q7 (Syntax.tcons q7 (Syntax.tcons q7 (Syntax.tcons q7 (Syntax.tcons q2 (Syntax.tcons q2 (Syntax.tcons (Syntax.tyInt Syntax.w64) Syntax.tnil)))))))) (Syntax.tcons (Syntax.tyStruct (L._∷_ 115 (L._∷_ 116 (L._∷_ 101 (L._∷_ 112 (L._∷_ 58 (L._∷_ 58 (L._∷_ 79 (L._∷_ 108 (L._∷_ 100 L.[]))))))))) (Syntax.tcons (Syntax.tyInt Syntax.w64) (Syntax.tcons q6 (Syntax.tcons q7 (Syntax.tcons q7 (Syntax.tcons q7 (Syntax.tcons q7 (Syntax.tcons q4 Syntax.tnil)))))))) Syntax.tnil))) Syntax.tnil)))) Syntax.tnil))))) (L._∷_ q28 (L._∷_ q29 (L._∷_ q30 (L._∷_ q31 L.[])))))))))))))))
+t30 = L._∷_ (0, Rows.any-gone (Syntax.tyStruct (L._∷_ 114 (L._∷_ 117 (L._∷_ 108 (L._∷_ 101 (L._∷_ 115 (L._∷_ 58 (L._∷_ 58 (L._∷_ 116 (L._∷_ 114 (L._∷_ 105 (L._∷_ 101 (L._∷_ 100 (L._∷_ 58 (L._∷_ 58 (L._∷_ 76 (L._∷_ 111 (L._∷_ 111 (L._∷_ 107 (L._∷_ 101 (L._∷_ 100 L.[])))))))))))))))))))) (Syntax.tcons (Syntax.tyStruct (L._∷_ 114 (L._∷_ 117 (L._∷_ 108 (L._∷_ 101 (L._∷_ 115 (L._∷_ 58 (L._∷_ 58 (L._∷_ 102 (L._∷_ 111 (L._∷_ 117 (L._∷_ 110 (L._∷_ 100 (L._∷_ 58 (L._∷_ 58 (L._∷_ 70 (L._∷_ 111 (L._∷_ 117 (L._∷_ 110 (L._∷_ 100 L.[]))))))))))))))))))) (Syntax.tcons Syntax.tyBool (Syntax.tcons Syntax.tyBool (Syntax.tcons (Syntax.tyStruct (L._∷_ 115 (L._∷_ 116 (L._∷_ 101 (L._∷_ 112 (L._∷_ 58 (L._∷_ 58 (L._∷_ 83 (L._∷_ 116 (L._∷_ 101 (L._∷_ 112 L.[])))))))))) (Syntax.tcons (Syntax.tyInt Syntax.w64) (Syntax.tcons (Syntax.tyInt Syntax.w64) (Syntax.tcons (Syntax.tyStruct (L._∷_ 115 (L._∷_ 116 (L._∷_ 101 (L._∷_ 112 (L._∷_ 58 (L._∷_ 58 (L._∷_ 67 (L._∷_ 104 (L._∷_ 97 (L._∷_ 110 (L._∷_ 103 (L._∷_ 101 L.[])))))))))))) (Syntax.tcons (Syntax.tyStruct (L._∷_ 110 (L._∷_ 101 (L._∷_ 116 (L._∷_ 119 (L._∷_ 111 (L._∷_ 114 (L._∷_ 107 (L._∷_ 58 (L._∷_ 58 (L._∷_ 69 (L._∷_ 100 (L._∷_ 105 (L._∷_ 116 L.[]))))))))))))) (Syntax.tcons q7 (Syntax.tcons q7 (Syntax.tcons q7 (Syntax.tcons q7 (Syntax.tcons q2 (Syntax.tcons q2 (Syntax.tcons (Syntax.tyInt Syntax.w64) (Syntax.tcons q6 Syntax.tnil))))))))) (Syntax.tcons (Syntax.tyStruct (L._∷_ 115 (L._∷_ 116 (L._∷_ 101 (L._∷_ 112 (L._∷_ 58 (L._∷_ 58 (L._∷_ 79 (L._∷_ 108 (L._∷_ 100 L.[]))))))))) (Syntax.tcons (Syntax.tyInt Syntax.w64) (Syntax.tcons q6 (Syntax.tcons q7 (Syntax.tcons q7 (Syntax.tcons q7 (Syntax.tcons q7 (Syntax.tcons q4 Syntax.tnil)))))))) Syntax.tnil))) Syntax.tnil)))) Syntax.tnil)))) (Syntax.tcons q5 Syntax.tnil)))) (L._∷_ q20 (L._∷_ q11 (L._∷_ q17 (L._∷_ q26 (L._∷_ (5, Rows.any-gone (Syntax.tyStruct (L._∷_ 114 (L._∷_ 117 (L._∷_ 108 (L._∷_ 101 (L._∷_ 115 (L._∷_ 58 (L._∷_ 58 (L._∷_ 102 (L._∷_ 111 (L._∷_ 117 (L._∷_ 110 (L._∷_ 100 (L._∷_ 58 (L._∷_ 58 (L._∷_ 70 (L._∷_ 111 (L._∷_ 117 (L._∷_ 110 (L._∷_ 100 L.[]))))))))))))))))))) (Syntax.tcons Syntax.tyBool (Syntax.tcons Syntax.tyBool (Syntax.tcons (Syntax.tyStruct (L._∷_ 115 (L._∷_ 116 (L._∷_ 101 (L._∷_ 112 (L._∷_ 58 (L._∷_ 58 (L._∷_ 83 (L._∷_ 116 (L._∷_ 101 (L._∷_ 112 L.[])))))))))) (Syntax.tcons (Syntax.tyInt Syntax.w64) (Syntax.tcons (Syntax.tyInt Syntax.w64) (Syntax.tcons (Syntax.tyStruct (L._∷_ 115 (L._∷_ 116 (L._∷_ 101 (L._∷_ 112 (L._∷_ 58 (L._∷_ 58 (L._∷_ 67 (L._∷_ 104 (L._∷_ 97 (L._∷_ 110 (L._∷_ 103 (L._∷_ 101 L.[])))))))))))) (Syntax.tcons (Syntax.tyStruct (L._∷_ 110 (L._∷_ 101 (L._∷_ 116 (L._∷_ 119 (L._∷_ 111 (L._∷_ 114 (L._∷_ 107 (L._∷_ 58 (L._∷_ 58 (L._∷_ 69 (L._∷_ 100 (L._∷_ 105 (L._∷_ 116 L.[]))))))))))))) (Syntax.tcons q7 (Syntax.tcons q7 (Syntax.tcons q7 (Syntax.tcons q7 (Syntax.tcons q2 (Syntax.tcons q2 (Syntax.tcons (Syntax.tyInt Syntax.w64) (Syntax.tcons q6 Syntax.tnil))))))))) (Syntax.tcons (Syntax.tyStruct (L._∷_ 115 (L._∷_ 116 (L._∷_ 101 (L._∷_ 112 (L._∷_ 58 (L._∷_ 58 (L._∷_ 79 (L._∷_ 108 (L._∷_ 100 L.[]))))))))) (Syntax.tcons (Syntax.tyInt Syntax.w64) (Syntax.tcons q6 (Syntax.tcons q7 (Syntax.tcons q7 (Syntax.tcons q7 (Syntax.tcons q7 (Syntax.tcons q4 Syntax.tnil)))))))) Syntax.tnil))) Syntax.tnil)))) Syntax.tnil))))) (L._∷_ q18 (L._∷_ q25 (L._∷_ q32 (L._∷_ q13 (L._∷_ (10, Rows.any-gone (Syntax.tyStruct (L._∷_ 114 (L._∷_ 117 (L._∷_ 108 (L._∷_ 101 (L._∷_ 115 (L._∷_ 58 (L._∷_ 58 (L._∷_ 102 (L._∷_ 111 (L._∷_ 117 (L._∷_ 110 (L._∷_ 100 (L._∷_ 58 (L._∷_ 58 (L._∷_ 70 (L._∷_ 111 (L._∷_ 117 (L._∷_ 110 (L._∷_ 100 L.[]))))))))))))))))))) (Syntax.tcons Syntax.tyBool (Syntax.tcons Syntax.tyBool (Syntax.tcons (Syntax.tyStruct (L._∷_ 115 (L._∷_ 116 (L._∷_ 101 (L._∷_ 112 (L._∷_ 58 (L._∷_ 58 (L._∷_ 83 (L._∷_ 116 (L._∷_ 101 (L._∷_ 112 L.[])))))))))) (Syntax.tcons (Syntax.tyInt Syntax.w64) (Syntax.tcons (Syntax.tyInt Syntax.w64) (Syntax.tcons (Syntax.tyStruct (L._∷_ 115 (L._∷_ 116 (L._∷_ 101 (L._∷_ 112 (L._∷_ 58 (L._∷_ 58 (L._∷_ 67 (L._∷_ 104 (L._∷_ 97 (L._∷_ 110 (L._∷_ 103 (L._∷_ 101 L.[])))))))))))) (Syntax.tcons (Syntax.tyStruct (L._∷_ 110 (L._∷_ 101 (L._∷_ 116 (L._∷_ 119 (L._∷_ 111 (L._∷_ 114 (L._∷_ 107 (L._∷_ 58 (L._∷_ 58 (L._∷_ 69 (L._∷_ 100 (L._∷_ 105 (L._∷_ 116 L.[]))))))))))))) (Syntax.tcons q7 (Syntax.tcons q7 (Syntax.tcons q7 (Syntax.tcons q7 (Syntax.tcons q2 (Syntax.tcons q2 (Syntax.tcons (Syntax.tyInt Syntax.w64) (Syntax.tcons q6 Syntax.tnil))))))))) (Syntax.tcons (Syntax.tyStruct (L._∷_ 115 (L._∷_ 116 (L._∷_ 101 (L._∷_ 112 (L._∷_ 58 (L._∷_ 58 (L._∷_ 79 (L._∷_ 108 (L._∷_ 100 L.[]))))))))) (Syntax.tcons (Syntax.tyInt Syntax.w64) (Syntax.tcons q6 (Syntax.tcons q7 (Syntax.tcons q7 (Syntax.tcons q7 (Syntax.tcons q7 (Syntax.tcons q4 Syntax.tnil)))))))) Syntax.tnil))) Syntax.tnil)))) Syntax.tnil))))) (L._∷_ (11, Rows.any-gone (Syntax.tyStruct (L._∷_ 114 (L._∷_ 117 (L._∷_ 108 (L._∷_ 101 (L._∷_ 115 (L._∷_ 58 (L._∷_ 58 (L._∷_ 102 (L._∷_ 111 (L._∷_ 117 (L._∷_ 110 (L._∷_ 100 (L._∷_ 58 (L._∷_ 58 (L._∷_ 70 (L._∷_ 111 (L._∷_ 117 (L._∷_ 110 (L._∷_ 100 L.[]))))))))))))))))))) (Syntax.tcons Syntax.tyBool (Syntax.tcons Syntax.tyBool (Syntax.tcons (Syntax.tyStruct (L._∷_ 115 (L._∷_ 116 (L._∷_ 101 (L._∷_ 112 (L._∷_ 58 (L._∷_ 58 (L._∷_ 83 (L._∷_ 116 (L._∷_ 101 (L._∷_ 112 L.[])))))))))) (Syntax.tcons (Syntax.tyInt Syntax.w64) (Syntax.tcons (Syntax.tyInt Syntax.w64) (Syntax.tcons (Syntax.tyStruct (L._∷_ 115 (L._∷_ 116 (L._∷_ 101 (L._∷_ 112 (L._∷_ 58 (L._∷_ 58 (L._∷_ 67 (L._∷_ 104 (L._∷_ 97 (L._∷_ 110 (L._∷_ 103 (L._∷_ 101 L.[])))))))))))) (Syntax.tcons (Syntax.tyStruct (L._∷_ 110 (L._∷_ 101 (L._∷_ 116 (L._∷_ 119 (L._∷_ 111 (L._∷_ 114 (L._∷_ 107 (L._∷_ 58 (L._∷_ 58 (L._∷_ 69 (L._∷_ 100 (L._∷_ 105 (L._∷_ 116 L.[]))))))))))))) (Syntax.tcons q7 (Syntax.tcons q7 (Syntax.tcons q7 (Syntax.tcons q7 (Syntax.tcons q2 (Syntax.tcons q2 (Syntax.tcons (Syntax.tyInt Syntax.w64) (Syntax.tcons q6 Syntax.tnil))))))))) (Syntax.tcons (Syntax.tyStruct (L._∷_ 115 (L._∷_ 116 (L._∷_ 101 (L._∷_ 112 (L._∷_ 58 (L._∷_ 58 (L._∷_ 79 (L._∷_ 108 (L._∷_ 100 L.[]))))))))) (Syntax.tcons (Syntax.tyInt Syntax.w64) (Syntax.tcons q6 (Syntax.tcons q7 (Syntax.tcons q7 (Syntax.tcons q7 (Syntax.tcons q7 (Syntax.tcons q4 Syntax.tnil)))))))) Syntax.tnil))) Syntax.tnil)))) Syntax.tnil))))) (L._∷_ q28 (L._∷_ q29 (L._∷_ q30 (L._∷_ q31 L.[])))))))))))))))
 
 abbrev pub t31 : L.List Row.Entry
-t31 = L._∷_ (0, Rows.any-gone (Syntax.tyStruct (L._∷_ 114 (L._∷_ 117 (L._∷_ 108 (L._∷_ 101 (L._∷_ 115 (L._∷_ 58 (L._∷_ 58 (L._∷_ 116 (L._∷_ 114 (L._∷_ 105 (L._∷_ 101 (L._∷_ 100 (L._∷_ 58 (L._∷_ 58 (L._∷_ 76 (L._∷_ 111 (L._∷_ 111 (L._∷_ 107 (L._∷_ 101 (L._∷_ 100 L.[])))))))))))))))))))) (Syntax.tcons (Syntax.tyStruct (L._∷_ 114 (L._∷_ 117 (L._∷_ 108 (L._∷_ 101 (L._∷_ 115 (L._∷_ 58 (L._∷_ 58 (L._∷_ 102 (L._∷_ 111 (L._∷_ 117 (L._∷_ 110 (L._∷_ 100 (L._∷_ 58 (L._∷_ 58 (L._∷_ 70 (L._∷_ 111 (L._∷_ 117 (L._∷_ 110 (L._∷_ 100 L.[]))))))))))))))))))) (Syntax.tcons Syntax.tyBool (Syntax.tcons Syntax.tyBool (Syntax.tcons (Syntax.tyStruct (L._∷_ 115 (L._∷_ 116 (L._∷_ 101 (L._∷_ 112 (L._∷_ 58 (L._∷_ 58 (L._∷_ 83 (L._∷_ 116 (L._∷_ 101 (L._∷_ 112 L.[])))))))))) (Syntax.tcons (Syntax.tyInt Syntax.w64) (Syntax.tcons (Syntax.tyInt Syntax.w64) (Syntax.tcons (Syntax.tyStruct (L._∷_ 115 (L._∷_ 116 (L._∷_ 101 (L._∷_ 112 (L._∷_ 58 (L._∷_ 58 (L._∷_ 67 (L._∷_ 104 (L._∷_ 97 (L._∷_ 110 (L._∷_ 103 (L._∷_ 101 L.[])))))))))))) (Syntax.tcons (Syntax.tyStruct (L._∷_ 110 (L._∷_ 101 (L._∷_ 116 (L._∷_ 119 (L._∷_ 111 (L._∷_ 114 (L._∷_ 107 (L._∷_ 58 (L._∷_ 58 (L._∷_ 69 (L._∷_ 100 (L._∷_ 105 (L._∷_ 116 L.[]))))))))))))) (Syntax.tcons q7 (Syntax.tcons q7 (Syntax.tcons q7 (Syntax.tcons q7 (Syntax.tcons q2 (Syntax.tcons q2 (Syntax.tcons (Syntax.tyInt Syntax.w64) Syntax.tnil)))))))) (Syntax.tcons (Syntax.tyStruct (L._∷_ 115 (L._∷_ 116 (L._∷_ 101 (L._∷_ 112 (L._∷_ 58 (L._∷_ 58 (L._∷_ 79 (L._∷_ 108 (L._∷_ 100 L.[]))))))))) (Syntax.tcons (Syntax.tyInt Syntax.w64) (Syntax.tcons q6 (Syntax.tcons q7 (Syntax.tcons q7 (Syntax.tcons q7 (Syntax.tcons q7 (Syntax.tcons q4 Syntax.tnil)))))))) Syntax.tnil))) Syntax.tnil)))) Syntax.tnil)))) (Syntax.tcons q5 Syntax.tnil)))) (L._∷_ q20 (L._∷_ q11 (L._∷_ q17 (L._∷_ q26 (L._∷_ (5, Rows.any-gone (Syntax.tyStruct (L._∷_ 114 (L._∷_ 117 (L._∷_ 108 (L._∷_ 101 (L._∷_ 115 (L._∷_ 58 (L._∷_ 58 (L._∷_ 102 (L._∷_ 111 (L._∷_ 117 (L._∷_ 110 (L._∷_ 100 (L._∷_ 58 (L._∷_ 58 (L._∷_ 70 (L._∷_ 111 (L._∷_ 117 (L._∷_ 110 (L._∷_ 100 L.[]))))))))))))))))))) (Syntax.tcons Syntax.tyBool (Syntax.tcons Syntax.tyBool (Syntax.tcons (Syntax.tyStruct (L._∷_ 115 (L._∷_ 116 (L._∷_ 101 (L._∷_ 112 (L._∷_ 58 (L._∷_ 58 (L._∷_ 83 (L._∷_ 116 (L._∷_ 101 (L._∷_ 112 L.[])))))))))) (Syntax.tcons (Syntax.tyInt Syntax.w64) (Syntax.tcons (Syntax.tyInt Syntax.w64) (Syntax.tcons (Syntax.tyStruct (L._∷_ 115 (L._∷_ 116 (L._∷_ 101 (L._∷_ 112 (L._∷_ 58 (L._∷_ 58 (L._∷_ 67 (L._∷_ 104 (L._∷_ 97 (L._∷_ 110 (L._∷_ 103 (L._∷_ 101 L.[])))))))))))) (Syntax.tcons (Syntax.tyStruct (L._∷_ 110 (L._∷_ 101 (L._∷_ 116 (L._∷_ 119 (L._∷_ 111 (L._∷_ 114 (L._∷_ 107 (L._∷_ 58 (L._∷_ 58 (L._∷_ 69 (L._∷_ 100 (L._∷_ 105 (L._∷_ 116 L.[]))))))))))))) (Syntax.tcons q7 (Syntax.tcons q7 (Syntax.tcons q7 (Syntax.tcons q7 (Syntax.tcons q2 (Syntax.tcons q2 (Syntax.tcons (Syntax.tyInt Syntax.w64) Syntax.tnil)))))))) (Syntax.tcons (Syntax.tyStruct (L._∷_ 115 (L._∷_ 116 (L._∷_ 101 (L._∷_ 112 (L._∷_ 58 (L._∷_ 58 (L._∷_ 79 (L._∷_ 108 (L._∷_ 100 L.[]))))))))) (Syntax.tcons (Syntax.tyInt Syntax.w64) (Syntax.tcons q6 (Syntax.tcons q7 (Syntax.tcons q7 (Syntax.tcons q7 (Syntax.tcons q7 (Syntax.tcons q4 Syntax.tnil)))))))) Syntax.tnil))) Syntax.tnil)))) Syntax.tnil))))) (L._∷_ q18 (L._∷_ q25 (L._∷_ (8, Rows.sc-here Row.sBool) (L._∷_ (9, Rows.any-gone (Syntax.tyStruct (L._∷_ 114 (L._∷_ 117 (L._∷_ 108 (L._∷_ 101 (L._∷_ 115 (L._∷_ 58 (L._∷_ 58 (L._∷_ 116 (L._∷_ 114 (L._∷_ 105 (L._∷_ 101 (L._∷_ 100 (L._∷_ 58 (L._∷_ 58 (L._∷_ 76 (L._∷_ 111 (L._∷_ 111 (L._∷_ 107 (L._∷_ 101 (L._∷_ 100 L.[])))))))))))))))))))) (Syntax.tcons (Syntax.tyStruct (L._∷_ 114 (L._∷_ 117 (L._∷_ 108 (L._∷_ 101 (L._∷_ 115 (L._∷_ 58 (L._∷_ 58 (L._∷_ 102 (L._∷_ 111 (L._∷_ 117 (L._∷_ 110 (L._∷_ 100 (L._∷_ 58 (L._∷_ 58 (L._∷_ 70 (L._∷_ 111 (L._∷_ 117 (L._∷_ 110 (L._∷_ 100 L.[]))))))))))))))))))) (Syntax.tcons Syntax.tyBool (Syntax.tcons Syntax.tyBool (Syntax.tcons (Syntax.tyStruct (L._∷_ 115 (L._∷_ 116 (L._∷_ 101 (L._∷_ 112 (L._∷_ 58 (L._∷_ 58 (L._∷_ 83 (L._∷_ 116 (L._∷_ 101 (L._∷_ 112 L.[])))))))))) (Syntax.tcons (Syntax.tyInt Syntax.w64) (Syntax.tcons (Syntax.tyInt Syntax.w64) (Syntax.tcons (Syntax.tyStruct (L._∷_ 115 (L._∷_ 116 (L._∷_ 101 (L._∷_ 112 (L._∷_ 58 (L._∷_ 58 (L._∷_ 67 (L._∷_ 104 (L._∷_ 97 (L._∷_ 110 (L._∷_ 103 (L._∷_ 101 L.[])))))))))))) (Syntax.tcons (Syntax.tyStruct (L._∷_ 110 (L._∷_ 101 (L._∷_ 116 (L._∷_ 119 (L._∷_ 111 (L._∷_ 114 (L._∷_ 107 (L._∷_ 58 (L._∷_ 58 (L._∷_ 69 (L._∷_ 100 (L._∷_ 105 (L._∷_ 116 L.[]))))))))))))) (Syntax.tcons q7 (Syntax.tcons q7 (Syntax.tcons q7 (Syntax.tcons q7 (Syntax.tcons q2 (Syntax.tcons q2 (Syntax.tcons (Syntax.tyInt Syntax.w64) Syntax.tnil)))))))) (Syntax.tcons (Syntax.tyStruct (L._∷_ 115 (L._∷_ 116 (L._∷_ 101 (L._∷_ 112 (L._∷_ 58 (L._∷_ 58 (L._∷_ 79 (L._∷_ 108 (L._∷_ 100 L.[]))))))))) (Syntax.tcons (Syntax.tyInt Syntax.w64) (Syntax.tcons q6 (Syntax.tcons q7 (Syntax.tcons q7 (Syntax.tcons q7 (Syntax.tcons q7 (Syntax.tcons q4 Syntax.tnil)))))))) Syntax.tnil))) Syntax.tnil)))) Syntax.tnil)))) (Syntax.tcons q5 Syntax.tnil)))) (L._∷_ q14 (L._∷_ (11, Rows.any-gone (Syntax.tyStruct (L._∷_ 114 (L._∷_ 117 (L._∷_ 108 (L._∷_ 101 (L._∷_ 115 (L._∷_ 58 (L._∷_ 58 (L._∷_ 102 (L._∷_ 111 (L._∷_ 117 (L._∷_ 110 (L._∷_ 100 (L._∷_ 58 (L._∷_ 58 (L._∷_ 70 (L._∷_ 111 (L._∷_ 117 (L._∷_ 110 (L._∷_ 100 L.[]))))))))))))))))))) (Syntax.tcons Syntax.tyBool (Syntax.tcons Syntax.tyBool (Syntax.tcons (Syntax.tyStruct (L._∷_ 115 (L._∷_ 116 (L._∷_ 101 (L._∷_ 112 (L._∷_ 58 (L._∷_ 58 (L._∷_ 83 (L._∷_ 116 (L._∷_ 101 (L._∷_ 112 L.[])))))))))) (Syntax.tcons (Syntax.tyInt Syntax.w64) (Syntax.tcons (Syntax.tyInt Syntax.w64) (Syntax.tcons (Syntax.tyStruct (L._∷_ 115 (L._∷_ 116 (L._∷_ 101 (L._∷_ 112 (L._∷_ 58 (L._∷_ 58 (L._∷_ 67 (L._∷_ 104 (L._∷_ 97 (L._∷_ 110 (L._∷_ 103 (L._∷_ 101 L.[])))))))))))) (Syntax.tcons (Syntax.tyStruct (L._∷_ 110 (L._∷_ 101 (L._∷_ 116 (L._∷_ 119 (L._∷_ 111 (L._∷_ 114 (L._∷_ 107 (L._∷_ 58 (L._∷_ 58 (L._∷_ 69 (L._∷_ 100 (L._∷_ 105 (L._∷_ 116 L.[]))))))))))))) (Syntax.tcons q7 (Syntax.tcons q7 (Syntax.tcons q7 (Syntax.tcons q7 (Syntax.tcons q2 (Syntax.tcons q2 (Syntax.tcons (Syntax.tyInt Syntax.w64) Syntax.tnil)))))))) (Syntax.tcons (Syntax.tyStruct (L._∷_ 115 (L._∷_ 116 (L._∷_ 101 (L._∷_ 112 (L._∷_ 58 (L._∷_ 58 (L._∷_ 79 (L._∷_ 108 (L._∷_ 100 L.[]))))))))) (Syntax.tcons (Syntax.tyInt Syntax.w64) (Syntax.tcons q6 (Syntax.tcons q7 (Syntax.tcons q7 (Syntax.tcons q7 (Syntax.tcons q7 (Syntax.tcons q4 Syntax.tnil)))))))) Syntax.tnil))) Syntax.tnil)))) Syntax.tnil))))) (L._∷_ q28 (L._∷_ q29 (L._∷_ q30 (L._∷_ q31 L.[])))))))))))))))
+t31 = L._∷_ (0, Rows.any-gone (Syntax.tyStruct (L._∷_ 114 (L._∷_ 117 (L._∷_ 108 (L._∷_ 101 (L._∷_ 115 (L._∷_ 58 (L._∷_ 58 (L._∷_ 116 (L._∷_ 114 (L._∷_ 105 (L._∷_ 101 (L._∷_ 100 (L._∷_ 58 (L._∷_ 58 (L._∷_ 76 (L._∷_ 111 (L._∷_ 111 (L._∷_ 107 (L._∷_ 101 (L._∷_ 100 L.[])))))))))))))))))))) (Syntax.tcons (Syntax.tyStruct (L._∷_ 114 (L._∷_ 117 (L._∷_ 108 (L._∷_ 101 (L._∷_ 115 (L._∷_ 58 (L._∷_ 58 (L._∷_ 102 (L._∷_ 111 (L._∷_ 117 (L._∷_ 110 (L._∷_ 100 (L._∷_ 58 (L._∷_ 58 (L._∷_ 70 (L._∷_ 111 (L._∷_ 117 (L._∷_ 110 (L._∷_ 100 L.[]))))))))))))))))))) (Syntax.tcons Syntax.tyBool (Syntax.tcons Syntax.tyBool (Syntax.tcons (Syntax.tyStruct (L._∷_ 115 (L._∷_ 116 (L._∷_ 101 (L._∷_ 112 (L._∷_ 58 (L._∷_ 58 (L._∷_ 83 (L._∷_ 116 (L._∷_ 101 (L._∷_ 112 L.[])))))))))) (Syntax.tcons (Syntax.tyInt Syntax.w64) (Syntax.tcons (Syntax.tyInt Syntax.w64) (Syntax.tcons (Syntax.tyStruct (L._∷_ 115 (L._∷_ 116 (L._∷_ 101 (L._∷_ 112 (L._∷_ 58 (L._∷_ 58 (L._∷_ 67 (L._∷_ 104 (L._∷_ 97 (L._∷_ 110 (L._∷_ 103 (L._∷_ 101 L.[])))))))))))) (Syntax.tcons (Syntax.tyStruct (L._∷_ 110 (L._∷_ 101 (L._∷_ 116 (L._∷_ 119 (L._∷_ 111 (L._∷_ 114 (L._∷_ 107 (L._∷_ 58 (L._∷_ 58 (L._∷_ 69 (L._∷_ 100 (L._∷_ 105 (L._∷_ 116 L.[]))))))))))))) (Syntax.tcons q7 (Syntax.tcons q7 (Syntax.tcons q7 (Syntax.tcons q7 (Syntax.tcons q2 (Syntax.tcons q2 (Syntax.tcons (Syntax.tyInt Syntax.w64) (Syntax.tcons q6 Syntax.tnil))))))))) (Syntax.tcons (Syntax.tyStruct (L._∷_ 115 (L._∷_ 116 (L._∷_ 101 (L._∷_ 112 (L._∷_ 58 (L._∷_ 58 (L._∷_ 79 (L._∷_ 108 (L._∷_ 100 L.[]))))))))) (Syntax.tcons (Syntax.tyInt Syntax.w64) (Syntax.tcons q6 (Syntax.tcons q7 (Syntax.tcons q7 (Syntax.tcons q7 (Syntax.tcons q7 (Syntax.tcons q4 Syntax.tnil)))))))) Syntax.tnil))) Syntax.tnil)))) Syntax.tnil)))) (Syntax.tcons q5 Syntax.tnil)))) (L._∷_ q20 (L._∷_ q11 (L._∷_ q17 (L._∷_ q26 (L._∷_ (5, Rows.any-gone (Syntax.tyStruct (L._∷_ 114 (L._∷_ 117 (L._∷_ 108 (L._∷_ 101 (L._∷_ 115 (L._∷_ 58 (L._∷_ 58 (L._∷_ 102 (L._∷_ 111 (L._∷_ 117 (L._∷_ 110 (L._∷_ 100 (L._∷_ 58 (L._∷_ 58 (L._∷_ 70 (L._∷_ 111 (L._∷_ 117 (L._∷_ 110 (L._∷_ 100 L.[]))))))))))))))))))) (Syntax.tcons Syntax.tyBool (Syntax.tcons Syntax.tyBool (Syntax.tcons (Syntax.tyStruct (L._∷_ 115 (L._∷_ 116 (L._∷_ 101 (L._∷_ 112 (L._∷_ 58 (L._∷_ 58 (L._∷_ 83 (L._∷_ 116 (L._∷_ 101 (L._∷_ 112 L.[])))))))))) (Syntax.tcons (Syntax.tyInt Syntax.w64) (Syntax.tcons (Syntax.tyInt Syntax.w64) (Syntax.tcons (Syntax.tyStruct (L._∷_ 115 (L._∷_ 116 (L._∷_ 101 (L._∷_ 112 (L._∷_ 58 (L._∷_ 58 (L._∷_ 67 (L._∷_ 104 (L._∷_ 97 (L._∷_ 110 (L._∷_ 103 (L._∷_ 101 L.[])))))))))))) (Syntax.tcons (Syntax.tyStruct (L._∷_ 110 (L._∷_ 101 (L._∷_ 116 (L._∷_ 119 (L._∷_ 111 (L._∷_ 114 (L._∷_ 107 (L._∷_ 58 (L._∷_ 58 (L._∷_ 69 (L._∷_ 100 (L._∷_ 105 (L._∷_ 116 L.[]))))))))))))) (Syntax.tcons q7 (Syntax.tcons q7 (Syntax.tcons q7 (Syntax.tcons q7 (Syntax.tcons q2 (Syntax.tcons q2 (Syntax.tcons (Syntax.tyInt Syntax.w64) (Syntax.tcons q6 Syntax.tnil))))))))) (Syntax.tcons (Syntax.tyStruct (L._∷_ 115 (L._∷_ 116 (L._∷_ 101 (L._∷_ 112 (L._∷_ 58 (L._∷_ 58 (L._∷_ 79 (L._∷_ 108 (L._∷_ 100 L.[]))))))))) (Syntax.tcons (Syntax.tyInt Syntax.w64) (Syntax.tcons q6 (Syntax.tcons q7 (Syntax.tcons q7 (Syntax.tcons q7 (Syntax.tcons q7 (Syntax.tcons q4 Syntax.tnil)))))))) Syntax.tnil))) Syntax.tnil)))) Syntax.tnil))))) (L._∷_ q18 (L._∷_ q25 (L._∷_ (8, Rows.sc-here Row.sBool) (L._∷_ (9, Rows.any-gone (Syntax.tyStruct (L._∷_ 114 (L._∷_ 117 (L._∷_ 108 (L._∷_ 101 (L._∷_ 115 (L._∷_ 58 (L._∷_ 58 (L._∷_ 116 (L._∷_ 114 (L._∷_ 105 (L._∷_ 101 (L._∷_ 100 (L._∷_ 58 (L._∷_ 58 (L._∷_ 76 (L._∷_ 111 (L._∷_ 111 (L._∷_ 107 (L._∷_ 101 (L._∷_ 100 L.[])))))))))))))))))))) (Syntax.tcons (Syntax.tyStruct (L._∷_ 114 (L._∷_ 117 (L._∷_ 108 (L._∷_ 101 (L._∷_ 115 (L._∷_ 58 (L._∷_ 58 (L._∷_ 102 (L._∷_ 111 (L._∷_ 117 (L._∷_ 110 (L._∷_ 100 (L._∷_ 58 (L._∷_ 58 (L._∷_ 70 (L._∷_ 111 (L._∷_ 117 (L._∷_ 110 (L._∷_ 100 L.[]))))))))))))))))))) (Syntax.tcons Syntax.tyBool (Syntax.tcons Syntax.tyBool (Syntax.tcons (Syntax.tyStruct (L._∷_ 115 (L._∷_ 116 (L._∷_ 101 (L._∷_ 112 (L._∷_ 58 (L._∷_ 58 (L._∷_ 83 (L._∷_ 116 (L._∷_ 101 (L._∷_ 112 L.[])))))))))) (Syntax.tcons (Syntax.tyInt Syntax.w64) (Syntax.tcons (Syntax.tyInt Syntax.w64) (Syntax.tcons (Syntax.tyStruct (L._∷_ 115 (L._∷_ 116 (L._∷_ 101 (L._∷_ 112 (L._∷_ 58 (L._∷_ 58 (L._∷_ 67 (L._∷_ 104 (L._∷_ 97 (L._∷_ 110 (L._∷_ 103 (L._∷_ 101 L.[])))))))))))) (Syntax.tcons (Syntax.tyStruct (L._∷_ 110 (L._∷_ 101 (L._∷_ 116 (L._∷_ 119 (L._∷_ 111 (L._∷_ 114 (L._∷_ 107 (L._∷_ 58 (L._∷_ 58 (L._∷_ 69 (L._∷_ 100 (L._∷_ 105 (L._∷_ 116 L.[]))))))))))))) (Syntax.tcons q7 (Syntax.tcons q7 (Syntax.tcons q7 (Syntax.tcons q7 (Syntax.tcons q2 (Syntax.tcons q2 (Syntax.tcons (Syntax.tyInt Syntax.w64) (Syntax.tcons q6 Syntax.tnil))))))))) (Syntax.tcons (Syntax.tyStruct (L._∷_ 115 (L._∷_ 116 (L._∷_ 101 (L._∷_ 112 (L._∷_ 58 (L._∷_ 58 (L._∷_ 79 (L._∷_ 108 (L._∷_ 100 L.[]))))))))) (Syntax.tcons (Syntax.tyInt Syntax.w64) (Syntax.tcons q6 (Syntax.tcons q7 (Syntax.tcons q7 (Syntax.tcons q7 (Syntax.tcons q7 (Syntax.tcons q4 Syntax.tnil)))))))) Syntax.tnil))) Syntax.tnil)))) Syntax.tnil)))) (Syntax.tcons q5 Syntax.tnil)))) (L._∷_ q14 (L._∷_ (11, Rows.any-gone (Syntax.tyStruct (L._∷_ 114 (L._∷_ 117 (L._∷_ 108 (L._∷_ 101 (L._∷_ 115 (L._∷_ 58 (L._∷_ 58 (L._∷_ 102 (L._∷_ 111 (L._∷_ 117 (L._∷_ 110 (L._∷_ 100 (L._∷_ 58 (L._∷_ 58 (L._∷_ 70 (L._∷_ 111 (L._∷_ 117 (L._∷_ 110 (L._∷_ 100 L.[]))))))))))))))))))) (Syntax.tcons Syntax.tyBool (Syntax.tcons Syntax.tyBool (Syntax.tcons (Syntax.tyStruct (L._∷_ 115 (L._∷_ 116 (L._∷_ 101 (L._∷_ 112 (L._∷_ 58 (L._∷_ 58 (L._∷_ 83 (L._∷_ 116 (L._∷_ 101 (L._∷_ 112 L.[])))))))))) (Syntax.tcons (Syntax.tyInt Syntax.w64) (Syntax.tcons (Syntax.tyInt Syntax.w64) (Syntax.tcons (Syntax.tyStruct (L._∷_ 115 (L._∷_ 116 (L._∷_ 101 (L._∷_ 112 (L._∷_ 58 (L._∷_ 58 (L._∷_ 67 (L._∷_ 104 (L._∷_ 97 (L._∷_ 110 (L._∷_ 103 (L._∷_ 101 L.[])))))))))))) (Syntax.tcons (Syntax.tyStruct (L._∷_ 110 (L._∷_ 101 (L._∷_ 116 (L._∷_ 119 (L._∷_ 111 (L._∷_ 114 (L._∷_ 107 (L._∷_ 58 (L._∷_ 58 (L._∷_ 69 (L._∷_ 100 (L._∷_ 105 (L._∷_ 116 L.[]))))))))))))) (Syntax.tcons q7 (Syntax.tcons q7 (Syntax.tcons q7 (Syntax.tcons q7 (Syntax.tcons q2 (Syntax.tcons q2 (Syntax.tcons (Syntax.tyInt Syntax.w64) (Syntax.tcons q6 Syntax.tnil))))))))) (Syntax.tcons (Syntax.tyStruct (L._∷_ 115 (L._∷_ 116 (L._∷_ 101 (L._∷_ 112 (L._∷_ 58 (L._∷_ 58 (L._∷_ 79 (L._∷_ 108 (L._∷_ 100 L.[]))))))))) (Syntax.tcons (Syntax.tyInt Syntax.w64) (Syntax.tcons q6 (Syntax.tcons q7 (Syntax.tcons q7 (Syntax.tcons q7 (Syntax.tcons q7 (Syntax.tcons q4 Syntax.tnil)))))))) Syntax.tnil))) Syntax.tnil)))) Syntax.tnil))))) (L._∷_ q28 (L._∷_ q29 (L._∷_ q30 (L._∷_ q31 L.[])))))))))))))))
 
 abbrev pub t32 : L.List Row.Entry
-t32 = L._∷_ (0, Rows.any-gone (Syntax.tyStruct (L._∷_ 114 (L._∷_ 117 (L._∷_ 108 (L._∷_ 101 (L._∷_ 115 (L._∷_ 58 (L._∷_ 58 (L._∷_ 116 (L._∷_ 114 (L._∷_ 105 (L._∷_ 101 (L._∷_ 100 (L._∷_ 58 (L._∷_ 58 (L._∷_ 76 (L._∷_ 111 (L._∷_ 111 (L._∷_ 107 (L._∷_ 101 (L._∷_ 100 L.[])))))))))))))))))))) (Syntax.tcons (Syntax.tyStruct (L._∷_ 114 (L._∷_ 117 (L._∷_ 108 (L._∷_ 101 (L._∷_ 115 (L._∷_ 58 (L._∷_ 58 (L._∷_ 102 (L._∷_ 111 (L._∷_ 117 (L._∷_ 110 (L._∷_ 100 (L._∷_ 58 (L._∷_ 58 (L._∷_ 70 (L._∷_ 111 (L._∷_ 117 (L._∷_ 110 (L._∷_ 100 L.[]))))))))))))))))))) (Syntax.tcons Syntax.tyBool (Syntax.tcons Syntax.tyBool (Syntax.tcons (Syntax.tyStruct (L._∷_ 115 (L._∷_ 116 (L._∷_ 101 (L._∷_ 112 (L._∷_ 58 (L._∷_ 58 (L._∷_ 83 (L._∷_ 116 (L._∷_ 101 (L._∷_ 112 L.[])))))))))) (Syntax.tcons (Syntax.tyInt Syntax.w64) (Syntax.tcons (Syntax.tyInt Syntax.w64) (Syntax.tcons (Syntax.tyStruct (L._∷_ 115 (L._∷_ 116 (L._∷_ 101 (L._∷_ 112 (L._∷_ 58 (L._∷_ 58 (L._∷_ 67 (L._∷_ 104 (L._∷_ 97 (L._∷_ 110 (L._∷_ 103 (L._∷_ 101 L.[])))))))))))) (Syntax.tcons (Syntax.tyStruct (L._∷_ 110 (L._∷_ 101 (L._∷_ 116 (L._∷_ 119 (L._∷_ 111 (L._∷_ 114 (L._∷_ 107 (L._∷_ 58 (L._∷_ 58 (L._∷_ 69 (L._∷_ 100 (L._∷_ 105 (L._∷_ 116 L.[]))))))))))))) (Syntax.tcons q7 (Syntax.tcons q7 (Syntax.tcons q7 (Syntax.tcons q7 (Syntax.tcons q2 (Syntax.tcons q2 (Syntax.tcons (Syntax.tyInt Syntax.w64) Syntax.tnil)))))))) (Syntax.tcons (Syntax.tyStruct (L._∷_ 115 (L._∷_ 116 (L._∷_ 101 (L._∷_ 112 (L._∷_ 58 (L._∷_ 58 (L._∷_ 79 (L._∷_ 108 (L._∷_ 100 L.[]))))))))) (Syntax.tcons (Syntax.tyInt Syntax.w64) (Syntax.tcons q6 (Syntax.tcons q7 (Syntax.tcons q7 (Syntax.tcons q7 (Syntax.tcons q7 (Syntax.tcons q4 Syntax.tnil)))))))) Syntax.tnil))) Syntax.tnil)))) Syntax.tnil)))) (Syntax.tcons q5 Syntax.tnil)))) (L._∷_ q20 (L._∷_ q11 (L._∷_ q17 (L._∷_ q26 (L._∷_ (5, Rows.any-gone (Syntax.tyStruct (L._∷_ 114 (L._∷_ 117 (L._∷_ 108 (L._∷_ 101 (L._∷_ 115 (L._∷_ 58 (L._∷_ 58 (L._∷_ 102 (L._∷_ 111 (L._∷_ 117 (L._∷_ 110 (L._∷_ 100 (L._∷_ 58 (L._∷_ 58 (L._∷_ 70 (L._∷_ 111 (L._∷_ 117 (L._∷_ 110 (L._∷_ 100 L.[]))))))))))))))))))) (Syntax.tcons Syntax.tyBool (Syntax.tcons Syntax.tyBool (Syntax.tcons (Syntax.tyStruct (L._∷_ 115 (L._∷_ 116 (L._∷_ 101 (L._∷_ 112 (L._∷_ 58 (L._∷_ 58 (L._∷_ 83 (L._∷_ 116 (L._∷_ 101 (L._∷_ 112 L.[])))))))))) (Syntax.tcons (Syntax.tyInt Syntax.w64) (Syntax.tcons (Syntax.tyInt Syntax.w64) (Syntax.tcons (Syntax.tyStruct (L._∷_ 115 (L._∷_ 116 (L._∷_ 101 (L._∷_ 112 (L._∷_ 58 (L._∷_ 58 (L._∷_ 67 (L._∷_ 104 (L._∷_ 97 (L._∷_ 110 (L._∷_ 103 (L._∷_ 101 L.[])))))))))))) (Syntax.tcons (Syntax.tyStruct (L._∷_ 110 (L._∷_ 101 (L._∷_ 116 (L._∷_ 119 (L._∷_ 111 (L._∷_ 114 (L._∷_ 107 (L._∷_ 58 (L._∷_ 58 (L._∷_ 69 (L._∷_ 100 (L._∷_ 105 (L._∷_ 116 L.[]))))))))))))) (Syntax.tcons q7 (Syntax.tcons q7 (Syntax.tcons q7 (Syntax.tcons q7 (Syntax.tcons q2 (Syntax.tcons q2 (Syntax.tcons (Syntax.tyInt Syntax.w64) Syntax.tnil)))))))) (Syntax.tcons (Syntax.tyStruct (L._∷_ 115 (L._∷_ 116 (L._∷_ 101 (L._∷_ 112 (L._∷_ 58 (L._∷_ 58 (L._∷_ 79 (L._∷_ 108 (L._∷_ 100 L.[]))))))))) (Syntax.tcons (Syntax.tyInt Syntax.w64) (Syntax.tcons q6 (Syntax.tcons q7 (Syntax.tcons q7 (Syntax.tcons q7 (Syntax.tcons q7 (Syntax.tcons q4 Syntax.tnil)))))))) Syntax.tnil))) Syntax.tnil)))) Syntax.tnil))))) (L._∷_ q18 (L._∷_ q25 (L._∷_ (8, Rows.sc-here Row.sBool) (L._∷_ (9, Rows.any-gone (Syntax.tyStruct (L._∷_ 114 (L._∷_ 117 (L._∷_ 108 (L._∷_ 101 (L._∷_ 115 (L._∷_ 58 (L._∷_ 58 (L._∷_ 116 (L._∷_ 114 (L._∷_ 105 (L._∷_ 101 (L._∷_ 100 (L._∷_ 58 (L._∷_ 58 (L._∷_ 76 (L._∷_ 111 (L._∷_ 111 (L._∷_ 107 (L._∷_ 101 (L._∷_ 100 L.[])))))))))))))))))))) (Syntax.tcons (Syntax.tyStruct (L._∷_ 114 (L._∷_ 117 (L._∷_ 108 (L._∷_ 101 (L._∷_ 115 (L._∷_ 58 (L._∷_ 58 (L._∷_ 102 (L._∷_ 111 (L._∷_ 117 (L._∷_ 110 (L._∷_ 100 (L._∷_ 58 (L._∷_ 58 (L._∷_ 70 (L._∷_ 111 (L._∷_ 117 (L._∷_ 110 (L._∷_ 100 L.[]))))))))))))))))))) (Syntax.tcons Syntax.tyBool (Syntax.tcons Syntax.tyBool (Syntax.tcons (Syntax.tyStruct (L._∷_ 115 (L._∷_ 116 (L._∷_ 101 (L._∷_ 112 (L._∷_ 58 (L._∷_ 58 (L._∷_ 83 (L._∷_ 116 (L._∷_ 101 (L._∷_ 112 L.[])))))))))) (Syntax.tcons (Syntax.tyInt Syntax.w64) (Syntax.tcons (Syntax.tyInt Syntax.w64) (Syntax.tcons (Syntax.tyStruct (L._∷_ 115 (L._∷_ 116 (L._∷_ 101 (L._∷_ 112 (L._∷_ 58 (L._∷_ 58 (L._∷_ 67 (L._∷_ 104 (L._∷_ 97 (L._∷_ 110 (L._∷_ 103 (L._∷_ 101 L.[])))))))))))) (Syntax.tcons (Syntax.tyStruct (L._∷_ 110 (L._∷_ 101 (L._∷_ 116 (L._∷_ 119 (L._∷_ 111 (L._∷_ 114 (L._∷_ 107 (L._∷_ 58 (L._∷_ 58 (L._∷_ 69 (L._∷_ 100 (L._∷_ 105 (L._∷_ 116 L.[]))))))))))))) (Syntax.tcons q7 (Syntax.tcons q7 (Syntax.tcons q7 (Syntax.tcons q7 (Syntax.tcons q2 (Syntax.tcons q2 (Syntax.tcons (Syntax.tyInt Syntax.w64) Syntax.tnil)))))))) (Syntax.tcons (Syntax.tyStruct (L._∷_ 115 (L._∷_ 116 (L._∷_ 101 (L._∷_ 112 (L._∷_ 58 (L._∷_ 58 (L._∷_ 79 (L._∷_ 108 (L._∷_ 100 L.[]))))))))) (Syntax.tcons (Syntax.tyInt Syntax.w64) (Syntax.tcons q6 (Syntax.tcons q7 (Syntax.tcons q7 (Syntax.tcons q7 (Syntax.tcons q7 (Syntax.tcons q4 Syntax.tnil)))))))) Syntax.tnil))) Syntax.tnil)))) Syntax.tnil)))) (Syntax.tcons q5 Syntax.tnil)))) (L._∷_ q14 (L._∷_ (11, Rows.any-gone (Syntax.tyStruct (L._∷_ 114 (L._∷_ 117 (L._∷_ 108 (L._∷_ 101 (L._∷_ 115 (L._∷_ 58 (L._∷_ 58 (L._∷_ 102 (L._∷_ 111 (L._∷_ 117 (L._∷_ 110 (L._∷_ 100 (L._∷_ 58 (L._∷_ 58 (L._∷_ 70 (L._∷_ 111 (L._∷_ 117 (L._∷_ 110 (L._∷_ 100 L.[]))))))))))))))))))) (Syntax.tcons Syntax.tyBool (Syntax.tcons Syntax.tyBool (Syntax.tcons (Syntax.tyStruct (L._∷_ 115 (L._∷_ 116 (L._∷_ 101 (L._∷_ 112 (L._∷_ 58 (L._∷_ 58 (L._∷_ 83 (L._∷_ 116 (L._∷_ 101 (L._∷_ 112 L.[])))))))))) (Syntax.tcons (Syntax.tyInt Syntax.w64) (Syntax.tcons (Syntax.tyInt Syntax.w64) (Syntax.tcons (Syntax.tyStruct (L._∷_ 115 (L._∷_ 116 (L._∷_ 101 (L._∷_ 112 (L._∷_ 58 (L._∷_ 58 (L._∷_ 67 (L._∷_ 104 (L._∷_ 97 (L._∷_ 110 (L._∷_ 103 (L._∷_ 101 L.[])))))))))))) (Syntax.tcons (Syntax.tyStruct (L._∷_ 110 (L._∷_ 101 (L._∷_ 116 (L._∷_ 119 (L._∷_ 111 (L._∷_ 114 (L._∷_ 107 (L._∷_ 58 (L._∷_ 58 (L._∷_ 69 (L._∷_ 100 (L._∷_ 105 (L._∷_ 116 L.[]))))))))))))) (Syntax.tcons q7 (Syntax.tcons q7 (Syntax.tcons q7 (Syntax.tcons q7 (Syntax.tcons q2 (Syntax.tcons q2 (Syntax.tcons (Syntax.tyInt Syntax.w64) Syntax.tnil)))))))) (Syntax.tcons (Syntax.tyStruct (L._∷_ 115 (L._∷_ 116 (L._∷_ 101 (L._∷_ 112 (L._∷_ 58 (L._∷_ 58 (L._∷_ 79 (L._∷_ 108 (L._∷_ 100 L.[]))))))))) (Syntax.tcons (Syntax.tyInt Syntax.w64) (Syntax.tcons q6 (Syntax.tcons q7 (Syntax.tcons q7 (Syntax.tcons q7 (Syntax.tcons q7 (Syntax.tcons q4 Syntax.tnil)))))))) Syntax.tnil))) Syntax.tnil)))) Syntax.tnil))))) (L._∷_ q28 (L._∷_ q29 (L._∷_ q30 (L._∷_ (15, Rows.sc-here Row.sBool) L.[])))))))))))))))
+t32 = L._∷_ (0, Rows.any-gone (Syntax.tyStruct (L._∷_ 114 (L._∷_ 117 (L._∷_ 108 (L._∷_ 101 (L._∷_ 115 (L._∷_ 58 (L._∷_ 58 (L._∷_ 116 (L._∷_ 114 (L._∷_ 105 (L._∷_ 101 (L._∷_ 100 (L._∷_ 58 (L._∷_ 58 (L._∷_ 76 (L._∷_ 111 (L._∷_ 111 (L._∷_ 107 (L._∷_ 101 (L._∷_ 100 L.[])))))))))))))))))))) (Syntax.tcons (Syntax.tyStruct (L._∷_ 114 (L._∷_ 117 (L._∷_ 108 (L._∷_ 101 (L._∷_ 115 (L._∷_ 58 (L._∷_ 58 (L._∷_ 102 (L._∷_ 111 (L._∷_ 117 (L._∷_ 110 (L._∷_ 100 (L._∷_ 58 (L._∷_ 58 (L._∷_ 70 (L._∷_ 111 (L._∷_ 117 (L._∷_ 110 (L._∷_ 100 L.[]))))))))))))))))))) (Syntax.tcons Syntax.tyBool (Syntax.tcons Syntax.tyBool (Syntax.tcons (Syntax.tyStruct (L._∷_ 115 (L._∷_ 116 (L._∷_ 101 (L._∷_ 112 (L._∷_ 58 (L._∷_ 58 (L._∷_ 83 (L._∷_ 116 (L._∷_ 101 (L._∷_ 112 L.[])))))))))) (Syntax.tcons (Syntax.tyInt Syntax.w64) (Syntax.tcons (Syntax.tyInt Syntax.w64) (Syntax.tcons (Syntax.tyStruct (L._∷_ 115 (L._∷_ 116 (L._∷_ 101 (L._∷_ 112 (L._∷_ 58 (L._∷_ 58 (L._∷_ 67 (L._∷_ 104 (L._∷_ 97 (L._∷_ 110 (L._∷_ 103 (L._∷_ 101 L.[])))))))))))) (Syntax.tcons (Syntax.tyStruct (L._∷_ 110 (L._∷_ 101 (L._∷_ 116 (L._∷_ 119 (L._∷_ 111 (L._∷_ 114 (L._∷_ 107 (L._∷_ 58 (L._∷_ 58 (L._∷_ 69 (L._∷_ 100 (L._∷_ 105 (L._∷_ 116 L.[]))))))))))))) (Syntax.tcons q7 (Syntax.tcons q7 (Syntax.tcons q7 (Syntax.tcons q7 (Syntax.tcons q2 (Syntax.tcons q2 (Syntax.tcons (Syntax.tyInt Syntax.w64) (Syntax.tcons q6 Syntax.tnil))))))))) (Syntax.tcons (Syntax.tyStruct (L._∷_ 115 (L._∷_ 116 (L._∷_ 101 (L._∷_ 112 (L._∷_ 58 (L._∷_ 58 (L._∷_ 79 (L._∷_ 108 (L._∷_ 100 L.[]))))))))) (Syntax.tcons (Syntax.tyInt Syntax.w64) (Syntax.tcons q6 (Syntax.tcons q7 (Syntax.tcons q7 (Syntax.tcons q7 (Syntax.tcons q7 (Syntax.tcons q4 Syntax.tnil)))))))) Syntax.tnil))) Syntax.tnil)))) Syntax.tnil)))) (Syntax.tcons q5 Syntax.tnil)))) (L._∷_ q20 (L._∷_ q11 (L._∷_ q17 (L._∷_ q26 (L._∷_ (5, Rows.any-gone (Syntax.tyStruct (L._∷_ 114 (L._∷_ 117 (L._∷_ 108 (L._∷_ 101 (L._∷_ 115 (L._∷_ 58 (L._∷_ 58 (L._∷_ 102 (L._∷_ 111 (L._∷_ 117 (L._∷_ 110 (L._∷_ 100 (L._∷_ 58 (L._∷_ 58 (L._∷_ 70 (L._∷_ 111 (L._∷_ 117 (L._∷_ 110 (L._∷_ 100 L.[]))))))))))))))))))) (Syntax.tcons Syntax.tyBool (Syntax.tcons Syntax.tyBool (Syntax.tcons (Syntax.tyStruct (L._∷_ 115 (L._∷_ 116 (L._∷_ 101 (L._∷_ 112 (L._∷_ 58 (L._∷_ 58 (L._∷_ 83 (L._∷_ 116 (L._∷_ 101 (L._∷_ 112 L.[])))))))))) (Syntax.tcons (Syntax.tyInt Syntax.w64) (Syntax.tcons (Syntax.tyInt Syntax.w64) (Syntax.tcons (Syntax.tyStruct (L._∷_ 115 (L._∷_ 116 (L._∷_ 101 (L._∷_ 112 (L._∷_ 58 (L._∷_ 58 (L._∷_ 67 (L._∷_ 104 (L._∷_ 97 (L._∷_ 110 (L._∷_ 103 (L._∷_ 101 L.[])))))))))))) (Syntax.tcons (Syntax.tyStruct (L._∷_ 110 (L._∷_ 101 (L._∷_ 116 (L._∷_ 119 (L._∷_ 111 (L._∷_ 114 (L._∷_ 107 (L._∷_ 58 (L._∷_ 58 (L._∷_ 69 (L._∷_ 100 (L._∷_ 105 (L._∷_ 116 L.[]))))))))))))) (Syntax.tcons q7 (Syntax.tcons q7 (Syntax.tcons q7 (Syntax.tcons q7 (Syntax.tcons q2 (Syntax.tcons q2 (Syntax.tcons (Syntax.tyInt Syntax.w64) (Syntax.tcons q6 Syntax.tnil))))))))) (Syntax.tcons (Syntax.tyStruct (L._∷_ 115 (L._∷_ 116 (L._∷_ 101 (L._∷_ 112 (L._∷_ 58 (L._∷_ 58 (L._∷_ 79 (L._∷_ 108 (L._∷_ 100 L.[]))))))))) (Syntax.tcons (Syntax.tyInt Syntax.w64) (Syntax.tcons q6 (Syntax.tcons q7 (Syntax.tcons q7 (Syntax.tcons q7 (Syntax.tcons q7 (Syntax.tcons q4 Syntax.tnil)))))))) Syntax.tnil))) Syntax.tnil)))) Syntax.tnil))))) (L._∷_ q18 (L._∷_ q25 (L._∷_ (8, Rows.sc-here Row.sBool) (L._∷_ (9, Rows.any-gone (Syntax.tyStruct (L._∷_ 114 (L._∷_ 117 (L._∷_ 108 (L._∷_ 101 (L._∷_ 115 (L._∷_ 58 (L._∷_ 58 (L._∷_ 116 (L._∷_ 114 (L._∷_ 105 (L._∷_ 101 (L._∷_ 100 (L._∷_ 58 (L._∷_ 58 (L._∷_ 76 (L._∷_ 111 (L._∷_ 111 (L._∷_ 107 (L._∷_ 101 (L._∷_ 100 L.[])))))))))))))))))))) (Syntax.tcons (Syntax.tyStruct (L._∷_ 114 (L._∷_ 117 (L._∷_ 108 (L._∷_ 101 (L._∷_ 115 (L._∷_ 58 (L._∷_ 58 (L._∷_ 102 (L._∷_ 111 (L._∷_ 117 (L._∷_ 110 (L._∷_ 100 (L._∷_ 58 (L._∷_ 58 (L._∷_ 70 (L._∷_ 111 (L._∷_ 117 (L._∷_ 110 (L._∷_ 100 L.[]))))))))))))))))))) (Syntax.tcons Syntax.tyBool (Syntax.tcons Syntax.tyBool (Syntax.tcons (Syntax.tyStruct (L._∷_ 115 (L._∷_ 116 (L._∷_ 101 (L._∷_ 112 (L._∷_ 58 (L._∷_ 58 (L._∷_ 83 (L._∷_ 116 (L._∷_ 101 (L._∷_ 112 L.[])))))))))) (Syntax.tcons (Syntax.tyInt Syntax.w64) (Syntax.tcons (Syntax.tyInt Syntax.w64) (Syntax.tcons (Syntax.tyStruct (L._∷_ 115 (L._∷_ 116 (L._∷_ 101 (L._∷_ 112 (L._∷_ 58 (L._∷_ 58 (L._∷_ 67 (L._∷_ 104 (L._∷_ 97 (L._∷_ 110 (L._∷_ 103 (L._∷_ 101 L.[])))))))))))) (Syntax.tcons (Syntax.tyStruct (L._∷_ 110 (L._∷_ 101 (L._∷_ 116 (L._∷_ 119 (L._∷_ 111 (L._∷_ 114 (L._∷_ 107 (L._∷_ 58 (L._∷_ 58 (L._∷_ 69 (L._∷_ 100 (L._∷_ 105 (L._∷_ 116 L.[]))))))))))))) (Syntax.tcons q7 (Syntax.tcons q7 (Syntax.tcons q7 (Syntax.tcons q7 (Syntax.tcons q2 (Syntax.tcons q2 (Syntax.tcons (Syntax.tyInt Syntax.w64) (Syntax.tcons q6 Syntax.tnil))))))))) (Syntax.tcons (Syntax.tyStruct (L._∷_ 115 (L._∷_ 116 (L._∷_ 101 (L._∷_ 112 (L._∷_ 58 (L._∷_ 58 (L._∷_ 79 (L._∷_ 108 (L._∷_ 100 L.[]))))))))) (Syntax.tcons (Syntax.tyInt Syntax.w64) (Syntax.tcons q6 (Syntax.tcons q7 (Syntax.tcons q7 (Syntax.tcons q7 (Syntax.tcons q7 (Syntax.tcons q4 Syntax.tnil)))))))) Syntax.tnil))) Syntax.tnil)))) Syntax.tnil)))) (Syntax.tcons q5 Syntax.tnil)))) (L._∷_ q14 (L._∷_ (11, Rows.any-gone (Syntax.tyStruct (L._∷_ 114 (L._∷_ 117 (L._∷_ 108 (L._∷_ 101 (L._∷_ 115 (L._∷_ 58 (L._∷_ 58 (L._∷_ 102 (L._∷_ 111 (L._∷_ 117 (L._∷_ 110 (L._∷_ 100 (L._∷_ 58 (L._∷_ 58 (L._∷_ 70 (L._∷_ 111 (L._∷_ 117 (L._∷_ 110 (L._∷_ 100 L.[]))))))))))))))))))) (Syntax.tcons Syntax.tyBool (Syntax.tcons Syntax.tyBool (Syntax.tcons (Syntax.tyStruct (L._∷_ 115 (L._∷_ 116 (L._∷_ 101 (L._∷_ 112 (L._∷_ 58 (L._∷_ 58 (L._∷_ 83 (L._∷_ 116 (L._∷_ 101 (L._∷_ 112 L.[])))))))))) (Syntax.tcons (Syntax.tyInt Syntax.w64) (Syntax.tcons (Syntax.tyInt Syntax.w64) (Syntax.tcons (Syntax.tyStruct (L._∷_ 115 (L._∷_ 116 (L._∷_ 101 (L._∷_ 112 (L._∷_ 58 (L._∷_ 58 (L._∷_ 67 (L._∷_ 104 (L._∷_ 97 (L._∷_ 110 (L._∷_ 103 (L._∷_ 101 L.[])))))))))))) (Syntax.tcons (Syntax.tyStruct (L._∷_ 110 (L._∷_ 101 (L._∷_ 116 (L._∷_ 119 (L._∷_ 111 (L._∷_ 114 (L._∷_ 107 (L._∷_ 58 (L._∷_ 58 (L._∷_ 69 (L._∷_ 100 (L._∷_ 105 (L._∷_ 116 L.[]))))))))))))) (Syntax.tcons q7 (Syntax.tcons q7 (Syntax.tcons q7 (Syntax.tcons q7 (Syntax.tcons q2 (Syntax.tcons q2 (Syntax.tcons (Syntax.tyInt Syntax.w64) (Syntax.tcons q6 Syntax.tnil))))))))) (Syntax.tcons (Syntax.tyStruct (L._∷_ 115 (L._∷_ 116 (L._∷_ 101 (L._∷_ 112 (L._∷_ 58 (L._∷_ 58 (L._∷_ 79 (L._∷_ 108 (L._∷_ 100 L.[]))))))))) (Syntax.tcons (Syntax.tyInt Syntax.w64) (Syntax.tcons q6 (Syntax.tcons q7 (Syntax.tcons q7 (Syntax.tcons q7 (Syntax.tcons q7 (Syntax.tcons q4 Syntax.tnil)))))))) Syntax.tnil))) Syntax.tnil)))) Syntax.tnil))))) (L._∷_ q28 (L._∷_ q29 (L._∷_ q30 (L._∷_ (15, Rows.sc-here Row.sBool) L.[])))))))))))))))
 
 abbrev pub t33 : L.List Row.Entry
-t33 = L._∷_ (0, Rows.any-gone (Syntax.tyStruct (L._∷_ 114 (L._∷_ 117 (L._∷_ 108 (L._∷_ 101 (L._∷_ 115 (L._∷_ 58 (L._∷_ 58 (L._∷_ 116 (L._∷_ 114 (L._∷_ 105 (L._∷_ 101 (L._∷_ 100 (L._∷_ 58 (L._∷_ 58 (L._∷_ 76 (L._∷_ 111 (L._∷_ 111 (L._∷_ 107 (L._∷_ 101 (L._∷_ 100 L.[])))))))))))))))))))) (Syntax.tcons (Syntax.tyStruct (L._∷_ 114 (L._∷_ 117 (L._∷_ 108 (L._∷_ 101 (L._∷_ 115 (L._∷_ 58 (L._∷_ 58 (L._∷_ 102 (L._∷_ 111 (L._∷_ 117 (L._∷_ 110 (L._∷_ 100 (L._∷_ 58 (L._∷_ 58 (L._∷_ 70 (L._∷_ 111 (L._∷_ 117 (L._∷_ 110 (L._∷_ 100 L.[]))))))))))))))))))) (Syntax.tcons Syntax.tyBool (Syntax.tcons Syntax.tyBool (Syntax.tcons (Syntax.tyStruct (L._∷_ 115 (L._∷_ 116 (L._∷_ 101 (L._∷_ 112 (L._∷_ 58 (L._∷_ 58 (L._∷_ 83 (L._∷_ 116 (L._∷_ 101 (L._∷_ 112 L.[])))))))))) (Syntax.tcons (Syntax.tyInt Syntax.w64) (Syntax.tcons (Syntax.tyInt Syntax.w64) (Syntax.tcons (Syntax.tyStruct (L._∷_ 115 (L._∷_ 116 (L._∷_ 101 (L._∷_ 112 (L._∷_ 58 (L._∷_ 58 (L._∷_ 67 (L._∷_ 104 (L._∷_ 97 (L._∷_ 110 (L._∷_ 103 (L._∷_ 101 L.[])))))))))))) (Syntax.tcons (Syntax.tyStruct (L._∷_ 110 (L._∷_ 101 (L._∷_ 116 (L._∷_ 119 (L._∷_ 111 (L._∷_ 114 (L._∷_ 107 (L._∷_ 58 (L._∷_ 58 (L._∷_ 69 (L._∷_ 100 (L._∷_ 105 (L._∷_ 116 L.[]))))))))))))) (Syntax.tcons q7 (Syntax.tcons q7 (Syntax.tcons q7 (Syntax.tcons q7 (Syntax.tcons q2 (Syntax.tcons q2 (Syntax.tcons (Syntax.tyInt Syntax.w64) Syntax.tnil)))))))) (Syntax.tcons (Syntax.tyStruct (L._∷_ 115 (L._∷_ 116 (L._∷_ 101 (L._∷_ 112 (L._∷_ 58 (L._∷_ 58 (L._∷_ 79 (L._∷_ 108 (L._∷_ 100 L.[]))))))))) (Syntax.tcons (Syntax.tyInt Syntax.w64) (Syntax.tcons q6 (Syntax.tcons q7 (Syntax.tcons q7 (Syntax.tcons q7 (Syntax.tcons q7 (Syntax.tcons q4 Syntax.tnil)))))))) Syntax.tnil))) Syntax.tnil)))) Syntax.tnil)))) (Syntax.tcons q5 Syntax.tnil)))) (L._∷_ q0 (L._∷_ q11 (L._∷_ q17 (L._∷_ q26 (L._∷_ (5, Rows.any-gone (Syntax.tyStruct (L._∷_ 114 (L._∷_ 117 (L._∷_ 108 (L._∷_ 101 (L._∷_ 115 (L._∷_ 58 (L._∷_ 58 (L._∷_ 102 (L._∷_ 111 (L._∷_ 117 (L._∷_ 110 (L._∷_ 100 (L._∷_ 58 (L._∷_ 58 (L._∷_ 70 (L._∷_ 111 (L._∷_ 117 (L._∷_ 110 (L._∷_ 100 L.[]))))))))))))))))))) (Syntax.tcons Syntax.tyBool (Syntax.tcons Syntax.tyBool (Syntax.tcons (Syntax.tyStruct (L._∷_ 115 (L._∷_ 116 (L._∷_ 101 (L._∷_ 112 (L._∷_ 58 (L._∷_ 58 (L._∷_ 83 (L._∷_ 116 (L._∷_ 101 (L._∷_ 112 L.[])))))))))) (Syntax.tcons (Syntax.tyInt Syntax.w64) (Syntax.tcons (Syntax.tyInt Syntax.w64) (Syntax.tcons (Syntax.tyStruct (L._∷_ 115 (L._∷_ 116 (L._∷_ 101 (L._∷_ 112 (L._∷_ 58 (L._∷_ 58 (L._∷_ 67 (L._∷_ 104 (L._∷_ 97 (L._∷_ 110 (L._∷_ 103 (L._∷_ 101 L.[])))))))))))) (Syntax.tcons (Syntax.tyStruct (L._∷_ 110 (L._∷_ 101 (L._∷_ 116 (L._∷_ 119 (L._∷_ 111 (L._∷_ 114 (L._∷_ 107 (L._∷_ 58 (L._∷_ 58 (L._∷_ 69 (L._∷_ 100 (L._∷_ 105 (L._∷_ 116 L.[]))))))))))))) (Syntax.tcons q7 (Syntax.tcons q7 (Syntax.tcons q7 (Syntax.tcons q7 (Syntax.tcons q2 (Syntax.tcons q2 (Syntax.tcons (Syntax.tyInt Syntax.w64) Syntax.tnil)))))))) (Syntax.tcons (Syntax.tyStruct (L._∷_ 115 (L._∷_ 116 (L._∷_ 101 (L._∷_ 112 (L._∷_ 58 (L._∷_ 58 (L._∷_ 79 (L._∷_ 108 (L._∷_ 100 L.[]))))))))) (Syntax.tcons (Syntax.tyInt Syntax.w64) (Syntax.tcons q6 (Syntax.tcons q7 (Syntax.tcons q7 (Syntax.tcons q7 (Syntax.tcons q7 (Syntax.tcons q4 Syntax.tnil)))))))) Syntax.tnil))) Syntax.tnil)))) Syntax.tnil))))) (L._∷_ q18 (L._∷_ q25 (L._∷_ (8, Rows.sc-here Row.sBool) (L._∷_ (9, Rows.any-gone (Syntax.tyStruct (L._∷_ 114 (L._∷_ 117 (L._∷_ 108 (L._∷_ 101 (L._∷_ 115 (L._∷_ 58 (L._∷_ 58 (L._∷_ 116 (L._∷_ 114 (L._∷_ 105 (L._∷_ 101 (L._∷_ 100 (L._∷_ 58 (L._∷_ 58 (L._∷_ 76 (L._∷_ 111 (L._∷_ 111 (L._∷_ 107 (L._∷_ 101 (L._∷_ 100 L.[])))))))))))))))))))) (Syntax.tcons (Syntax.tyStruct (L._∷_ 114 (L._∷_ 117 (L._∷_ 108 (L._∷_ 101 (L._∷_ 115 (L._∷_ 58 (L._∷_ 58 (L._∷_ 102 (L._∷_ 111 (L._∷_ 117 (L._∷_ 110 (L._∷_ 100 (L._∷_ 58 (L._∷_ 58 (L._∷_ 70 (L._∷_ 111 (L._∷_ 117 (L._∷_ 110 (L._∷_ 100 L.[]))))))))))))))))))) (Syntax.tcons Syntax.tyBool (Syntax.tcons Syntax.tyBool (Syntax.tcons (Syntax.tyStruct (L._∷_ 115 (L._∷_ 116 (L._∷_ 101 (L._∷_ 112 (L._∷_ 58 (L._∷_ 58 (L._∷_ 83 (L._∷_ 116 (L._∷_ 101 (L._∷_ 112 L.[])))))))))) (Syntax.tcons (Syntax.tyInt Syntax.w64) (Syntax.tcons (Syntax.tyInt Syntax.w64) (Syntax.tcons (Syntax.tyStruct (L._∷_ 115 (L._∷_ 116 (L._∷_ 101 (L._∷_ 112 (L._∷_ 58 (L._∷_ 58 (L._∷_ 67 (L._∷_ 104 (L._∷_ 97 (L._∷_ 110 (L._∷_ 103 (L._∷_ 101 L.[])))))))))))) (Syntax.tcons (Syntax.tyStruct (L._∷_ 110 (L._∷_ 101 (L._∷_ 116 (L._∷_ 119 (L._∷_ 111 (L._∷_ 114 (L._∷_ 107 (L._∷_ 58 (L._∷_ 58 (L._∷_ 69 (L._∷_ 100 (L._∷_ 105 (L._∷_ 116 L.[]))))))))))))) (Syntax.tcons q7 (Syntax.tcons q7 (Syntax.tcons q7 (Syntax.tcons q7 (Syntax.tcons q2 (Syntax.tcons q2 (Syntax.tcons (Syntax.tyInt Syntax.w64) Syntax.tnil)))))))) (Syntax.tcons (Syntax.tyStruct (L._∷_ 115 (L._∷_ 116 (L._∷_ 101 (L._∷_ 112 (L._∷_ 58 (L._∷_ 58 (L._∷_ 79 (L._∷_ 108 (L._∷_ 100 L.[]))))))))) (Syntax.tcons (Syntax.tyInt Syntax.w64) (Syntax.tcons q6 (Syntax.tcons q7 (Syntax.tcons q7 (Syntax.tcons q7 (Syntax.tcons q7 (Syntax.tcons q4 Syntax.tnil)))))))) Syntax.tnil))) Syntax.tnil)))) Syntax.tnil)))) (Syntax.tcons q5 Syntax.tnil)))) (L._∷_ q14 (L._∷_ (11, Rows.any-gone (Syntax.tyStruct (L._∷_ 114 (L._∷_ 117 (L._∷_ 108 (L._∷_ 101 (L._∷_ 115 (L._∷_ 58 (L._∷_ 58 (L._∷_ 102 (L._∷_ 111 (L._∷_ 117 (L._∷_ 110 (L._∷_ 100 (L._∷_ 58 (L._∷_ 58 (L._∷_ 70 (L._∷_ 111 (L._∷_ 117 (L._∷_ 110 (L._∷_ 100 L.[]))))))))))))))))))) (Syntax.tcons Syntax.tyBool (Syntax.tcons Syntax.tyBool (Syntax.tcons (Syntax.tyStruct (L._∷_ 115 (L._∷_ 116 (L._∷_ 101 (L._∷_ 112 (L._∷_ 58 (L._∷_ 58 (L._∷_ 83 (L._∷_ 116 (L._∷_ 101 (L._∷_ 112 L.[])))))))))) (Syntax.tcons (Syntax.tyInt Syntax.w64) (Syntax.tcons (Syntax.tyInt Syntax.w64) (Syntax.tcons (Syntax.tyStruct (L._∷_ 115 (L._∷_ 116 (L._∷_ 101 (L._∷_ 112 (L._∷_ 58 (L._∷_ 58 (L._∷_ 67 (L._∷_ 104 (L._∷_ 97 (L._∷_ 110 (L._∷_ 103 (L._∷_ 101 L.[])))))))))))) (Syntax.tcons (Syntax.tyStruct (L._∷_ 110 (L._∷_ 101 (L._∷_ 116 (L._∷_ 119 (L._∷_ 111 (L._∷_ 114 (L._∷_ 107 (L._∷_ 58 (L._∷_ 58 (L._∷_ 69 (L._∷_ 100 (L._∷_ 105 (L._∷_ 116 L.[]))))))))))))) (Syntax.tcons q7 (Syntax.tcons q7 (Syntax.tcons q7 (Syntax.tcons q7 (Syntax.tcons q2 (Syntax.tcons q2 (Syntax.tcons (Syntax.tyInt Syntax.w64) Syntax.tnil)))))))) (Syntax.tcons (Syntax.tyStruct (L._∷_ 115 (L._∷_ 116 (L._∷_ 101 (L._∷_ 112 (L._∷_ 58 (L._∷_ 58 (L._∷_ 79 (L._∷_ 108 (L._∷_ 100 L.[]))))))))) (Syntax.tcons (Syntax.tyInt Syntax.w64) (Syntax.tcons q6 (Syntax.tcons q7 (Syntax.tcons q7 (Syntax.tcons q7 (Syntax.tcons q7 (Syntax.tcons q4 Syntax.tnil)))))))) Syntax.tnil))) Syntax.tnil)))) Syntax.tnil))))) (L._∷_ q28 (L._∷_ q29 (L._∷_ q30 (L._∷_ (15, Rows.sc-here Row.sBool) L.[])))))))))))))))
+t33 = L._∷_ (0, Rows.any-gone (Syntax.tyStruct (L._∷_ 114 (L._∷_ 117 (L._∷_ 108 (L._∷_ 101 (L._∷_ 115 (L._∷_ 58 (L._∷_ 58 (L._∷_ 116 (L._∷_ 114 (L._∷_ 105 (L._∷_ 101 (L._∷_ 100 (L._∷_ 58 (L._∷_ 58 (L._∷_ 76 (L._∷_ 111 (L._∷_ 111 (L._∷_ 107 (L._∷_ 101 (L._∷_ 100 L.[])))))))))))))))))))) (Syntax.tcons (Syntax.tyStruct (L._∷_ 114 (L._∷_ 117 (L._∷_ 108 (L._∷_ 101 (L._∷_ 115 (L._∷_ 58 (L._∷_ 58 (L._∷_ 102 (L._∷_ 111 (L._∷_ 117 (L._∷_ 110 (L._∷_ 100 (L._∷_ 58 (L._∷_ 58 (L._∷_ 70 (L._∷_ 111 (L._∷_ 117 (L._∷_ 110 (L._∷_ 100 L.[]))))))))))))))))))) (Syntax.tcons Syntax.tyBool (Syntax.tcons Syntax.tyBool (Syntax.tcons (Syntax.tyStruct (L._∷_ 115 (L._∷_ 116 (L._∷_ 101 (L._∷_ 112 (L._∷_ 58 (L._∷_ 58 (L._∷_ 83 (L._∷_ 116 (L._∷_ 101 (L._∷_ 112 L.[])))))))))) (Syntax.tcons (Syntax.tyInt Syntax.w64) (Syntax.tcons (Syntax.tyInt Syntax.w64) (Syntax.tcons (Syntax.tyStruct (L._∷_ 115 (L._∷_ 116 (L._∷_ 101 (L._∷_ 112 (L._∷_ 58 (L._∷_ 58 (L._∷_ 67 (L._∷_ 104 (L._∷_ 97 (L._∷_ 110 (L._∷_ 103 (L._∷_ 101 L.[])))))))))))) (Syntax.tcons (Syntax.tyStruct (L._∷_ 110 (L._∷_ 101 (L._∷_ 116 (L._∷_ 119 (L._∷_ 111 (L._∷_ 114 (L._∷_ 107 (L._∷_ 58 (L._∷_ 58 (L._∷_ 69 (L._∷_ 100 (L._∷_ 105 (L._∷_ 116 L.[]))))))))))))) (Syntax.tcons q7 (Syntax.tcons q7 (Syntax.tcons q7 (Syntax.tcons q7 (Syntax.tcons q2 (Syntax.tcons q2 (Syntax.tcons (Syntax.tyInt Syntax.w64) (Syntax.tcons q6 Syntax.tnil))))))))) (Syntax.tcons (Syntax.tyStruct (L._∷_ 115 (L._∷_ 116 (L._∷_ 101 (L._∷_ 112 (L._∷_ 58 (L._∷_ 58 (L._∷_ 79 (L._∷_ 108 (L._∷_ 100 L.[]))))))))) (Syntax.tcons (Syntax.tyInt Syntax.w64) (Syntax.tcons q6 (Syntax.tcons q7 (Syntax.tcons q7 (Syntax.tcons q7 (Syntax.tcons q7 (Syntax.tcons q4 Syntax.tnil)))))))) Syntax.tnil))) Syntax.tnil)))) Syntax.tnil)))) (Syntax.tcons q5 Syntax.tnil)))) (L._∷_ q0 (L._∷_ q11 (L._∷_ q17 (L._∷_ q26 (L._∷_ (5, Rows.any-gone (Syntax.tyStruct (L._∷_ 114 (L._∷_ 117 (L._∷_ 108 (L._∷_ 101 (L._∷_ 115 (L._∷_ 58 (L._∷_ 58 (L._∷_ 102 (L._∷_ 111 (L._∷_ 117 (L._∷_ 110 (L._∷_ 100 (L._∷_ 58 (L._∷_ 58 (L._∷_ 70 (L._∷_ 111 (L._∷_ 117 (L._∷_ 110 (L._∷_ 100 L.[]))))))))))))))))))) (Syntax.tcons Syntax.tyBool (Syntax.tcons Syntax.tyBool (Syntax.tcons (Syntax.tyStruct (L._∷_ 115 (L._∷_ 116 (L._∷_ 101 (L._∷_ 112 (L._∷_ 58 (L._∷_ 58 (L._∷_ 83 (L._∷_ 116 (L._∷_ 101 (L._∷_ 112 L.[])))))))))) (Syntax.tcons (Syntax.tyInt Syntax.w64) (Syntax.tcons (Syntax.tyInt Syntax.w64) (Syntax.tcons (Syntax.tyStruct (L._∷_ 115 (L._∷_ 116 (L._∷_ 101 (L._∷_ 112 (L._∷_ 58 (L._∷_ 58 (L._∷_ 67 (L._∷_ 104 (L._∷_ 97 (L._∷_ 110 (L._∷_ 103 (L._∷_ 101 L.[])))))))))))) (Syntax.tcons (Syntax.tyStruct (L._∷_ 110 (L._∷_ 101 (L._∷_ 116 (L._∷_ 119 (L._∷_ 111 (L._∷_ 114 (L._∷_ 107 (L._∷_ 58 (L._∷_ 58 (L._∷_ 69 (L._∷_ 100 (L._∷_ 105 (L._∷_ 116 L.[]))))))))))))) (Syntax.tcons q7 (Syntax.tcons q7 (Syntax.tcons q7 (Syntax.tcons q7 (Syntax.tcons q2 (Syntax.tcons q2 (Syntax.tcons (Syntax.tyInt Syntax.w64) (Syntax.tcons q6 Syntax.tnil))))))))) (Syntax.tcons (Syntax.tyStruct (L._∷_ 115 (L._∷_ 116 (L._∷_ 101 (L._∷_ 112 (L._∷_ 58 (L._∷_ 58 (L._∷_ 79 (L._∷_ 108 (L._∷_ 100 L.[]))))))))) (Syntax.tcons (Syntax.tyInt Syntax.w64) (Syntax.tcons q6 (Syntax.tcons q7 (Syntax.tcons q7 (Syntax.tcons q7 (Syntax.tcons q7 (Syntax.tcons q4 Syntax.tnil)))))))) Syntax.tnil))) Syntax.tnil)))) Syntax.tnil))))) (L._∷_ q18 (L._∷_ q25 (L._∷_ (8, Rows.sc-here Row.sBool) (L._∷_ (9, Rows.any-gone (Syntax.tyStruct (L._∷_ 114 (L._∷_ 117 (L._∷_ 108 (L._∷_ 101 (L._∷_ 115 (L._∷_ 58 (L._∷_ 58 (L._∷_ 116 (L._∷_ 114 (L._∷_ 105 (L._∷_ 101 (L._∷_ 100 (L._∷_ 58 (L._∷_ 58 (L._∷_ 76 (L._∷_ 111 (L._∷_ 111 (L._∷_ 107 (L._∷_ 101 (L._∷_ 100 L.[])))))))))))))))))))) (Syntax.tcons (Syntax.tyStruct (L._∷_ 114 (L._∷_ 117 (L._∷_ 108 (L._∷_ 101 (L._∷_ 115 (L._∷_ 58 (L._∷_ 58 (L._∷_ 102 (L._∷_ 111 (L._∷_ 117 (L._∷_ 110 (L._∷_ 100 (L._∷_ 58 (L._∷_ 58 (L._∷_ 70 (L._∷_ 111 (L._∷_ 117 (L._∷_ 110 (L._∷_ 100 L.[]))))))))))))))))))) (Syntax.tcons Syntax.tyBool (Syntax.tcons Syntax.tyBool (Syntax.tcons (Syntax.tyStruct (L._∷_ 115 (L._∷_ 116 (L._∷_ 101 (L._∷_ 112 (L._∷_ 58 (L._∷_ 58 (L._∷_ 83 (L._∷_ 116 (L._∷_ 101 (L._∷_ 112 L.[])))))))))) (Syntax.tcons (Syntax.tyInt Syntax.w64) (Syntax.tcons (Syntax.tyInt Syntax.w64) (Syntax.tcons (Syntax.tyStruct (L._∷_ 115 (L._∷_ 116 (L._∷_ 101 (L._∷_ 112 (L._∷_ 58 (L._∷_ 58 (L._∷_ 67 (L._∷_ 104 (L._∷_ 97 (L._∷_ 110 (L._∷_ 103 (L._∷_ 101 L.[])))))))))))) (Syntax.tcons (Syntax.tyStruct (L._∷_ 110 (L._∷_ 101 (L._∷_ 116 (L._∷_ 119 (L._∷_ 111 (L._∷_ 114 (L._∷_ 107 (L._∷_ 58 (L._∷_ 58 (L._∷_ 69 (L._∷_ 100 (L._∷_ 105 (L._∷_ 116 L.[]))))))))))))) (Syntax.tcons q7 (Syntax.tcons q7 (Syntax.tcons q7 (Syntax.tcons q7 (Syntax.tcons q2 (Syntax.tcons q2 (Syntax.tcons (Syntax.tyInt Syntax.w64) (Syntax.tcons q6 Syntax.tnil))))))))) (Syntax.tcons (Syntax.tyStruct (L._∷_ 115 (L._∷_ 116 (L._∷_ 101 (L._∷_ 112 (L._∷_ 58 (L._∷_ 58 (L._∷_ 79 (L._∷_ 108 (L._∷_ 100 L.[]))))))))) (Syntax.tcons (Syntax.tyInt Syntax.w64) (Syntax.tcons q6 (Syntax.tcons q7 (Syntax.tcons q7 (Syntax.tcons q7 (Syntax.tcons q7 (Syntax.tcons q4 Syntax.tnil)))))))) Syntax.tnil))) Syntax.tnil)))) Syntax.tnil)))) (Syntax.tcons q5 Syntax.tnil)))) (L._∷_ q14 (L._∷_ (11, Rows.any-gone (Syntax.tyStruct (L._∷_ 114 (L._∷_ 117 (L._∷_ 108 (L._∷_ 101 (L._∷_ 115 (L._∷_ 58 (L._∷_ 58 (L._∷_ 102 (L._∷_ 111 (L._∷_ 117 (L._∷_ 110 (L._∷_ 100 (L._∷_ 58 (L._∷_ 58 (L._∷_ 70 (L._∷_ 111 (L._∷_ 117 (L._∷_ 110 (L._∷_ 100 L.[]))))))))))))))))))) (Syntax.tcons Syntax.tyBool (Syntax.tcons Syntax.tyBool (Syntax.tcons (Syntax.tyStruct (L._∷_ 115 (L._∷_ 116 (L._∷_ 101 (L._∷_ 112 (L._∷_ 58 (L._∷_ 58 (L._∷_ 83 (L._∷_ 116 (L._∷_ 101 (L._∷_ 112 L.[])))))))))) (Syntax.tcons (Syntax.tyInt Syntax.w64) (Syntax.tcons (Syntax.tyInt Syntax.w64) (Syntax.tcons (Syntax.tyStruct (L._∷_ 115 (L._∷_ 116 (L._∷_ 101 (L._∷_ 112 (L._∷_ 58 (L._∷_ 58 (L._∷_ 67 (L._∷_ 104 (L._∷_ 97 (L._∷_ 110 (L._∷_ 103 (L._∷_ 101 L.[])))))))))))) (Syntax.tcons (Syntax.tyStruct (L._∷_ 110 (L._∷_ 101 (L._∷_ 116 (L._∷_ 119 (L._∷_ 111 (L._∷_ 114 (L._∷_ 107 (L._∷_ 58 (L._∷_ 58 (L._∷_ 69 (L._∷_ 100 (L._∷_ 105 (L._∷_ 116 L.[]))))))))))))) (Syntax.tcons q7 (Syntax.tcons q7 (Syntax.tcons q7 (Syntax.tcons q7 (Syntax.tcons q2 (Syntax.tcons q2 (Syntax.tcons (Syntax.tyInt Syntax.w64) (Syntax.tcons q6 Syntax.tnil))))))))) (Syntax.tcons (Syntax.tyStruct (L._∷_ 115 (L._∷_ 116 (L._∷_ 101 (L._∷_ 112 (L._∷_ 58 (L._∷_ 58 (L._∷_ 79 (L._∷_ 108 (L._∷_ 100 L.[]))))))))) (Syntax.tcons (Syntax.tyInt Syntax.w64) (Syntax.tcons q6 (Syntax.tcons q7 (Syntax.tcons q7 (Syntax.tcons q7 (Syntax.tcons q7 (Syntax.tcons q4 Syntax.tnil)))))))) Syntax.tnil))) Syntax.tnil)))) Syntax.tnil))))) (L._∷_ q28 (L._∷_ q29 (L._∷_ q30 (L._∷_ (15, Rows.sc-here Row.sBool) L.[])))))))))))))))
 
 abbrev pub t34 : L.List Row.Entry
-t34 = L._∷_ (0, Rows.any-gone (Syntax.tyStruct (L._∷_ 114 (L._∷_ 117 (L._∷_ 108 (L._∷_ 101 (L._∷_ 115 (L._∷_ 58 (L._∷_ 58 (L._∷_ 116 (L._∷_ 114 (L._∷_ 105 (L._∷_ 101 (L._∷_ 100 (L._∷_ 58 (L._∷_ 58 (L._∷_ 76 (L._∷_ 111 (L._∷_ 111 (L._∷_ 107 (L._∷_ 101 (L._∷_ 100 L.[])))))))))))))))))))) (Syntax.tcons (Syntax.tyStruct (L._∷_ 114 (L._∷_ 117 (L._∷_ 108 (L._∷_ 101 (L._∷_ 115 (L._∷_ 58 (L._∷_ 58 (L._∷_ 102 (L._∷_ 111 (L._∷_ 117 (L._∷_ 110 (L._∷_ 100 (L._∷_ 58 (L._∷_ 58 (L._∷_ 70 (L._∷_ 111 (L._∷_ 117 (L._∷_ 110 (L._∷_ 100 L.[]))))))))))))))))))) (Syntax.tcons Syntax.tyBool (Syntax.tcons Syntax.tyBool (Syntax.tcons (Syntax.tyStruct (L._∷_ 115 (L._∷_ 116 (L._∷_ 101 (L._∷_ 112 (L._∷_ 58 (L._∷_ 58 (L._∷_ 83 (L._∷_ 116 (L._∷_ 101 (L._∷_ 112 L.[])))))))))) (Syntax.tcons (Syntax.tyInt Syntax.w64) (Syntax.tcons (Syntax.tyInt Syntax.w64) (Syntax.tcons (Syntax.tyStruct (L._∷_ 115 (L._∷_ 116 (L._∷_ 101 (L._∷_ 112 (L._∷_ 58 (L._∷_ 58 (L._∷_ 67 (L._∷_ 104 (L._∷_ 97 (L._∷_ 110 (L._∷_ 103 (L._∷_ 101 L.[])))))))))))) (Syntax.tcons (Syntax.tyStruct (L._∷_ 110 (L._∷_ 101 (L._∷_ 116 (L._∷_ 119 (L._∷_ 111 (L._∷_ 114 (L._∷_ 107 (L._∷_ 58 (L._∷_ 58 (L._∷_ 69 (L._∷_ 100 (L._∷_ 105 (L._∷_ 116 L.[]))))))))))))) (Syntax.tcons q7 (Syntax.tcons q7 (Syntax.tcons q7 (Syntax.tcons q7 (Syntax.tcons q2 (Syntax.tcons q2 (Syntax.tcons (Syntax.tyInt Syntax.w64) Syntax.tnil)))))))) (Syntax.tcons (Syntax.tyStruct (L._∷_ 115 (L._∷_ 116 (L._∷_ 101 (L._∷_ 112 (L._∷_ 58 (L._∷_ 58 (L._∷_ 79 (L._∷_ 108 (L._∷_ 100 L.[]))))))))) (Syntax.tcons (Syntax.tyInt Syntax.w64) (Syntax.tcons q6 (Syntax.tcons q7 (Syntax.tcons q7 (Syntax.tcons q7 (Syntax.tcons q7 (Syntax.tcons q4 Syntax.tnil)))))))) Syntax.tnil))) Syntax.tnil)))) Syntax.tnil)))) (Syntax.tcons q5 Syntax.tnil)))) (L._∷_ q0 (L._∷_ q11 (L._∷_ q17 (L._∷_ q26 (L._∷_ (5, Rows.any-gone (Syntax.tyStruct (L._∷_ 114 (L._∷_ 117 (L._∷_ 108 (L._∷_ 101 (L._∷_ 115 (L._∷_ 58 (L._∷_ 58 (L._∷_ 102 (L._∷_ 111 (L._∷_ 117 (L._∷_ 110 (L._∷_ 100 (L._∷_ 58 (L._∷_ 58 (L._∷_ 70 (L._∷_ 111 (L._∷_ 117 (L._∷_ 110 (L._∷_ 100 L.[]))))))))))))))))))) (Syntax.tcons Syntax.tyBool (Syntax.tcons Syntax.tyBool (Syntax.tcons (Syntax.tyStruct (L._∷_ 115 (L._∷_ 116 (L._∷_ 101 (L._∷_ 112 (L._∷_ 58 (L._∷_ 58 (L._∷_ 83 (L._∷_ 116 (L._∷_ 101 (L._∷_ 112 L.[])))))))))) (Syntax.tcons (Syntax.tyInt Syntax.w64) (Syntax.tcons (Syntax.tyInt Syntax.w64) (Syntax.tcons (Syntax.tyStruct (L._∷_ 115 (L._∷_ 116 (L._∷_ 101 (L._∷_ 112 (L._∷_ 58 (L._∷_ 58 (L._∷_ 67 (L._∷_ 104 (L._∷_ 97 (L._∷_ 110 (L._∷_ 103 (L._∷_ 101 L.[])))))))))))) (Syntax.tcons (Syntax.tyStruct (L._∷_ 110 (L._∷_ 101 (L._∷_ 116 (L._∷_ 119 (L._∷_ 111 (L._∷_ 114 (L._∷_ 107 (L._∷_ 58 (L._∷_ 58 (L._∷_ 69 (L._∷_ 100 (L._∷_ 105 (L._∷_ 116 L.[]))))))))))))) (Syntax.tcons q7 (Syntax.tcons q7 (Syntax.tcons q7 (Syntax.tcons q7 (Syntax.tcons q2 (Syntax.tcons q2 (Syntax.tcons (Syntax.tyInt Syntax.w64) Syntax.tnil)))))))) (Syntax.tcons (Syntax.tyStruct (L._∷_ 115 (L._∷_ 116 (L._∷_ 101 (L._∷_ 112 (L._∷_ 58 (L._∷_ 58 (L._∷_ 79 (L._∷_ 108 (L._∷_ 100 L.[]))))))))) (Syntax.tcons (Syntax.tyInt Syntax.w64) (Syntax.tcons q6 (Syntax.tcons q7 (Syntax.tcons q7 (Syntax.tcons q7 (Syntax.tcons q7 (Syntax.tcons q4 Syntax.tnil)))))))) Syntax.tnil))) Syntax.tnil)))) Syntax.tnil))))) (L._∷_ q8 (L._∷_ q25 (L._∷_ (8, Rows.sc-here Row.sBool) (L._∷_ (9, Rows.any-gone (Syntax.tyStruct (L._∷_ 114 (L._∷_ 117 (L._∷_ 108 (L._∷_ 101 (L._∷_ 115 (L._∷_ 58 (L._∷_ 58 (L._∷_ 116 (L._∷_ 114 (L._∷_ 105 (L._∷_ 101 (L._∷_ 100 (L._∷_ 58 (L._∷_ 58 (L._∷_ 76 (L._∷_ 111 (L._∷_ 111 (L._∷_ 107 (L._∷_ 101 (L._∷_ 100 L.[])))))))))))))))))))) (Syntax.tcons (Syntax.tyStruct (L._∷_ 114 (L._∷_ 117 (L._∷_ 108 (L._∷_ 101 (L._∷_ 115 (L._∷_ 58 (L._∷_ 58 (L._∷_ 102 (L._∷_ 111 (L._∷_ 117 (L._∷_ 110 (L._∷_ 100 (L._∷_ 58 (L._∷_ 58 (L._∷_ 70 (L._∷_ 111 (L._∷_ 117 (L._∷_ 110 (L._∷_ 100 L.[]))))))))))))))))))) (Syntax.tcons Syntax.tyBool (Syntax.tcons Syntax.tyBool (Syntax.tcons (Syntax.tyStruct (L._∷_ 115 (L._∷_ 116 (L._∷_ 101 (L._∷_ 112 (L._∷_ 58 (L._∷_ 58 (L._∷_ 83 (L._∷_ 116 (L._∷_ 101 (L._∷_ 112 L.[])))))))))) (Syntax.tcons (Syntax.tyInt Syntax.w64) (Syntax.tcons (Syntax.tyInt Syntax.w64) (Syntax.tcons (Syntax.tyStruct (L._∷_ 115 (L._∷_ 116 (L._∷_ 101 (L._∷_ 112 (L._∷_ 58 (L._∷_ 58 (L._∷_ 67 (L._∷_ 104 (L._∷_ 97 (L._∷_ 110 (L._∷_ 103 (L._∷_ 101 L.[])))))))))))) (Syntax.tcons (Syntax.tyStruct (L._∷_ 110 (L._∷_ 101 (L._∷_ 116 (L._∷_ 119 (L._∷_ 111 (L._∷_ 114 (L._∷_ 107 (L._∷_ 58 (L._∷_ 58 (L._∷_ 69 (L._∷_ 100 (L._∷_ 105 (L._∷_ 116 L.[]))))))))))))) (Syntax.tcons q7 (Syntax.tcons q7 (Syntax.tcons q7 (Syntax.tcons q7 (Syntax.tcons q2 (Syntax.tcons q2 (Syntax.tcons (Syntax.tyInt Syntax.w64) Syntax.tnil)))))))) (Syntax.tcons (Syntax.tyStruct (L._∷_ 115 (L._∷_ 116 (L._∷_ 101 (L._∷_ 112 (L._∷_ 58 (L._∷_ 58 (L._∷_ 79 (L._∷_ 108 (L._∷_ 100 L.[]))))))))) (Syntax.tcons (Syntax.tyInt Syntax.w64) (Syntax.tcons q6 (Syntax.tcons q7 (Syntax.tcons q7 (Syntax.tcons q7 (Syntax.tcons q7 (Syntax.tcons q4 Syntax.tnil)))))))) Syntax.tnil))) Syntax.tnil)))) Syntax.tnil)))) (Syntax.tcons q5 Syntax.tnil)))) (L._∷_ q14 (L._∷_ (11, Rows.any-gone (Syntax.tyStruct (L._∷_ 114 (L._∷_ 117 (L._∷_ 108 (L._∷_ 101 (L._∷_ 115 (L._∷_ 58 (L._∷_ 58 (L._∷_ 102 (L._∷_ 111 (L._∷_ 117 (L._∷_ 110 (L._∷_ 100 (L._∷_ 58 (L._∷_ 58 (L._∷_ 70 (L._∷_ 111 (L._∷_ 117 (L._∷_ 110 (L._∷_ 100 L.[]))))))))))))))))))) (Syntax.tcons Syntax.tyBool (Syntax.tcons Syntax.tyBool (Syntax.tcons (Syntax.tyStruct (L._∷_ 115 (L._∷_ 116 (L._∷_ 101 (L._∷_ 112 (L._∷_ 58 (L._∷_ 58 (L._∷_ 83 (L._∷_ 116 (L._∷_ 101 (L._∷_ 112 L.[])))))))))) (Syntax.tcons (Syntax.tyInt Syntax.w64) (Syntax.tcons (Syntax.tyInt Syntax.w64) (Syntax.tcons (Syntax.tyStruct (L._∷_ 115 (L._∷_ 116 (L._∷_ 101 (L._∷_ 112 (L._∷_ 58 (L._∷_ 58 (L._∷_ 67 (L._∷_ 104 (L._∷_ 97 (L._∷_ 110 (L._∷_ 103 (L._∷_ 101 L.[])))))))))))) (Syntax.tcons (Syntax.tyStruct (L._∷_ 110 (L._∷_ 101 (L._∷_ 116 (L._∷_ 119 (L._∷_ 111 (L._∷_ 114 (L._∷_ 107 (L._∷_ 58 (L._∷_ 58 (L._∷_ 69 (L._∷_ 100 (L._∷_ 105 (L._∷_ 116 L.[]))))))))))))) (Syntax.tcons q7 (Syntax.tcons q7 (Syntax.tcons q7 (Syntax.tcons q7 (Syntax.tcons q2 (Syntax.tcons q2 (Syntax.tcons (Syntax.tyInt Syntax.w64) Syntax.tnil)))))))) (Syntax.tcons (Syntax.tyStruct (L._∷_ 115 (L._∷_ 116 (L._∷_ 101 (L._∷_ 112 (L._∷_ 58 (L._∷_ 58 (L._∷_ 79 (L._∷_ 108 (L._∷_ 100 L.[]))))))))) (Syntax.tcons (Syntax.tyInt Syntax.w64) (Syntax.tcons q6 (Syntax.tcons q7 (Syntax.tcons q7 (Syntax.tcons q7 (Syntax.tcons q7 (Syntax.tcons q4 Syntax.tnil)))))))) Syntax.tnil))) Syntax.tnil)))) Syntax.tnil))))) (L._∷_ q28 (L._∷_ q29 (L._∷_ q30 (L._∷_ (15, Rows.sc-here Row.sBool) L.[])))))))))))))))
+t34 = L._∷_ (0, Rows.any-gone (Syntax.tyStruct (L._∷_ 114 (L._∷_ 117 (L._∷_ 108 (L._∷_ 101 (L._∷_ 115 (L._∷_ 58 (L._∷_ 58 (L._∷_ 116 (L._∷_ 114 (L._∷_ 105 (L._∷_ 101 (L._∷_ 100 (L._∷_ 58 (L._∷_ 58 (L._∷_ 76 (L._∷_ 111 (L._∷_ 111 (L._∷_ 107 (L._∷_ 101 (L._∷_ 100 L.[])))))))))))))))))))) (Syntax.tcons (Syntax.tyStruct (L._∷_ 114 (L._∷_ 117 (L._∷_ 108 (L._∷_ 101 (L._∷_ 115 (L._∷_ 58 (L._∷_ 58 (L._∷_ 102 (L._∷_ 111 (L._∷_ 117 (L._∷_ 110 (L._∷_ 100 (L._∷_ 58 (L._∷_ 58 (L._∷_ 70 (L._∷_ 111 (L._∷_ 117 (L._∷_ 110 (L._∷_ 100 L.[]))))))))))))))))))) (Syntax.tcons Syntax.tyBool (Syntax.tcons Syntax.tyBool (Syntax.tcons (Syntax.tyStruct (L._∷_ 115 (L._∷_ 116 (L._∷_ 101 (L._∷_ 112 (L._∷_ 58 (L._∷_ 58 (L._∷_ 83 (L._∷_ 116 (L._∷_ 101 (L._∷_ 112 L.[])))))))))) (Syntax.tcons (Syntax.tyInt Syntax.w64) (Syntax.tcons (Syntax.tyInt Syntax.w64) (Syntax.tcons (Syntax.tyStruct (L._∷_ 115 (L._∷_ 116 (L._∷_ 101 (L._∷_ 112 (L._∷_ 58 (L._∷_ 58 (L._∷_ 67 (L._∷_ 104 (L._∷_ 97 (L._∷_ 110 (L._∷_ 103 (L._∷_ 101 L.[])))))))))))) (Syntax.tcons (Syntax.tyStruct (L._∷_ 110 (L._∷_ 101 (L._∷_ 116 (L._∷_ 119 (L._∷_ 111 (L._∷_ 114 (L._∷_ 107 (L._∷_ 58 (L._∷_ 58 (L._∷_ 69 (L._∷_ 100 (L._∷_ 105 (L._∷_ 116 L.[]))))))))))))) (Syntax.tcons q7 (Syntax.tcons q7 (Syntax.tcons q7 (Syntax.tcons q7 (Syntax.tcons q2 (Syntax.tcons q2 (Syntax.tcons (Syntax.tyInt Syntax.w64) (Syntax.tcons q6 Syntax.tnil))))))))) (Syntax.tcons (Syntax.tyStruct (L._∷_ 115 (L._∷_ 116 (L._∷_ 101 (L._∷_ 112 (L._∷_ 58 (L._∷_ 58 (L._∷_ 79 (L._∷_ 108 (L._∷_ 100 L.[]))))))))) (Syntax.tcons (Syntax.tyInt Syntax.w64) (Syntax.tcons q6 (Syntax.tcons q7 (Syntax.tcons q7 (Syntax.tcons q7 (Syntax.tcons q7 (Syntax.tcons q4 Syntax.tnil)))))))) Syntax.tnil))) Syntax.tnil)))) Syntax.tnil)))) (Syntax.tcons q5 Syntax.tnil)))) (L._∷_ q0 (L._∷_ q11 (L._∷_ q17 (L._∷_ q26 (L._∷_ (5, Rows.any-gone (Syntax.tyStruct (L._∷_ 114 (L._∷_ 117 (L._∷_ 108 (L._∷_ 101 (L._∷_ 115 (L._∷_ 58 (L._∷_ 58 (L._∷_ 102 (L._∷_ 111 (L._∷_ 117 (L._∷_ 110 (L._∷_ 100 (L._∷_ 58 (L._∷_ 58 (L._∷_ 70 (L._∷_ 111 (L._∷_ 117 (L._∷_ 110 (L._∷_ 100 L.[]))))))))))))))))))) (Syntax.tcons Syntax.tyBool (Syntax.tcons Syntax.tyBool (Syntax.tcons (Syntax.tyStruct (L._∷_ 115 (L._∷_ 116 (L._∷_ 101 (L._∷_ 112 (L._∷_ 58 (L._∷_ 58 (L._∷_ 83 (L._∷_ 116 (L._∷_ 101 (L._∷_ 112 L.[])))))))))) (Syntax.tcons (Syntax.tyInt Syntax.w64) (Syntax.tcons (Syntax.tyInt Syntax.w64) (Syntax.tcons (Syntax.tyStruct (L._∷_ 115 (L._∷_ 116 (L._∷_ 101 (L._∷_ 112 (L._∷_ 58 (L._∷_ 58 (L._∷_ 67 (L._∷_ 104 (L._∷_ 97 (L._∷_ 110 (L._∷_ 103 (L._∷_ 101 L.[])))))))))))) (Syntax.tcons (Syntax.tyStruct (L._∷_ 110 (L._∷_ 101 (L._∷_ 116 (L._∷_ 119 (L._∷_ 111 (L._∷_ 114 (L._∷_ 107 (L._∷_ 58 (L._∷_ 58 (L._∷_ 69 (L._∷_ 100 (L._∷_ 105 (L._∷_ 116 L.[]))))))))))))) (Syntax.tcons q7 (Syntax.tcons q7 (Syntax.tcons q7 (Syntax.tcons q7 (Syntax.tcons q2 (Syntax.tcons q2 (Syntax.tcons (Syntax.tyInt Syntax.w64) (Syntax.tcons q6 Syntax.tnil))))))))) (Syntax.tcons (Syntax.tyStruct (L._∷_ 115 (L._∷_ 116 (L._∷_ 101 (L._∷_ 112 (L._∷_ 58 (L._∷_ 58 (L._∷_ 79 (L._∷_ 108 (L._∷_ 100 L.[]))))))))) (Syntax.tcons (Syntax.tyInt Syntax.w64) (Syntax.tcons q6 (Syntax.tcons q7 (Syntax.tcons q7 (Syntax.tcons q7 (Syntax.tcons q7 (Syntax.tcons q4 Syntax.tnil)))))))) Syntax.tnil))) Syntax.tnil)))) Syntax.tnil))))) (L._∷_ q8 (L._∷_ q25 (L._∷_ (8, Rows.sc-here Row.sBool) (L._∷_ (9, Rows.any-gone (Syntax.tyStruct (L._∷_ 114 (L._∷_ 117 (L._∷_ 108 (L._∷_ 101 (L._∷_ 115 (L._∷_ 58 (L._∷_ 58 (L._∷_ 116 (L._∷_ 114 (L._∷_ 105 (L._∷_ 101 (L._∷_ 100 (L._∷_ 58 (L._∷_ 58 (L._∷_ 76 (L._∷_ 111 (L._∷_ 111 (L._∷_ 107 (L._∷_ 101 (L._∷_ 100 L.[])))))))))))))))))))) (Syntax.tcons (Syntax.tyStruct (L._∷_ 114 (L._∷_ 117 (L._∷_ 108 (L._∷_ 101 (L._∷_ 115 (L._∷_ 58 (L._∷_ 58 (L._∷_ 102 (L._∷_ 111 (L._∷_ 117 (L._∷_ 110 (L._∷_ 100 (L._∷_ 58 (L._∷_ 58 (L._∷_ 70 (L._∷_ 111 (L._∷_ 117 (L._∷_ 110 (L._∷_ 100 L.[]))))))))))))))))))) (Syntax.tcons Syntax.tyBool (Syntax.tcons Syntax.tyBool (Syntax.tcons (Syntax.tyStruct (L._∷_ 115 (L._∷_ 116 (L._∷_ 101 (L._∷_ 112 (L._∷_ 58 (L._∷_ 58 (L._∷_ 83 (L._∷_ 116 (L._∷_ 101 (L._∷_ 112 L.[])))))))))) (Syntax.tcons (Syntax.tyInt Syntax.w64) (Syntax.tcons (Syntax.tyInt Syntax.w64) (Syntax.tcons (Syntax.tyStruct (L._∷_ 115 (L._∷_ 116 (L._∷_ 101 (L._∷_ 112 (L._∷_ 58 (L._∷_ 58 (L._∷_ 67 (L._∷_ 104 (L._∷_ 97 (L._∷_ 110 (L._∷_ 103 (L._∷_ 101 L.[])))))))))))) (Syntax.tcons (Syntax.tyStruct (L._∷_ 110 (L._∷_ 101 (L._∷_ 116 (L._∷_ 119 (L._∷_ 111 (L._∷_ 114 (L._∷_ 107 (L._∷_ 58 (L._∷_ 58 (L._∷_ 69 (L._∷_ 100 (L._∷_ 105 (L._∷_ 116 L.[]))))))))))))) (Syntax.tcons q7 (Syntax.tcons q7 (Syntax.tcons q7 (Syntax.tcons q7 (Syntax.tcons q2 (Syntax.tcons q2 (Syntax.tcons (Syntax.tyInt Syntax.w64) (Syntax.tcons q6 Syntax.tnil))))))))) (Syntax.tcons (Syntax.tyStruct (L._∷_ 115 (L._∷_ 116 (L._∷_ 101 (L._∷_ 112 (L._∷_ 58 (L._∷_ 58 (L._∷_ 79 (L._∷_ 108 (L._∷_ 100 L.[]))))))))) (Syntax.tcons (Syntax.tyInt Syntax.w64) (Syntax.tcons q6 (Syntax.tcons q7 (Syntax.tcons q7 (Syntax.tcons q7 (Syntax.tcons q7 (Syntax.tcons q4 Syntax.tnil)))))))) Syntax.tnil))) Syntax.tnil)))) Syntax.tnil)))) (Syntax.tcons q5 Syntax.tnil)))) (L._∷_ q14 (L._∷_ (11, Rows.any-gone (Syntax.tyStruct (L._∷_ 114 (L._∷_ 117 (L._∷_ 108 (L._∷_ 101 (L._∷_ 115 (L._∷_ 58 (L._∷_ 58 (L._∷_ 102 (L._∷_ 111 (L._∷_ 117 (L._∷_ 110 (L._∷_ 100 (L._∷_ 58 (L._∷_ 58 (L._∷_ 70 (L._∷_ 111 (L._∷_ 117 (L._∷_ 110 (L._∷_ 100 L.[]))))))))))))))))))) (Syntax.tcons Syntax.tyBool (Syntax.tcons Syntax.tyBool (Syntax.tcons (Syntax.tyStruct (L._∷_ 115 (L._∷_ 116 (L._∷_ 101 (L._∷_ 112 (L._∷_ 58 (L._∷_ 58 (L._∷_ 83 (L._∷_ 116 (L._∷_ 101 (L._∷_ 112 L.[])))))))))) (Syntax.tcons (Syntax.tyInt Syntax.w64) (Syntax.tcons (Syntax.tyInt Syntax.w64) (Syntax.tcons (Syntax.tyStruct (L._∷_ 115 (L._∷_ 116 (L._∷_ 101 (L._∷_ 112 (L._∷_ 58 (L._∷_ 58 (L._∷_ 67 (L._∷_ 104 (L._∷_ 97 (L._∷_ 110 (L._∷_ 103 (L._∷_ 101 L.[])))))))))))) (Syntax.tcons (Syntax.tyStruct (L._∷_ 110 (L._∷_ 101 (L._∷_ 116 (L._∷_ 119 (L._∷_ 111 (L._∷_ 114 (L._∷_ 107 (L._∷_ 58 (L._∷_ 58 (L._∷_ 69 (L._∷_ 100 (L._∷_ 105 (L._∷_ 116 L.[]))))))))))))) (Syntax.tcons q7 (Syntax.tcons q7 (Syntax.tcons q7 (Syntax.tcons q7 (Syntax.tcons q2 (Syntax.tcons q2 (Syntax.tcons (Syntax.tyInt Syntax.w64) (Syntax.tcons q6 Syntax.tnil))))))))) (Syntax.tcons (Syntax.tyStruct (L._∷_ 115 (L._∷_ 116 (L._∷_ 101 (L._∷_ 112 (L._∷_ 58 (L._∷_ 58 (L._∷_ 79 (L._∷_ 108 (L._∷_ 100 L.[]))))))))) (Syntax.tcons (Syntax.tyInt Syntax.w64) (Syntax.tcons q6 (Syntax.tcons q7 (Syntax.tcons q7 (Syntax.tcons q7 (Syntax.tcons q7 (Syntax.tcons q4 Syntax.tnil)))))))) Syntax.tnil))) Syntax.tnil)))) Syntax.tnil))))) (L._∷_ q28 (L._∷_ q29 (L._∷_ q30 (L._∷_ (15, Rows.sc-here Row.sBool) L.[])))))))))))))))
 
 abbrev pub t35 : L.List Row.Entry
-t35 = L._∷_ (0, Rows.any-gone (Syntax.tyStruct (L._∷_ 114 (L._∷_ 117 (L._∷_ 108 (L._∷_ 101 (L._∷_ 115 (L._∷_ 58 (L._∷_ 58 (L._∷_ 116 (L._∷_ 114 (L._∷_ 105 (L._∷_ 101 (L._∷_ 100 (L._∷_ 58 (L._∷_ 58 (L._∷_ 76 (L._∷_ 111 (L._∷_ 111 (L._∷_ 107 (L._∷_ 101 (L._∷_ 100 L.[])))))))))))))))))))) (Syntax.tcons (Syntax.tyStruct (L._∷_ 114 (L._∷_ 117 (L._∷_ 108 (L._∷_ 101 (L._∷_ 115 (L._∷_ 58 (L._∷_ 58 (L._∷_ 102 (L._∷_ 111 (L._∷_ 117 (L._∷_ 110 (L._∷_ 100 (L._∷_ 58 (L._∷_ 58 (L._∷_ 70 (L._∷_ 111 (L._∷_ 117 (L._∷_ 110 (L._∷_ 100 L.[]))))))))))))))))))) (Syntax.tcons Syntax.tyBool (Syntax.tcons Syntax.tyBool (Syntax.tcons (Syntax.tyStruct (L._∷_ 115 (L._∷_ 116 (L._∷_ 101 (L._∷_ 112 (L._∷_ 58 (L._∷_ 58 (L._∷_ 83 (L._∷_ 116 (L._∷_ 101 (L._∷_ 112 L.[])))))))))) (Syntax.tcons (Syntax.tyInt Syntax.w64) (Syntax.tcons (Syntax.tyInt Syntax.w64) (Syntax.tcons (Syntax.tyStruct (L._∷_ 115 (L._∷_ 116 (L._∷_ 101 (L._∷_ 112 (L._∷_ 58 (L._∷_ 58 (L._∷_ 67 (L._∷_ 104 (L._∷_ 97 (L._∷_ 110 (L._∷_ 103 (L._∷_ 101 L.[])))))))))))) (Syntax.tcons (Syntax.tyStruct (L._∷_ 110 (L._∷_ 101 (L._∷_ 116 (L._∷_ 119 (L._∷_ 111 (L._∷_ 114 (L._∷_ 107 (L._∷_ 58 (L._∷_ 58 (L._∷_ 69 (L._∷_ 100 (L._∷_ 105 (L._∷_ 116 L.[]))))))))))))) (Syntax.tcons q7 (Syntax.tcons q7 (Syntax.tcons q7 (Syntax.tcons q7 (Syntax.tcons q2 (Syntax.tcons q2 (Syntax.tcons (Syntax.tyInt Syntax.w64) Syntax.tnil)))))))) (Syntax.tcons (Syntax.tyStruct (L._∷_ 115 (L._∷_ 116 (L._∷_ 101 (L._∷_ 112 (L._∷_ 58 (L._∷_ 58 (L._∷_ 79 (L._∷_ 108 (L._∷_ 100 L.[]))))))))) (Syntax.tcons (Syntax.tyInt Syntax.w64) (Syntax.tcons q6 (Syntax.tcons q7 (Syntax.tcons q7 (Syntax.tcons q7 (Syntax.tcons q7 (Syntax.tcons q4 Syntax.tnil)))))))) Syntax.tnil))) Syntax.tnil)))) Syntax.tnil)))) (Syntax.tcons q5 Syntax.tnil)))) (L._∷_ q0 (L._∷_ q11 (L._∷_ q17 (L._∷_ q26 (L._∷_ (5, Rows.any-gone (Syntax.tyStruct (L._∷_ 114 (L._∷_ 117 (L._∷_ 108 (L._∷_ 101 (L._∷_ 115 (L._∷_ 58 (L._∷_ 58 (L._∷_ 102 (L._∷_ 111 (L._∷_ 117 (L._∷_ 110 (L._∷_ 100 (L._∷_ 58 (L._∷_ 58 (L._∷_ 70 (L._∷_ 111 (L._∷_ 117 (L._∷_ 110 (L._∷_ 100 L.[]))))))))))))))))))) (Syntax.tcons Syntax.tyBool (Syntax.tcons Syntax.tyBool (Syntax.tcons (Syntax.tyStruct (L._∷_ 115 (L._∷_ 116 (L._∷_ 101 (L._∷_ 112 (L._∷_ 58 (L._∷_ 58 (L._∷_ 83 (L._∷_ 116 (L._∷_ 101 (L._∷_ 112 L.[])))))))))) (Syntax.tcons (Syntax.tyInt Syntax.w64) (Syntax.tcons (Syntax.tyInt Syntax.w64) (Syntax.tcons (Syntax.tyStruct (L._∷_ 115 (L._∷_ 116 (L._∷_ 101 (L._∷_ 112 (L._∷_ 58 (L._∷_ 58 (L._∷_ 67 (L._∷_ 104 (L._∷_ 97 (L._∷_ 110 (L._∷_ 103 (L._∷_ 101 L.[])))))))))))) (Syntax.tcons (Syntax.tyStruct (L._∷_ 110 (L._∷_ 101 (L._∷_ 116 (L._∷_ 119 (L._∷_ 111 (L._∷_ 114 (L._∷_ 107 (L._∷_ 58 (L._∷_ 58 (L._∷_ 69 (L._∷_ 100 (L._∷_ 105 (L._∷_ 116 L.[]))))))))))))) (Syntax.tcons q7 (Syntax.tcons q7 (Syntax.tcons q7 (Syntax.tcons q7 (Syntax.tcons q2 (Syntax.tcons q2 (Syntax.tcons (Syntax.tyInt Syntax.w64) Syntax.tnil)))))))) (Syntax.tcons (Syntax.tyStruct (L._∷_ 115 (L._∷_ 116 (L._∷_ 101 (L._∷_ 112 (L._∷_ 58 (L._∷_ 58 (L._∷_ 79 (L._∷_ 108 (L._∷_ 100 L.[]))))))))) (Syntax.tcons (Syntax.tyInt Syntax.w64) (Syntax.tcons q6 (Syntax.tcons q7 (Syntax.tcons q7 (Syntax.tcons q7 (Syntax.tcons q7 (Syntax.tcons q4 Syntax.tnil)))))))) Syntax.tnil))) Syntax.tnil)))) Syntax.tnil))))) (L._∷_ q8 (L._∷_ q25 (L._∷_ (8, Rows.sc-here Row.sBool) (L._∷_ (9, Rows.any-gone (Syntax.tyStruct (L._∷_ 114 (L._∷_ 117 (L._∷_ 108 (L._∷_ 101 (L._∷_ 115 (L._∷_ 58 (L._∷_ 58 (L._∷_ 116 (L._∷_ 114 (L._∷_ 105 (L._∷_ 101 (L._∷_ 100 (L._∷_ 58 (L._∷_ 58 (L._∷_ 76 (L._∷_ 111 (L._∷_ 111 (L._∷_ 107 (L._∷_ 101 (L._∷_ 100 L.[])))))))))))))))))))) (Syntax.tcons (Syntax.tyStruct (L._∷_ 114 (L._∷_ 117 (L._∷_ 108 (L._∷_ 101 (L._∷_ 115 (L._∷_ 58 (L._∷_ 58 (L._∷_ 102 (L._∷_ 111 (L._∷_ 117 (L._∷_ 110 (L._∷_ 100 (L._∷_ 58 (L._∷_ 58 (L._∷_ 70 (L._∷_ 111 (L._∷_ 117 (L._∷_ 110 (L._∷_ 100 L.[]))))))))))))))))))) (Syntax.tcons Syntax.tyBool (Syntax.tcons Syntax.tyBool (Syntax.tcons (Syntax.tyStruct (L._∷_ 115 (L._∷_ 116 (L._∷_ 101 (L._∷_ 112 (L._∷_ 58 (L._∷_ 58 (L._∷_ 83 (L._∷_ 116 (L._∷_ 101 (L._∷_ 112 L.[])))))))))) (Syntax.tcons (Syntax.tyInt Syntax.w64) (Syntax.tcons (Syntax.tyInt Syntax.w64) (Syntax.tcons (Syntax.tyStruct (L._∷_ 115 (L._∷_ 116 (L._∷_ 101 (L._∷_ 112 (L._∷_ 58 (L._∷_ 58 (L._∷_ 67 (L._∷_ 104 (L._∷_ 97 (L._∷_ 110 (L._∷_ 103 (L._∷_ 101 L.[])))))))))))) (Syntax.tcons (Syntax.tyStruct (L._∷_ 110 (L._∷_ 101 (L._∷_ 116 (L._∷_ 119 (L._∷_ 111 (L._∷_ 114 (L._∷_ 107 (L._∷_ 58 (L._∷_ 58 (L._∷_ 69 (L._∷_ 100 (L._∷_ 105 (L._∷_ 116 L.[]))))))))))))) (Syntax.tcons q7 (Syntax.tcons q7 (Syntax.tcons q7 (Syntax.tcons q7 (Syntax.tcons q2 (Syntax.tcons q2 (Syntax.tcons (Syntax.tyInt Syntax.w64) Syntax.tnil)))))))) (Syntax.tcons (Syntax.tyStruct (L._∷_ 115 (L._∷_ 116 (L._∷_ 101 (L._∷_ 112 (L._∷_ 58 (L._∷_ 58 (L._∷_ 79 (L._∷_ 108 (L._∷_ 100 L.[]))))))))) (Syntax.tcons (Syntax.tyInt Syntax.w64) (Syntax.tcons q6 (Syntax.tcons q7 (Syntax.tcons q7 (Syntax.tcons q7 (Syntax.tcons q7 (Syntax.tcons q4 Syntax.tnil)))))))) Syntax.tnil))) Syntax.tnil)))) Syntax.tnil)))) (Syntax.tcons q5 Syntax.tnil)))) (L._∷_ q14 (L._∷_ (11, Rows.any-gone (Syntax.tyStruct (L._∷_ 114 (L._∷_ 117 (L._∷_ 108 (L._∷_ 101 (L._∷_ 115 (L._∷_ 58 (L._∷_ 58 (L._∷_ 102 (L._∷_ 111 (L._∷_ 117 (L._∷_ 110 (L._∷_ 100 (L._∷_ 58 (L._∷_ 58 (L._∷_ 70 (L._∷_ 111 (L._∷_ 117 (L._∷_ 110 (L._∷_ 100 L.[]))))))))))))))))))) (Syntax.tcons Syntax.tyBool (Syntax.tcons Syntax.tyBool (Syntax.tcons (Syntax.tyStruct (L._∷_ 115 (L._∷_ 116 (L._∷_ 101 (L._∷_ 112 (L._∷_ 58 (L._∷_ 58 (L._∷_ 83 (L._∷_ 116 (L._∷_ 101 (L._∷_ 112 L.[])))))))))) (Syntax.tcons (Syntax.tyInt Syntax.w64) (Syntax.tcons (Syntax.tyInt Syntax.w64) (Syntax.tcons (Syntax.tyStruct (L._∷_ 115 (L._∷_ 116 (L._∷_ 101 (L._∷_ 112 (L._∷_ 58 (L._∷_ 58 (L._∷_ 67 (L._∷_ 104 (L._∷_ 97 (L._∷_ 110 (L._∷_ 103 (L._∷_ 101 L.[])))))))))))) (Syntax.tcons (Syntax.tyStruct (L._∷_ 110 (L._∷_ 101 (L._∷_ 116 (L._∷_ 119 (L._∷_ 111 (L._∷_ 114 (L._∷_ 107 (L._∷_ 58 (L._∷_ 58 (L._∷_ 69 (L._∷_ 100 (L._∷_ 105 (L._∷_ 116 L.[]))))))))))))) (Syntax.tcons q7 (Syntax.tcons q7 (Syntax.tcons q7 (Syntax.tcons q7 (Syntax.tcons q2 (Syntax.tcons q2 (Syntax.tcons (Syntax.tyInt Syntax.w64) Syntax.tnil)))))))) (Syntax.tcons (Syntax.tyStruct (L._∷_ 115 (L._∷_ 116 (L._∷_ 101 (L._∷_ 112 (L._∷_ 58 (L._∷_ 58 (L._∷_ 79 (L._∷_ 108 (L._∷_ 100 L.[]))))))))) (Syntax.tcons (Syntax.tyInt Syntax.w64) (Syntax.tcons q6 (Syntax.tcons q7 (Syntax.tcons q7 (Syntax.tcons q7 (Syntax.tcons q7 (Syntax.tcons q4 Syntax.tnil)))))))) Syntax.tnil))) Syntax.tnil)))) Syntax.tnil))))) (L._∷_ q28 (L._∷_ q29 (L._∷_ q30 (L._∷_ q31 L.[])))))))))))))))
+t35 = L._∷_ (0, Rows.any-gone (Syntax.tyStruct (L._∷_ 114 (L._∷_ 117 (L._∷_ 108 (L._∷_ 101 (L._∷_ 115 (L._∷_ 58 (L._∷_ 58 (L._∷_ 116 (L._∷_ 114 (L._∷_ 105 (L._∷_ 101 (L._∷_ 100 (L._∷_ 58 (L._∷_ 58 (L._∷_ 76 (L._∷_ 111 (L._∷_ 111 (L._∷_ 107 (L._∷_ 101 (L._∷_ 100 L.[])))))))))))))))))))) (Syntax.tcons (Syntax.tyStruct (L._∷_ 114 (L._∷_ 117 (L._∷_ 108 (L._∷_ 101 (L._∷_ 115 (L._∷_ 58 (L._∷_ 58 (L._∷_ 102 (L._∷_ 111 (L._∷_ 117 (L._∷_ 110 (L._∷_ 100 (L._∷_ 58 (L._∷_ 58 (L._∷_ 70 (L._∷_ 111 (L._∷_ 117 (L._∷_ 110 (L._∷_ 100 L.[]))))))))))))))))))) (Syntax.tcons Syntax.tyBool (Syntax.tcons Syntax.tyBool (Syntax.tcons (Syntax.tyStruct (L._∷_ 115 (L._∷_ 116 (L._∷_ 101 (L._∷_ 112 (L._∷_ 58 (L._∷_ 58 (L._∷_ 83 (L._∷_ 116 (L._∷_ 101 (L._∷_ 112 L.[])))))))))) (Syntax.tcons (Syntax.tyInt Syntax.w64) (Syntax.tcons (Syntax.tyInt Syntax.w64) (Syntax.tcons (Syntax.tyStruct (L._∷_ 115 (L._∷_ 116 (L._∷_ 101 (L._∷_ 112 (L._∷_ 58 (L._∷_ 58 (L._∷_ 67 (L._∷_ 104 (L._∷_ 97 (L._∷_ 110 (L._∷_ 103 (L._∷_ 101 L.[])))))))))))) (Syntax.tcons (Syntax.tyStruct (L._∷_ 110 (L._∷_ 101 (L._∷_ 116 (L._∷_ 119 (L._∷_ 111 (L._∷_ 114 (L._∷_ 107 (L._∷_ 58 (L._∷_ 58 (L._∷_ 69 (L._∷_ 100 (L._∷_ 105 (L._∷_ 116 L.[]))))))))))))) (Syntax.tcons q7 (Syntax.tcons q7 (Syntax.tcons q7 (Syntax.tcons q7 (Syntax.tcons q2 (Syntax.tcons q2 (Syntax.tcons (Syntax.tyInt Syntax.w64) (Syntax.tcons q6 Syntax.tnil))))))))) (Syntax.tcons (Syntax.tyStruct (L._∷_ 115 (L._∷_ 116 (L._∷_ 101 (L._∷_ 112 (L._∷_ 58 (L._∷_ 58 (L._∷_ 79 (L._∷_ 108 (L._∷_ 100 L.[]))))))))) (Syntax.tcons (Syntax.tyInt Syntax.w64) (Syntax.tcons q6 (Syntax.tcons q7 (Syntax.tcons q7 (Syntax.tcons q7 (Syntax.tcons q7 (Syntax.tcons q4 Syntax.tnil)))))))) Syntax.tnil))) Syntax.tnil)))) Syntax.tnil)))) (Syntax.tcons q5 Syntax.tnil)))) (L._∷_ q0 (L._∷_ q11 (L._∷_ q17 (L._∷_ q26 (L._∷_ (5, Rows.any-gone (Syntax.tyStruct (L._∷_ 114 (L._∷_ 117 (L._∷_ 108 (L._∷_ 101 (L._∷_ 115 (L._∷_ 58 (L._∷_ 58 (L._∷_ 102 (L._∷_ 111 (L._∷_ 117 (L._∷_ 110 (L._∷_ 100 (L._∷_ 58 (L._∷_ 58 (L._∷_ 70 (L._∷_ 111 (L._∷_ 117 (L._∷_ 110 (L._∷_ 100 L.[]))))))))))))))))))) (Syntax.tcons Syntax.tyBool (Syntax.tcons Syntax.tyBool (Syntax.tcons (Syntax.tyStruct (L._∷_ 115 (L._∷_ 116 (L._∷_ 101 (L._∷_ 112 (L._∷_ 58 (L._∷_ 58 (L._∷_ 83 (L._∷_ 116 (L._∷_ 101 (L._∷_ 112 L.[])))))))))) (Syntax.tcons (Syntax.tyInt Syntax.w64) (Syntax.tcons (Syntax.tyInt Syntax.w64) (Syntax.tcons (Syntax.tyStruct (L._∷_ 115 (L._∷_ 116 (L._∷_ 101 (L._∷_ 112 (L._∷_ 58 (L._∷_ 58 (L._∷_ 67 (L._∷_ 104 (L._∷_ 97 (L._∷_ 110 (L._∷_ 103 (L._∷_ 101 L.[])))))))))))) (Syntax.tcons (Syntax.tyStruct (L._∷_ 110 (L._∷_ 101 (L._∷_ 116 (L._∷_ 119 (L._∷_ 111 (L._∷_ 114 (L._∷_ 107 (L._∷_ 58 (L._∷_ 58 (L._∷_ 69 (L._∷_ 100 (L._∷_ 105 (L._∷_ 116 L.[]))))))))))))) (Syntax.tcons q7 (Syntax.tcons q7 (Syntax.tcons q7 (Syntax.tcons q7 (Syntax.tcons q2 (Syntax.tcons q2 (Syntax.tcons (Syntax.tyInt Syntax.w64) (Syntax.tcons q6 Syntax.tnil))))))))) (Syntax.tcons (Syntax.tyStruct (L._∷_ 115 (L._∷_ 116 (L._∷_ 101 (L._∷_ 112 (L._∷_ 58 (L._∷_ 58 (L._∷_ 79 (L._∷_ 108 (L._∷_ 100 L.[]))))))))) (Syntax.tcons (Syntax.tyInt Syntax.w64) (Syntax.tcons q6 (Syntax.tcons q7 (Syntax.tcons q7 (Syntax.tcons q7 (Syntax.tcons q7 (Syntax.tcons q4 Syntax.tnil)))))))) Syntax.tnil))) Syntax.tnil)))) Syntax.tnil))))) (L._∷_ q8 (L._∷_ q25 (L._∷_ (8, Rows.sc-here Row.sBool) (L._∷_ (9, Rows.any-gone (Syntax.tyStruct (L._∷_ 114 (L._∷_ 117 (L._∷_ 108 (L._∷_ 101 (L._∷_ 115 (L._∷_ 58 (L._∷_ 58 (L._∷_ 116 (L._∷_ 114 (L._∷_ 105 (L._∷_ 101 (L._∷_ 100 (L._∷_ 58 (L._∷_ 58 (L._∷_ 76 (L._∷_ 111 (L._∷_ 111 (L._∷_ 107 (L._∷_ 101 (L._∷_ 100 L.[])))))))))))))))))))) (Syntax.tcons (Syntax.tyStruct (L._∷_ 114 (L._∷_ 117 (L._∷_ 108 (L._∷_ 101 (L._∷_ 115 (L._∷_ 58 (L._∷_ 58 (L._∷_ 102 (L._∷_ 111 (L._∷_ 117 (L._∷_ 110 (L._∷_ 100 (L._∷_ 58 (L._∷_ 58 (L._∷_ 70 (L._∷_ 111 (L._∷_ 117 (L._∷_ 110 (L._∷_ 100 L.[]))))))))))))))))))) (Syntax.tcons Syntax.tyBool (Syntax.tcons Syntax.tyBool (Syntax.tcons (Syntax.tyStruct (L._∷_ 115 (L._∷_ 116 (L._∷_ 101 (L._∷_ 112 (L._∷_ 58 (L._∷_ 58 (L._∷_ 83 (L._∷_ 116 (L._∷_ 101 (L._∷_ 112 L.[])))))))))) (Syntax.tcons (Syntax.tyInt Syntax.w64) (Syntax.tcons (Syntax.tyInt Syntax.w64) (Syntax.tcons (Syntax.tyStruct (L._∷_ 115 (L._∷_ 116 (L._∷_ 101 (L._∷_ 112 (L._∷_ 58 (L._∷_ 58 (L._∷_ 67 (L._∷_ 104 (L._∷_ 97 (L._∷_ 110 (L._∷_ 103 (L._∷_ 101 L.[])))))))))))) (Syntax.tcons (Syntax.tyStruct (L._∷_ 110 (L._∷_ 101 (L._∷_ 116 (L._∷_ 119 (L._∷_ 111 (L._∷_ 114 (L._∷_ 107 (L._∷_ 58 (L._∷_ 58 (L._∷_ 69 (L._∷_ 100 (L._∷_ 105 (L._∷_ 116 L.[]))))))))))))) (Syntax.tcons q7 (Syntax.tcons q7 (Syntax.tcons q7 (Syntax.tcons q7 (Syntax.tcons q2 (Syntax.tcons q2 (Syntax.tcons (Syntax.tyInt Syntax.w64) (Syntax.tcons q6 Syntax.tnil))))))))) (Syntax.tcons (Syntax.tyStruct (L._∷_ 115 (L._∷_ 116 (L._∷_ 101 (L._∷_ 112 (L._∷_ 58 (L._∷_ 58 (L._∷_ 79 (L._∷_ 108 (L._∷_ 100 L.[]))))))))) (Syntax.tcons (Syntax.tyInt Syntax.w64) (Syntax.tcons q6 (Syntax.tcons q7 (Syntax.tcons q7 (Syntax.tcons q7 (Syntax.tcons q7 (Syntax.tcons q4 Syntax.tnil)))))))) Syntax.tnil))) Syntax.tnil)))) Syntax.tnil)))) (Syntax.tcons q5 Syntax.tnil)))) (L._∷_ q14 (L._∷_ (11, Rows.any-gone (Syntax.tyStruct (L._∷_ 114 (L._∷_ 117 (L._∷_ 108 (L._∷_ 101 (L._∷_ 115 (L._∷_ 58 (L._∷_ 58 (L._∷_ 102 (L._∷_ 111 (L._∷_ 117 (L._∷_ 110 (L._∷_ 100 (L._∷_ 58 (L._∷_ 58 (L._∷_ 70 (L._∷_ 111 (L._∷_ 117 (L._∷_ 110 (L._∷_ 100 L.[]))))))))))))))))))) (Syntax.tcons Syntax.tyBool (Syntax.tcons Syntax.tyBool (Syntax.tcons (Syntax.tyStruct (L._∷_ 115 (L._∷_ 116 (L._∷_ 101 (L._∷_ 112 (L._∷_ 58 (L._∷_ 58 (L._∷_ 83 (L._∷_ 116 (L._∷_ 101 (L._∷_ 112 L.[])))))))))) (Syntax.tcons (Syntax.tyInt Syntax.w64) (Syntax.tcons (Syntax.tyInt Syntax.w64) (Syntax.tcons (Syntax.tyStruct (L._∷_ 115 (L._∷_ 116 (L._∷_ 101 (L._∷_ 112 (L._∷_ 58 (L._∷_ 58 (L._∷_ 67 (L._∷_ 104 (L._∷_ 97 (L._∷_ 110 (L._∷_ 103 (L._∷_ 101 L.[])))))))))))) (Syntax.tcons (Syntax.tyStruct (L._∷_ 110 (L._∷_ 101 (L._∷_ 116 (L._∷_ 119 (L._∷_ 111 (L._∷_ 114 (L._∷_ 107 (L._∷_ 58 (L._∷_ 58 (L._∷_ 69 (L._∷_ 100 (L._∷_ 105 (L._∷_ 116 L.[]))))))))))))) (Syntax.tcons q7 (Syntax.tcons q7 (Syntax.tcons q7 (Syntax.tcons q7 (Syntax.tcons q2 (Syntax.tcons q2 (Syntax.tcons (Syntax.tyInt Syntax.w64) (Syntax.tcons q6 Syntax.tnil))))))))) (Syntax.tcons (Syntax.tyStruct (L._∷_ 115 (L._∷_ 116 (L._∷_ 101 (L._∷_ 112 (L._∷_ 58 (L._∷_ 58 (L._∷_ 79 (L._∷_ 108 (L._∷_ 100 L.[]))))))))) (Syntax.tcons (Syntax.tyInt Syntax.w64) (Syntax.tcons q6 (Syntax.tcons q7 (Syntax.tcons q7 (Syntax.tcons q7 (Syntax.tcons q7 (Syntax.tcons q4 Syntax.tnil)))))))) Syntax.tnil))) Syntax.tnil)))) Syntax.tnil))))) (L._∷_ q28 (L._∷_ q29 (L._∷_ q30 (L._∷_ q31 L.[])))))))))))))))
 
 abbrev pub t36 : L.List Row.Entry
-t36 = L._∷_ q10 (L._∷_ q0 (L._∷_ q11 (L._∷_ q17 (L._∷_ q26 (L._∷_ (5, Rows.any-gone (Syntax.tyStruct (L._∷_ 114 (L._∷_ 117 (L._∷_ 108 (L._∷_ 101 (L._∷_ 115 (L._∷_ 58 (L._∷_ 58 (L._∷_ 102 (L._∷_ 111 (L._∷_ 117 (L._∷_ 110 (L._∷_ 100 (L._∷_ 58 (L._∷_ 58 (L._∷_ 70 (L._∷_ 111 (L._∷_ 117 (L._∷_ 110 (L._∷_ 100 L.[]))))))))))))))))))) (Syntax.tcons Syntax.tyBool (Syntax.tcons Syntax.tyBool (Syntax.tcons (Syntax.tyStruct (L._∷_ 115 (L._∷_ 116 (L._∷_ 101 (L._∷_ 112 (L._∷_ 58 (L._∷_ 58 (L._∷_ 83 (L._∷_ 116 (L._∷_ 101 (L._∷_ 112 L.[])))))))))) (Syntax.tcons (Syntax.tyInt Syntax.w64) (Syntax.tcons (Syntax.tyInt Syntax.w64) (Syntax.tcons (Syntax.tyStruct (L._∷_ 115 (L._∷_ 116 (L._∷_ 101 (L._∷_ 112 (L._∷_ 58 (L._∷_ 58 (L._∷_ 67 (L._∷_ 104 (L._∷_ 97 (L._∷_ 110 (L._∷_ 103 (L._∷_ 101 L.[])))))))))))) (Syntax.tcons (Syntax.tyStruct (L._∷_ 110 (L._∷_ 101 (L._∷_ 116 (L._∷_ 119 (L._∷_ 111 (L._∷_ 114 (L._∷_ 107 (L._∷_ 58 (L._∷_ 58 (L._∷_ 69 (L._∷_ 100 (L._∷_ 105 (L._∷_ 116 L.[]))))))))))))) (Syntax.tcons q7 (Syntax.tcons q7 (Syntax.tcons q7 (Syntax.tcons q7 (Syntax.tcons q2 (Syntax.tcons q2 (Syntax.tcons (Syntax.tyInt Syntax.w64) Syntax.tnil)))))))) (Syntax.tcons (Syntax.tyStruct (L._∷_ 115 (L._∷_ 116 (L._∷_ 101 (L._∷_ 112 (L._∷_ 58 (L._∷_ 58 (L._∷_ 79 (L._∷_ 108 (L._∷_ 100 L.[]))))))))) (Syntax.tcons (Syntax.tyInt Syntax.w64) (Syntax.tcons q6 (Syntax.tcons q7 (Syntax.tcons q7 (Syntax.tcons q7 (Syntax.tcons q7 (Syntax.tcons q4 Syntax.tnil)))))))) Syntax.tnil))) Syntax.tnil)))) Syntax.tnil))))) (L._∷_ q8 (L._∷_ q25 (L._∷_ (8, Rows.sc-here Row.sBool) (L._∷_ (9, Rows.any-gone (Syntax.tyStruct (L._∷_ 114 (L._∷_ 117 (L._∷_ 108 (L._∷_ 101 (L._∷_ 115 (L._∷_ 58 (L._∷_ 58 (L._∷_ 116 (L._∷_ 114 (L._∷_ 105 (L._∷_ 101 (L._∷_ 100 (L._∷_ 58 (L._∷_ 58 (L._∷_ 76 (L._∷_ 111 (L._∷_ 111 (L._∷_ 107 (L._∷_ 101 (L._∷_ 100 L.[])))))))))))))))))))) (Syntax.tcons (Syntax.tyStruct (L._∷_ 114 (L._∷_ 117 (L._∷_ 108 (L._∷_ 101 (L._∷_ 115 (L._∷_ 58 (L._∷_ 58 (L._∷_ 102 (L._∷_ 111 (L._∷_ 117 (L._∷_ 110 (L._∷_ 100 (L._∷_ 58 (L._∷_ 58 (L._∷_ 70 (L._∷_ 111 (L._∷_ 117 (L._∷_ 110 (L._∷_ 100 L.[]))))))))))))))))))) (Syntax.tcons Syntax.tyBool (Syntax.tcons Syntax.tyBool (Syntax.tcons (Syntax.tyStruct (L._∷_ 115 (L._∷_ 116 (L._∷_ 101 (L._∷_ 112 (L._∷_ 58 (L._∷_ 58 (L._∷_ 83 (L._∷_ 116 (L._∷_ 101 (L._∷_ 112 L.[])))))))))) (Syntax.tcons (Syntax.tyInt Syntax.w64) (Syntax.tcons (Syntax.tyInt Syntax.w64) (Syntax.tcons (Syntax.tyStruct (L._∷_ 115 (L._∷_ 116 (L._∷_ 101 (L._∷_ 112 (L._∷_ 58 (L._∷_ 58 (L._∷_ 67 (L._∷_ 104 (L._∷_ 97 (L._∷_ 110 (L._∷_ 103 (L._∷_ 101 L.[])))))))))))) (Syntax.tcons (Syntax.tyStruct (L._∷_ 110 (L._∷_ 101 (L._∷_ 116 (L._∷_ 119 (L._∷_ 111 (L._∷_ 114 (L._∷_ 107 (L._∷_ 58 (L._∷_ 58 (L._∷_ 69 (L._∷_ 100 (L._∷_ 105 (L._∷_ 116 L.[]))))))))))))) (Syntax.tcons q7 (Syntax.tcons q7 (Syntax.tcons q7 (Syntax.tcons q7 (Syntax.tcons q2 (Syntax.tcons q2 (Syntax.tcons (Syntax.tyInt Syntax.w64) Syntax.tnil)))))))) (Syntax.tcons (Syntax.tyStruct (L._∷_ 115 (L._∷_ 116 (L._∷_ 101 (L._∷_ 112 (L._∷_ 58 (L._∷_ 58 (L._∷_ 79 (L._∷_ 108 (L._∷_ 100 L.[]))))))))) (Syntax.tcons (Syntax.tyInt Syntax.w64) (Syntax.tcons q6 (Syntax.tcons q7 (Syntax.tcons q7 (Syntax.tcons q7 (Syntax.tcons q7 (Syntax.tcons q4 Syntax.tnil)))))))) Syntax.tnil))) Syntax.tnil)))) Syntax.tnil)))) (Syntax.tcons q5 Syntax.tnil)))) (L._∷_ q14 (L._∷_ (11, Rows.any-gone (Syntax.tyStruct (L._∷_ 114 (L._∷_ 117 (L._∷_ 108 (L._∷_ 101 (L._∷_ 115 (L._∷_ 58 (L._∷_ 58 (L._∷_ 102 (L._∷_ 111 (L._∷_ 117 (L._∷_ 110 (L._∷_ 100 (L._∷_ 58 (L._∷_ 58 (L._∷_ 70 (L._∷_ 111 (L._∷_ 117 (L._∷_ 110 (L._∷_ 100 L.[]))))))))))))))))))) (Syntax.tcons Syntax.tyBool (Syntax.tcons Syntax.tyBool (Syntax.tcons (Syntax.tyStruct (L._∷_ 115 (L._∷_ 116 (L._∷_ 101 (L._∷_ 112 (L._∷_ 58 (L._∷_ 58 (L._∷_ 83 (L._∷_ 116 (L._∷_ 101 (L._∷_ 112 L.[])))))))))) (Syntax.tcons (Syntax.tyInt Syntax.w64) (Syntax.tcons (Syntax.tyInt Syntax.w64) (Syntax.tcons (Syntax.tyStruct (L._∷_ 115 (L._∷_ 116 (L._∷_ 101 (L._∷_ 112 (L._∷_ 58 (L._∷_ 58 (L._∷_ 67 (L._∷_ 104 (L._∷_ 97 (L._∷_ 110 (L._∷_ 103 (L._∷_ 101 L.[])))))))))))) (Syntax.tcons (Syntax.tyStruct (L._∷_ 110 (L._∷_ 101 (L._∷_ 116 (L._∷_ 119 (L._∷_ 111 (L._∷_ 114 (L._∷_ 107 (L._∷_ 58 (L._∷_ 58 (L._∷_ 69 (L._∷_ 100 (L._∷_ 105 (L._∷_ 116 L.[]))))))))))))) (Syntax.tcons q7 (Syntax.tcons q7 (Syntax.tcons q7 (Syntax.tcons q7 (Syntax.tcons q2 (Syntax.tcons q2 (Syntax.tcons (Syntax.tyInt Syntax.w64) Syntax.tnil)))))))) (Syntax.tcons (Syntax.tyStruct (L._∷_ 115 (L._∷_ 116 (L._∷_ 101 (L._∷_ 112 (L._∷_ 58 (L._∷_ 58 (L._∷_ 79 (L._∷_ 108 (L._∷_ 100 L.[]))))))))) (Syntax.tcons (Syntax.tyInt Syntax.w64) (Syntax.tcons q6 (Syntax.tcons q7 (Syntax.tcons q7 (Syntax.tcons q7 (Syntax.tcons q7 (Syntax.tcons q4 Syntax.tnil)))))))) Syntax.tnil))) Syntax.tnil)))) Syntax.tnil))))) (L._∷_ q28 (L._∷_ q29 (L._∷_ q30 (L._∷_ q31 L.[])))))))))))))))
+t36 = L._∷_ q10 (L._∷_ q0 (L._∷_ q11 (L._∷_ q17 (L._∷_ q26 (L._∷_ (5, Rows.any-gone (Syntax.tyStruct (L._∷_ 114 (L._∷_ 117 (L._∷_ 108 (L._∷_ 101 (L._∷_ 115 (L._∷_ 58 (L._∷_ 58 (L._∷_ 102 (L._∷_ 111 (L._∷_ 117 (L._∷_ 110 (L._∷_ 100 (L._∷_ 58 (L._∷_ 58 (L._∷_ 70 (L._∷_ 111 (L._∷_ 117 (L._∷_ 110 (L._∷_ 100 L.[]))))))))))))))))))) (Syntax.tcons Syntax.tyBool (Syntax.tcons Syntax.tyBool (Syntax.tcons (Syntax.tyStruct (L._∷_ 115 (L._∷_ 116 (L._∷_ 101 (L._∷_ 112 (L._∷_ 58 (L._∷_ 58 (L._∷_ 83 (L._∷_ 116 (L._∷_ 101 (L._∷_ 112 L.[])))))))))) (Syntax.tcons (Syntax.tyInt Syntax.w64) (Syntax.tcons (Syntax.tyInt Syntax.w64) (Syntax.tcons (Syntax.tyStruct (L._∷_ 115 (L._∷_ 116 (L._∷_ 101 (L._∷_ 112 (L._∷_ 58 (L._∷_ 58 (L._∷_ 67 (L._∷_ 104 (L._∷_ 97 (L._∷_ 110 (L._∷_ 103 (L._∷_ 101 L.[])))))))))))) (Syntax.tcons (Syntax.tyStruct (L._∷_ 110 (L._∷_ 101 (L._∷_ 116 (L._∷_ 119 (L._∷_ 111 (L._∷_ 114 (L._∷_ 107 (L._∷_ 58 (L._∷_ 58 (L._∷_ 69 (L._∷_ 100 (L._∷_ 105 (L._∷_ 116 L.[]))))))))))))) (Syntax.tcons q7 (Syntax.tcons q7 (Syntax.tcons q7 (Syntax.tcons q7 (Syntax.tcons q2 (Syntax.tcons q2 (Syntax.tcons (Syntax.tyInt Syntax.w64) (Syntax.tcons q6 Syntax.tnil))))))))) (Syntax.tcons (Syntax.tyStruct (L._∷_ 115 (L._∷_ 116 (L._∷_ 101 (L._∷_ 112 (L._∷_ 58 (L._∷_ 58 (L._∷_ 79 (L._∷_ 108 (L._∷_ 100 L.[]))))))))) (Syntax.tcons (Syntax.tyInt Syntax.w64) (Syntax.tcons q6 (Syntax.tcons q7 (Syntax.tcons q7 (Syntax.tcons q7 (Syntax.tcons q7 (Syntax.tcons q4 Syntax.tnil)))))))) Syntax.tnil))) Syntax.tnil)))) Syntax.tnil))))) (L._∷_ q8 (L._∷_ q25 (L._∷_ (8, Rows.sc-here Row.sBool) (L._∷_ (9, Rows.any-gone (Syntax.tyStruct (L._∷_ 114 (L._∷_ 117 (L._∷_ 108 (L._∷_ 101 (L._∷_ 115 (L._∷_ 58 (L._∷_ 58 (L._∷_ 116 (L._∷_ 114 (L._∷_ 105 (L._∷_ 101 (L._∷_ 100 (L._∷_ 58 (L._∷_ 58 (L._∷_ 76 (L._∷_ 111 (L._∷_ 111 (L._∷_ 107 (L._∷_ 101 (L._∷_ 100 L.[])))))))))))))))))))) (Syntax.tcons (Syntax.tyStruct (L._∷_ 114 (L._∷_ 117 (L._∷_ 108 (L._∷_ 101 (L._∷_ 115 (L._∷_ 58 (L._∷_ 58 (L._∷_ 102 (L._∷_ 111 (L._∷_ 117 (L._∷_ 110 (L._∷_ 100 (L._∷_ 58 (L._∷_ 58 (L._∷_ 70 (L._∷_ 111 (L._∷_ 117 (L._∷_ 110 (L._∷_ 100 L.[]))))))))))))))))))) (Syntax.tcons Syntax.tyBool (Syntax.tcons Syntax.tyBool (Syntax.tcons (Syntax.tyStruct (L._∷_ 115 (L._∷_ 116 (L._∷_ 101 (L._∷_ 112 (L._∷_ 58 (L._∷_ 58 (L._∷_ 83 (L._∷_ 116 (L._∷_ 101 (L._∷_ 112 L.[])))))))))) (Syntax.tcons (Syntax.tyInt Syntax.w64) (Syntax.tcons (Syntax.tyInt Syntax.w64) (Syntax.tcons (Syntax.tyStruct (L._∷_ 115 (L._∷_ 116 (L._∷_ 101 (L._∷_ 112 (L._∷_ 58 (L._∷_ 58 (L._∷_ 67 (L._∷_ 104 (L._∷_ 97 (L._∷_ 110 (L._∷_ 103 (L._∷_ 101 L.[])))))))))))) (Syntax.tcons (Syntax.tyStruct (L._∷_ 110 (L._∷_ 101 (L._∷_ 116 (L._∷_ 119 (L._∷_ 111 (L._∷_ 114 (L._∷_ 107 (L._∷_ 58 (L._∷_ 58 (L._∷_ 69 (L._∷_ 100 (L._∷_ 105 (L._∷_ 116 L.[]))))))))))))) (Syntax.tcons q7 (Syntax.tcons q7 (Syntax.tcons q7 (Syntax.tcons q7 (Syntax.tcons q2 (Syntax.tcons q2 (Syntax.tcons (Syntax.tyInt Syntax.w64) (Syntax.tcons q6 Syntax.tnil))))))))) (Syntax.tcons (Syntax.tyStruct (L._∷_ 115 (L._∷_ 116 (L._∷_ 101 (L._∷_ 112 (L._∷_ 58 (L._∷_ 58 (L._∷_ 79 (L._∷_ 108 (L._∷_ 100 L.[]))))))))) (Syntax.tcons (Syntax.tyInt Syntax.w64) (Syntax.tcons q6 (Syntax.tcons q7 (Syntax.tcons q7 (Syntax.tcons q7 (Syntax.tcons q7 (Syntax.tcons q4 Syntax.tnil)))))))) Syntax.tnil))) Syntax.tnil)))) Syntax.tnil)))) (Syntax.tcons q5 Syntax.tnil)))) (L._∷_ q14 (L._∷_ (11, Rows.any-gone (Syntax.tyStruct (L._∷_ 114 (L._∷_ 117 (L._∷_ 108 (L._∷_ 101 (L._∷_ 115 (L._∷_ 58 (L._∷_ 58 (L._∷_ 102 (L._∷_ 111 (L._∷_ 117 (L._∷_ 110 (L._∷_ 100 (L._∷_ 58 (L._∷_ 58 (L._∷_ 70 (L._∷_ 111 (L._∷_ 117 (L._∷_ 110 (L._∷_ 100 L.[]))))))))))))))))))) (Syntax.tcons Syntax.tyBool (Syntax.tcons Syntax.tyBool (Syntax.tcons (Syntax.tyStruct (L._∷_ 115 (L._∷_ 116 (L._∷_ 101 (L._∷_ 112 (L._∷_ 58 (L._∷_ 58 (L._∷_ 83 (L._∷_ 116 (L._∷_ 101 (L._∷_ 112 L.[])))))))))) (Syntax.tcons (Syntax.tyInt Syntax.w64) (Syntax.tcons (Syntax.tyInt Syntax.w64) (Syntax.tcons (Syntax.tyStruct (L._∷_ 115 (L._∷_ 116 (L._∷_ 101 (L._∷_ 112 (L._∷_ 58 (L._∷_ 58 (L._∷_ 67 (L._∷_ 104 (L._∷_ 97 (L._∷_ 110 (L._∷_ 103 (L._∷_ 101 L.[])))))))))))) (Syntax.tcons (Syntax.tyStruct (L._∷_ 110 (L._∷_ 101 (L._∷_ 116 (L._∷_ 119 (L._∷_ 111 (L._∷_ 114 (L._∷_ 107 (L._∷_ 58 (L._∷_ 58 (L._∷_ 69 (L._∷_ 100 (L._∷_ 105 (L._∷_ 116 L.[]))))))))))))) (Syntax.tcons q7 (Syntax.tcons q7 (Syntax.tcons q7 (Syntax.tcons q7 (Syntax.tcons q2 (Syntax.tcons q2 (Syntax.tcons (Syntax.tyInt Syntax.w64) (Syntax.tcons q6 Syntax.tnil))))))))) (Syntax.tcons (Syntax.tyStruct (L._∷_ 115 (L._∷_ 116 (L._∷_ 101 (L._∷_ 112 (L._∷_ 58 (L._∷_ 58 (L._∷_ 79 (L._∷_ 108 (L._∷_ 100 L.[]))))))))) (Syntax.tcons (Syntax.tyInt Syntax.w64) (Syntax.tcons q6 (Syntax.tcons q7 (Syntax.tcons q7 (Syntax.tcons q7 (Syntax.tcons q7 (Syntax.tcons q4 Syntax.tnil)))))))) Syntax.tnil))) Syntax.tnil)))) Syntax.tnil))))) (L._∷_ q28 (L._∷_ q29 (L._∷_ q30 (L._∷_ q31 L.[])))))))))))))))
 
 abbrev pub t37 : L.List Row.Entry
-t37 = L._∷_ q10 (L._∷_ q0 (L._∷_ q11 (L._∷_ q3 (L._∷_ q26 (L._∷_ (5, Rows.any-gone (Syntax.tyStruct (L._∷_ 114 (L._∷_ 117 (L._∷_ 108 (L._∷_ 101 (L._∷_ 115 (L._∷_ 58 (L._∷_ 58 (L._∷_ 102 (L._∷_ 111 (L._∷_ 117 (L._∷_ 110 (L._∷_ 100 (L._∷_ 58 (L._∷_ 58 (L._∷_ 70 (L._∷_ 111 (L._∷_ 117 (L._∷_ 110 (L._∷_ 100 L.[]))))))))))))))))))) (Syntax.tcons Syntax.tyBool (Syntax.tcons Syntax.tyBool (Syntax.tcons (Syntax.tyStruct (L._∷_ 115 (L._∷_ 116 (L._∷_ 101 (L._∷_ 112 (L._∷_ 58 (L._∷_ 58 (L._∷_ 83 (L._∷_ 116 (L._∷_ 101 (L._∷_ 112 L.[])))))))))) (Syntax.tcons (Syntax.tyInt Syntax.w64) (Syntax.tcons (Syntax.tyInt Syntax.w64) (Syntax.tcons (Syntax.tyStruct (L._∷_ 115 (L._∷_ 116 (L._∷_ 101 (L._∷_ 112 (L._∷_ 58 (L._∷_ 58 (L._∷_ 67 (L._∷_ 104 (L._∷_ 97 (L._∷_ 110 (L._∷_ 103 (L._∷_ 101 L.[])))))))))))) (Syntax.tcons (Syntax.tyStruct (L._∷_ 110 (L._∷_ 101 (L._∷_ 116 (L._∷_ 119 (L._∷_ 111 (L._∷_ 114 (L._∷_ 107 (L._∷_ 58 (L._∷_ 58 (L._∷_ 69 (L._∷_ 100 (L._∷_ 105 (L._∷_ 116 L.[]))))))))))))) (Syntax.tcons q7 (Syntax.tcons q7 (Syntax.tcons q7 (Syntax.tcons q7 (Syntax.tcons q2 (Syntax.tcons q2 (Syntax.tcons (Syntax.tyInt Syntax.w64) Syntax.tnil)))))))) (Syntax.tcons (Syntax.tyStruct (L._∷_ 115 (L._∷_ 116 (L._∷_ 101 (L._∷_ 112 (L._∷_ 58 (L._∷_ 58 (L._∷_ 79 (L._∷_ 108 (L._∷_ 100 L.[]))))))))) (Syntax.tcons (Syntax.tyInt Syntax.w64) (Syntax.tcons q6 (Syntax.tcons q7 (Syntax.tcons q7 (Syntax.tcons q7 (Syntax.tcons q7 (Syntax.tcons q4 Syntax.tnil)))))))) Syntax.tnil))) Syntax.tnil)))) Syntax.tnil))))) (L._∷_ q8 (L._∷_ q25 (L._∷_ (8, Rows.sc-here Row.sBool) (L._∷_ (9, Rows.any-gone (Syntax.tyStruct (L._∷_ 114 (L._∷_ 117 (L._∷_ 108 (L._∷_ 101 (L._∷_ 115 (L._∷_ 58 (L._∷_ 58 (L._∷_ 116 (L._∷_ 114 (L._∷_ 105 (L._∷_ 101 (L._∷_ 100 (L._∷_ 58 (L._∷_ 58 (L._∷_ 76 (L._∷_ 111 (L._∷_ 111 (L._∷_ 107 (L._∷_ 101 (L._∷_ 100 L.[])))))))))))))))))))) (Syntax.tcons (Syntax.tyStruct (L._∷_ 114 (L._∷_ 117 (L._∷_ 108 (L._∷_ 101 (L._∷_ 115 (L._∷_ 58 (L._∷_ 58 (L._∷_ 102 (L._∷_ 111 (L._∷_ 117 (L._∷_ 110 (L._∷_ 100 (L._∷_ 58 (L._∷_ 58 (L._∷_ 70 (L._∷_ 111 (L._∷_ 117 (L._∷_ 110 (L._∷_ 100 L.[]))))))))))))))))))) (Syntax.tcons Syntax.tyBool (Syntax.tcons Syntax.tyBool (Syntax.tcons (Syntax.tyStruct (L._∷_ 115 (L._∷_ 116 (L._∷_ 101 (L._∷_ 112 (L._∷_ 58 (L._∷_ 58 (L._∷_ 83 (L._∷_ 116 (L._∷_ 101 (L._∷_ 112 L.[])))))))))) (Syntax.tcons (Syntax.tyInt Syntax.w64) (Syntax.tcons (Syntax.tyInt Syntax.w64) (Syntax.tcons (Syntax.tyStruct (L._∷_ 115 (L._∷_ 116 (L._∷_ 101 (L._∷_ 112 (L._∷_ 58 (L._∷_ 58 (L._∷_ 67 (L._∷_ 104 (L._∷_ 97 (L._∷_ 110 (L._∷_ 103 (L._∷_ 101 L.[])))))))))))) (Syntax.tcons (Syntax.tyStruct (L._∷_ 110 (L._∷_ 101 (L._∷_ 116 (L._∷_ 119 (L._∷_ 111 (L._∷_ 114 (L._∷_ 107 (L._∷_ 58 (L._∷_ 58 (L._∷_ 69 (L._∷_ 100 (L._∷_ 105 (L._∷_ 116 L.[]))))))))))))) (Syntax.tcons q7 (Syntax.tcons q7 (Syntax.tcons q7 (Syntax.tcons q7 (Syntax.tcons q2 (Syntax.tcons q2 (Syntax.tcons (Syntax.tyInt Syntax.w64) Syntax.tnil)))))))) (Syntax.tcons (Syntax.tyStruct (L._∷_ 115 (L._∷_ 116 (L._∷_ 101 (L._∷_ 112 (L._∷_ 58 (L._∷_ 58 (L._∷_ 79 (L._∷_ 108 (L._∷_ 100 L.[]))))))))) (Syntax.tcons (Syntax.tyInt Syntax.w64) (Syntax.tcons q6 (Syntax.tcons q7 (Syntax.tcons q7 (Syntax.tcons q7 (Syntax.tcons q7 (Syntax.tcons q4 Syntax.tnil)))))))) Syntax.tnil))) Syntax.tnil)))) Syntax.tnil)))) (Syntax.tcons q5 Syntax.tnil)))) (L._∷_ q14 (L._∷_ (11, Rows.any-gone (Syntax.tyStruct (L._∷_ 114 (L._∷_ 117 (L._∷_ 108 (L._∷_ 101 (L._∷_ 115 (L._∷_ 58 (L._∷_ 58 (L._∷_ 102 (L._∷_ 111 (L._∷_ 117 (L._∷_ 110 (L._∷_ 100 (L._∷_ 58 (L._∷_ 58 (L._∷_ 70 (L._∷_ 111 (L._∷_ 117 (L._∷_ 110 (L._∷_ 100 L.[]))))))))))))))))))) (Syntax.tcons Syntax.tyBool (Syntax.tcons Syntax.tyBool (Syntax.tcons (Syntax.tyStruct (L._∷_ 115 (L._∷_ 116 (L._∷_ 101 (L._∷_ 112 (L._∷_ 58 (L._∷_ 58 (L._∷_ 83 (L._∷_ 116 (L._∷_ 101 (L._∷_ 112 L.[])))))))))) (Syntax.tcons (Syntax.tyInt Syntax.w64) (Syntax.tcons (Syntax.tyInt Syntax.w64) (Syntax.tcons (Syntax.tyStruct (L._∷_ 115 (L._∷_ 116 (L._∷_ 101 (L._∷_ 112 (L._∷_ 58 (L._∷_ 58 (L._∷_ 67 (L._∷_ 104 (L._∷_ 97 (L._∷_ 110 (L._∷_ 103 (L._∷_ 101 L.[])))))))))))) (Syntax.tcons (Syntax.tyStruct (L._∷_ 110 (L._∷_ 101 (L._∷_ 116 (L._∷_ 119 (L._∷_ 111 (L._∷_ 114 (L._∷_ 107 (L._∷_ 58 (L._∷_ 58 (L._∷_ 69 (L._∷_ 100 (L._∷_ 105 (L._∷_ 116 L.[]))))))))))))) (Syntax.tcons q7 (Syntax.tcons q7 (Syntax.tcons q7 (Syntax.tcons q7 (Syntax.tcons q2 (Syntax.tcons q2 (Syntax.tcons (Syntax.tyInt Syntax.w64) Syntax.tnil)))))))) (Syntax.tcons (Syntax.tyStruct (L._∷_ 115 (L._∷_ 116 (L._∷_ 101 (L._∷_ 112 (L._∷_ 58 (L._∷_ 58 (L._∷_ 79 (L._∷_ 108 (L._∷_ 100 L.[]))))))))) (Syntax.tcons (Syntax.tyInt Syntax.w64) (Syntax.tcons q6 (Syntax.tcons q7 (Syntax.tcons q7 (Syntax.tcons q7 (Syntax.tcons q7 (Syntax.tcons q4 Syntax.tnil)))))))) Syntax.tnil))) Syntax.tnil)))) Syntax.tnil))))) (L._∷_ q28 (L._∷_ q29 (L._∷_ q30 (L._∷_ q31 L.[])))))))))))))))
+t37 = L._∷_ q10 (L._∷_ q0 (L._∷_ q11 (L._∷_ q3 (L._∷_ q26 (L._∷_ (5, Rows.any-gone (Syntax.tyStruct (L._∷_ 114 (L._∷_ 117 (L._∷_ 108 (L._∷_ 101 (L._∷_ 115 (L._∷_ 58 (L._∷_ 58 (L._∷_ 102 (L._∷_ 111 (L._∷_ 117 (L._∷_ 110 (L._∷_ 100 (L._∷_ 58 (L._∷_ 58 (L._∷_ 70 (L._∷_ 111 (L._∷_ 117 (L._∷_ 110 (L._∷_ 100 L.[]))))))))))))))))))) (Syntax.tcons Syntax.tyBool (Syntax.tcons Syntax.tyBool (Syntax.tcons (Syntax.tyStruct (L._∷_ 115 (L._∷_ 116 (L._∷_ 101 (L._∷_ 112 (L._∷_ 58 (L._∷_ 58 (L._∷_ 83 (L._∷_ 116 (L._∷_ 101 (L._∷_ 112 L.[])))))))))) (Syntax.tcons (Syntax.tyInt Syntax.w64) (Syntax.tcons (Syntax.tyInt Syntax.w64) (Syntax.tcons (Syntax.tyStruct (L._∷_ 115 (L._∷_ 116 (L._∷_ 101 (L._∷_ 112 (L._∷_ 58 (L._∷_ 58 (L._∷_ 67 (L._∷_ 104 (L._∷_ 97 (L._∷_ 110 (L._∷_ 103 (L._∷_ 101 L.[])))))))))))) (Syntax.tcons (Syntax.tyStruct (L._∷_ 110 (L._∷_ 101 (L._∷_ 116 (L._∷_ 119 (L._∷_ 111 (L._∷_ 114 (L._∷_ 107 (L._∷_ 58 (L._∷_ 58 (L._∷_ 69 (L._∷_ 100 (L._∷_ 105 (L._∷_ 116 L.[]))))))))))))) (Syntax.tcons q7 (Syntax.tcons q7 (Syntax.tcons q7 (Syntax.tcons q7 (Syntax.tcons q2 (Syntax.tcons q2 (Syntax.tcons (Syntax.tyInt Syntax.w64) (Syntax.tcons q6 Syntax.tnil))))))))) (Syntax.tcons (Syntax.tyStruct (L._∷_ 115 (L._∷_ 116 (L._∷_ 101 (L._∷_ 112 (L._∷_ 58 (L._∷_ 58 (L._∷_ 79 (L._∷_ 108 (L._∷_ 100 L.[]))))))))) (Syntax.tcons (Syntax.tyInt Syntax.w64) (Syntax.tcons q6 (Syntax.tcons q7 (Syntax.tcons q7 (Syntax.tcons q7 (Syntax.tcons q7 (Syntax.tcons q4 Syntax.tnil)))))))) Syntax.tnil))) Syntax.tnil)))) Syntax.tnil))))) (L._∷_ q8 (L._∷_ q25 (L._∷_ (8, Rows.sc-here Row.sBool) (L._∷_ (9, Rows.any-gone (Syntax.tyStruct (L._∷_ 114 (L._∷_ 117 (L._∷_ 108 (L._∷_ 101 (L._∷_ 115 (L._∷_ 58 (L._∷_ 58 (L._∷_ 116 (L._∷_ 114 (L._∷_ 105 (L._∷_ 101 (L._∷_ 100 (L._∷_ 58 (L._∷_ 58 (L._∷_ 76 (L._∷_ 111 (L._∷_ 111 (L._∷_ 107 (L._∷_ 101 (L._∷_ 100 L.[])))))))))))))))))))) (Syntax.tcons (Syntax.tyStruct (L._∷_ 114 (L._∷_ 117 (L._∷_ 108 (L._∷_ 101 (L._∷_ 115 (L._∷_ 58 (L._∷_ 58 (L._∷_ 102 (L._∷_ 111 (L._∷_ 117 (L._∷_ 110 (L._∷_ 100 (L._∷_ 58 (L._∷_ 58 (L._∷_ 70 (L._∷_ 111 (L._∷_ 117 (L._∷_ 110 (L._∷_ 100 L.[]))))))))))))))))))) (Syntax.tcons Syntax.tyBool (Syntax.tcons Syntax.tyBool (Syntax.tcons (Syntax.tyStruct (L._∷_ 115 (L._∷_ 116 (L._∷_ 101 (L._∷_ 112 (L._∷_ 58 (L._∷_ 58 (L._∷_ 83 (L._∷_ 116 (L._∷_ 101 (L._∷_ 112 L.[])))))))))) (Syntax.tcons (Syntax.tyInt Syntax.w64) (Syntax.tcons (Syntax.tyInt Syntax.w64) (Syntax.tcons (Syntax.tyStruct (L._∷_ 115 (L._∷_ 116 (L._∷_ 101 (L._∷_ 112 (L._∷_ 58 (L._∷_ 58 (L._∷_ 67 (L._∷_ 104 (L._∷_ 97 (L._∷_ 110 (L._∷_ 103 (L._∷_ 101 L.[])))))))))))) (Syntax.tcons (Syntax.tyStruct (L._∷_ 110 (L._∷_ 101 (L._∷_ 116 (L._∷_ 119 (L._∷_ 111 (L._∷_ 114 (L._∷_ 107 (L._∷_ 58 (L._∷_ 58 (L._∷_ 69 (L._∷_ 100 (L._∷_ 105 (L._∷_ 116 L.[]))))))))))))) (Syntax.tcons q7 (Syntax.tcons q7 (Syntax.tcons q7 (Syntax.tcons q7 (Syntax.tcons q2 (Syntax.tcons q2 (Syntax.tcons (Syntax.tyInt Syntax.w64) (Syntax.tcons q6 Syntax.tnil))))))))) (Syntax.tcons (Syntax.tyStruct (L._∷_ 115 (L._∷_ 116 (L._∷_ 101 (L._∷_ 112 (L._∷_ 58 (L._∷_ 58 (L._∷_ 79 (L._∷_ 108 (L._∷_ 100 L.[]))))))))) (Syntax.tcons (Syntax.tyInt Syntax.w64) (Syntax.tcons q6 (Syntax.tcons q7 (Syntax.tcons q7 (Syntax.tcons q7 (Syntax.tcons q7 (Syntax.tcons q4 Syntax.tnil)))))))) Syntax.tnil))) Syntax.tnil)))) Syntax.tnil)))) (Syntax.tcons q5 Syntax.tnil)))) (L._∷_ q14 (L._∷_ (11, Rows.any-gone (Syntax.tyStruct (L._∷_ 114 (L._∷_ 117 (L._∷_ 108 (L._∷_ 101 (L._∷_ 115 (L._∷_ 58 (L._∷_ 58 (L._∷_ 102 (L._∷_ 111 (L._∷_ 117 (L._∷_ 110 (L._∷_ 100 (L._∷_ 58 (L._∷_ 58 (L._∷_ 70 (L._∷_ 111 (L._∷_ 117 (L._∷_ 110 (L._∷_ 100 L.[]))))))))))))))))))) (Syntax.tcons Syntax.tyBool (Syntax.tcons Syntax.tyBool (Syntax.tcons (Syntax.tyStruct (L._∷_ 115 (L._∷_ 116 (L._∷_ 101 (L._∷_ 112 (L._∷_ 58 (L._∷_ 58 (L._∷_ 83 (L._∷_ 116 (L._∷_ 101 (L._∷_ 112 L.[])))))))))) (Syntax.tcons (Syntax.tyInt Syntax.w64) (Syntax.tcons (Syntax.tyInt Syntax.w64) (Syntax.tcons (Syntax.tyStruct (L._∷_ 115 (L._∷_ 116 (L._∷_ 101 (L._∷_ 112 (L._∷_ 58 (L._∷_ 58 (L._∷_ 67 (L._∷_ 104 (L._∷_ 97 (L._∷_ 110 (L._∷_ 103 (L._∷_ 101 L.[])))))))))))) (Syntax.tcons (Syntax.tyStruct (L._∷_ 110 (L._∷_ 101 (L._∷_ 116 (L._∷_ 119 (L._∷_ 111 (L._∷_ 114 (L._∷_ 107 (L._∷_ 58 (L._∷_ 58 (L._∷_ 69 (L._∷_ 100 (L._∷_ 105 (L._∷_ 116 L.[]))))))))))))) (Syntax.tcons q7 (Syntax.tcons q7 (Syntax.tcons q7 (Syntax.tcons q7 (Syntax.tcons q2 (Syntax.tcons q2 (Syntax.tcons (Syntax.tyInt Syntax.w64) (Syntax.tcons q6 Syntax.tnil))))))))) (Syntax.tcons (Syntax.tyStruct (L._∷_ 115 (L._∷_ 116 (L._∷_ 101 (L._∷_ 112 (L._∷_ 58 (L._∷_ 58 (L._∷_ 79 (L._∷_ 108 (L._∷_ 100 L.[]))))))))) (Syntax.tcons (Syntax.tyInt Syntax.w64) (Syntax.tcons q6 (Syntax.tcons q7 (Syntax.tcons q7 (Syntax.tcons q7 (Syntax.tcons q7 (Syntax.tcons q4 Syntax.tnil)))))))) Syntax.tnil))) Syntax.tnil)))) Syntax.tnil))))) (L._∷_ q28 (L._∷_ q29 (L._∷_ q30 (L._∷_ q31 L.[])))))))))))))))
 
 abbrev pub t38 : L.List Row.Entry
-t38 = L._∷_ q10 (L._∷_ q0 (L._∷_ q11 (L._∷_ q3 (L._∷_ q26 (L._∷_ (5, Rows.any-gone (Syntax.tyStruct (L._∷_ 114 (L._∷_ 117 (L._∷_ 108 (L._∷_ 101 (L._∷_ 115 (L._∷_ 58 (L._∷_ 58 (L._∷_ 102 (L._∷_ 111 (L._∷_ 117 (L._∷_ 110 (L._∷_ 100 (L._∷_ 58 (L._∷_ 58 (L._∷_ 70 (L._∷_ 111 (L._∷_ 117 (L._∷_ 110 (L._∷_ 100 L.[]))))))))))))))))))) (Syntax.tcons Syntax.tyBool (Syntax.tcons Syntax.tyBool (Syntax.tcons (Syntax.tyStruct (L._∷_ 115 (L._∷_ 116 (L._∷_ 101 (L._∷_ 112 (L._∷_ 58 (L._∷_ 58 (L._∷_ 83 (L._∷_ 116 (L._∷_ 101 (L._∷_ 112 L.[])))))))))) (Syntax.tcons (Syntax.tyInt Syntax.w64) (Syntax.tcons (Syntax.tyInt Syntax.w64) (Syntax.tcons (Syntax.tyStruct (L._∷_ 115 (L._∷_ 116 (L._∷_ 101 (L._∷_ 112 (L._∷_ 58 (L._∷_ 58 (L._∷_ 67 (L._∷_ 104 (L._∷_ 97 (L._∷_ 110 (L._∷_ 103 (L._∷_ 101 L.[])))))))))))) (Syntax.tcons (Syntax.tyStruct (L._∷_ 110 (L._∷_ 101 (L._∷_ 116 (L._∷_ 119 (L._∷_ 111 (L._∷_ 114 (L._∷_ 107 (L._∷_ 58 (L._∷_ 58 (L._∷_ 69 (L._∷_ 100 (L._∷_ 105 (L._∷_ 116 L.[]))))))))))))) (Syntax.tcons q7 (Syntax.tcons q7 (Syntax.tcons q7 (Syntax.tcons q7 (Syntax.tcons q2 (Syntax.tcons q2 (Syntax.tcons (Syntax.tyInt Syntax.w64) Syntax.tnil)))))))) (Syntax.tcons (Syntax.tyStruct (L._∷_ 115 (L._∷_ 116 (L._∷_ 101 (L._∷_ 112 (L._∷_ 58 (L._∷_ 58 (L._∷_ 79 (L._∷_ 108 (L._∷_ 100 L.[]))))))))) (Syntax.tcons (Syntax.tyInt Syntax.w64) (Syntax.tcons q6 (Syntax.tcons q7 (Syntax.tcons q7 (Syntax.tcons q7 (Syntax.tcons q7 (Syntax.tcons q4 Syntax.tnil)))))))) Syntax.tnil))) Syntax.tnil)))) Syntax.tnil))))) (L._∷_ q8 (L._∷_ q25 (L._∷_ (8, Rows.sc-here Row.sBool) (L._∷_ (9, Rows.any-gone (Syntax.tyStruct (L._∷_ 114 (L._∷_ 117 (L._∷_ 108 (L._∷_ 101 (L._∷_ 115 (L._∷_ 58 (L._∷_ 58 (L._∷_ 116 (L._∷_ 114 (L._∷_ 105 (L._∷_ 101 (L._∷_ 100 (L._∷_ 58 (L._∷_ 58 (L._∷_ 76 (L._∷_ 111 (L._∷_ 111 (L._∷_ 107 (L._∷_ 101 (L._∷_ 100 L.[])))))))))))))))))))) (Syntax.tcons (Syntax.tyStruct (L._∷_ 114 (L._∷_ 117 (L._∷_ 108 (L._∷_ 101 (L._∷_ 115 (L._∷_ 58 (L._∷_ 58 (L._∷_ 102 (L._∷_ 111 (L._∷_ 117 (L._∷_ 110 (L._∷_ 100 (L._∷_ 58 (L._∷_ 58 (L._∷_ 70 (L._∷_ 111 (L._∷_ 117 (L._∷_ 110 (L._∷_ 100 L.[]))))))))))))))))))) (Syntax.tcons Syntax.tyBool (Syntax.tcons Syntax.tyBool (Syntax.tcons (Syntax.tyStruct (L._∷_ 115 (L._∷_ 116 (L._∷_ 101 (L._∷_ 112 (L._∷_ 58 (L._∷_ 58 (L._∷_ 83 (L._∷_ 116 (L._∷_ 101 (L._∷_ 112 L.[])))))))))) (Syntax.tcons (Syntax.tyInt Syntax.w64) (Syntax.tcons (Syntax.tyInt Syntax.w64) (Syntax.tcons (Syntax.tyStruct (L._∷_ 115 (L._∷_ 116 (L._∷_ 101 (L._∷_ 112 (L._∷_ 58 (L._∷_ 58 (L._∷_ 67 (L._∷_ 104 (L._∷_ 97 (L._∷_ 110 (L._∷_ 103 (L._∷_ 101 L.[])))))))))))) (Syntax.tcons (Syntax.tyStruct (L._∷_ 110 (L._∷_ 101 (L._∷_ 116 (L._∷_ 119 (L._∷_ 111 (L._∷_ 114 (L._∷_ 107 (L._∷_ 58 (L._∷_ 58 (L._∷_ 69 (L._∷_ 100 (L._∷_ 105 (L._∷_ 116 L.[]))))))))))))) (Syntax.tcons q7 (Syntax.tcons q7 (Syntax.tcons q7 (Syntax.tcons q7 (Syntax.tcons q2 (Syntax.tcons q2 (Syntax.tcons (Syntax.tyInt Syntax.w64) Syntax.tnil)))))))) (Syntax.tcons (Syntax.tyStruct (L._∷_ 115 (L._∷_ 116 (L._∷_ 101 (L._∷_ 112 (L._∷_ 58 (L._∷_ 58 (L._∷_ 79 (L._∷_ 108 (L._∷_ 100 L.[]))))))))) (Syntax.tcons (Syntax.tyInt Syntax.w64) (Syntax.tcons q6 (Syntax.tcons q7 (Syntax.tcons q7 (Syntax.tcons q7 (Syntax.tcons q7 (Syntax.tcons q4 Syntax.tnil)))))))) Syntax.tnil))) Syntax.tnil)))) Syntax.tnil)))) (Syntax.tcons q5 Syntax.tnil)))) (L._∷_ (10, Rows.any-gone (Syntax.tyStruct (L._∷_ 114 (L._∷_ 117 (L._∷_ 108 (L._∷_ 101 (L._∷_ 115 (L._∷_ 58 (L._∷_ 58 (L._∷_ 102 (L._∷_ 111 (L._∷_ 117 (L._∷_ 110 (L._∷_ 100 (L._∷_ 58 (L._∷_ 58 (L._∷_ 70 (L._∷_ 111 (L._∷_ 117 (L._∷_ 110 (L._∷_ 100 L.[]))))))))))))))))))) (Syntax.tcons Syntax.tyBool (Syntax.tcons Syntax.tyBool (Syntax.tcons (Syntax.tyStruct (L._∷_ 115 (L._∷_ 116 (L._∷_ 101 (L._∷_ 112 (L._∷_ 58 (L._∷_ 58 (L._∷_ 83 (L._∷_ 116 (L._∷_ 101 (L._∷_ 112 L.[])))))))))) (Syntax.tcons (Syntax.tyInt Syntax.w64) (Syntax.tcons (Syntax.tyInt Syntax.w64) (Syntax.tcons (Syntax.tyStruct (L._∷_ 115 (L._∷_ 116 (L._∷_ 101 (L._∷_ 112 (L._∷_ 58 (L._∷_ 58 (L._∷_ 67 (L._∷_ 104 (L._∷_ 97 (L._∷_ 110 (L._∷_ 103 (L._∷_ 101 L.[])))))))))))) (Syntax.tcons (Syntax.tyStruct (L._∷_ 110 (L._∷_ 101 (L._∷_ 116 (L._∷_ 119 (L._∷_ 111 (L._∷_ 114 (L._∷_ 107 (L._∷_ 58 (L._∷_ 58 (L._∷_ 69 (L._∷_ 100 (L._∷_ 105 (L._∷_ 116 L.[]))))))))))))) (Syntax.tcons q7 (Syntax.tcons q7 (Syntax.tcons q7 (Syntax.tcons q7 (Syntax.tcons q2 (Syntax.tcons q2 (Syntax.tcons (Syntax.tyInt Syntax.w64) Syntax.tnil)))))))) (Syntax.tcons (Syntax.tyStruct (L._∷_ 115 (L._∷_ 116 (L._∷_ 101 (L._∷_ 112 (L._∷_ 58 (L._∷_ 58 (L._∷_ 79 (L._∷_ 108 (L._∷_ 100 L.[]))))))))) (Syntax.tcons (Syntax.tyInt Syntax.w64) (Syntax.tcons q6 (Syntax.tcons q7 (Syntax.tcons q7 (Syntax.tcons q7 (Syntax.tcons q7 (Syntax.tcons q4 Syntax.tnil)))))))) Syntax.tnil))) Syntax.tnil)))) Syntax.tnil))))) (L._∷_ (11, Rows.any-gone (Syntax.tyStruct (L._∷_ 114 (L._∷_ 117 (L._∷_ 108 (L._∷_ 101 (L._∷_ 115 (L._∷_ 58 (L._∷_ 58 (L._∷_ 102 (L._∷_ 111 (L._∷_ 117 (L._∷_ 110 (L._∷_ 100 (L._∷_ 58 (L._∷_ 58 (L._∷_ 70 (L._∷_ 111 (L._∷_ 117 (L._∷_ 110 (L._∷_ 100 L.[]))))))))))))))))))) (Syntax.tcons Syntax.tyBool (Syntax.tcons Syntax.tyBool (Syntax.tcons (Syntax.tyStruct (L._∷_ 115 (L._∷_ 116 (L._∷_ 101 (L._∷_ 112 (L._∷_ 58 (L._∷_ 58 (L._∷_ 83 (L._∷_ 116 (L._∷_ 101 (L._∷_ 112 L.[])))))))))) (Syntax.tcons (Syntax.tyInt Syntax.w64) (Syntax.tcons (Syntax.tyInt Syntax.w64) (Syntax.tcons (Syntax.tyStruct (L._∷_ 115 (L._∷_ 116 (L._∷_ 101 (L._∷_ 112 (L._∷_ 58 (L._∷_ 58 (L._∷_ 67 (L._∷_ 104 (L._∷_ 97 (L._∷_ 110 (L._∷_ 103 (L._∷_ 101 L.[])))))))))))) (Syntax.tcons (Syntax.tyStruct (L._∷_ 110 (L._∷_ 101 (L._∷_ 116 (L._∷_ 119 (L._∷_ 111 (L._∷_ 114 (L._∷_ 107 (L._∷_ 58 (L._∷_ 58 (L._∷_ 69 (L._∷_ 100 (L._∷_ 105 (L._∷_ 116 L.[]))))))))))))) (Syntax.tcons q7 (Syntax.tcons q7 (Syntax.tcons q7 (Syntax.tcons q7 (Syntax.tcons q2 (Syntax.tcons q2 (Syntax.tcons (Syntax.tyInt Syntax.w64) Syntax.tnil)))))))) (Syntax.tcons (Syntax.tyStruct (L._∷_ 115 (L._∷_ 116 (L._∷_ 101 (L._∷_ 112 (L._∷_ 58 (L._∷_ 58 (L._∷_ 79 (L._∷_ 108 (L._∷_ 100 L.[]))))))))) (Syntax.tcons (Syntax.tyInt Syntax.w64) (Syntax.tcons q6 (Syntax.tcons q7 (Syntax.tcons q7 (Syntax.tcons q7 (Syntax.tcons q7 (Syntax.tcons q4 Syntax.tnil)))))))) Syntax.tnil))) Syntax.tnil)))) Syntax.tnil))))) (L._∷_ q28 (L._∷_ q29 (L._∷_ q30 (L._∷_ q31 L.[])))))))))))))))
+t38 = L._∷_ q10 (L._∷_ q0 (L._∷_ q11 (L._∷_ q3 (L._∷_ q26 (L._∷_ (5, Rows.any-gone (Syntax.tyStruct (L._∷_ 114 (L._∷_ 117 (L._∷_ 108 (L._∷_ 101 (L._∷_ 115 (L._∷_ 58 (L._∷_ 58 (L._∷_ 102 (L._∷_ 111 (L._∷_ 117 (L._∷_ 110 (L._∷_ 100 (L._∷_ 58 (L._∷_ 58 (L._∷_ 70 (L._∷_ 111 (L._∷_ 117 (L._∷_ 110 (L._∷_ 100 L.[]))))))))))))))))))) (Syntax.tcons Syntax.tyBool (Syntax.tcons Syntax.tyBool (Syntax.tcons (Syntax.tyStruct (L._∷_ 115 (L._∷_ 116 (L._∷_ 101 (L._∷_ 112 (L._∷_ 58 (L._∷_ 58 (L._∷_ 83 (L._∷_ 116 (L._∷_ 101 (L._∷_ 112 L.[])))))))))) (Syntax.tcons (Syntax.tyInt Syntax.w64) (Syntax.tcons (Syntax.tyInt Syntax.w64) (Syntax.tcons (Syntax.tyStruct (L._∷_ 115 (L._∷_ 116 (L._∷_ 101 (L._∷_ 112 (L._∷_ 58 (L._∷_ 58 (L._∷_ 67 (L._∷_ 104 (L._∷_ 97 (L._∷_ 110 (L._∷_ 103 (L._∷_ 101 L.[])))))))))))) (Syntax.tcons (Syntax.tyStruct (L._∷_ 110 (L._∷_ 101 (L._∷_ 116 (L._∷_ 119 (L._∷_ 111 (L._∷_ 114 (L._∷_ 107 (L._∷_ 58 (L._∷_ 58 (L._∷_ 69 (L._∷_ 100 (L._∷_ 105 (L._∷_ 116 L.[]))))))))))))) (Syntax.tcons q7 (Syntax.tcons q7 (Syntax.tcons q7 (Syntax.tcons q7 (Syntax.tcons q2 (Syntax.tcons q2 (Syntax.tcons (Syntax.tyInt Syntax.w64) (Syntax.tcons q6 Syntax.tnil))))))))) (Syntax.tcons (Syntax.tyStruct (L._∷_ 115 (L._∷_ 116 (L._∷_ 101 (L._∷_ 112 (L._∷_ 58 (L._∷_ 58 (L._∷_ 79 (L._∷_ 108 (L._∷_ 100 L.[]))))))))) (Syntax.tcons (Syntax.tyInt Syntax.w64) (Syntax.tcons q6 (Syntax.tcons q7 (Syntax.tcons q7 (Syntax.tcons q7 (Syntax.tcons q7 (Syntax.tcons q4 Syntax.tnil)))))))) Syntax.tnil))) Syntax.tnil)))) Syntax.tnil))))) (L._∷_ q8 (L._∷_ q25 (L._∷_ (8, Rows.sc-here Row.sBool) (L._∷_ (9, Rows.any-gone (Syntax.tyStruct (L._∷_ 114 (L._∷_ 117 (L._∷_ 108 (L._∷_ 101 (L._∷_ 115 (L._∷_ 58 (L._∷_ 58 (L._∷_ 116 (L._∷_ 114 (L._∷_ 105 (L._∷_ 101 (L._∷_ 100 (L._∷_ 58 (L._∷_ 58 (L._∷_ 76 (L._∷_ 111 (L._∷_ 111 (L._∷_ 107 (L._∷_ 101 (L._∷_ 100 L.[])))))))))))))))))))) (Syntax.tcons (Syntax.tyStruct (L._∷_ 114 (L._∷_ 117 (L._∷_ 108 (L._∷_ 101 (L._∷_ 115 (L._∷_ 58 (L._∷_ 58 (L._∷_ 102 (L._∷_ 111 (L._∷_ 117 (L._∷_ 110 (L._∷_ 100 (L._∷_ 58 (L._∷_ 58 (L._∷_ 70 (L._∷_ 111 (L._∷_ 117 (L._∷_ 110 (L._∷_ 100 L.[]))))))))))))))))))) (Syntax.tcons Syntax.tyBool (Syntax.tcons Syntax.tyBool (Syntax.tcons (Syntax.tyStruct (L._∷_ 115 (L._∷_ 116 (L._∷_ 101 (L._∷_ 112 (L._∷_ 58 (L._∷_ 58 (L._∷_ 83 (L._∷_ 116 (L._∷_ 101 (L._∷_ 112 L.[])))))))))) (Syntax.tcons (Syntax.tyInt Syntax.w64) (Syntax.tcons (Syntax.tyInt Syntax.w64) (Syntax.tcons (Syntax.tyStruct (L._∷_ 115 (L._∷_ 116 (L._∷_ 101 (L._∷_ 112 (L._∷_ 58 (L._∷_ 58 (L._∷_ 67 (L._∷_ 104 (L._∷_ 97 (L._∷_ 110 (L._∷_ 103 (L._∷_ 101 L.[])))))))))))) (Syntax.tcons (Syntax.tyStruct (L._∷_ 110 (L._∷_ 101 (L._∷_ 116 (L._∷_ 119 (L._∷_ 111 (L._∷_ 114 (L._∷_ 107 (L._∷_ 58 (L._∷_ 58 (L._∷_ 69 (L._∷_ 100 (L._∷_ 105 (L._∷_ 116 L.[]))))))))))))) (Syntax.tcons q7 (Syntax.tcons q7 (Syntax.tcons q7 (Syntax.tcons q7 (Syntax.tcons q2 (Syntax.tcons q2 (Syntax.tcons (Syntax.tyInt Syntax.w64) (Syntax.tcons q6 Syntax.tnil))))))))) (Syntax.tcons (Syntax.tyStruct (L._∷_ 115 (L._∷_ 116 (L._∷_ 101 (L._∷_ 112 (L._∷_ 58 (L._∷_ 58 (L._∷_ 79 (L._∷_ 108 (L._∷_ 100 L.[]))))))))) (Syntax.tcons (Syntax.tyInt Syntax.w64) (Syntax.tcons q6 (Syntax.tcons q7 (Syntax.tcons q7 (Syntax.tcons q7 (Syntax.tcons q7 (Syntax.tcons q4 Syntax.tnil)))))))) Syntax.tnil))) Syntax.tnil)))) Syntax.tnil)))) (Syntax.tcons q5 Syntax.tnil)))) (L._∷_ (10, Rows.any-gone (Syntax.tyStruct (L._∷_ 114 (L._∷_ 117 (L._∷_ 108 (L._∷_ 101 (L._∷_ 115 (L._∷_ 58 (L._∷_ 58 (L._∷_ 102 (L._∷_ 111 (L._∷_ 117 (L._∷_ 110 (L._∷_ 100 (L._∷_ 58 (L._∷_ 58 (L._∷_ 70 (L._∷_ 111 (L._∷_ 117 (L._∷_ 110 (L._∷_ 100 L.[]))))))))))))))))))) (Syntax.tcons Syntax.tyBool (Syntax.tcons Syntax.tyBool (Syntax.tcons (Syntax.tyStruct (L._∷_ 115 (L._∷_ 116 (L._∷_ 101 (L._∷_ 112 (L._∷_ 58 (L._∷_ 58 (L._∷_ 83 (L._∷_ 116 (L._∷_ 101 (L._∷_ 112 L.[])))))))))) (Syntax.tcons (Syntax.tyInt Syntax.w64) (Syntax.tcons (Syntax.tyInt Syntax.w64) (Syntax.tcons (Syntax.tyStruct (L._∷_ 115 (L._∷_ 116 (L._∷_ 101 (L._∷_ 112 (L._∷_ 58 (L._∷_ 58 (L._∷_ 67 (L._∷_ 104 (L._∷_ 97 (L._∷_ 110 (L._∷_ 103 (L._∷_ 101 L.[])))))))))))) (Syntax.tcons (Syntax.tyStruct (L._∷_ 110 (L._∷_ 101 (L._∷_ 116 (L._∷_ 119 (L._∷_ 111 (L._∷_ 114 (L._∷_ 107 (L._∷_ 58 (L._∷_ 58 (L._∷_ 69 (L._∷_ 100 (L._∷_ 105 (L._∷_ 116 L.[]))))))))))))) (Syntax.tcons q7 (Syntax.tcons q7 (Syntax.tcons q7 (Syntax.tcons q7 (Syntax.tcons q2 (Syntax.tcons q2 (Syntax.tcons (Syntax.tyInt Syntax.w64) (Syntax.tcons q6 Syntax.tnil))))))))) (Syntax.tcons (Syntax.tyStruct (L._∷_ 115 (L._∷_ 116 (L._∷_ 101 (L._∷_ 112 (L._∷_ 58 (L._∷_ 58 (L._∷_ 79 (L._∷_ 108 (L._∷_ 100 L.[]))))))))) (Syntax.tcons (Syntax.tyInt Syntax.w64) (Syntax.tcons q6 (Syntax.tcons q7 (Syntax.tcons q7 (Syntax.tcons q7 (Syntax.tcons q7 (Syntax.tcons q4 Syntax.tnil)))))))) Syntax.tnil))) Syntax.tnil)))) Syntax.tnil))))) (L._∷_ (11, Rows.any-gone (Syntax.tyStruct (L._∷_ 114 (L._∷_ 117 (L._∷_ 108 (L._∷_ 101 (L._∷_ 115 (L._∷_ 58 (L._∷_ 58 (L._∷_ 102 (L._∷_ 111 (L._∷_ 117 (L._∷_ 110 (L._∷_ 100 (L._∷_ 58 (L._∷_ 58 (L._∷_ 70 (L._∷_ 111 (L._∷_ 117 (L._∷_ 110 (L._∷_ 100 L.[]))))))))))))))))))) (Syntax.tcons Syntax.tyBool (Syntax.tcons Syntax.tyBool (Syntax.tcons (Syntax.tyStruct (L._∷_ 115 (L._∷_ 116 (L._∷_ 101 (L._∷_ 112 (L._∷_ 58 (L._∷_ 58 (L._∷_ 83 (L._∷_ 116 (L._∷_ 101 (L._∷_ 112 L.[])))))))))) (Syntax.tcons (Syntax.tyInt Syntax.w64) (Syntax.tcons (Syntax.tyInt Syntax.w64) (Syntax.tcons (Syntax.tyStruct (L._∷_ 115 (L._∷_ 116 (L._∷_ 101 (L._∷_ 112 (L._∷_ 58 (L._∷_ 58 (L._∷_ 67 (L._∷_ 104 (L._∷_ 97 (L._∷_ 110 (L._∷_ 103 (L._∷_ 101 L.[])))))))))))) (Syntax.tcons (Syntax.tyStruct (L._∷_ 110 (L._∷_ 101 (L._∷_ 116 (L._∷_ 119 (L._∷_ 111 (L._∷_ 114 (L._∷_ 107 (L._∷_ 58 (L._∷_ 58 (L._∷_ 69 (L._∷_ 100 (L._∷_ 105 (L._∷_ 116 L.[]))))))))))))) (Syntax.tcons q7 (Syntax.tcons q7 (Syntax.tcons q7 (Syntax.tcons q7 (Syntax.tcons q2 (Syntax.tcons q2 (Syntax.tcons (Syntax.tyInt Syntax.w64) (Syntax.tcons q6 Syntax.tnil))))))))) (Syntax.tcons (Syntax.tyStruct (L._∷_ 115 (L._∷_ 116 (L._∷_ 101 (L._∷_ 112 (L._∷_ 58 (L._∷_ 58 (L._∷_ 79 (L._∷_ 108 (L._∷_ 100 L.[]))))))))) (Syntax.tcons (Syntax.tyInt Syntax.w64) (Syntax.tcons q6 (Syntax.tcons q7 (Syntax.tcons q7 (Syntax.tcons q7 (Syntax.tcons q7 (Syntax.tcons q4 Syntax.tnil)))))))) Syntax.tnil))) Syntax.tnil)))) Syntax.tnil))))) (L._∷_ q28 (L._∷_ q29 (L._∷_ q30 (L._∷_ q31 L.[])))))))))))))))
 
 abbrev pub t39 : L.List Row.Entry
-t39 = L._∷_ q10 (L._∷_ q0 (L._∷_ q11 (L._∷_ q3 (L._∷_ q24 (L._∷_ (5, Rows.any-gone (Syntax.tyStruct (L._∷_ 114 (L._∷_ 117 (L._∷_ 108 (L._∷_ 101 (L._∷_ 115 (L._∷_ 58 (L._∷_ 58 (L._∷_ 102 (L._∷_ 111 (L._∷_ 117 (L._∷_ 110 (L._∷_ 100 (L._∷_ 58 (L._∷_ 58 (L._∷_ 70 (L._∷_ 111 (L._∷_ 117 (L._∷_ 110 (L._∷_ 100 L.[]))))))))))))))))))) (Syntax.tcons Syntax.tyBool (Syntax.tcons Syntax.tyBool (Syntax.tcons (Syntax.tyStruct (L._∷_ 115 (L._∷_ 116 (L._∷_ 101 (L._∷_ 112 (L._∷_ 58 (L._∷_ 58 (L._∷_ 83 (L._∷_ 116 (L._∷_ 101 (L._∷_ 112 L.[])))))))))) (Syntax.tcons (Syntax.tyInt Syntax.w64) (Syntax.tcons (Syntax.tyInt Syntax.w64) (Syntax.tcons (Syntax.tyStruct (L._∷_ 115 (L._∷_ 116 (L._∷_ 101 (L._∷_ 112 (L._∷_ 58 (L._∷_ 58 (L._∷_ 67 (L._∷_ 104 (L._∷_ 97 (L._∷_ 110 (L._∷_ 103 (L._∷_ 101 L.[])))))))))))) (Syntax.tcons (Syntax.tyStruct (L._∷_ 110 (L._∷_ 101 (L._∷_ 116 (L._∷_ 119 (L._∷_ 111 (L._∷_ 114 (L._∷_ 107 (L._∷_ 58 (L._∷_ 58 (L._∷_ 69 (L._∷_ 100 (L._∷_ 105 (L._∷_ 116 L.[]))))))))))))) (Syntax.tcons q7 (Syntax.tcons q7 (Syntax.tcons q7 (Syntax.tcons q7 (Syntax.tcons q2 (Syntax.tcons q2 (Syntax.tcons (Syntax.tyInt Syntax.w64) Syntax.tnil)))))))) (Syntax.tcons (Syntax.tyStruct (L._∷_ 115 (L._∷_ 116 (L._∷_ 101 (L._∷_ 112 (L._∷_ 58 (L._∷_ 58 (L._∷_ 79 (L._∷_ 108 (L._∷_ 100 L.[]))))))))) (Syntax.tcons (Syntax.tyInt Syntax.w64) (Syntax.tcons q6 (Syntax.tcons q7 (Syntax.tcons q7 (Syntax.tcons q7 (Syntax.tcons q7 (Syntax.tcons q4 Syntax.tnil)))))))) Syntax.tnil))) Syntax.tnil)))) Syntax.tnil))))) (L._∷_ q8 (L._∷_ q25 (L._∷_ (8, Rows.sc-here Row.sBool) (L._∷_ (9, Rows.any-gone (Syntax.tyStruct (L._∷_ 114 (L._∷_ 117 (L._∷_ 108 (L._∷_ 101 (L._∷_ 115 (L._∷_ 58 (L._∷_ 58 (L._∷_ 116 (L._∷_ 114 (L._∷_ 105 (L._∷_ 101 (L._∷_ 100 (L._∷_ 58 (L._∷_ 58 (L._∷_ 76 (L._∷_ 111 (L._∷_ 111 (L._∷_ 107 (L._∷_ 101 (L._∷_ 100 L.[])))))))))))))))))))) (Syntax.tcons (Syntax.tyStruct (L._∷_ 114 (L._∷_ 117 (L._∷_ 108 (L._∷_ 101 (L._∷_ 115 (L._∷_ 58 (L._∷_ 58 (L._∷_ 102 (L._∷_ 111 (L._∷_ 117 (L._∷_ 110 (L._∷_ 100 (L._∷_ 58 (L._∷_ 58 (L._∷_ 70 (L._∷_ 111 (L._∷_ 117 (L._∷_ 110 (L._∷_ 100 L.[]))))))))))))))))))) (Syntax.tcons Syntax.tyBool (Syntax.tcons Syntax.tyBool (Syntax.tcons (Syntax.tyStruct (L._∷_ 115 (L._∷_ 116 (L._∷_ 101 (L._∷_ 112 (L._∷_ 58 (L._∷_ 58 (L._∷_ 83 (L._∷_ 116 (L._∷_ 101 (L._∷_ 112 L.[])))))))))) (Syntax.tcons (Syntax.tyInt Syntax.w64) (Syntax.tcons (Syntax.tyInt Syntax.w64) (Syntax.tcons (Syntax.tyStruct (L._∷_ 115 (L._∷_ 116 (L._∷_ 101 (L._∷_ 112 (L._∷_ 58 (L._∷_ 58 (L._∷_ 67 (L._∷_ 104 (L._∷_ 97 (L._∷_ 110 (L._∷_ 103 (L._∷_ 101 L.[])))))))))))) (Syntax.tcons (Syntax.tyStruct (L._∷_ 110 (L._∷_ 101 (L._∷_ 116 (L._∷_ 119 (L._∷_ 111 (L._∷_ 114 (L._∷_ 107 (L._∷_ 58 (L._∷_ 58 (L._∷_ 69 (L._∷_ 100 (L._∷_ 105 (L._∷_ 116 L.[]))))))))))))) (Syntax.tcons q7 (Syntax.tcons q7 (Syntax.tcons q7 (Syntax.tcons q7 (Syntax.tcons q2 (Syntax.tcons q2 (Syntax.tcons (Syntax.tyInt Syntax.w64) Syntax.tnil)))))))) (Syntax.tcons (Syntax.tyStruct (L._∷_ 115 (L._∷_ 116 (L._∷_ 101 (L._∷_ 112 (L._∷_ 58 (L._∷_ 58 (L._∷_ 79 (L._∷_ 108 (L._∷_ 100 L.[]))))))))) (Syntax.tcons (Syntax.tyInt Syntax.w64) (Syntax.tcons q6 (Syntax.tcons q7 (Syntax.tcons q7 (Syntax.tcons q7 (Syntax.tcons q7 (Syntax.tcons q4 Syntax.tnil)))))))) Syntax.tnil))) Syntax.tnil)))) Syntax.tnil)))) (Syntax.tcons q5 Syntax.tnil)))) (L._∷_ (10, Rows.any-gone (Syntax.tyStruct (L._∷_ 114 (L._∷_ 117 (L._∷_ 108 (L._∷_ 101 (L._∷_ 115 (L._∷_ 58 (L._∷_ 58 (L._∷_ 102 (L._∷_ 111 (L._∷_ 117 (L._∷_ 110 (L._∷_ 100 (L._∷_ 58 (L._∷_ 58 (L._∷_ 70 (L._∷_ 111 (L._∷_ 117 (L._∷_ 110 (L._∷_ 100 L.[]))))))))))))))))))) (Syntax.tcons Syntax.tyBool (Syntax.tcons Syntax.tyBool (Syntax.tcons (Syntax.tyStruct (L._∷_ 115 (L._∷_ 116 (L._∷_ 101 (L._∷_ 112 (L._∷_ 58 (L._∷_ 58 (L._∷_ 83 (L._∷_ 116 (L._∷_ 101 (L._∷_ 112 L.[])))))))))) (Syntax.tcons (Syntax.tyInt Syntax.w64) (Syntax.tcons (Syntax.tyInt Syntax.w64) (Syntax.tcons (Syntax.tyStruct (L._∷_ 115 (L._∷_ 116 (L._∷_ 101 (L._∷_ 112 (L._∷_ 58 (L._∷_ 58 (L._∷_ 67 (L._∷_ 104 (L._∷_ 97 (L._∷_ 110 (L._∷_ 103 (L._∷_ 101 L.[])))))))))))) (Syntax.tcons (Syntax.tyStruct (L._∷_ 110 (L._∷_ 101 (L._∷_ 116 (L._∷_ 119 (L._∷_ 111 (L._∷_ 114 (L._∷_ 107 (L._∷_ 58 (L._∷_ 58 (L._∷_ 69 (L._∷_ 100 (L._∷_ 105 (L._∷_ 116 L.[]))))))))))))) (Syntax.tcons q7 (Syntax.tcons q7 (Syntax.tcons q7 (Syntax.tcons q7 (Syntax.tcons q2 (Syntax.tcons q2 (Syntax.tcons (Syntax.tyInt Syntax.w64) Syntax.tnil)))))))) (Syntax.tcons (Syntax.tyStruct (L._∷_ 115 (L._∷_ 116 (L._∷_ 101 (L._∷_ 112 (L._∷_ 58 (L._∷_ 58 (L._∷_ 79 (L._∷_ 108 (L._∷_ 100 L.[]))))))))) (Syntax.tcons (Syntax.tyInt Syntax.w64) (Syntax.tcons q6 (Syntax.tcons q7 (Syntax.tcons q7 (Syntax.tcons q7 (Syntax.tcons q7 (Syntax.tcons q4 Syntax.tnil)))))))) Syntax.tnil))) Syntax.tnil)))) Syntax.tnil))))) (L._∷_ (11, Rows.any-gone (Syntax.tyStruct (L._∷_ 114 (L._∷_ 117 (L._∷_ 108 (L._∷_ 101 (L._∷_ 115 (L._∷_ 58 (L._∷_ 58 (L._∷_ 102 (L._∷_ 111 (L._∷_ 117 (L._∷_ 110 (L._∷_ 100 (L._∷_ 58 (L._∷_ 58 (L._∷_ 70 (L._∷_ 111 (L._∷_ 117 (L._∷_ 110 (L._∷_ 100 L.[]))))))))))))))))))) (Syntax.tcons Syntax.tyBool (Syntax.tcons Syntax.tyBool (Syntax.tcons (Syntax.tyStruct (L._∷_ 115 (L._∷_ 116 (L._∷_ 101 (L._∷_ 112 (L._∷_ 58 (L._∷_ 58 (L._∷_ 83 (L._∷_ 116 (L._∷_ 101 (L._∷_ 112 L.[])))))))))) (Syntax.tcons (Syntax.tyInt Syntax.w64) (Syntax.tcons (Syntax.tyInt Syntax.w64) (Syntax.tcons (Syntax.tyStruct (L._∷_ 115 (L._∷_ 116 (L._∷_ 101 (L._∷_ 112 (L._∷_ 58 (L._∷_ 58 (L._∷_ 67 (L._∷_ 104 (L._∷_ 97 (L._∷_ 110 (L._∷_ 103 (L._∷_ 101 L.[])))))))))))) (Syntax.tcons (Syntax.tyStruct (L._∷_ 110 (L._∷_ 101 (L._∷_ 116 (L._∷_ 119 (L._∷_ 111 (L._∷_ 114 (L._∷_ 107 (L._∷_ 58 (L._∷_ 58 (L._∷_ 69 (L._∷_ 100 (L._∷_ 105 (L._∷_ 116 L.[]))))))))))))) (Syntax.tcons q7 (Syntax.tcons q7 (Syntax.tcons q7 (Syntax.tcons q7 (Syntax.tcons q2 (Syntax.tcons q2 (Syntax.tcons (Syntax.tyInt Syntax.w64) Syntax.tnil)))))))) (Syntax.tcons (Syntax.tyStruct (L._∷_ 115 (L._∷_ 116 (L._∷_ 101 (L._∷_ 112 (L._∷_ 58 (L._∷_ 58 (L._∷_ 79 (L._∷_ 108 (L._∷_ 100 L.[]))))))))) (Syntax.tcons (Syntax.tyInt Syntax.w64) (Syntax.tcons q6 (Syntax.tcons q7 (Syntax.tcons q7 (Syntax.tcons q7 (Syntax.tcons q7 (Syntax.tcons q4 Syntax.tnil)))))))) Syntax.tnil))) Syntax.tnil)))) Syntax.tnil))))) (L._∷_ q28 (L._∷_ q29 (L._∷_ q30 (L._∷_ q31 L.[])))))))))))))))
+t39 = L._∷_ q10 (L._∷_ q0 (L._∷_ q11 (L._∷_ q3 (L._∷_ q24 (L._∷_ (5, Rows.any-gone (Syntax.tyStruct (L._∷_ 114 (L._∷_ 117 (L._∷_ 108 (L._∷_ 101 (L._∷_ 115 (L._∷_ 58 (L._∷_ 58 (L._∷_ 102 (L._∷_ 111 (L._∷_ 117 (L._∷_ 110 (L._∷_ 100 (L._∷_ 58 (L._∷_ 58 (L._∷_ 70 (L._∷_ 111 (L._∷_ 117 (L._∷_ 110 (L._∷_ 100 L.[]))))))))))))))))))) (Syntax.tcons Syntax.tyBool (Syntax.tcons Syntax.tyBool (Syntax.tcons (Syntax.tyStruct (L._∷_ 115 (L._∷_ 116 (L._∷_ 101 (L._∷_ 112 (L._∷_ 58 (L._∷_ 58 (L._∷_ 83 (L._∷_ 116 (L._∷_ 101 (L._∷_ 112 L.[])))))))))) (Syntax.tcons (Syntax.tyInt Syntax.w64) (Syntax.tcons (Syntax.tyInt Syntax.w64) (Syntax.tcons (Syntax.tyStruct (L._∷_ 115 (L._∷_ 116 (L._∷_ 101 (L._∷_ 112 (L._∷_ 58 (L._∷_ 58 (L._∷_ 67 (L._∷_ 104 (L._∷_ 97 (L._∷_ 110 (L._∷_ 103 (L._∷_ 101 L.[])))))))))))) (Syntax.tcons (Syntax.tyStruct (L._∷_ 110 (L._∷_ 101 (L._∷_ 116 (L._∷_ 119 (L._∷_ 111 (L._∷_ 114 (L._∷_ 107 (L._∷_ 58 (L._∷_ 58 (L._∷_ 69 (L._∷_ 100 (L._∷_ 105 (L._∷_ 116 L.[]))))))))))))) (Syntax.tcons q7 (Syntax.tcons q7 (Syntax.tcons q7 (Syntax.tcons q7 (Syntax.tcons q2 (Syntax.tcons q2 (Syntax.tcons (Syntax.tyInt Syntax.w64) (Syntax.tcons q6 Syntax.tnil))))))))) (Syntax.tcons (Syntax.tyStruct (L._∷_ 115 (L._∷_ 116 (L._∷_ 101 (L._∷_ 112 (L._∷_ 58 (L._∷_ 58 (L._∷_ 79 (L._∷_ 108 (L._∷_ 100 L.[]))))))))) (Syntax.tcons (Syntax.tyInt Syntax.w64) (Syntax.tcons q6 (Syntax.tcons q7 (Syntax.tcons q7 (Syntax.tcons q7 (Syntax.tcons q7 (Syntax.tcons q4 Syntax.tnil)))))))) Syntax.tnil))) Syntax.tnil)))) Syntax.tnil))))) (L._∷_ q8 (L._∷_ q25 (L._∷_ (8, Rows.sc-here Row.sBool) (L._∷_ (9, Rows.any-gone (Syntax.tyStruct (L._∷_ 114 (L._∷_ 117 (L._∷_ 108 (L._∷_ 101 (L._∷_ 115 (L._∷_ 58 (L._∷_ 58 (L._∷_ 116 (L._∷_ 114 (L._∷_ 105 (L._∷_ 101 (L._∷_ 100 (L._∷_ 58 (L._∷_ 58 (L._∷_ 76 (L._∷_ 111 (L._∷_ 111 (L._∷_ 107 (L._∷_ 101 (L._∷_ 100 L.[])))))))))))))))))))) (Syntax.tcons (Syntax.tyStruct (L._∷_ 114 (L._∷_ 117 (L._∷_ 108 (L._∷_ 101 (L._∷_ 115 (L._∷_ 58 (L._∷_ 58 (L._∷_ 102 (L._∷_ 111 (L._∷_ 117 (L._∷_ 110 (L._∷_ 100 (L._∷_ 58 (L._∷_ 58 (L._∷_ 70 (L._∷_ 111 (L._∷_ 117 (L._∷_ 110 (L._∷_ 100 L.[]))))))))))))))))))) (Syntax.tcons Syntax.tyBool (Syntax.tcons Syntax.tyBool (Syntax.tcons (Syntax.tyStruct (L._∷_ 115 (L._∷_ 116 (L._∷_ 101 (L._∷_ 112 (L._∷_ 58 (L._∷_ 58 (L._∷_ 83 (L._∷_ 116 (L._∷_ 101 (L._∷_ 112 L.[])))))))))) (Syntax.tcons (Syntax.tyInt Syntax.w64) (Syntax.tcons (Syntax.tyInt Syntax.w64) (Syntax.tcons (Syntax.tyStruct (L._∷_ 115 (L._∷_ 116 (L._∷_ 101 (L._∷_ 112 (L._∷_ 58 (L._∷_ 58 (L._∷_ 67 (L._∷_ 104 (L._∷_ 97 (L._∷_ 110 (L._∷_ 103 (L._∷_ 101 L.[])))))))))))) (Syntax.tcons (Syntax.tyStruct (L._∷_ 110 (L._∷_ 101 (L._∷_ 116 (L._∷_ 119 (L._∷_ 111 (L._∷_ 114 (L._∷_ 107 (L._∷_ 58 (L._∷_ 58 (L._∷_ 69 (L._∷_ 100 (L._∷_ 105 (L._∷_ 116 L.[]))))))))))))) (Syntax.tcons q7 (Syntax.tcons q7 (Syntax.tcons q7 (Syntax.tcons q7 (Syntax.tcons q2 (Syntax.tcons q2 (Syntax.tcons (Syntax.tyInt Syntax.w64) (Syntax.tcons q6 Syntax.tnil))))))))) (Syntax.tcons (Syntax.tyStruct (L._∷_ 115 (L._∷_ 116 (L._∷_ 101 (L._∷_ 112 (L._∷_ 58 (L._∷_ 58 (L._∷_ 79 (L._∷_ 108 (L._∷_ 100 L.[]))))))))) (Syntax.tcons (Syntax.tyInt Syntax.w64) (Syntax.tcons q6 (Syntax.tcons q7 (Syntax.tcons q7 (Syntax.tcons q7 (Syntax.tcons q7 (Syntax.tcons q4 Syntax.tnil)))))))) Syntax.tnil))) Syntax.tnil)))) Syntax.tnil)))) (Syntax.tcons q5 Syntax.tnil)))) (L._∷_ (10, Rows.any-gone (Syntax.tyStruct (L._∷_ 114 (L._∷_ 117 (L._∷_ 108 (L._∷_ 101 (L._∷_ 115 (L._∷_ 58 (L._∷_ 58 (L._∷_ 102 (L._∷_ 111 (L._∷_ 117 (L._∷_ 110 (L._∷_ 100 (L._∷_ 58 (L._∷_ 58 (L._∷_ 70 (L._∷_ 111 (L._∷_ 117 (L._∷_ 110 (L._∷_ 100 L.[]))))))))))))))))))) (Syntax.tcons Syntax.tyBool (Syntax.tcons Syntax.tyBool (Syntax.tcons (Syntax.tyStruct (L._∷_ 115 (L._∷_ 116 (L._∷_ 101 (L._∷_ 112 (L._∷_ 58 (L._∷_ 58 (L._∷_ 83 (L._∷_ 116 (L._∷_ 101 (L._∷_ 112 L.[])))))))))) (Syntax.tcons (Syntax.tyInt Syntax.w64) (Syntax.tcons (Syntax.tyInt Syntax.w64) (Syntax.tcons (Syntax.tyStruct (L._∷_ 115 (L._∷_ 116 (L._∷_ 101 (L._∷_ 112 (L._∷_ 58 (L._∷_ 58 (L._∷_ 67 (L._∷_ 104 (L._∷_ 97 (L._∷_ 110 (L._∷_ 103 (L._∷_ 101 L.[])))))))))))) (Syntax.tcons (Syntax.tyStruct (L._∷_ 110 (L._∷_ 101 (L._∷_ 116 (L._∷_ 119 (L._∷_ 111 (L._∷_ 114 (L._∷_ 107 (L._∷_ 58 (L._∷_ 58 (L._∷_ 69 (L._∷_ 100 (L._∷_ 105 (L._∷_ 116 L.[]))))))))))))) (Syntax.tcons q7 (Syntax.tcons q7 (Syntax.tcons q7 (Syntax.tcons q7 (Syntax.tcons q2 (Syntax.tcons q2 (Syntax.tcons (Syntax.tyInt Syntax.w64) (Syntax.tcons q6 Syntax.tnil))))))))) (Syntax.tcons (Syntax.tyStruct (L._∷_ 115 (L._∷_ 116 (L._∷_ 101 (L._∷_ 112 (L._∷_ 58 (L._∷_ 58 (L._∷_ 79 (L._∷_ 108 (L._∷_ 100 L.[]))))))))) (Syntax.tcons (Syntax.tyInt Syntax.w64) (Syntax.tcons q6 (Syntax.tcons q7 (Syntax.tcons q7 (Syntax.tcons q7 (Syntax.tcons q7 (Syntax.tcons q4 Syntax.tnil)))))))) Syntax.tnil))) Syntax.tnil)))) Syntax.tnil))))) (L._∷_ (11, Rows.any-gone (Syntax.tyStruct (L._∷_ 114 (L._∷_ 117 (L._∷_ 108 (L._∷_ 101 (L._∷_ 115 (L._∷_ 58 (L._∷_ 58 (L._∷_ 102 (L._∷_ 111 (L._∷_ 117 (L._∷_ 110 (L._∷_ 100 (L._∷_ 58 (L._∷_ 58 (L._∷_ 70 (L._∷_ 111 (L._∷_ 117 (L._∷_ 110 (L._∷_ 100 L.[]))))))))))))))))))) (Syntax.tcons Syntax.tyBool (Syntax.tcons Syntax.tyBool (Syntax.tcons (Syntax.tyStruct (L._∷_ 115 (L._∷_ 116 (L._∷_ 101 (L._∷_ 112 (L._∷_ 58 (L._∷_ 58 (L._∷_ 83 (L._∷_ 116 (L._∷_ 101 (L._∷_ 112 L.[])))))))))) (Syntax.tcons (Syntax.tyInt Syntax.w64) (Syntax.tcons (Syntax.tyInt Syntax.w64) (Syntax.tcons (Syntax.tyStruct (L._∷_ 115 (L._∷_ 116 (L._∷_ 101 (L._∷_ 112 (L._∷_ 58 (L._∷_ 58 (L._∷_ 67 (L._∷_ 104 (L._∷_ 97 (L._∷_ 110 (L._∷_ 103 (L._∷_ 101 L.[])))))))))))) (Syntax.tcons (Syntax.tyStruct (L._∷_ 110 (L._∷_ 101 (L._∷_ 116 (L._∷_ 119 (L._∷_ 111 (L._∷_ 114 (L._∷_ 107 (L._∷_ 58 (L._∷_ 58 (L._∷_ 69 (L._∷_ 100 (L._∷_ 105 (L._∷_ 116 L.[]))))))))))))) (Syntax.tcons q7 (Syntax.tcons q7 (Syntax.tcons q7 (Syntax.tcons q7 (Syntax.tcons q2 (Syntax.tcons q2 (Syntax.tcons (Syntax.tyInt Syntax.w64) (Syntax.tcons q6 Syntax.tnil))))))))) (Syntax.tcons (Syntax.tyStruct (L._∷_ 115 (L._∷_ 116 (L._∷_ 101 (L._∷_ 112 (L._∷_ 58 (L._∷_ 58 (L._∷_ 79 (L._∷_ 108 (L._∷_ 100 L.[]))))))))) (Syntax.tcons (Syntax.tyInt Syntax.w64) (Syntax.tcons q6 (Syntax.tcons q7 (Syntax.tcons q7 (Syntax.tcons q7 (Syntax.tcons q7 (Syntax.tcons q4 Syntax.tnil)))))))) Syntax.tnil))) Syntax.tnil)))) Syntax.tnil))))) (L._∷_ q28 (L._∷_ q29 (L._∷_ q30 (L._∷_ q31 L.[])))))))))))))))
 
 abbrev pub t40 : L.List Row.Entry
-t40 = L._∷_ q10 (L._∷_ q0 (L._∷_ q11 (L._∷_ q3 (L._∷_ q24 (L._∷_ (5, Rows.any-gone (Syntax.tyStruct (L._∷_ 114 (L._∷_ 117 (L._∷_ 108 (L._∷_ 101 (L._∷_ 115 (L._∷_ 58 (L._∷_ 58 (L._∷_ 102 (L._∷_ 111 (L._∷_ 117 (L._∷_ 110 (L._∷_ 100 (L._∷_ 58 (L._∷_ 58 (L._∷_ 70 (L._∷_ 111 (L._∷_ 117 (L._∷_ 110 (L._∷_ 100 L.[]))))))))))))))))))) (Syntax.tcons Syntax.tyBool (Syntax.tcons Syntax.tyBool (Syntax.tcons (Syntax.tyStruct (L._∷_ 115 (L._∷_ 116 (L._∷_ 101 (L._∷_ 112 (L._∷_ 58 (L._∷_ 58 (L._∷_ 83 (L._∷_ 116 (L._∷_ 101 (L._∷_ 112 L.[])))))))))) (Syntax.tcons (Syntax.tyInt Syntax.w64) (Syntax.tcons (Syntax.tyInt Syntax.w64) (Syntax.tcons (Syntax.tyStruct (L._∷_ 115 (L._∷_ 116 (L._∷_ 101 (L._∷_ 112 (L._∷_ 58 (L._∷_ 58 (L._∷_ 67 (L._∷_ 104 (L._∷_ 97 (L._∷_ 110 (L._∷_ 103 (L._∷_ 101 L.[])))))))))))) (Syntax.tcons (Syntax.tyStruct (L._∷_ 110 (L._∷_ 101 (L._∷_ 116 (L._∷_ 119 (L._∷_ 111 (L._∷_ 114 (L._∷_ 107 (L._∷_ 58 (L._∷_ 58 (L._∷_ 69 (L._∷_ 100 (L._∷_ 105 (L._∷_ 116 L.[]))))))))))))) (Syntax.tcons q7 (Syntax.tcons q7 (Syntax.tcons q7 (Syntax.tcons q7 (Syntax.tcons q2 (Syntax.tcons q2 (Syntax.tcons (Syntax.tyInt Syntax.w64) Syntax.tnil)))))))) (Syntax.tcons (Syntax.tyStruct (L._∷_ 115 (L._∷_ 116 (L._∷_ 101 (L._∷_ 112 (L._∷_ 58 (L._∷_ 58 (L._∷_ 79 (L._∷_ 108 (L._∷_ 100 L.[]))))))))) (Syntax.tcons (Syntax.tyInt Syntax.w64) (Syntax.tcons q6 (Syntax.tcons q7 (Syntax.tcons q7 (Syntax.tcons q7 (Syntax.tcons q7 (Syntax.tcons q4 Syntax.tnil)))))))) Syntax.tnil))) Syntax.tnil)))) Syntax.tnil))))) (L._∷_ q8 (L._∷_ q23 (L._∷_ (8, Rows.sc-here Row.sBool) (L._∷_ (9, Rows.any-gone (Syntax.tyStruct (L._∷_ 114 (L._∷_ 117 (L._∷_ 108 (L._∷_ 101 (L._∷_ 115 (L._∷_ 58 (L._∷_ 58 (L._∷_ 116 (L._∷_ 114 (L._∷_ 105 (L._∷_ 101 (L._∷_ 100 (L._∷_ 58 (L._∷_ 58 (L._∷_ 76 (L._∷_ 111 (L._∷_ 111 (L._∷_ 107 (L._∷_ 101 (L._∷_ 100 L.[])))))))))))))))))))) (Syntax.tcons (Syntax.tyStruct (L._∷_ 114 (L._∷_ 117 (L._∷_ 108 (L._∷_ 101 (L._∷_ 115 (L._∷_ 58 (L._∷_ 58 (L._∷_ 102 (L._∷_ 111 (L._∷_ 117 (L._∷_ 110 (L._∷_ 100 (L._∷_ 58 (L._∷_ 58 (L._∷_ 70 (L._∷_ 111 (L._∷_ 117 (L._∷_ 110 (L._∷_ 100 L.[]))))))))))))))))))) (Syntax.tcons Syntax.tyBool (Syntax.tcons Syntax.tyBool (Syntax.tcons (Syntax.tyStruct (L._∷_ 115 (L._∷_ 116 (L._∷_ 101 (L._∷_ 112 (L._∷_ 58 (L._∷_ 58 (L._∷_ 83 (L._∷_ 116 (L._∷_ 101 (L._∷_ 112 L.[])))))))))) (Syntax.tcons (Syntax.tyInt Syntax.w64) (Syntax.tcons (Syntax.tyInt Syntax.w64) (Syntax.tcons (Syntax.tyStruct (L._∷_ 115 (L._∷_ 116 (L._∷_ 101 (L._∷_ 112 (L._∷_ 58 (L._∷_ 58 (L._∷_ 67 (L._∷_ 104 (L._∷_ 97 (L._∷_ 110 (L._∷_ 103 (L._∷_ 101 L.[])))))))))))) (Syntax.tcons (Syntax.tyStruct (L._∷_ 110 (L._∷_ 101 (L._∷_ 116 (L._∷_ 119 (L._∷_ 111 (L._∷_ 114 (L._∷_ 107 (L._∷_ 58 (L._∷_ 58 (L._∷_ 69 (L._∷_ 100 (L._∷_ 105 (L._∷_ 116 L.[]))))))))))))) (Syntax.tcons q7 (Syntax.tcons q7 (Syntax.tcons q7 (Syntax.tcons q7 (Syntax.tcons q2 (Syntax.tcons q2 (Syntax.tcons (Syntax.tyInt Syntax.w64) Syntax.tnil)))))))) (Syntax.tcons (Syntax.tyStruct (L._∷_ 115 (L._∷_ 116 (L._∷_ 101 (L._∷_ 112 (L._∷_ 58 (L._∷_ 58 (L._∷_ 79 (L._∷_ 108 (L._∷_ 100 L.[]))))))))) (Syntax.tcons (Syntax.tyInt Syntax.w64) (Syntax.tcons q6 (Syntax.tcons q7 (Syntax.tcons q7 (Syntax.tcons q7 (Syntax.tcons q7 (Syntax.tcons q4 Syntax.tnil)))))))) Syntax.tnil))) Syntax.tnil)))) Syntax.tnil)))) (Syntax.tcons q5 Syntax.tnil)))) (L._∷_ (10, Rows.any-gone (Syntax.tyStruct (L._∷_ 114 (L._∷_ 117 (L._∷_ 108 (L._∷_ 101 (L._∷_ 115 (L._∷_ 58 (L._∷_ 58 (L._∷_ 102 (L._∷_ 111 (L._∷_ 117 (L._∷_ 110 (L._∷_ 100 (L._∷_ 58 (L._∷_ 58 (L._∷_ 70 (L._∷_ 111 (L._∷_ 117 (L._∷_ 110 (L._∷_ 100 L.[]))))))))))))))))))) (Syntax.tcons Syntax.tyBool (Syntax.tcons Syntax.tyBool (Syntax.tcons (Syntax.tyStruct (L._∷_ 115 (L._∷_ 116 (L._∷_ 101 (L._∷_ 112 (L._∷_ 58 (L._∷_ 58 (L._∷_ 83 (L._∷_ 116 (L._∷_ 101 (L._∷_ 112 L.[])))))))))) (Syntax.tcons (Syntax.tyInt Syntax.w64) (Syntax.tcons (Syntax.tyInt Syntax.w64) (Syntax.tcons (Syntax.tyStruct (L._∷_ 115 (L._∷_ 116 (L._∷_ 101 (L._∷_ 112 (L._∷_ 58 (L._∷_ 58 (L._∷_ 67 (L._∷_ 104 (L._∷_ 97 (L._∷_ 110 (L._∷_ 103 (L._∷_ 101 L.[])))))))))))) (Syntax.tcons (Syntax.tyStruct (L._∷_ 110 (L._∷_ 101 (L._∷_ 116 (L._∷_ 119 (L._∷_ 111 (L._∷_ 114 (L._∷_ 107 (L._∷_ 58 (L._∷_ 58 (L._∷_ 69 (L._∷_ 100 (L._∷_ 105 (L._∷_ 116 L.[]))))))))))))) (Syntax.tcons q7 (Syntax.tcons q7 (Syntax.tcons q7 (Syntax.tcons q7 (Syntax.tcons q2 (Syntax.tcons q2 (Syntax.tcons (Syntax.tyInt Syntax.w64) Syntax.tnil)))))))) (Syntax.tcons (Syntax.tyStruct (L._∷_ 115 (L._∷_ 116 (L._∷_ 101 (L._∷_ 112 (L._∷_ 58 (L._∷_ 58 (L._∷_ 79 (L._∷_ 108 (L._∷_ 100 L.[]))))))))) (Syntax.tcons (Syntax.tyInt Syntax.w64) (Syntax.tcons q6 (Syntax.tcons q7 (Syntax.tcons q7 (Syntax.tcons q7 (Syntax.tcons q7 (Syntax.tcons q4 Syntax.tnil)))))))) Syntax.tnil))) Syntax.tnil)))) Syntax.tnil))))) (L._∷_ (11, Rows.any-gone (Syntax.tyStruct (L._∷_ 114 (L._∷_ 117 (L._∷_ 108 (L._∷_ 101 (L._∷_ 115 (L._∷_ 58 (L._∷_ 58 (L._∷_ 102 (L._∷_ 111 (L._∷_ 117 (L._∷_ 110 (L._∷_ 100 (L._∷_ 58 (L._∷_ 58 (L._∷_ 70 (L._∷_ 111 (L._∷_ 117 (L._∷_ 110 (L._∷_ 100 L.[]))))))))))))))))))) (Syntax.tcons Syntax.tyBool (Syntax.tcons Syntax.tyBool (Syntax.tcons (Syntax.tyStruct (L._∷_ 115 (L._∷_ 116 (L._∷_ 101 (L._∷_ 112 (L._∷_ 58 (L._∷_ 58 (L._∷_ 83 (L._∷_ 116 (L._∷_ 101 (L._∷_ 112 L.[])))))))))) (Syntax.tcons (Syntax.tyInt Syntax.w64) (Syntax.tcons (Syntax.tyInt Syntax.w64) (Syntax.tcons (Syntax.tyStruct (L._∷_ 115 (L._∷_ 116 (L._∷_ 101 (L._∷_ 112 (L._∷_ 58 (L._∷_ 58 (L._∷_ 67 (L._∷_ 104 (L._∷_ 97 (L._∷_ 110 (L._∷_ 103 (L._∷_ 101 L.[])))))))))))) (Syntax.tcons (Syntax.tyStruct (L._∷_ 110 (L._∷_ 101 (L._∷_ 116 (L._∷_ 119 (L._∷_ 111 (L._∷_ 114 (L._∷_ 107 (L._∷_ 58 (L._∷_ 58 (L._∷_ 69 (L._∷_ 100 (L._∷_ 105 (L._∷_ 116 L.[]))))))))))))) (Syntax.tcons q7 (Syntax.tcons q7 (Syntax.tcons q7 (Syntax.tcons q7 (Syntax.tcons q2 (Syntax.tcons q2 (Syntax.tcons (Syntax.tyInt Syntax.w64) Syntax.tnil)))))))) (Syntax.tcons (Syntax.tyStruct (L._∷_ 115 (L._∷_ 116 (L._∷_ 101 (L._∷_ 112 (L._∷_ 58 (L._∷_ 58 (L._∷_ 79 (L._∷_ 108 (L._∷_ 100 L.[]))))))))) (Syntax.tcons (Syntax.tyInt Syntax.w64) (Syntax.tcons q6 (Syntax.tcons q7 (Syntax.tcons q7 (Syntax.tcons q7 (Syntax.tcons q7 (Syntax.tcons q4 Syntax.tnil)))))))) Syntax.tnil))) Syntax.tnil)))) Syntax.tnil))))) (L._∷_ q28 (L._∷_ q29 (L._∷_ q30 (L._∷_ q31 L.[])))))))))))))))
+t40 = L._∷_ q10 (L._∷_ q0 (L._∷_ q11 (L._∷_ q3 (L._∷_ q24 (L._∷_ (5, Rows.any-gone (Syntax.tyStruct (L._∷_ 114 (L._∷_ 117 (L._∷_ 108 (L._∷_ 101 (L._∷_ 115 (L._∷_ 58 (L._∷_ 58 (L._∷_ 102 (L._∷_ 111 (L._∷_ 117 (L._∷_ 110 (L._∷_ 100 (L._∷_ 58 (L._∷_ 58 (L._∷_ 70 (L._∷_ 111 (L._∷_ 117 (L._∷_ 110 (L._∷_ 100 L.[]))))))))))))))))))) (Syntax.tcons Syntax.tyBool (Syntax.tcons Syntax.tyBool (Syntax.tcons (Syntax.tyStruct (L._∷_ 115 (L._∷_ 116 (L._∷_ 101 (L._∷_ 112 (L._∷_ 58 (L._∷_ 58 (L._∷_ 83 (L._∷_ 116 (L._∷_ 101 (L._∷_ 112 L.[])))))))))) (Syntax.tcons (Syntax.tyInt Syntax.w64) (Syntax.tcons (Syntax.tyInt Syntax.w64) (Syntax.tcons (Syntax.tyStruct (L._∷_ 115 (L._∷_ 116 (L._∷_ 101 (L._∷_ 112 (L._∷_ 58 (L._∷_ 58 (L._∷_ 67 (L._∷_ 104 (L._∷_ 97 (L._∷_ 110 (L._∷_ 103 (L._∷_ 101 L.[])))))))))))) (Syntax.tcons (Syntax.tyStruct (L._∷_ 110 (L._∷_ 101 (L._∷_ 116 (L._∷_ 119 (L._∷_ 111 (L._∷_ 114 (L._∷_ 107 (L._∷_ 58 (L._∷_ 58 (L._∷_ 69 (L._∷_ 100 (L._∷_ 105 (L._∷_ 116 L.[]))))))))))))) (Syntax.tcons q7 (Syntax.tcons q7 (Syntax.tcons q7 (Syntax.tcons q7 (Syntax.tcons q2 (Syntax.tcons q2 (Syntax.tcons (Syntax.tyInt Syntax.w64) (Syntax.tcons q6 Syntax.tnil))))))))) (Syntax.tcons (Syntax.tyStruct (L._∷_ 115 (L._∷_ 116 (L._∷_ 101 (L._∷_ 112 (L._∷_ 58 (L._∷_ 58 (L._∷_ 79 (L._∷_ 108 (L._∷_ 100 L.[]))))))))) (Syntax.tcons (Syntax.tyInt Syntax.w64) (Syntax.tcons q6 (Syntax.tcons q7 (Syntax.tcons q7 (Syntax.tcons q7 (Syntax.tcons q7 (Syntax.tcons q4 Syntax.tnil)))))))) Syntax.tnil))) Syntax.tnil)))) Syntax.tnil))))) (L._∷_ q8 (L._∷_ q23 (L._∷_ (8, Rows.sc-here Row.sBool) (L._∷_ (9, Rows.any-gone (Syntax.tyStruct (L._∷_ 114 (L._∷_ 117 (L._∷_ 108 (L._∷_ 101 (L._∷_ 115 (L._∷_ 58 (L._∷_ 58 (L._∷_ 116 (L._∷_ 114 (L._∷_ 105 (L._∷_ 101 (L._∷_ 100 (L._∷_ 58 (L._∷_ 58 (L._∷_ 76 (L._∷_ 111 (L._∷_ 111 (L._∷_ 107 (L._∷_ 101 (L._∷_ 100 L.[])))))))))))))))))))) (Syntax.tcons (Syntax.tyStruct (L._∷_ 114 (L._∷_ 117 (L._∷_ 108 (L._∷_ 101 (L._∷_ 115 (L._∷_ 58 (L._∷_ 58 (L._∷_ 102 (L._∷_ 111 (L._∷_ 117 (L._∷_ 110 (L._∷_ 100 (L._∷_ 58 (L._∷_ 58 (L._∷_ 70 (L._∷_ 111 (L._∷_ 117 (L._∷_ 110 (L._∷_ 100 L.[]))))))))))))))))))) (Syntax.tcons Syntax.tyBool (Syntax.tcons Syntax.tyBool (Syntax.tcons (Syntax.tyStruct (L._∷_ 115 (L._∷_ 116 (L._∷_ 101 (L._∷_ 112 (L._∷_ 58 (L._∷_ 58 (L._∷_ 83 (L._∷_ 116 (L._∷_ 101 (L._∷_ 112 L.[])))))))))) (Syntax.tcons (Syntax.tyInt Syntax.w64) (Syntax.tcons (Syntax.tyInt Syntax.w64) (Syntax.tcons (Syntax.tyStruct (L._∷_ 115 (L._∷_ 116 (L._∷_ 101 (L._∷_ 112 (L._∷_ 58 (L._∷_ 58 (L._∷_ 67 (L._∷_ 104 (L._∷_ 97 (L._∷_ 110 (L._∷_ 103 (L._∷_ 101 L.[])))))))))))) (Syntax.tcons (Syntax.tyStruct (L._∷_ 110 (L._∷_ 101 (L._∷_ 116 (L._∷_ 119 (L._∷_ 111 (L._∷_ 114 (L._∷_ 107 (L._∷_ 58 (L._∷_ 58 (L._∷_ 69 (L._∷_ 100 (L._∷_ 105 (L._∷_ 116 L.[]))))))))))))) (Syntax.tcons q7 (Syntax.tcons q7 (Syntax.tcons q7 (Syntax.tcons q7 (Syntax.tcons q2 (Syntax.tcons q2 (Syntax.tcons (Syntax.tyInt Syntax.w64) (Syntax.tcons q6 Syntax.tnil))))))))) (Syntax.tcons (Syntax.tyStruct (L._∷_ 115 (L._∷_ 116 (L._∷_ 101 (L._∷_ 112 (L._∷_ 58 (L._∷_ 58 (L._∷_ 79 (L._∷_ 108 (L._∷_ 100 L.[]))))))))) (Syntax.tcons (Syntax.tyInt Syntax.w64) (Syntax.tcons q6 (Syntax.tcons q7 (Syntax.tcons q7 (Syntax.tcons q7 (Syntax.tcons q7 (Syntax.tcons q4 Syntax.tnil)))))))) Syntax.tnil))) Syntax.tnil)))) Syntax.tnil)))) (Syntax.tcons q5 Syntax.tnil)))) (L._∷_ (10, Rows.any-gone (Syntax.tyStruct (L._∷_ 114 (L._∷_ 117 (L._∷_ 108 (L._∷_ 101 (L._∷_ 115 (L._∷_ 58 (L._∷_ 58 (L._∷_ 102 (L._∷_ 111 (L._∷_ 117 (L._∷_ 110 (L._∷_ 100 (L._∷_ 58 (L._∷_ 58 (L._∷_ 70 (L._∷_ 111 (L._∷_ 117 (L._∷_ 110 (L._∷_ 100 L.[]))))))))))))))))))) (Syntax.tcons Syntax.tyBool (Syntax.tcons Syntax.tyBool (Syntax.tcons (Syntax.tyStruct (L._∷_ 115 (L._∷_ 116 (L._∷_ 101 (L._∷_ 112 (L._∷_ 58 (L._∷_ 58 (L._∷_ 83 (L._∷_ 116 (L._∷_ 101 (L._∷_ 112 L.[])))))))))) (Syntax.tcons (Syntax.tyInt Syntax.w64) (Syntax.tcons (Syntax.tyInt Syntax.w64) (Syntax.tcons (Syntax.tyStruct (L._∷_ 115 (L._∷_ 116 (L._∷_ 101 (L._∷_ 112 (L._∷_ 58 (L._∷_ 58 (L._∷_ 67 (L._∷_ 104 (L._∷_ 97 (L._∷_ 110 (L._∷_ 103 (L._∷_ 101 L.[])))))))))))) (Syntax.tcons (Syntax.tyStruct (L._∷_ 110 (L._∷_ 101 (L._∷_ 116 (L._∷_ 119 (L._∷_ 111 (L._∷_ 114 (L._∷_ 107 (L._∷_ 58 (L._∷_ 58 (L._∷_ 69 (L._∷_ 100 (L._∷_ 105 (L._∷_ 116 L.[]))))))))))))) (Syntax.tcons q7 (Syntax.tcons q7 (Syntax.tcons q7 (Syntax.tcons q7 (Syntax.tcons q2 (Syntax.tcons q2 (Syntax.tcons (Syntax.tyInt Syntax.w64) (Syntax.tcons q6 Syntax.tnil))))))))) (Syntax.tcons (Syntax.tyStruct (L._∷_ 115 (L._∷_ 116 (L._∷_ 101 (L._∷_ 112 (L._∷_ 58 (L._∷_ 58 (L._∷_ 79 (L._∷_ 108 (L._∷_ 100 L.[]))))))))) (Syntax.tcons (Syntax.tyInt Syntax.w64) (Syntax.tcons q6 (Syntax.tcons q7 (Syntax.tcons q7 (Syntax.tcons q7 (Syntax.tcons q7 (Syntax.tcons q4 Syntax.tnil)))))))) Syntax.tnil))) Syntax.tnil)))) Syntax.tnil))))) (L._∷_ (11, Rows.any-gone (Syntax.tyStruct (L._∷_ 114 (L._∷_ 117 (L._∷_ 108 (L._∷_ 101 (L._∷_ 115 (L._∷_ 58 (L._∷_ 58 (L._∷_ 102 (L._∷_ 111 (L._∷_ 117 (L._∷_ 110 (L._∷_ 100 (L._∷_ 58 (L._∷_ 58 (L._∷_ 70 (L._∷_ 111 (L._∷_ 117 (L._∷_ 110 (L._∷_ 100 L.[]))))))))))))))))))) (Syntax.tcons Syntax.tyBool (Syntax.tcons Syntax.tyBool (Syntax.tcons (Syntax.tyStruct (L._∷_ 115 (L._∷_ 116 (L._∷_ 101 (L._∷_ 112 (L._∷_ 58 (L._∷_ 58 (L._∷_ 83 (L._∷_ 116 (L._∷_ 101 (L._∷_ 112 L.[])))))))))) (Syntax.tcons (Syntax.tyInt Syntax.w64) (Syntax.tcons (Syntax.tyInt Syntax.w64) (Syntax.tcons (Syntax.tyStruct (L._∷_ 115 (L._∷_ 116 (L._∷_ 101 (L._∷_ 112 (L._∷_ 58 (L._∷_ 58 (L._∷_ 67 (L._∷_ 104 (L._∷_ 97 (L._∷_ 110 (L._∷_ 103 (L._∷_ 101 L.[])))))))))))) (Syntax.tcons (Syntax.tyStruct (L._∷_ 110 (L._∷_ 101 (L._∷_ 116 (L._∷_ 119 (L._∷_ 111 (L._∷_ 114 (L._∷_ 107 (L._∷_ 58 (L._∷_ 58 (L._∷_ 69 (L._∷_ 100 (L._∷_ 105 (L._∷_ 116 L.[]))))))))))))) (Syntax.tcons q7 (Syntax.tcons q7 (Syntax.tcons q7 (Syntax.tcons q7 (Syntax.tcons q2 (Syntax.tcons q2 (Syntax.tcons (Syntax.tyInt Syntax.w64) (Syntax.tcons q6 Syntax.tnil))))))))) (Syntax.tcons (Syntax.tyStruct (L._∷_ 115 (L._∷_ 116 (L._∷_ 101 (L._∷_ 112 (L._∷_ 58 (L._∷_ 58 (L._∷_ 79 (L._∷_ 108 (L._∷_ 100 L.[]))))))))) (Syntax.tcons (Syntax.tyInt Syntax.w64) (Syntax.tcons q6 (Syntax.tcons q7 (Syntax.tcons q7 (Syntax.tcons q7 (Syntax.tcons q7 (Syntax.tcons q4 Syntax.tnil)))))))) Syntax.tnil))) Syntax.tnil)))) Syntax.tnil))))) (L._∷_ q28 (L._∷_ q29 (L._∷_ q30 (L._∷_ q31 L.[])))))))))))))))
 
 abbrev pub t41 : L.List Row.Entry
-t41 = L._∷_ (0, Rows.any-gone (Syntax.tyStruct (L._∷_ 114 (L._∷_ 117 (L._∷_ 108 (L._∷_ 101 (L._∷_ 115 (L._∷_ 58 (L._∷_ 58 (L._∷_ 116 (L._∷_ 114 (L._∷_ 105 (L._∷_ 101 (L._∷_ 100 (L._∷_ 58 (L._∷_ 58 (L._∷_ 76 (L._∷_ 111 (L._∷_ 111 (L._∷_ 107 (L._∷_ 101 (L._∷_ 100 L.[])))))))))))))))))))) (Syntax.tcons (Syntax.tyStruct (L._∷_ 114 (L._∷_ 117 (L._∷_ 108 (L._∷_ 101 (L._∷_ 115 (L._∷_ 58 (L._∷_ 58 (L._∷_ 102 (L._∷_ 111 (L._∷_ 117 (L._∷_ 110 (L._∷_ 100 (L._∷_ 58 (L._∷_ 58 (L._∷_ 70 (L._∷_ 111 (L._∷_ 117 (L._∷_ 110 (L._∷_ 100 L.[]))))))))))))))))))) (Syntax.tcons Syntax.tyBool (Syntax.tcons Syntax.tyBool (Syntax.tcons (Syntax.tyStruct (L._∷_ 115 (L._∷_ 116 (L._∷_ 101 (L._∷_ 112 (L._∷_ 58 (L._∷_ 58 (L._∷_ 83 (L._∷_ 116 (L._∷_ 101 (L._∷_ 112 L.[])))))))))) (Syntax.tcons (Syntax.tyInt Syntax.w64) (Syntax.tcons (Syntax.tyInt Syntax.w64) (Syntax.tcons (Syntax.tyStruct (L._∷_ 115 (L._∷_ 116 (L._∷_ 101 (L._∷_ 112 (L._∷_ 58 (L._∷_ 58 (L._∷_ 67 (L._∷_ 104 (L._∷_ 97 (L._∷_ 110 (L._∷_ 103 (L._∷_ 101 L.[])))))))))))) (Syntax.tcons (Syntax.tyStruct (L._∷_ 110 (L._∷_ 101 (L._∷_ 116 (L._∷_ 119 (L._∷_ 111 (L._∷_ 114 (L._∷_ 107 (L._∷_ 58 (L._∷_ 58 (L._∷_ 69 (L._∷_ 100 (L._∷_ 105 (L._∷_ 116 L.[]))))))))))))) (Syntax.tcons q7 (Syntax.tcons q7 (Syntax.tcons q7 (Syntax.tcons q7 (Syntax.tcons q2 (Syntax.tcons q2 (Syntax.tcons (Syntax.tyInt Syntax.w64) Syntax.tnil)))))))) (Syntax.tcons (Syntax.tyStruct (L._∷_ 115 (L._∷_ 116 (L._∷_ 101 (L._∷_ 112 (L._∷_ 58 (L._∷_ 58 (L._∷_ 79 (L._∷_ 108 (L._∷_ 100 L.[]))))))))) (Syntax.tcons (Syntax.tyInt Syntax.w64) (Syntax.tcons q6 (Syntax.tcons q7 (Syntax.tcons q7 (Syntax.tcons q7 (Syntax.tcons q7 (Syntax.tcons q4 Syntax.tnil)))))))) Syntax.tnil))) Syntax.tnil)))) Syntax.tnil)))) (Syntax.tcons q5 Syntax.tnil)))) (L._∷_ q20 (L._∷_ q11 (L._∷_ q17 (L._∷_ q26 (L._∷_ (5, Rows.any-gone (Syntax.tyStruct (L._∷_ 114 (L._∷_ 117 (L._∷_ 108 (L._∷_ 101 (L._∷_ 115 (L._∷_ 58 (L._∷_ 58 (L._∷_ 102 (L._∷_ 111 (L._∷_ 117 (L._∷_ 110 (L._∷_ 100 (L._∷_ 58 (L._∷_ 58 (L._∷_ 70 (L._∷_ 111 (L._∷_ 117 (L._∷_ 110 (L._∷_ 100 L.[]))))))))))))))))))) (Syntax.tcons Syntax.tyBool (Syntax.tcons Syntax.tyBool (Syntax.tcons (Syntax.tyStruct (L._∷_ 115 (L._∷_ 116 (L._∷_ 101 (L._∷_ 112 (L._∷_ 58 (L._∷_ 58 (L._∷_ 83 (L._∷_ 116 (L._∷_ 101 (L._∷_ 112 L.[])))))))))) (Syntax.tcons (Syntax.tyInt Syntax.w64) (Syntax.tcons (Syntax.tyInt Syntax.w64) (Syntax.tcons (Syntax.tyStruct (L._∷_ 115 (L._∷_ 116 (L._∷_ 101 (L._∷_ 112 (L._∷_ 58 (L._∷_ 58 (L._∷_ 67 (L._∷_ 104 (L._∷_ 97 (L._∷_ 110 (L._∷_ 103 (L._∷_ 101 L.[])))))))))))) (Syntax.tcons (Syntax.tyStruct (L._∷_ 110 (L._∷_ 101 (L._∷_ 116 (L._∷_ 119 (L._∷_ 111 (L._∷_ 114 (L._∷_ 107 (L._∷_ 58 (L._∷_ 58 (L._∷_ 69 (L._∷_ 100 (L._∷_ 105 (L._∷_ 116 L.[]))))))))))))) (Syntax.tcons q7 (Syntax.tcons q7 (Syntax.tcons q7 (Syntax.tcons q7 (Syntax.tcons q2 (Syntax.tcons q2 (Syntax.tcons (Syntax.tyInt Syntax.w64) Syntax.tnil)))))))) (Syntax.tcons (Syntax.tyStruct (L._∷_ 115 (L._∷_ 116 (L._∷_ 101 (L._∷_ 112 (L._∷_ 58 (L._∷_ 58 (L._∷_ 79 (L._∷_ 108 (L._∷_ 100 L.[]))))))))) (Syntax.tcons (Syntax.tyInt Syntax.w64) (Syntax.tcons q6 (Syntax.tcons q7 (Syntax.tcons q7 (Syntax.tcons q7 (Syntax.tcons q7 (Syntax.tcons q4 Syntax.tnil)))))))) Syntax.tnil))) Syntax.tnil)))) Syntax.tnil))))) (L._∷_ q18 (L._∷_ q25 (L._∷_ q32 (L._∷_ (9, Rows.any-gone (Syntax.tyStruct (L._∷_ 114 (L._∷_ 117 (L._∷_ 108 (L._∷_ 101 (L._∷_ 115 (L._∷_ 58 (L._∷_ 58 (L._∷_ 116 (L._∷_ 114 (L._∷_ 105 (L._∷_ 101 (L._∷_ 100 (L._∷_ 58 (L._∷_ 58 (L._∷_ 76 (L._∷_ 111 (L._∷_ 111 (L._∷_ 107 (L._∷_ 101 (L._∷_ 100 L.[])))))))))))))))))))) (Syntax.tcons (Syntax.tyStruct (L._∷_ 114 (L._∷_ 117 (L._∷_ 108 (L._∷_ 101 (L._∷_ 115 (L._∷_ 58 (L._∷_ 58 (L._∷_ 102 (L._∷_ 111 (L._∷_ 117 (L._∷_ 110 (L._∷_ 100 (L._∷_ 58 (L._∷_ 58 (L._∷_ 70 (L._∷_ 111 (L._∷_ 117 (L._∷_ 110 (L._∷_ 100 L.[]))))))))))))))))))) (Syntax.tcons Syntax.tyBool (Syntax.tcons Syntax.tyBool (Syntax.tcons (Syntax.tyStruct (L._∷_ 115 (L._∷_ 116 (L._∷_ 101 (L._∷_ 112 (L._∷_ 58 (L._∷_ 58 (L._∷_ 83 (L._∷_ 116 (L._∷_ 101 (L._∷_ 112 L.[])))))))))) (Syntax.tcons (Syntax.tyInt Syntax.w64) (Syntax.tcons (Syntax.tyInt Syntax.w64) (Syntax.tcons (Syntax.tyStruct (L._∷_ 115 (L._∷_ 116 (L._∷_ 101 (L._∷_ 112 (L._∷_ 58 (L._∷_ 58 (L._∷_ 67 (L._∷_ 104 (L._∷_ 97 (L._∷_ 110 (L._∷_ 103 (L._∷_ 101 L.[])))))))))))) (Syntax.tcons (Syntax.tyStruct (L._∷_ 110 (L._∷_ 101 (L._∷_ 116 (L._∷_ 119 (L._∷_ 111 (L._∷_ 114 (L._∷_ 107 (L._∷_ 58 (L._∷_ 58 (L._∷_ 69 (L._∷_ 100 (L._∷_ 105 (L._∷_ 116 L.[]))))))))))))) (Syntax.tcons q7 (Syntax.tcons q7 (Syntax.tcons q7 (Syntax.tcons q7 (Syntax.tcons q2 (Syntax.tcons q2 (Syntax.tcons (Syntax.tyInt Syntax.w64) Syntax.tnil)))))))) (Syntax.tcons (Syntax.tyStruct (L._∷_ 115 (L._∷_ 116 (L._∷_ 101 (L._∷_ 112 (L._∷_ 58 (L._∷_ 58 (L._∷_ 79 (L._∷_ 108 (L._∷_ 100 L.[]))))))))) (Syntax.tcons (Syntax.tyInt Syntax.w64) (Syntax.tcons q6 (Syntax.tcons q7 (Syntax.tcons q7 (Syntax.tcons q7 (Syntax.tcons q7 (Syntax.tcons q4 Syntax.tnil)))))))) Syntax.tnil))) Syntax.tnil)))) Syntax.tnil)))) (Syntax.tcons q5 Syntax.tnil)))) (L._∷_ q14 (L._∷_ (11, Rows.any-gone (Syntax.tyStruct (L._∷_ 114 (L._∷_ 117 (L._∷_ 108 (L._∷_ 101 (L._∷_ 115 (L._∷_ 58 (L._∷_ 58 (L._∷_ 102 (L._∷_ 111 (L._∷_ 117 (L._∷_ 110 (L._∷_ 100 (L._∷_ 58 (L._∷_ 58 (L._∷_ 70 (L._∷_ 111 (L._∷_ 117 (L._∷_ 110 (L._∷_ 100 L.[]))))))))))))))))))) (Syntax.tcons Syntax.tyBool (Syntax.tcons Syntax.tyBool (Syntax.tcons (Syntax.tyStruct (L._∷_ 115 (L._∷_ 116 (L._∷_ 101 (L._∷_ 112 (L._∷_ 58 (L._∷_ 58 (L._∷_ 83 (L._∷_ 116 (L._∷_ 101 (L._∷_ 112 L.[])))))))))) (Syntax.tcons (Syntax.tyInt Syntax.w64) (Syntax.tcons (Syntax.tyInt Syntax.w64) (Syntax.tcons (Syntax.tyStruct (L._∷_ 115 (L._∷_ 116 (L._∷_ 101 (L._∷_ 112 (L._∷_ 58 (L._∷_ 58 (L._∷_ 67 (L._∷_ 104 (L._∷_ 97 (L._∷_ 110 (L._∷_ 103 (L._∷_ 101 L.[])))))))))))) (Syntax.tcons (Syntax.tyStruct (L._∷_ 110 (L._∷_ 101 (L._∷_ 116 (L._∷_ 119 (L._∷_ 111 (L._∷_ 114 (L._∷_ 107 (L._∷_ 58 (L._∷_ 58 (L._∷_ 69 (L._∷_ 100 (L._∷_ 105 (L._∷_ 116 L.[]))))))))))))) (Syntax.tcons q7 (Syntax.tcons q7 (Syntax.tcons q7 (Syntax.tcons q7 (Syntax.tcons q2 (Syntax.tcons q2 (Syntax.tcons (Syntax.tyInt Syntax.w64) Syntax.tnil)))))))) (Syntax.tcons (Syntax.tyStruct (L._∷_ 115 (L._∷_ 116 (L._∷_ 101 (L._∷_ 112 (L._∷_ 58 (L._∷_ 58 (L._∷_ 79 (L._∷_ 108 (L._∷_ 100 L.[]))))))))) (Syntax.tcons (Syntax.tyInt Syntax.w64) (Syntax.tcons q6 (Syntax.tcons q7 (Syntax.tcons q7 (Syntax.tcons q7 (Syntax.tcons q7 (Syntax.tcons q4 Syntax.tnil)))))))) Syntax.tnil))) Syntax.tnil)))) Syntax.tnil))))) (L._∷_ q28 (L._∷_ q29 (L._∷_ q30 (L._∷_ (15, Rows.sc-here Row.sBool) L.[])))))))))))))))
+t41 = L._∷_ (0, Rows.any-gone (Syntax.tyStruct (L._∷_ 114 (L._∷_ 117 (L._∷_ 108 (L._∷_ 101 (L._∷_ 115 (L._∷_ 58 (L._∷_ 58 (L._∷_ 116 (L._∷_ 114 (L._∷_ 105 (L._∷_ 101 (L._∷_ 100 (L._∷_ 58 (L._∷_ 58 (L._∷_ 76 (L._∷_ 111 (L._∷_ 111 (L._∷_ 107 (L._∷_ 101 (L._∷_ 100 L.[])))))))))))))))))))) (Syntax.tcons (Syntax.tyStruct (L._∷_ 114 (L._∷_ 117 (L._∷_ 108 (L._∷_ 101 (L._∷_ 115 (L._∷_ 58 (L._∷_ 58 (L._∷_ 102 (L._∷_ 111 (L._∷_ 117 (L._∷_ 110 (L._∷_ 100 (L._∷_ 58 (L._∷_ 58 (L._∷_ 70 (L._∷_ 111 (L._∷_ 117 (L._∷_ 110 (L._∷_ 100 L.[]))))))))))))))))))) (Syntax.tcons Syntax.tyBool (Syntax.tcons Syntax.tyBool (Syntax.tcons (Syntax.tyStruct (L._∷_ 115 (L._∷_ 116 (L._∷_ 101 (L._∷_ 112 (L._∷_ 58 (L._∷_ 58 (L._∷_ 83 (L._∷_ 116 (L._∷_ 101 (L._∷_ 112 L.[])))))))))) (Syntax.tcons (Syntax.tyInt Syntax.w64) (Syntax.tcons (Syntax.tyInt Syntax.w64) (Syntax.tcons (Syntax.tyStruct (L._∷_ 115 (L._∷_ 116 (L._∷_ 101 (L._∷_ 112 (L._∷_ 58 (L._∷_ 58 (L._∷_ 67 (L._∷_ 104 (L._∷_ 97 (L._∷_ 110 (L._∷_ 103 (L._∷_ 101 L.[])))))))))))) (Syntax.tcons (Syntax.tyStruct (L._∷_ 110 (L._∷_ 101 (L._∷_ 116 (L._∷_ 119 (L._∷_ 111 (L._∷_ 114 (L._∷_ 107 (L._∷_ 58 (L._∷_ 58 (L._∷_ 69 (L._∷_ 100 (L._∷_ 105 (L._∷_ 116 L.[]))))))))))))) (Syntax.tcons q7 (Syntax.tcons q7 (Syntax.tcons q7 (Syntax.tcons q7 (Syntax.tcons q2 (Syntax.tcons q2 (Syntax.tcons (Syntax.tyInt Syntax.w64) (Syntax.tcons q6 Syntax.tnil))))))))) (Syntax.tcons (Syntax.tyStruct (L._∷_ 115 (L._∷_ 116 (L._∷_ 101 (L._∷_ 112 (L._∷_ 58 (L._∷_ 58 (L._∷_ 79 (L._∷_ 108 (L._∷_ 100 L.[]))))))))) (Syntax.tcons (Syntax.tyInt Syntax.w64) (Syntax.tcons q6 (Syntax.tcons q7 (Syntax.tcons q7 (Syntax.tcons q7 (Syntax.tcons q7 (Syntax.tcons q4 Syntax.tnil)))))))) Syntax.tnil))) Syntax.tnil)))) Syntax.tnil)))) (Syntax.tcons q5 Syntax.tnil)))) (L._∷_ q20 (L._∷_ q11 (L._∷_ q17 (L._∷_ q26 (L._∷_ (5, Rows.any-gone (Syntax.tyStruct (L._∷_ 114 (L._∷_ 117 (L._∷_ 108 (L._∷_ 101 (L._∷_ 115 (L._∷_ 58 (L._∷_ 58 (L._∷_ 102 (L._∷_ 111 (L._∷_ 117 (L._∷_ 110 (L._∷_ 100 (L._∷_ 58 (L._∷_ 58 (L._∷_ 70 (L._∷_ 111 (L._∷_ 117 (L._∷_ 110 (L._∷_ 100 L.[]))))))))))))))))))) (Syntax.tcons Syntax.tyBool (Syntax.tcons Syntax.tyBool (Syntax.tcons (Syntax.tyStruct (L._∷_ 115 (L._∷_ 116 (L._∷_ 101 (L._∷_ 112 (L._∷_ 58 (L._∷_ 58 (L._∷_ 83 (L._∷_ 116 (L._∷_ 101 (L._∷_ 112 L.[])))))))))) (Syntax.tcons (Syntax.tyInt Syntax.w64) (Syntax.tcons (Syntax.tyInt Syntax.w64) (Syntax.tcons (Syntax.tyStruct (L._∷_ 115 (L._∷_ 116 (L._∷_ 101 (L._∷_ 112 (L._∷_ 58 (L._∷_ 58 (L._∷_ 67 (L._∷_ 104 (L._∷_ 97 (L._∷_ 110 (L._∷_ 103 (L._∷_ 101 L.[])))))))))))) (Syntax.tcons (Syntax.tyStruct (L._∷_ 110 (L._∷_ 101 (L._∷_ 116 (L._∷_ 119 (L._∷_ 111 (L._∷_ 114 (L._∷_ 107 (L._∷_ 58 (L._∷_ 58 (L._∷_ 69 (L._∷_ 100 (L._∷_ 105 (L._∷_ 116 L.[]))))))))))))) (Syntax.tcons q7 (Syntax.tcons q7 (Syntax.tcons q7 (Syntax.tcons q7 (Syntax.tcons q2 (Syntax.tcons q2 (Syntax.tcons (Syntax.tyInt Syntax.w64) (Syntax.tcons q6 Syntax.tnil))))))))) (Syntax.tcons (Syntax.tyStruct (L._∷_ 115 (L._∷_ 116 (L._∷_ 101 (L._∷_ 112 (L._∷_ 58 (L._∷_ 58 (L._∷_ 79 (L._∷_ 108 (L._∷_ 100 L.[]))))))))) (Syntax.tcons (Syntax.tyInt Syntax.w64) (Syntax.tcons q6 (Syntax.tcons q7 (Syntax.tcons q7 (Syntax.tcons q7 (Syntax.tcons q7 (Syntax.tcons q4 Syntax.tnil)))))))) Syntax.tnil))) Syntax.tnil)))) Syntax.tnil))))) (L._∷_ q18 (L._∷_ q25 (L._∷_ q32 (L._∷_ (9, Rows.any-gone (Syntax.tyStruct (L._∷_ 114 (L._∷_ 117 (L._∷_ 108 (L._∷_ 101 (L._∷_ 115 (L._∷_ 58 (L._∷_ 58 (L._∷_ 116 (L._∷_ 114 (L._∷_ 105 (L._∷_ 101 (L._∷_ 100 (L._∷_ 58 (L._∷_ 58 (L._∷_ 76 (L._∷_ 111 (L._∷_ 111 (L._∷_ 107 (L._∷_ 101 (L._∷_ 100 L.[])))))))))))))))))))) (Syntax.tcons (Syntax.tyStruct (L._∷_ 114 (L._∷_ 117 (L._∷_ 108 (L._∷_ 101 (L._∷_ 115 (L._∷_ 58 (L._∷_ 58 (L._∷_ 102 (L._∷_ 111 (L._∷_ 117 (L._∷_ 110 (L._∷_ 100 (L._∷_ 58 (L._∷_ 58 (L._∷_ 70 (L._∷_ 111 (L._∷_ 117 (L._∷_ 110 (L._∷_ 100 L.[]))))))))))))))))))) (Syntax.tcons Syntax.tyBool (Syntax.tcons Syntax.tyBool (Syntax.tcons (Syntax.tyStruct (L._∷_ 115 (L._∷_ 116 (L._∷_ 101 (L._∷_ 112 (L._∷_ 58 (L._∷_ 58 (L._∷_ 83 (L._∷_ 116 (L._∷_ 101 (L._∷_ 112 L.[])))))))))) (Syntax.tcons (Syntax.tyInt Syntax.w64) (Syntax.tcons (Syntax.tyInt Syntax.w64) (Syntax.tcons (Syntax.tyStruct (L._∷_ 115 (L._∷_ 116 (L._∷_ 101 (L._∷_ 112 (L._∷_ 58 (L._∷_ 58 (L._∷_ 67 (L._∷_ 104 (L._∷_ 97 (L._∷_ 110 (L._∷_ 103 (L._∷_ 101 L.[])))))))))))) (Syntax.tcons (Syntax.tyStruct (L._∷_ 110 (L._∷_ 101 (L._∷_ 116 (L._∷_ 119 (L._∷_ 111 (L._∷_ 114 (L._∷_ 107 (L._∷_ 58 (L._∷_ 58 (L._∷_ 69 (L._∷_ 100 (L._∷_ 105 (L._∷_ 116 L.[]))))))))))))) (Syntax.tcons q7 (Syntax.tcons q7 (Syntax.tcons q7 (Syntax.tcons q7 (Syntax.tcons q2 (Syntax.tcons q2 (Syntax.tcons (Syntax.tyInt Syntax.w64) (Syntax.tcons q6 Syntax.tnil))))))))) (Syntax.tcons (Syntax.tyStruct (L._∷_ 115 (L._∷_ 116 (L._∷_ 101 (L._∷_ 112 (L._∷_ 58 (L._∷_ 58 (L._∷_ 79 (L._∷_ 108 (L._∷_ 100 L.[]))))))))) (Syntax.tcons (Syntax.tyInt Syntax.w64) (Syntax.tcons q6 (Syntax.tcons q7 (Syntax.tcons q7 (Syntax.tcons q7 (Syntax.tcons q7 (Syntax.tcons q4 Syntax.tnil)))))))) Syntax.tnil))) Syntax.tnil)))) Syntax.tnil)))) (Syntax.tcons q5 Syntax.tnil)))) (L._∷_ q14 (L._∷_ (11, Rows.any-gone (Syntax.tyStruct (L._∷_ 114 (L._∷_ 117 (L._∷_ 108 (L._∷_ 101 (L._∷_ 115 (L._∷_ 58 (L._∷_ 58 (L._∷_ 102 (L._∷_ 111 (L._∷_ 117 (L._∷_ 110 (L._∷_ 100 (L._∷_ 58 (L._∷_ 58 (L._∷_ 70 (L._∷_ 111 (L._∷_ 117 (L._∷_ 110 (L._∷_ 100 L.[]))))))))))))))))))) (Syntax.tcons Syntax.tyBool (Syntax.tcons Syntax.tyBool (Syntax.tcons (Syntax.tyStruct (L._∷_ 115 (L._∷_ 116 (L._∷_ 101 (L._∷_ 112 (L._∷_ 58 (L._∷_ 58 (L._∷_ 83 (L._∷_ 116 (L._∷_ 101 (L._∷_ 112 L.[])))))))))) (Syntax.tcons (Syntax.tyInt Syntax.w64) (Syntax.tcons (Syntax.tyInt Syntax.w64) (Syntax.tcons (Syntax.tyStruct (L._∷_ 115 (L._∷_ 116 (L._∷_ 101 (L._∷_ 112 (L._∷_ 58 (L._∷_ 58 (L._∷_ 67 (L._∷_ 104 (L._∷_ 97 (L._∷_ 110 (L._∷_ 103 (L._∷_ 101 L.[])))))))))))) (Syntax.tcons (Syntax.tyStruct (L._∷_ 110 (L._∷_ 101 (L._∷_ 116 (L._∷_ 119 (L._∷_ 111 (L._∷_ 114 (L._∷_ 107 (L._∷_ 58 (L._∷_ 58 (L._∷_ 69 (L._∷_ 100 (L._∷_ 105 (L._∷_ 116 L.[]))))))))))))) (Syntax.tcons q7 (Syntax.tcons q7 (Syntax.tcons q7 (Syntax.tcons q7 (Syntax.tcons q2 (Syntax.tcons q2 (Syntax.tcons (Syntax.tyInt Syntax.w64) (Syntax.tcons q6 Syntax.tnil))))))))) (Syntax.tcons (Syntax.tyStruct (L._∷_ 115 (L._∷_ 116 (L._∷_ 101 (L._∷_ 112 (L._∷_ 58 (L._∷_ 58 (L._∷_ 79 (L._∷_ 108 (L._∷_ 100 L.[]))))))))) (Syntax.tcons (Syntax.tyInt Syntax.w64) (Syntax.tcons q6 (Syntax.tcons q7 (Syntax.tcons q7 (Syntax.tcons q7 (Syntax.tcons q7 (Syntax.tcons q4 Syntax.tnil)))))))) Syntax.tnil))) Syntax.tnil)))) Syntax.tnil))))) (L._∷_ q28 (L._∷_ q29 (L._∷_ q30 (L._∷_ (15, Rows.sc-here Row.sBool) L.[])))))))))))))))
 
 abbrev pub t42 : L.List Row.Entry
-t42 = L._∷_ (0, Rows.any-gone (Syntax.tyStruct (L._∷_ 114 (L._∷_ 117 (L._∷_ 108 (L._∷_ 101 (L._∷_ 115 (L._∷_ 58 (L._∷_ 58 (L._∷_ 116 (L._∷_ 114 (L._∷_ 105 (L._∷_ 101 (L._∷_ 100 (L._∷_ 58 (L._∷_ 58 (L._∷_ 76 (L._∷_ 111 (L._∷_ 111 (L._∷_ 107 (L._∷_ 101 (L._∷_ 100 L.[])))))))))))))))))))) (Syntax.tcons (Syntax.tyStruct (L._∷_ 114 (L._∷_ 117 (L._∷_ 108 (L._∷_ 101 (L._∷_ 115 (L._∷_ 58 (L._∷_ 58 (L._∷_ 102 (L._∷_ 111 (L._∷_ 117 (L._∷_ 110 (L._∷_ 100 (L._∷_ 58 (L._∷_ 58 (L._∷_ 70 (L._∷_ 111 (L._∷_ 117 (L._∷_ 110 (L._∷_ 100 L.[]))))))))))))))))))) (Syntax.tcons Syntax.tyBool (Syntax.tcons Syntax.tyBool (Syntax.tcons (Syntax.tyStruct (L._∷_ 115 (L._∷_ 116 (L._∷_ 101 (L._∷_ 112 (L._∷_ 58 (L._∷_ 58 (L._∷_ 83 (L._∷_ 116 (L._∷_ 101 (L._∷_ 112 L.[])))))))))) (Syntax.tcons (Syntax.tyInt Syntax.w64) (Syntax.tcons (Syntax.tyInt Syntax.w64) (Syntax.tcons (Syntax.tyStruct (L._∷_ 115 (L._∷_ 116 (L._∷_ 101 (L._∷_ 112 (L._∷_ 58 (L._∷_ 58 (L._∷_ 67 (L._∷_ 104 (L._∷_ 97 (L._∷_ 110 (L._∷_ 103 (L._∷_ 101 L.[])))))))))))) (Syntax.tcons (Syntax.tyStruct (L._∷_ 110 (L._∷_ 101 (L._∷_ 116 (L._∷_ 119 (L._∷_ 111 (L._∷_ 114 (L._∷_ 107 (L._∷_ 58 (L._∷_ 58 (L._∷_ 69 (L._∷_ 100 (L._∷_ 105 (L._∷_ 116 L.[]))))))))))))) (Syntax.tcons q7 (Syntax.tcons q7 (Syntax.tcons q7 (Syntax.tcons q7 (Syntax.tcons q2 (Syntax.tcons q2 (Syntax.tcons (Syntax.tyInt Syntax.w64) Syntax.tnil)))))))) (Syntax.tcons (Syntax.tyStruct (L._∷_ 115 (L._∷_ 116 (L._∷_ 101 (L._∷_ 112 (L._∷_ 58 (L._∷_ 58 (L._∷_ 79 (L._∷_ 108 (L._∷_ 100 L.[]))))))))) (Syntax.tcons (Syntax.tyInt Syntax.w64) (Syntax.tcons q6 (Syntax.tcons q7 (Syntax.tcons q7 (Syntax.tcons q7 (Syntax.tcons q7 (Syntax.tcons q4 Syntax.tnil)))))))) Syntax.tnil))) Syntax.tnil)))) Syntax.tnil)))) (Syntax.tcons q5 Syntax.tnil)))) (L._∷_ q20 (L._∷_ q11 (L._∷_ q17 (L._∷_ q26 (L._∷_ (5, Rows.any-gone (Syntax.tyStruct (L._∷_ 114 (L._∷_ 117 (L._∷_ 108 (L._∷_ 101 (L._∷_ 115 (L._∷_ 58 (L._∷_ 58 (L._∷_ 102 (L._∷_ 111 (L._∷_ 117 (L._∷_ 110 (L._∷_ 100 (L._∷_ 58 (L._∷_ 58 (L._∷_ 70 (L._∷_ 111 (L._∷_ 117 (L._∷_ 110 (L._∷_ 100 L.[]))))))))))))))))))) (Syntax.tcons Syntax.tyBool (Syntax.tcons Syntax.tyBool (Syntax.tcons (Syntax.tyStruct (L._∷_ 115 (L._∷_ 116 (L._∷_ 101 (L._∷_ 112 (L._∷_ 58 (L._∷_ 58 (L._∷_ 83 (L._∷_ 116 (L._∷_ 101 (L._∷_ 112 L.[])))))))))) (Syntax.tcons (Syntax.tyInt Syntax.w64) (Syntax.tcons (Syntax.tyInt Syntax.w64) (Syntax.tcons (Syntax.tyStruct (L._∷_ 115 (L._∷_ 116 (L._∷_ 101 (L._∷_ 112 (L._∷_ 58 (L._∷_ 58 (L._∷_ 67 (L._∷_ 104 (L._∷_ 97 (L._∷_ 110 (L._∷_ 103 (L._∷_ 101 L.[])))))))))))) (Syntax.tcons (Syntax.tyStruct (L._∷_ 110 (L._∷_ 101 (L._∷_ 116 (L._∷_ 119 (L._∷_ 111 (L._∷_ 114 (L._∷_ 107 (L._∷_ 58 (L._∷_ 58 (L._∷_ 69 (L._∷_ 100 (L._∷_ 105 (L._∷_ 116 L.[]))))))))))))) (Syntax.tcons q7 (Syntax.tcons q7 (Syntax.tcons q7 (Syntax.tcons q7 (Syntax.tcons q2 (Syntax.tcons q2 (Syntax.tcons (Syntax.tyInt Syntax.w64) Syntax.tnil)))))))) (Syntax.tcons (Syntax.tyStruct (L._∷_ 115 (L._∷_ 116 (L._∷_ 101 (L._∷_ 112 (L._∷_ 58 (L._∷_ 58 (L._∷_ 79 (L._∷_ 108 (L._∷_ 100 L.[]))))))))) (Syntax.tcons (Syntax.tyInt Syntax.w64) (Syntax.tcons q6 (Syntax.tcons q7 (Syntax.tcons q7 (Syntax.tcons q7 (Syntax.tcons q7 (Syntax.tcons q4 Syntax.tnil)))))))) Syntax.tnil))) Syntax.tnil)))) Syntax.tnil))))) (L._∷_ q18 (L._∷_ q25 (L._∷_ q32 (L._∷_ (9, Rows.any-gone (Syntax.tyStruct (L._∷_ 114 (L._∷_ 117 (L._∷_ 108 (L._∷_ 101 (L._∷_ 115 (L._∷_ 58 (L._∷_ 58 (L._∷_ 116 (L._∷_ 114 (L._∷_ 105 (L._∷_ 101 (L._∷_ 100 (L._∷_ 58 (L._∷_ 58 (L._∷_ 76 (L._∷_ 111 (L._∷_ 111 (L._∷_ 107 (L._∷_ 101 (L._∷_ 100 L.[])))))))))))))))))))) (Syntax.tcons (Syntax.tyStruct (L._∷_ 114 (L._∷_ 117 (L._∷_ 108 (L._∷_ 101 (L._∷_ 115 (L._∷_ 58 (L._∷_ 58 (L._∷_ 102 (L._∷_ 111 (L._∷_ 117 (L._∷_ 110 (L._∷_ 100 (L._∷_ 58 (L._∷_ 58 (L._∷_ 70 (L._∷_ 111 (L._∷_ 117 (L._∷_ 110 (L._∷_ 100 L.[]))))))))))))))))))) (Syntax.tcons Syntax.tyBool (Syntax.tcons Syntax.tyBool (Syntax.tcons (Syntax.tyStruct (L._∷_ 115 (L._∷_ 116 (L._∷_ 101 (L._∷_ 112 (L._∷_ 58 (L._∷_ 58 (L._∷_ 83 (L._∷_ 116 (L._∷_ 101 (L._∷_ 112 L.[])))))))))) (Syntax.tcons (Syntax.tyInt Syntax.w64) (Syntax.tcons (Syntax.tyInt Syntax.w64) (Syntax.tcons (Syntax.tyStruct (L._∷_ 115 (L._∷_ 116 (L._∷_ 101 (L._∷_ 112 (L._∷_ 58 (L._∷_ 58 (L._∷_ 67 (L._∷_ 104 (L._∷_ 97 (L._∷_ 110 (L._∷_ 103 (L._∷_ 101 L.[])))))))))))) (Syntax.tcons (Syntax.tyStruct (L._∷_ 110 (L._∷_ 101 (L._∷_ 116 (L._∷_ 119 (L._∷_ 111 (L._∷_ 114 (L._∷_ 107 (L._∷_ 58 (L._∷_ 58 (L._∷_ 69 (L._∷_ 100 (L._∷_ 105 (L._∷_ 116 L.[]))))))))))))) (Syntax.tcons q7 (Syntax.tcons q7 (Syntax.tcons q7 (Syntax.tcons q7 (Syntax.tcons q2 (Syntax.tcons q2 (Syntax.tcons (Syntax.tyInt Syntax.w64) Syntax.tnil)))))))) (Syntax.tcons (Syntax.tyStruct (L._∷_ 115 (L._∷_ 116 (L._∷_ 101 (L._∷_ 112 (L._∷_ 58 (L._∷_ 58 (L._∷_ 79 (L._∷_ 108 (L._∷_ 100 L.[]))))))))) (Syntax.tcons (Syntax.tyInt Syntax.w64) (Syntax.tcons q6 (Syntax.tcons q7 (Syntax.tcons q7 (Syntax.tcons q7 (Syntax.tcons q7 (Syntax.tcons q4 Syntax.tnil)))))))) Syntax.tnil))) Syntax.tnil)))) Syntax.tnil)))) (Syntax.tcons q5 Syntax.tnil)))) (L._∷_ (10, Rows.any-gone (Syntax.tyStruct (L._∷_ 114 (L._∷_ 117 (L._∷_ 108 (L._∷_ 101 (L._∷_ 115 (L._∷_ 58 (L._∷_ 58 (L._∷_ 102 (L._∷_ 111 (L._∷_ 117 (L._∷_ 110 (L._∷_ 100 (L._∷_ 58 (L._∷_ 58 (L._∷_ 70 (L._∷_ 111 (L._∷_ 117 (L._∷_ 110 (L._∷_ 100 L.[]))))))))))))))))))) (Syntax.tcons Syntax.tyBool (Syntax.tcons Syntax.tyBool (Syntax.tcons (Syntax.tyStruct (L._∷_ 115 (L._∷_ 116 (L._∷_ 101 (L._∷_ 112 (L._∷_ 58 (L._∷_ 58 (L._∷_ 83 (L._∷_ 116 (L._∷_ 101 (L._∷_ 112 L.[])))))))))) (Syntax.tcons (Syntax.tyInt Syntax.w64) (Syntax.tcons (Syntax.tyInt Syntax.w64) (Syntax.tcons (Syntax.tyStruct (L._∷_ 115 (L._∷_ 116 (L._∷_ 101 (L._∷_ 112 (L._∷_ 58 (L._∷_ 58 (L._∷_ 67 (L._∷_ 104 (L._∷_ 97 (L._∷_ 110 (L._∷_ 103 (L._∷_ 101 L.[])))))))))))) (Syntax.tcons (Syntax.tyStruct (L._∷_ 110 (L._∷_ 101 (L._∷_ 116 (L._∷_ 119 (L._∷_ 111 (L._∷_ 114 (L._∷_ 107 (L._∷_ 58 (L._∷_ 58 (L._∷_ 69 (L._∷_ 100 (L._∷_ 105 (L._∷_ 116 L.[]))))))))))))) (Syntax.tcons q7 (Syntax.tcons q7 (Syntax.tcons q7 (Syntax.tcons q7 (Syntax.tcons q2 (Syntax.tcons q2 (Syntax.tcons (Syntax.tyInt Syntax.w64) Syntax.tnil)))))))) (Syntax.tcons (Syntax.tyStruct (L._∷_ 115 (L._∷_ 116 (L._∷_ 101 (L._∷_ 112 (L._∷_ 58 (L._∷_ 58 (L._∷_ 79 (L._∷_ 108 (L._∷_ 100 L.[]))))))))) (Syntax.tcons (Syntax.tyInt Syntax.w64) (Syntax.tcons q6 (Syntax.tcons q7 (Syntax.tcons q7 (Syntax.tcons q7 (Syntax.tcons q7 (Syntax.tcons q4 Syntax.tnil)))))))) Syntax.tnil))) Syntax.tnil)))) Syntax.tnil))))) (L._∷_ (11, Rows.any-gone (Syntax.tyStruct (L._∷_ 114 (L._∷_ 117 (L._∷_ 108 (L._∷_ 101 (L._∷_ 115 (L._∷_ 58 (L._∷_ 58 (L._∷_ 102 (L._∷_ 111 (L._∷_ 117 (L._∷_ 110 (L._∷_ 100 (L._∷_ 58 (L._∷_ 58 (L._∷_ 70 (L._∷_ 111 (L._∷_ 117 (L._∷_ 110 (L._∷_ 100 L.[]))))))))))))))))))) (Syntax.tcons Syntax.tyBool (Syntax.tcons Syntax.tyBool (Syntax.tcons (Syntax.tyStruct (L._∷_ 115 (L._∷_ 116 (L._∷_ 101 (L._∷_ 112 (L._∷_ 58 (L._∷_ 58 (L._∷_ 83 (L._∷_ 116 (L._∷_ 101 (L._∷_ 112 L.[])))))))))) (Syntax.tcons (Syntax.tyInt Syntax.w64) (Syntax.tcons (Syntax.tyInt Syntax.w64) (Syntax.tcons (Syntax.tyStruct (L._∷_ 115 (L._∷_ 116 (L._∷_ 101 (L._∷_ 112 (L._∷_ 58 (L._∷_ 58 (L._∷_ 67 (L._∷_ 104 (L._∷_ 97 (L._∷_ 110 (L._∷_ 103 (L._∷_ 101 L.[])))))))))))) (Syntax.tcons (Syntax.tyStruct (L._∷_ 110 (L._∷_ 101 (L._∷_ 116 (L._∷_ 119 (L._∷_ 111 (L._∷_ 114 (L._∷_ 107 (L._∷_ 58 (L._∷_ 58 (L._∷_ 69 (L._∷_ 100 (L._∷_ 105 (L._∷_ 116 L.[]))))))))))))) (Syntax.tcons q7 (Syntax.tcons q7 (Syntax.tcons q7 (Syntax.tcons q7 (Syntax.tcons q2 (Syntax.tcons q2 (Syntax.tcons (Syntax.tyInt Syntax.w64) Syntax.tnil)))))))) (Syntax.tcons (Syntax.tyStruct (L._∷_ 115 (L._∷_ 116 (L._∷_ 101 (L._∷_ 112 (L._∷_ 58 (L._∷_ 58 (L._∷_ 79 (L._∷_ 108 (L._∷_ 100 L.[]))))))))) (Syntax.tcons (Syntax.tyInt Syntax.w64) (Syntax.tcons q6 (Syntax.tcons q7 (Syntax.tcons q7 (Syntax.tcons q7 (Syntax.tcons q7 (Syntax.tcons q4 Syntax.tnil)))))))) Syntax.tnil))) Syntax.tnil)))) Syntax.tnil))))) (L._∷_ q28 (L._∷_ q29 (L._∷_ q30 (L._∷_ (15, Rows.sc-here Row.sBool) L.[])))))))))))))))
+t42 = L._∷_ (0, Rows.any-gone (Syntax.tyStruct (L._∷_ 114 (L._∷_ 117 (L._∷_ 108 (L._∷_ 101 (L._∷_ 115 (L._∷_ 58 (L._∷_ 58 (L._∷_ 116 (L._∷_ 114 (L._∷_ 105 (L._∷_ 101 (L._∷_ 100 (L._∷_ 58 (L._∷_ 58 (L._∷_ 76 (L._∷_ 111 (L._∷_ 111 (L._∷_ 107 (L._∷_ 101 (L._∷_ 100 L.[])))))))))))))))))))) (Syntax.tcons (Syntax.tyStruct (L._∷_ 114 (L._∷_ 117 (L._∷_ 108 (L._∷_ 101 (L._∷_ 115 (L._∷_ 58 (L._∷_ 58 (L._∷_ 102 (L._∷_ 111 (L._∷_ 117 (L._∷_ 110 (L._∷_ 100 (L._∷_ 58 (L._∷_ 58 (L._∷_ 70 (L._∷_ 111 (L._∷_ 117 (L._∷_ 110 (L._∷_ 100 L.[]))))))))))))))))))) (Syntax.tcons Syntax.tyBool (Syntax.tcons Syntax.tyBool (Syntax.tcons (Syntax.tyStruct (L._∷_ 115 (L._∷_ 116 (L._∷_ 101 (L._∷_ 112 (L._∷_ 58 (L._∷_ 58 (L._∷_ 83 (L._∷_ 116 (L._∷_ 101 (L._∷_ 112 L.[])))))))))) (Syntax.tcons (Syntax.tyInt Syntax.w64) (Syntax.tcons (Syntax.tyInt Syntax.w64) (Syntax.tcons (Syntax.tyStruct (L._∷_ 115 (L._∷_ 116 (L._∷_ 101 (L._∷_ 112 (L._∷_ 58 (L._∷_ 58 (L._∷_ 67 (L._∷_ 104 (L._∷_ 97 (L._∷_ 110 (L._∷_ 103 (L._∷_ 101 L.[])))))))))))) (Syntax.tcons (Syntax.tyStruct (L._∷_ 110 (L._∷_ 101 (L._∷_ 116 (L._∷_ 119 (L._∷_ 111 (L._∷_ 114 (L._∷_ 107 (L._∷_ 58 (L._∷_ 58 (L._∷_ 69 (L._∷_ 100 (L._∷_ 105 (L._∷_ 116 L.[]))))))))))))) (Syntax.tcons q7 (Syntax.tcons q7 (Syntax.tcons q7 (Syntax.tcons q7 (Syntax.tcons q2 (Syntax.tcons q2 (Syntax.tcons (Syntax.tyInt Syntax.w64) (Syntax.tcons q6 Syntax.tnil))))))))) (Syntax.tcons (Syntax.tyStruct (L._∷_ 115 (L._∷_ 116 (L._∷_ 101 (L._∷_ 112 (L._∷_ 58 (L._∷_ 58 (L._∷_ 79 (L._∷_ 108 (L._∷_ 100 L.[]))))))))) (Syntax.tcons (Syntax.tyInt Syntax.w64) (Syntax.tcons q6 (Syntax.tcons q7 (Syntax.tcons q7 (Syntax.tcons q7 (Syntax.tcons q7 (Syntax.tcons q4 Syntax.tnil)))))))) Syntax.tnil))) Syntax.tnil)))) Syntax.tnil)))) (Syntax.tcons q5 Syntax.tnil)))) (L._∷_ q20 (L._∷_ q11 (L._∷_ q17 (L._∷_ q26 (L._∷_ (5, Rows.any-gone (Syntax.tyStruct (L._∷_ 114 (L._∷_ 117 (L._∷_ 108 (L._∷_ 101 (L._∷_ 115 (L._∷_ 58 (L._∷_ 58 (L._∷_ 102 (L._∷_ 111 (L._∷_ 117 (L._∷_ 110 (L._∷_ 100 (L._∷_ 58 (L._∷_ 58 (L._∷_ 70 (L._∷_ 111 (L._∷_ 117 (L._∷_ 110 (L._∷_ 100 L.[]))))))))))))))))))) (Syntax.tcons Syntax.tyBool (Syntax.tcons Syntax.tyBool (Syntax.tcons (Syntax.tyStruct (L._∷_ 115 (L._∷_ 116 (L._∷_ 101 (L._∷_ 112 (L._∷_ 58 (L._∷_ 58 (L._∷_ 83 (L._∷_ 116 (L._∷_ 101 (L._∷_ 112 L.[])))))))))) (Syntax.tcons (Syntax.tyInt Syntax.w64) (Syntax.tcons (Syntax.tyInt Syntax.w64) (Syntax.tcons (Syntax.tyStruct (L._∷_ 115 (L._∷_ 116 (L._∷_ 101 (L._∷_ 112 (L._∷_ 58 (L._∷_ 58 (L._∷_ 67 (L._∷_ 104 (L._∷_ 97 (L._∷_ 110 (L._∷_ 103 (L._∷_ 101 L.[])))))))))))) (Syntax.tcons (Syntax.tyStruct (L._∷_ 110 (L._∷_ 101 (L._∷_ 116 (L._∷_ 119 (L._∷_ 111 (L._∷_ 114 (L._∷_ 107 (L._∷_ 58 (L._∷_ 58 (L._∷_ 69 (L._∷_ 100 (L._∷_ 105 (L._∷_ 116 L.[]))))))))))))) (Syntax.tcons q7 (Syntax.tcons q7 (Syntax.tcons q7 (Syntax.tcons q7 (Syntax.tcons q2 (Syntax.tcons q2 (Syntax.tcons (Syntax.tyInt Syntax.w64) (Syntax.tcons q6 Syntax.tnil))))))))) (Syntax.tcons (Syntax.tyStruct (L._∷_ 115 (L._∷_ 116 (L._∷_ 101 (L._∷_ 112 (L._∷_ 58 (L._∷_ 58 (L._∷_ 79 (L._∷_ 108 (L._∷_ 100 L.[]))))))))) (Syntax.tcons (Syntax.tyInt Syntax.w64) (Syntax.tcons q6 (Syntax.tcons q7 (Syntax.tcons q7 (Syntax.tcons q7 (Syntax.tcons q7 (Syntax.tcons q4 Syntax.tnil)))))))) Syntax.tnil))) Syntax.tnil)))) Syntax.tnil))))) (L._∷_ q18 (L._∷_ q25 (L._∷_ q32 (L._∷_ (9, Rows.any-gone (Syntax.tyStruct (L._∷_ 114 (L._∷_ 117 (L._∷_ 108 (L._∷_ 101 (L._∷_ 115 (L._∷_ 58 (L._∷_ 58 (L._∷_ 116 (L._∷_ 114 (L._∷_ 105 (L._∷_ 101 (L._∷_ 100 (L._∷_ 58 (L._∷_ 58 (L._∷_ 76 (L._∷_ 111 (L._∷_ 111 (L._∷_ 107 (L._∷_ 101 (L._∷_ 100 L.[])))))))))))))))))))) (Syntax.tcons (Syntax.tyStruct (L._∷_ 114 (L._∷_ 117 (L._∷_ 108 (L._∷_ 101 (L._∷_ 115 (L._∷_ 58 (L._∷_ 58 (L._∷_ 102 (L._∷_ 111 (L._∷_ 117 (L._∷_ 110 (L._∷_ 100 (L._∷_ 58 (L._∷_ 58 (L._∷_ 70 (L._∷_ 111 (L._∷_ 117 (L._∷_ 110 (L._∷_ 100 L.[]))))))))))))))))))) (Syntax.tcons Syntax.tyBool (Syntax.tcons Syntax.tyBool (Syntax.tcons (Syntax.tyStruct (L._∷_ 115 (L._∷_ 116 (L._∷_ 101 (L._∷_ 112 (L._∷_ 58 (L._∷_ 58 (L._∷_ 83 (L._∷_ 116 (L._∷_ 101 (L._∷_ 112 L.[])))))))))) (Syntax.tcons (Syntax.tyInt Syntax.w64) (Syntax.tcons (Syntax.tyInt Syntax.w64) (Syntax.tcons (Syntax.tyStruct (L._∷_ 115 (L._∷_ 116 (L._∷_ 101 (L._∷_ 112 (L._∷_ 58 (L._∷_ 58 (L._∷_ 67 (L._∷_ 104 (L._∷_ 97 (L._∷_ 110 (L._∷_ 103 (L._∷_ 101 L.[])))))))))))) (Syntax.tcons (Syntax.tyStruct (L._∷_ 110 (L._∷_ 101 (L._∷_ 116 (L._∷_ 119 (L._∷_ 111 (L._∷_ 114 (L._∷_ 107 (L._∷_ 58 (L._∷_ 58 (L._∷_ 69 (L._∷_ 100 (L._∷_ 105 (L._∷_ 116 L.[]))))))))))))) (Syntax.tcons q7 (Syntax.tcons q7 (Syntax.tcons q7 (Syntax.tcons q7 (Syntax.tcons q2 (Syntax.tcons q2 (Syntax.tcons (Syntax.tyInt Syntax.w64) (Syntax.tcons q6 Syntax.tnil))))))))) (Syntax.tcons (Syntax.tyStruct (L._∷_ 115 (L._∷_ 116 (L._∷_ 101 (L._∷_ 112 (L._∷_ 58 (L._∷_ 58 (L._∷_ 79 (L._∷_ 108 (L._∷_ 100 L.[]))))))))) (Syntax.tcons (Syntax.tyInt Syntax.w64) (Syntax.tcons q6 (Syntax.tcons q7 (Syntax.tcons q7 (Syntax.tcons q7 (Syntax.tcons q7 (Syntax.tcons q4 Syntax.tnil)))))))) Syntax.tnil))) Syntax.tnil)))) Syntax.tnil)))) (Syntax.tcons q5 Syntax.tnil)))) (L._∷_ (10, Rows.any-gone (Syntax.tyStruct (L._∷_ 114 (L._∷_ 117 (L._∷_ 108 (L._∷_ 101 (L._∷_ 115 (L._∷_ 58 (L._∷_ 58 (L._∷_ 102 (L._∷_ 111 (L._∷_ 117 (L._∷_ 110 (L._∷_ 100 (L._∷_ 58 (L._∷_ 58 (L._∷_ 70 (L._∷_ 111 (L._∷_ 117 (L._∷_ 110 (L._∷_ 100 L.[]))))))))))))))))))) (Syntax.tcons Syntax.tyBool (Syntax.tcons Syntax.tyBool (Syntax.tcons (Syntax.tyStruct (L._∷_ 115 (L._∷_ 116 (L._∷_ 101 (L._∷_ 112 (L._∷_ 58 (L._∷_ 58 (L._∷_ 83 (L._∷_ 116 (L._∷_ 101 (L._∷_ 112 L.[])))))))))) (Syntax.tcons (Syntax.tyInt Syntax.w64) (Syntax.tcons (Syntax.tyInt Syntax.w64) (Syntax.tcons (Syntax.tyStruct (L._∷_ 115 (L._∷_ 116 (L._∷_ 101 (L._∷_ 112 (L._∷_ 58 (L._∷_ 58 (L._∷_ 67 (L._∷_ 104 (L._∷_ 97 (L._∷_ 110 (L._∷_ 103 (L._∷_ 101 L.[])))))))))))) (Syntax.tcons (Syntax.tyStruct (L._∷_ 110 (L._∷_ 101 (L._∷_ 116 (L._∷_ 119 (L._∷_ 111 (L._∷_ 114 (L._∷_ 107 (L._∷_ 58 (L._∷_ 58 (L._∷_ 69 (L._∷_ 100 (L._∷_ 105 (L._∷_ 116 L.[]))))))))))))) (Syntax.tcons q7 (Syntax.tcons q7 (Syntax.tcons q7 (Syntax.tcons q7 (Syntax.tcons q2 (Syntax.tcons q2 (Syntax.tcons (Syntax.tyInt Syntax.w64) (Syntax.tcons q6 Syntax.tnil))))))))) (Syntax.tcons (Syntax.tyStruct (L._∷_ 115 (L._∷_ 116 (L._∷_ 101 (L._∷_ 112 (L._∷_ 58 (L._∷_ 58 (L._∷_ 79 (L._∷_ 108 (L._∷_ 100 L.[]))))))))) (Syntax.tcons (Syntax.tyInt Syntax.w64) (Syntax.tcons q6 (Syntax.tcons q7 (Syntax.tcons q7 (Syntax.tcons q7 (Syntax.tcons q7 (Syntax.tcons q4 Syntax.tnil)))))))) Syntax.tnil))) Syntax.tnil)))) Syntax.tnil))))) (L._∷_ (11, Rows.any-gone (Syntax.tyStruct (L._∷_ 114 (L._∷_ 117 (L._∷_ 108 (L._∷_ 101 (L._∷_ 115 (L._∷_ 58 (L._∷_ 58 (L._∷_ 102 (L._∷_ 111 (L._∷_ 117 (L._∷_ 110 (L._∷_ 100 (L._∷_ 58 (L._∷_ 58 (L._∷_ 70 (L._∷_ 111 (L._∷_ 117 (L._∷_ 110 (L._∷_ 100 L.[]))))))))))))))))))) (Syntax.tcons Syntax.tyBool (Syntax.tcons Syntax.tyBool (Syntax.tcons (Syntax.tyStruct (L._∷_ 115 (L._∷_ 116 (L._∷_ 101 (L._∷_ 112 (L._∷_ 58 (L._∷_ 58 (L._∷_ 83 (L._∷_ 116 (L._∷_ 101 (L._∷_ 112 L.[])))))))))) (Syntax.tcons (Syntax.tyInt Syntax.w64) (Syntax.tcons (Syntax.tyInt Syntax.w64) (Syntax.tcons (Syntax.tyStruct (L._∷_ 115 (L._∷_ 116 (L._∷_ 101 (L._∷_ 112 (L._∷_ 58 (L._∷_ 58 (L._∷_ 67 (L._∷_ 104 (L._∷_ 97 (L._∷_ 110 (L._∷_ 103 (L._∷_ 101 L.[])))))))))))) (Syntax.tcons (Syntax.tyStruct (L._∷_ 110 (L._∷_ 101 (L._∷_ 116 (L._∷_ 119 (L._∷_ 111 (L._∷_ 114 (L._∷_ 107 (L._∷_ 58 (L._∷_ 58 (L._∷_ 69 (L._∷_ 100 (L._∷_ 105 (L._∷_ 116 L.[]))))))))))))) (Syntax.tcons q7 (Syntax.tcons q7 (Syntax.tcons q7 (Syntax.tcons q7 (Syntax.tcons q2 (Syntax.tcons q2 (Syntax.tcons (Syntax.tyInt Syntax.w64) (Syntax.tcons q6 Syntax.tnil))))))))) (Syntax.tcons (Syntax.tyStruct (L._∷_ 115 (L._∷_ 116 (L._∷_ 101 (L._∷_ 112 (L._∷_ 58 (L._∷_ 58 (L._∷_ 79 (L._∷_ 108 (L._∷_ 100 L.[]))))))))) (Syntax.tcons (Syntax.tyInt Syntax.w64) (Syntax.tcons q6 (Syntax.tcons q7 (Syntax.tcons q7 (Syntax.tcons q7 (Syntax.tcons q7 (Syntax.tcons q4 Syntax.tnil)))))))) Syntax.tnil))) Syntax.tnil)))) Syntax.tnil))))) (L._∷_ q28 (L._∷_ q29 (L._∷_ q30 (L._∷_ (15, Rows.sc-here Row.sBool) L.[])))))))))))))))
 
 abbrev pub t43 : L.List Row.Entry
-t43 = L._∷_ (0, Rows.any-gone (Syntax.tyStruct (L._∷_ 114 (L._∷_ 117 (L._∷_ 108 (L._∷_ 101 (L._∷_ 115 (L._∷_ 58 (L._∷_ 58 (L._∷_ 116 (L._∷_ 114 (L._∷_ 105 (L._∷_ 101 (L._∷_ 100 (L._∷_ 58 (L._∷_ 58 (L._∷_ 76 (L._∷_ 111 (L._∷_ 111 (L._∷_ 107 (L._∷_ 101 (L._∷_ 100 L.[])))))))))))))))))))) (Syntax.tcons (Syntax.tyStruct (L._∷_ 114 (L._∷_ 117 (L._∷_ 108 (L._∷_ 101 (L._∷_ 115 (L._∷_ 58 (L._∷_ 58 (L._∷_ 102 (L._∷_ 111 (L._∷_ 117 (L._∷_ 110 (L._∷_ 100 (L._∷_ 58 (L._∷_ 58 (L._∷_ 70 (L._∷_ 111 (L._∷_ 117 (L._∷_ 110 (L._∷_ 100 L.[]))))))))))))))))))) (Syntax.tcons Syntax.tyBool (Syntax.tcons Syntax.tyBool (Syntax.tcons (Syntax.tyStruct (L._∷_ 115 (L._∷_ 116 (L._∷_ 101 (L._∷_ 112 (L._∷_ 58 (L._∷_ 58 (L._∷_ 83 (L._∷_ 116 (L._∷_ 101 (L._∷_ 112 L.[])))))))))) (Syntax.tcons (Syntax.tyInt Syntax.w64) (Syntax.tcons (Syntax.tyInt Syntax.w64) (Syntax.tcons (Syntax.tyStruct (L._∷_ 115 (L._∷_ 116 (L._∷_ 101 (L._∷_ 112 (L._∷_ 58 (L._∷_ 58 (L._∷_ 67 (L._∷_ 104 (L._∷_ 97 (L._∷_ 110 (L._∷_ 103 (L._∷_ 101 L.[])))))))))))) (Syntax.tcons (Syntax.tyStruct (L._∷_ 110 (L._∷_ 101 (L._∷_ 116 (L._∷_ 119 (L._∷_ 111 (L._∷_ 114 (L._∷_ 107 (L._∷_ 58 (L._∷_ 58 (L._∷_ 69 (L._∷_ 100 (L._∷_ 105 (L._∷_ 116 L.[]))))))))))))) (Syntax.tcons q7 (Syntax.tcons q7 (Syntax.tcons q7 (Syntax.tcons q7 (Syntax.tcons q2 (Syntax.tcons q2 (Syntax.tcons (Syntax.tyInt Syntax.w64) Syntax.tnil)))))))) (Syntax.tcons (Syntax.tyStruct (L._∷_ 115 (L._∷_ 116 (L._∷_ 101 (L._∷_ 112 (L._∷_ 58 (L._∷_ 58 (L._∷_ 79 (L._∷_ 108 (L._∷_ 100 L.[]))))))))) (Syntax.tcons (Syntax.tyInt Syntax.w64) (Syntax.tcons q6 (Syntax.tcons q7 (Syntax.tcons q7 (Syntax.tcons q7 (Syntax.tcons q7 (Syntax.tcons q4 Syntax.tnil)))))))) Syntax.tnil))) Syntax.tnil)))) Syntax.tnil)))) (Syntax.tcons q5 Syntax.tnil)))) (L._∷_ q0 (L._∷_ q11 (L._∷_ q17 (L._∷_ q26 (L._∷_ (5, Rows.any-gone (Syntax.tyStruct (L._∷_ 114 (L._∷_ 117 (L._∷_ 108 (L._∷_ 101 (L._∷_ 115 (L._∷_ 58 (L._∷_ 58 (L._∷_ 102 (L._∷_ 111 (L._∷_ 117 (L._∷_ 110 (L._∷_ 100 (L._∷_ 58 (L._∷_ 58 (L._∷_ 70 (L._∷_ 111 (L._∷_ 117 (L._∷_ 110 (L._∷_ 100 L.[]))))))))))))))))))) (Syntax.tcons Syntax.tyBool (Syntax.tcons Syntax.tyBool (Syntax.tcons (Syntax.tyStruct (L._∷_ 115 (L._∷_ 116 (L._∷_ 101 (L._∷_ 112 (L._∷_ 58 (L._∷_ 58 (L._∷_ 83 (L._∷_ 116 (L._∷_ 101 (L._∷_ 112 L.[])))))))))) (Syntax.tcons (Syntax.tyInt Syntax.w64) (Syntax.tcons (Syntax.tyInt Syntax.w64) (Syntax.tcons (Syntax.tyStruct (L._∷_ 115 (L._∷_ 116 (L._∷_ 101 (L._∷_ 112 (L._∷_ 58 (L._∷_ 58 (L._∷_ 67 (L._∷_ 104 (L._∷_ 97 (L._∷_ 110 (L._∷_ 103 (L._∷_ 101 L.[])))))))))))) (Syntax.tcons (Syntax.tyStruct (L._∷_ 110 (L._∷_ 101 (L._∷_ 116 (L._∷_ 119 (L._∷_ 111 (L._∷_ 114 (L._∷_ 107 (L._∷_ 58 (L._∷_ 58 (L._∷_ 69 (L._∷_ 100 (L._∷_ 105 (L._∷_ 116 L.[]))))))))))))) (Syntax.tcons q7 (Syntax.tcons q7 (Syntax.tcons q7 (Syntax.tcons q7 (Syntax.tcons q2 (Syntax.tcons q2 (Syntax.tcons (Syntax.tyInt Syntax.w64) Syntax.tnil)))))))) (Syntax.tcons (Syntax.tyStruct (L._∷_ 115 (L._∷_ 116 (L._∷_ 101 (L._∷_ 112 (L._∷_ 58 (L._∷_ 58 (L._∷_ 79 (L._∷_ 108 (L._∷_ 100 L.[]))))))))) (Syntax.tcons (Syntax.tyInt Syntax.w64) (Syntax.tcons q6 (Syntax.tcons q7 (Syntax.tcons q7 (Syntax.tcons q7 (Syntax.tcons q7 (Syntax.tcons q4 Syntax.tnil)))))))) Syntax.tnil))) Syntax.tnil)))) Syntax.tnil))))) (L._∷_ q8 (L._∷_ q25 (L._∷_ (8, Rows.sc-here Row.sBool) (L._∷_ (9, Rows.any-gone (Syntax.tyStruct (L._∷_ 114 (L._∷_ 117 (L._∷_ 108 (L._∷_ 101 (L._∷_ 115 (L._∷_ 58 (L._∷_ 58 (L._∷_ 116 (L._∷_ 114 (L._∷_ 105 (L._∷_ 101 (L._∷_ 100 (L._∷_ 58 (L._∷_ 58 (L._∷_ 76 (L._∷_ 111 (L._∷_ 111 (L._∷_ 107 (L._∷_ 101 (L._∷_ 100 L.[])))))))))))))))))))) (Syntax.tcons (Syntax.tyStruct (L._∷_ 114 (L._∷_ 117 (L._∷_ 108 (L._∷_ 101 (L._∷_ 115 (L._∷_ 58 (L._∷_ 58 (L._∷_ 102 (L._∷_ 111 (L._∷_ 117 (L._∷_ 110 (L._∷_ 100 (L._∷_ 58 (L._∷_ 58 (L._∷_ 70 (L._∷_ 111 (L._∷_ 117 (L._∷_ 110 (L._∷_ 100 L.[]))))))))))))))))))) (Syntax.tcons Syntax.tyBool (Syntax.tcons Syntax.tyBool (Syntax.tcons (Syntax.tyStruct (L._∷_ 115 (L._∷_ 116 (L._∷_ 101 (L._∷_ 112 (L._∷_ 58 (L._∷_ 58 (L._∷_ 83 (L._∷_ 116 (L._∷_ 101 (L._∷_ 112 L.[])))))))))) (Syntax.tcons (Syntax.tyInt Syntax.w64) (Syntax.tcons (Syntax.tyInt Syntax.w64) (Syntax.tcons (Syntax.tyStruct (L._∷_ 115 (L._∷_ 116 (L._∷_ 101 (L._∷_ 112 (L._∷_ 58 (L._∷_ 58 (L._∷_ 67 (L._∷_ 104 (L._∷_ 97 (L._∷_ 110 (L._∷_ 103 (L._∷_ 101 L.[])))))))))))) (Syntax.tcons (Syntax.tyStruct (L._∷_ 110 (L._∷_ 101 (L._∷_ 116 (L._∷_ 119 (L._∷_ 111 (L._∷_ 114 (L._∷_ 107 (L._∷_ 58 (L._∷_ 58 (L._∷_ 69 (L._∷_ 100 (L._∷_ 105 (L._∷_ 116 L.[]))))))))))))) (Syntax.tcons q7 (Syntax.tcons q7 (Syntax.tcons q7 (Syntax.tcons q7 (Syntax.tcons q2 (Syntax.tcons q2 (Syntax.tcons (Syntax.tyInt Syntax.w64) Syntax.tnil)))))))) (Syntax.tcons (Syntax.tyStruct (L._∷_ 115 (L._∷_ 116 (L._∷_ 101 (L._∷_ 112 (L._∷_ 58 (L._∷_ 58 (L._∷_ 79 (L._∷_ 108 (L._∷_ 100 L.[]))))))))) (Syntax.tcons (Syntax.tyInt Syntax.w64) (Syntax.tcons q6 (Syntax.tcons q7 (Syntax.tcons q7 (Syntax.tcons q7 (Syntax.tcons q7 (Syntax.tcons q4 Syntax.tnil)))))))) Syntax.tnil))) Syntax.tnil)))) Syntax.tnil)))) (Syntax.tcons q5 Syntax.tnil)))) (L._∷_ (10, Rows.any-gone (Syntax.tyStruct (L._∷_ 114 (L._∷_ 117 (L._∷_ 108 (L._∷_ 101 (L._∷_ 115 (L._∷_ 58 (L._∷_ 58 (L._∷_ 102 (L._∷_ 111 (L._∷_ 117 (L._∷_ 110 (L._∷_ 100 (L._∷_ 58 (L._∷_ 58 (L._∷_ 70 (L._∷_ 111 (L._∷_ 117 (L._∷_ 110 (L._∷_ 100 L.[]))))))))))))))))))) (Syntax.tcons Syntax.tyBool (Syntax.tcons Syntax.tyBool (Syntax.tcons (Syntax.tyStruct (L._∷_ 115 (L._∷_ 116 (L._∷_ 101 (L._∷_ 112 (L._∷_ 58 (L._∷_ 58 (L._∷_ 83 (L._∷_ 116 (L._∷_ 101 (L._∷_ 112 L.[])))))))))) (Syntax.tcons (Syntax.tyInt Syntax.w64) (Syntax.tcons (Syntax.tyInt Syntax.w64) (Syntax.tcons (Syntax.tyStruct (L._∷_ 115 (L._∷_ 116 (L._∷_ 101 (L._∷_ 112 (L._∷_ 58 (L._∷_ 58 (L._∷_ 67 (L._∷_ 104 (L._∷_ 97 (L._∷_ 110 (L._∷_ 103 (L._∷_ 101 L.[])))))))))))) (Syntax.tcons (Syntax.tyStruct (L._∷_ 110 (L._∷_ 101 (L._∷_ 116 (L._∷_ 119 (L._∷_ 111 (L._∷_ 114 (L._∷_ 107 (L._∷_ 58 (L._∷_ 58 (L._∷_ 69 (L._∷_ 100 (L._∷_ 105 (L._∷_ 116 L.[]))))))))))))) (Syntax.tcons q7 (Syntax.tcons q7 (Syntax.tcons q7 (Syntax.tcons q7 (Syntax.tcons q2 (Syntax.tcons q2 (Syntax.tcons (Syntax.tyInt Syntax.w64) Syntax.tnil)))))))) (Syntax.tcons (Syntax.tyStruct (L._∷_ 115 (L._∷_ 116 (L._∷_ 101 (L._∷_ 112 (L._∷_ 58 (L._∷_ 58 (L._∷_ 79 (L._∷_ 108 (L._∷_ 100 L.[]))))))))) (Syntax.tcons (Syntax.tyInt Syntax.w64) (Syntax.tcons q6 (Syntax.tcons q7 (Syntax.tcons q7 (Syntax.tcons q7 (Syntax.tcons q7 (Syntax.tcons q4 Syntax.tnil)))))))) Syntax.tnil))) Syntax.tnil)))) Syntax.tnil))))) (L._∷_ q15 (L._∷_ q28 (L._∷_ q29 (L._∷_ q30 (L._∷_ q31 L.[])))))))))))))))
+t43 = L._∷_ (0, Rows.any-gone (Syntax.tyStruct (L._∷_ 114 (L._∷_ 117 (L._∷_ 108 (L._∷_ 101 (L._∷_ 115 (L._∷_ 58 (L._∷_ 58 (L._∷_ 116 (L._∷_ 114 (L._∷_ 105 (L._∷_ 101 (L._∷_ 100 (L._∷_ 58 (L._∷_ 58 (L._∷_ 76 (L._∷_ 111 (L._∷_ 111 (L._∷_ 107 (L._∷_ 101 (L._∷_ 100 L.[])))))))))))))))))))) (Syntax.tcons (Syntax.tyStruct (L._∷_ 114 (L._∷_ 117 (L._∷_ 108 (L._∷_ 101 (L._∷_ 115 (L._∷_ 58 (L._∷_ 58 (L._∷_ 102 (L._∷_ 111 (L._∷_ 117 (L._∷_ 110 (L._∷_ 100 (L._∷_ 58 (L._∷_ 58 (L._∷_ 70 (L._∷_ 111 (L._∷_ 117 (L._∷_ 110 (L._∷_ 100 L.[]))))))))))))))))))) (Syntax.tcons Syntax.tyBool (Syntax.tcons Syntax.tyBool (Syntax.tcons (Syntax.tyStruct (L._∷_ 115 (L._∷_ 116 (L._∷_ 101 (L._∷_ 112 (L._∷_ 58 (L._∷_ 58 (L._∷_ 83 (L._∷_ 116 (L._∷_ 101 (L._∷_ 112 L.[])))))))))) (Syntax.tcons (Syntax.tyInt Syntax.w64) (Syntax.tcons (Syntax.tyInt Syntax.w64) (Syntax.tcons (Syntax.tyStruct (L._∷_ 115 (L._∷_ 116 (L._∷_ 101 (L._∷_ 112 (L._∷_ 58 (L._∷_ 58 (L._∷_ 67 (L._∷_ 104 (L._∷_ 97 (L._∷_ 110 (L._∷_ 103 (L._∷_ 101 L.[])))))))))))) (Syntax.tcons (Syntax.tyStruct (L._∷_ 110 (L._∷_ 101 (L._∷_ 116 (L._∷_ 119 (L._∷_ 111 (L._∷_ 114 (L._∷_ 107 (L._∷_ 58 (L._∷_ 58 (L._∷_ 69 (L._∷_ 100 (L._∷_ 105 (L._∷_ 116 L.[]))))))))))))) (Syntax.tcons q7 (Syntax.tcons q7 (Syntax.tcons q7 (Syntax.tcons q7 (Syntax.tcons q2 (Syntax.tcons q2 (Syntax.tcons (Syntax.tyInt Syntax.w64) (Syntax.tcons q6 Syntax.tnil))))))))) (Syntax.tcons (Syntax.tyStruct (L._∷_ 115 (L._∷_ 116 (L._∷_ 101 (L._∷_ 112 (L._∷_ 58 (L._∷_ 58 (L._∷_ 79 (L._∷_ 108 (L._∷_ 100 L.[]))))))))) (Syntax.tcons (Syntax.tyInt Syntax.w64) (Syntax.tcons q6 (Syntax.tcons q7 (Syntax.tcons q7 (Syntax.tcons q7 (Syntax.tcons q7 (Syntax.tcons q4 Syntax.tnil)))))))) Syntax.tnil))) Syntax.tnil)))) Syntax.tnil)))) (Syntax.tcons q5 Syntax.tnil)))) (L._∷_ q0 (L._∷_ q11 (L._∷_ q17 (L._∷_ q26 (L._∷_ (5, Rows.any-gone (Syntax.tyStruct (L._∷_ 114 (L._∷_ 117 (L._∷_ 108 (L._∷_ 101 (L._∷_ 115 (L._∷_ 58 (L._∷_ 58 (L._∷_ 102 (L._∷_ 111 (L._∷_ 117 (L._∷_ 110 (L._∷_ 100 (L._∷_ 58 (L._∷_ 58 (L._∷_ 70 (L._∷_ 111 (L._∷_ 117 (L._∷_ 110 (L._∷_ 100 L.[]))))))))))))))))))) (Syntax.tcons Syntax.tyBool (Syntax.tcons Syntax.tyBool (Syntax.tcons (Syntax.tyStruct (L._∷_ 115 (L._∷_ 116 (L._∷_ 101 (L._∷_ 112 (L._∷_ 58 (L._∷_ 58 (L._∷_ 83 (L._∷_ 116 (L._∷_ 101 (L._∷_ 112 L.[])))))))))) (Syntax.tcons (Syntax.tyInt Syntax.w64) (Syntax.tcons (Syntax.tyInt Syntax.w64) (Syntax.tcons (Syntax.tyStruct (L._∷_ 115 (L._∷_ 116 (L._∷_ 101 (L._∷_ 112 (L._∷_ 58 (L._∷_ 58 (L._∷_ 67 (L._∷_ 104 (L._∷_ 97 (L._∷_ 110 (L._∷_ 103 (L._∷_ 101 L.[])))))))))))) (Syntax.tcons (Syntax.tyStruct (L._∷_ 110 (L._∷_ 101 (L._∷_ 116 (L._∷_ 119 (L._∷_ 111 (L._∷_ 114 (L._∷_ 107 (L._∷_ 58 (L._∷_ 58 (L._∷_ 69 (L._∷_ 100 (L._∷_ 105 (L._∷_ 116 L.[]))))))))))))) (Syntax.tcons q7 (Syntax.tcons q7 (Syntax.tcons q7 (Syntax.tcons q7 (Syntax.tcons q2 (Syntax.tcons q2 (Syntax.tcons (Syntax.tyInt Syntax.w64) (Syntax.tcons q6 Syntax.tnil))))))))) (Syntax.tcons (Syntax.tyStruct (L._∷_ 115 (L._∷_ 116 (L._∷_ 101 (L._∷_ 112 (L._∷_ 58 (L._∷_ 58 (L._∷_ 79 (L._∷_ 108 (L._∷_ 100 L.[]))))))))) (Syntax.tcons (Syntax.tyInt Syntax.w64) (Syntax.tcons q6 (Syntax.tcons q7 (Syntax.tcons q7 (Syntax.tcons q7 (Syntax.tcons q7 (Syntax.tcons q4 Syntax.tnil)))))))) Syntax.tnil))) Syntax.tnil)))) Syntax.tnil))))) (L._∷_ q8 (L._∷_ q25 (L._∷_ (8, Rows.sc-here Row.sBool) (L._∷_ (9, Rows.any-gone (Syntax.tyStruct (L._∷_ 114 (L._∷_ 117 (L._∷_ 108 (L._∷_ 101 (L._∷_ 115 (L._∷_ 58 (L._∷_ 58 (L._∷_ 116 (L._∷_ 114 (L._∷_ 105 (L._∷_ 101 (L._∷_ 100 (L._∷_ 58 (L._∷_ 58 (L._∷_ 76 (L._∷_ 111 (L._∷_ 111 (L._∷_ 107 (L._∷_ 101 (L._∷_ 100 L.[])))))))))))))))))))) (Syntax.tcons (Syntax.tyStruct (L._∷_ 114 (L._∷_ 117 (L._∷_ 108 (L._∷_ 101 (L._∷_ 115 (L._∷_ 58 (L._∷_ 58 (L._∷_ 102 (L._∷_ 111 (L._∷_ 117 (L._∷_ 110 (L._∷_ 100 (L._∷_ 58 (L._∷_ 58 (L._∷_ 70 (L._∷_ 111 (L._∷_ 117 (L._∷_ 110 (L._∷_ 100 L.[]))))))))))))))))))) (Syntax.tcons Syntax.tyBool (Syntax.tcons Syntax.tyBool (Syntax.tcons (Syntax.tyStruct (L._∷_ 115 (L._∷_ 116 (L._∷_ 101 (L._∷_ 112 (L._∷_ 58 (L._∷_ 58 (L._∷_ 83 (L._∷_ 116 (L._∷_ 101 (L._∷_ 112 L.[])))))))))) (Syntax.tcons (Syntax.tyInt Syntax.w64) (Syntax.tcons (Syntax.tyInt Syntax.w64) (Syntax.tcons (Syntax.tyStruct (L._∷_ 115 (L._∷_ 116 (L._∷_ 101 (L._∷_ 112 (L._∷_ 58 (L._∷_ 58 (L._∷_ 67 (L._∷_ 104 (L._∷_ 97 (L._∷_ 110 (L._∷_ 103 (L._∷_ 101 L.[])))))))))))) (Syntax.tcons (Syntax.tyStruct (L._∷_ 110 (L._∷_ 101 (L._∷_ 116 (L._∷_ 119 (L._∷_ 111 (L._∷_ 114 (L._∷_ 107 (L._∷_ 58 (L._∷_ 58 (L._∷_ 69 (L._∷_ 100 (L._∷_ 105 (L._∷_ 116 L.[]))))))))))))) (Syntax.tcons q7 (Syntax.tcons q7 (Syntax.tcons q7 (Syntax.tcons q7 (Syntax.tcons q2 (Syntax.tcons q2 (Syntax.tcons (Syntax.tyInt Syntax.w64) (Syntax.tcons q6 Syntax.tnil))))))))) (Syntax.tcons (Syntax.tyStruct (L._∷_ 115 (L._∷_ 116 (L._∷_ 101 (L._∷_ 112 (L._∷_ 58 (L._∷_ 58 (L._∷_ 79 (L._∷_ 108 (L._∷_ 100 L.[]))))))))) (Syntax.tcons (Syntax.tyInt Syntax.w64) (Syntax.tcons q6 (Syntax.tcons q7 (Syntax.tcons q7 (Syntax.tcons q7 (Syntax.tcons q7 (Syntax.tcons q4 Syntax.tnil)))))))) Syntax.tnil))) Syntax.tnil)))) Syntax.tnil)))) (Syntax.tcons q5 Syntax.tnil)))) (L._∷_ (10, Rows.any-gone (Syntax.tyStruct (L._∷_ 114 (L._∷_ 117 (L._∷_ 108 (L._∷_ 101 (L._∷_ 115 (L._∷_ 58 (L._∷_ 58 (L._∷_ 102 (L._∷_ 111 (L._∷_ 117 (L._∷_ 110 (L._∷_ 100 (L._∷_ 58 (L._∷_ 58 (L._∷_ 70 (L._∷_ 111 (L._∷_ 117 (L._∷_ 110 (L._∷_ 100 L.[]))))))))))))))))))) (Syntax.tcons Syntax.tyBool (Syntax.tcons Syntax.tyBool (Syntax.tcons (Syntax.tyStruct (L._∷_ 115 (L._∷_ 116 (L._∷_ 101 (L._∷_ 112 (L._∷_ 58 (L._∷_ 58 (L._∷_ 83 (L._∷_ 116 (L._∷_ 101 (L._∷_ 112 L.[])))))))))) (Syntax.tcons (Syntax.tyInt Syntax.w64) (Syntax.tcons (Syntax.tyInt Syntax.w64) (Syntax.tcons (Syntax.tyStruct (L._∷_ 115 (L._∷_ 116 (L._∷_ 101 (L._∷_ 112 (L._∷_ 58 (L._∷_ 58 (L._∷_ 67 (L._∷_ 104 (L._∷_ 97 (L._∷_ 110 (L._∷_ 103 (L._∷_ 101 L.[])))))))))))) (Syntax.tcons (Syntax.tyStruct (L._∷_ 110 (L._∷_ 101 (L._∷_ 116 (L._∷_ 119 (L._∷_ 111 (L._∷_ 114 (L._∷_ 107 (L._∷_ 58 (L._∷_ 58 (L._∷_ 69 (L._∷_ 100 (L._∷_ 105 (L._∷_ 116 L.[]))))))))))))) (Syntax.tcons q7 (Syntax.tcons q7 (Syntax.tcons q7 (Syntax.tcons q7 (Syntax.tcons q2 (Syntax.tcons q2 (Syntax.tcons (Syntax.tyInt Syntax.w64) (Syntax.tcons q6 Syntax.tnil))))))))) (Syntax.tcons (Syntax.tyStruct (L._∷_ 115 (L._∷_ 116 (L._∷_ 101 (L._∷_ 112 (L._∷_ 58 (L._∷_ 58 (L._∷_ 79 (L._∷_ 108 (L._∷_ 100 L.[]))))))))) (Syntax.tcons (Syntax.tyInt Syntax.w64) (Syntax.tcons q6 (Syntax.tcons q7 (Syntax.tcons q7 (Syntax.tcons q7 (Syntax.tcons q7 (Syntax.tcons q4 Syntax.tnil)))))))) Syntax.tnil))) Syntax.tnil)))) Syntax.tnil))))) (L._∷_ q15 (L._∷_ q28 (L._∷_ q29 (L._∷_ q30 (L._∷_ q31 L.[])))))))))))))))
 
 abbrev pub t44 : L.List Row.Entry
-t44 = L._∷_ q10 (L._∷_ q0 (L._∷_ q11 (L._∷_ q17 (L._∷_ q26 (L._∷_ (5, Rows.any-gone (Syntax.tyStruct (L._∷_ 114 (L._∷_ 117 (L._∷_ 108 (L._∷_ 101 (L._∷_ 115 (L._∷_ 58 (L._∷_ 58 (L._∷_ 102 (L._∷_ 111 (L._∷_ 117 (L._∷_ 110 (L._∷_ 100 (L._∷_ 58 (L._∷_ 58 (L._∷_ 70 (L._∷_ 111 (L._∷_ 117 (L._∷_ 110 (L._∷_ 100 L.[]))))))))))))))))))) (Syntax.tcons Syntax.tyBool (Syntax.tcons Syntax.tyBool (Syntax.tcons (Syntax.tyStruct (L._∷_ 115 (L._∷_ 116 (L._∷_ 101 (L._∷_ 112 (L._∷_ 58 (L._∷_ 58 (L._∷_ 83 (L._∷_ 116 (L._∷_ 101 (L._∷_ 112 L.[])))))))))) (Syntax.tcons (Syntax.tyInt Syntax.w64) (Syntax.tcons (Syntax.tyInt Syntax.w64) (Syntax.tcons (Syntax.tyStruct (L._∷_ 115 (L._∷_ 116 (L._∷_ 101 (L._∷_ 112 (L._∷_ 58 (L._∷_ 58 (L._∷_ 67 (L._∷_ 104 (L._∷_ 97 (L._∷_ 110 (L._∷_ 103 (L._∷_ 101 L.[])))))))))))) (Syntax.tcons (Syntax.tyStruct (L._∷_ 110 (L._∷_ 101 (L._∷_ 116 (L._∷_ 119 (L._∷_ 111 (L._∷_ 114 (L._∷_ 107 (L._∷_ 58 (L._∷_ 58 (L._∷_ 69 (L._∷_ 100 (L._∷_ 105 (L._∷_ 116 L.[]))))))))))))) (Syntax.tcons q7 (Syntax.tcons q7 (Syntax.tcons q7 (Syntax.tcons q7 (Syntax.tcons q2 (Syntax.tcons q2 (Syntax.tcons (Syntax.tyInt Syntax.w64) Syntax.tnil)))))))) (Syntax.tcons (Syntax.tyStruct (L._∷_ 115 (L._∷_ 116 (L._∷_ 101 (L._∷_ 112 (L._∷_ 58 (L._∷_ 58 (L._∷_ 79 (L._∷_ 108 (L._∷_ 100 L.[]))))))))) (Syntax.tcons (Syntax.tyInt Syntax.w64) (Syntax.tcons q6 (Syntax.tcons q7 (Syntax.tcons q7 (Syntax.tcons q7 (Syntax.tcons q7 (Syntax.tcons q4 Syntax.tnil)))))))) Syntax.tnil))) Syntax.tnil)))) Syntax.tnil))))) (L._∷_ q8 (L._∷_ q25 (L._∷_ (8, Rows.sc-here Row.sBool) (L._∷_ (9, Rows.any-gone (Syntax.tyStruct (L._∷_ 114 (L._∷_ 117 (L._∷_ 108 (L._∷_ 101 (L._∷_ 115 (L._∷_ 58 (L._∷_ 58 (L._∷_ 116 (L._∷_ 114 (L._∷_ 105 (L._∷_ 101 (L._∷_ 100 (L._∷_ 58 (L._∷_ 58 (L._∷_ 76 (L._∷_ 111 (L._∷_ 111 (L._∷_ 107 (L._∷_ 101 (L._∷_ 100 L.[])))))))))))))))))))) (Syntax.tcons (Syntax.tyStruct (L._∷_ 114 (L._∷_ 117 (L._∷_ 108 (L._∷_ 101 (L._∷_ 115 (L._∷_ 58 (L._∷_ 58 (L._∷_ 102 (L._∷_ 111 (L._∷_ 117 (L._∷_ 110 (L._∷_ 100 (L._∷_ 58 (L._∷_ 58 (L._∷_ 70 (L._∷_ 111 (L._∷_ 117 (L._∷_ 110 (L._∷_ 100 L.[]))))))))))))))))))) (Syntax.tcons Syntax.tyBool (Syntax.tcons Syntax.tyBool (Syntax.tcons (Syntax.tyStruct (L._∷_ 115 (L._∷_ 116 (L._∷_ 101 (L._∷_ 112 (L._∷_ 58 (L._∷_ 58 (L._∷_ 83 (L._∷_ 116 (L._∷_ 101 (L._∷_ 112 L.[])))))))))) (Syntax.tcons (Syntax.tyInt Syntax.w64) (Syntax.tcons (Syntax.tyInt Syntax.w64) (Syntax.tcons (Syntax.tyStruct (L._∷_ 115 (L._∷_ 116 (L._∷_ 101 (L._∷_ 112 (L._∷_ 58 (L._∷_ 58 (L._∷_ 67 (L._∷_ 104 (L._∷_ 97 (L._∷_ 110 (L._∷_ 103 (L._∷_ 101 L.[])))))))))))) (Syntax.tcons (Syntax.tyStruct (L._∷_ 110 (L._∷_ 101 (L._∷_ 116 (L._∷_ 119 (L._∷_ 111 (L._∷_ 114 (L._∷_ 107 (L._∷_ 58 (L._∷_ 58 (L._∷_ 69 (L._∷_ 100 (L._∷_ 105 (L._∷_ 116 L.[]))))))))))))) (Syntax.tcons q7 (Syntax.tcons q7 (Syntax.tcons q7 (Syntax.tcons q7 (Syntax.tcons q2 (Syntax.tcons q2 (Syntax.tcons (Syntax.tyInt Syntax.w64) Syntax.tnil)))))))) (Syntax.tcons (Syntax.tyStruct (L._∷_ 115 (L._∷_ 116 (L._∷_ 101 (L._∷_ 112 (L._∷_ 58 (L._∷_ 58 (L._∷_ 79 (L._∷_ 108 (L._∷_ 100 L.[]))))))))) (Syntax.tcons (Syntax.tyInt Syntax.w64) (Syntax.tcons q6 (Syntax.tcons q7 (Syntax.tcons q7 (Syntax.tcons q7 (Syntax.tcons q7 (Syntax.tcons q4 Syntax.tnil)))))))) Syntax.tnil))) Syntax.tnil)))) Syntax.tnil)))) (Syntax.tcons q5 Syntax.tnil)))) (L._∷_ (10, Rows.any-gone (Syntax.tyStruct (L._∷_ 114 (L._∷_ 117 (L._∷_ 108 (L._∷_ 101 (L._∷_ 115 (L._∷_ 58 (L._∷_ 58 (L._∷_ 102 (L._∷_ 111 (L._∷_ 117 (L._∷_ 110 (L._∷_ 100 (L._∷_ 58 (L._∷_ 58 (L._∷_ 70 (L._∷_ 111 (L._∷_ 117 (L._∷_ 110 (L._∷_ 100 L.[]))))))))))))))))))) (Syntax.tcons Syntax.tyBool (Syntax.tcons Syntax.tyBool (Syntax.tcons (Syntax.tyStruct (L._∷_ 115 (L._∷_ 116 (L._∷_ 101 (L._∷_ 112 (L._∷_ 58 (L._∷_ 58 (L._∷_ 83 (L._∷_ 116 (L._∷_ 101 (L._∷_ 112 L.[])))))))))) (Syntax.tcons (Syntax.tyInt Syntax.w64) (Syntax.tcons (Syntax.tyInt Syntax.w64) (Syntax.tcons (Syntax.tyStruct (L._∷_ 115 (L._∷_ 116 (L._∷_ 101 (L._∷_ 112 (L._∷_ 58 (L._∷_ 58 (L._∷_ 67 (L._∷_ 104 (L._∷_ 97 (L._∷_ 110 (L._∷_ 103 (L._∷_ 101 L.[])))))))))))) (Syntax.tcons (Syntax.tyStruct (L._∷_ 110 (L._∷_ 101 (L._∷_ 116 (L._∷_ 119 (L._∷_ 111 (L._∷_ 114 (L._∷_ 107 (L._∷_ 58 (L._∷_ 58 (L._∷_ 69 (L._∷_ 100 (L._∷_ 105 (L._∷_ 116 L.[]))))))))))))) (Syntax.tcons q7 (Syntax.tcons q7 (Syntax.tcons q7 (Syntax.tcons q7 (Syntax.tcons q2 (Syntax.tcons q2 (Syntax.tcons (Syntax.tyInt Syntax.w64) Syntax.tnil)))))))) (Syntax.tcons (Syntax.tyStruct (L._∷_ 115 (L._∷_ 116 (L._∷_ 101 (L._∷_ 112 (L._∷_ 58 (L._∷_ 58 (L._∷_ 79 (L._∷_ 108 (L._∷_ 100 L.[]))))))))) (Syntax.tcons (Syntax.tyInt Syntax.w64) (Syntax.tcons q6 (Syntax.tcons q7 (Syntax.tcons q7 (Syntax.tcons q7 (Syntax.tcons q7 (Syntax.tcons q4 Syntax.tnil)))))))) Syntax.tnil))) Syntax.tnil)))) Syntax.tnil))))) (L._∷_ q15 (L._∷_ q28 (L._∷_ q29 (L._∷_ q30 (L._∷_ q31 L.[])))))))))))))))
+t44 = L._∷_ q10 (L._∷_ q0 (L._∷_ q11 (L._∷_ q17 (L._∷_ q26 (L._∷_ (5, Rows.any-gone (Syntax.tyStruct (L._∷_ 114 (L._∷_ 117 (L._∷_ 108 (L._∷_ 101 (L._∷_ 115 (L._∷_ 58 (L._∷_ 58 (L._∷_ 102 (L._∷_ 111 (L._∷_ 117 (L._∷_ 110 (L._∷_ 100 (L._∷_ 58 (L._∷_ 58 (L._∷_ 70 (L._∷_ 111 (L._∷_ 117 (L._∷_ 110 (L._∷_ 100 L.[]))))))))))))))))))) (Syntax.tcons Syntax.tyBool (Syntax.tcons Syntax.tyBool (Syntax.tcons (Syntax.tyStruct (L._∷_ 115 (L._∷_ 116 (L._∷_ 101 (L._∷_ 112 (L._∷_ 58 (L._∷_ 58 (L._∷_ 83 (L._∷_ 116 (L._∷_ 101 (L._∷_ 112 L.[])))))))))) (Syntax.tcons (Syntax.tyInt Syntax.w64) (Syntax.tcons (Syntax.tyInt Syntax.w64) (Syntax.tcons (Syntax.tyStruct (L._∷_ 115 (L._∷_ 116 (L._∷_ 101 (L._∷_ 112 (L._∷_ 58 (L._∷_ 58 (L._∷_ 67 (L._∷_ 104 (L._∷_ 97 (L._∷_ 110 (L._∷_ 103 (L._∷_ 101 L.[])))))))))))) (Syntax.tcons (Syntax.tyStruct (L._∷_ 110 (L._∷_ 101 (L._∷_ 116 (L._∷_ 119 (L._∷_ 111 (L._∷_ 114 (L._∷_ 107 (L._∷_ 58 (L._∷_ 58 (L._∷_ 69 (L._∷_ 100 (L._∷_ 105 (L._∷_ 116 L.[]))))))))))))) (Syntax.tcons q7 (Syntax.tcons q7 (Syntax.tcons q7 (Syntax.tcons q7 (Syntax.tcons q2 (Syntax.tcons q2 (Syntax.tcons (Syntax.tyInt Syntax.w64) (Syntax.tcons q6 Syntax.tnil))))))))) (Syntax.tcons (Syntax.tyStruct (L._∷_ 115 (L._∷_ 116 (L._∷_ 101 (L._∷_ 112 (L._∷_ 58 (L._∷_ 58 (L._∷_ 79 (L._∷_ 108 (L._∷_ 100 L.[]))))))))) (Syntax.tcons (Syntax.tyInt Syntax.w64) (Syntax.tcons q6 (Syntax.tcons q7 (Syntax.tcons q7 (Syntax.tcons q7 (Syntax.tcons q7 (Syntax.tcons q4 Syntax.tnil)))))))) Syntax.tnil))) Syntax.tnil)))) Syntax.tnil))))) (L._∷_ q8 (L._∷_ q25 (L._∷_ (8, Rows.sc-here Row.sBool) (L._∷_ (9, Rows.any-gone (Syntax.tyStruct (L._∷_ 114 (L._∷_ 117 (L._∷_ 108 (L._∷_ 101 (L._∷_ 115 (L._∷_ 58 (L._∷_ 58 (L._∷_ 116 (L._∷_ 114 (L._∷_ 105 (L._∷_ 101 (L._∷_ 100 (L._∷_ 58 (L._∷_ 58 (L._∷_ 76 (L._∷_ 111 (L._∷_ 111 (L._∷_ 107 (L._∷_ 101 (L._∷_ 100 L.[])))))))))))))))))))) (Syntax.tcons (Syntax.tyStruct (L._∷_ 114 (L._∷_ 117 (L._∷_ 108 (L._∷_ 101 (L._∷_ 115 (L._∷_ 58 (L._∷_ 58 (L._∷_ 102 (L._∷_ 111 (L._∷_ 117 (L._∷_ 110 (L._∷_ 100 (L._∷_ 58 (L._∷_ 58 (L._∷_ 70 (L._∷_ 111 (L._∷_ 117 (L._∷_ 110 (L._∷_ 100 L.[]))))))))))))))))))) (Syntax.tcons Syntax.tyBool (Syntax.tcons Syntax.tyBool (Syntax.tcons (Syntax.tyStruct (L._∷_ 115 (L._∷_ 116 (L._∷_ 101 (L._∷_ 112 (L._∷_ 58 (L._∷_ 58 (L._∷_ 83 (L._∷_ 116 (L._∷_ 101 (L._∷_ 112 L.[])))))))))) (Syntax.tcons (Syntax.tyInt Syntax.w64) (Syntax.tcons (Syntax.tyInt Syntax.w64) (Syntax.tcons (Syntax.tyStruct (L._∷_ 115 (L._∷_ 116 (L._∷_ 101 (L._∷_ 112 (L._∷_ 58 (L._∷_ 58 (L._∷_ 67 (L._∷_ 104 (L._∷_ 97 (L._∷_ 110 (L._∷_ 103 (L._∷_ 101 L.[])))))))))))) (Syntax.tcons (Syntax.tyStruct (L._∷_ 110 (L._∷_ 101 (L._∷_ 116 (L._∷_ 119 (L._∷_ 111 (L._∷_ 114 (L._∷_ 107 (L._∷_ 58 (L._∷_ 58 (L._∷_ 69 (L._∷_ 100 (L._∷_ 105 (L._∷_ 116 L.[]))))))))))))) (Syntax.tcons q7 (Syntax.tcons q7 (Syntax.tcons q7 (Syntax.tcons q7 (Syntax.tcons q2 (Syntax.tcons q2 (Syntax.tcons (Syntax.tyInt Syntax.w64) (Syntax.tcons q6 Syntax.tnil))))))))) (Syntax.tcons (Syntax.tyStruct (L._∷_ 115 (L._∷_ 116 (L._∷_ 101 (L._∷_ 112 (L._∷_ 58 (L._∷_ 58 (L._∷_ 79 (L._∷_ 108 (L._∷_ 100 L.[]))))))))) (Syntax.tcons (Syntax.tyInt Syntax.w64) (Syntax.tcons q6 (Syntax.tcons q7 (Syntax.tcons q7 (Syntax.tcons q7 (Syntax.tcons q7 (Syntax.tcons q4 Syntax.tnil)))))))) Syntax.tnil))) Syntax.tnil)))) Syntax.tnil)))) (Syntax.tcons q5 Syntax.tnil)))) (L._∷_ (10, Rows.any-gone (Syntax.tyStruct (L._∷_ 114 (L._∷_ 117 (L._∷_ 108 (L._∷_ 101 (L._∷_ 115 (L._∷_ 58 (L._∷_ 58 (L._∷_ 102 (L._∷_ 111 (L._∷_ 117 (L._∷_ 110 (L._∷_ 100 (L._∷_ 58 (L._∷_ 58 (L._∷_ 70 (L._∷_ 111 (L._∷_ 117 (L._∷_ 110 (L._∷_ 100 L.[]))))))))))))))))))) (Syntax.tcons Syntax.tyBool (Syntax.tcons Syntax.tyBool (Syntax.tcons (Syntax.tyStruct (L._∷_ 115 (L._∷_ 116 (L._∷_ 101 (L._∷_ 112 (L._∷_ 58 (L._∷_ 58 (L._∷_ 83 (L._∷_ 116 (L._∷_ 101 (L._∷_ 112 L.[])))))))))) (Syntax.tcons (Syntax.tyInt Syntax.w64) (Syntax.tcons (Syntax.tyInt Syntax.w64) (Syntax.tcons (Syntax.tyStruct (L._∷_ 115 (L._∷_ 116 (L._∷_ 101 (L._∷_ 112 (L._∷_ 58 (L._∷_ 58 (L._∷_ 67 (L._∷_ 104 (L._∷_ 97 (L._∷_ 110 (L._∷_ 103 (L._∷_ 101 L.[])))))))))))) (Syntax.tcons (Syntax.tyStruct (L._∷_ 110 (L._∷_ 101 (L._∷_ 116 (L._∷_ 119 (L._∷_ 111 (L._∷_ 114 (L._∷_ 107 (L._∷_ 58 (L._∷_ 58 (L._∷_ 69 (L._∷_ 100 (L._∷_ 105 (L._∷_ 116 L.[]))))))))))))) (Syntax.tcons q7 (Syntax.tcons q7 (Syntax.tcons q7 (Syntax.tcons q7 (Syntax.tcons q2 (Syntax.tcons q2 (Syntax.tcons (Syntax.tyInt Syntax.w64) (Syntax.tcons q6 Syntax.tnil))))))))) (Syntax.tcons (Syntax.tyStruct (L._∷_ 115 (L._∷_ 116 (L._∷_ 101 (L._∷_ 112 (L._∷_ 58 (L._∷_ 58 (L._∷_ 79 (L._∷_ 108 (L._∷_ 100 L.[]))))))))) (Syntax.tcons (Syntax.tyInt Syntax.w64) (Syntax.tcons q6 (Syntax.tcons q7 (Syntax.tcons q7 (Syntax.tcons q7 (Syntax.tcons q7 (Syntax.tcons q4 Syntax.tnil)))))))) Syntax.tnil))) Syntax.tnil)))) Syntax.tnil))))) (L._∷_ q15 (L._∷_ q28 (L._∷_ q29 (L._∷_ q30 (L._∷_ q31 L.[])))))))))))))))
 
 abbrev pub t45 : L.List Row.Entry
-t45 = L._∷_ q10 (L._∷_ q0 (L._∷_ q11 (L._∷_ q3 (L._∷_ q26 (L._∷_ (5, Rows.any-gone (Syntax.tyStruct (L._∷_ 114 (L._∷_ 117 (L._∷_ 108 (L._∷_ 101 (L._∷_ 115 (L._∷_ 58 (L._∷_ 58 (L._∷_ 102 (L._∷_ 111 (L._∷_ 117 (L._∷_ 110 (L._∷_ 100 (L._∷_ 58 (L._∷_ 58 (L._∷_ 70 (L._∷_ 111 (L._∷_ 117 (L._∷_ 110 (L._∷_ 100 L.[]))))))))))))))))))) (Syntax.tcons Syntax.tyBool (Syntax.tcons Syntax.tyBool (Syntax.tcons (Syntax.tyStruct (L._∷_ 115 (L._∷_ 116 (L._∷_ 101 (L._∷_ 112 (L._∷_ 58 (L._∷_ 58 (L._∷_ 83 (L._∷_ 116 (L._∷_ 101 (L._∷_ 112 L.[])))))))))) (Syntax.tcons (Syntax.tyInt Syntax.w64) (Syntax.tcons (Syntax.tyInt Syntax.w64) (Syntax.tcons (Syntax.tyStruct (L._∷_ 115 (L._∷_ 116 (L._∷_ 101 (L._∷_ 112 (L._∷_ 58 (L._∷_ 58 (L._∷_ 67 (L._∷_ 104 (L._∷_ 97 (L._∷_ 110 (L._∷_ 103 (L._∷_ 101 L.[])))))))))))) (Syntax.tcons (Syntax.tyStruct (L._∷_ 110 (L._∷_ 101 (L._∷_ 116 (L._∷_ 119 (L._∷_ 111 (L._∷_ 114 (L._∷_ 107 (L._∷_ 58 (L._∷_ 58 (L._∷_ 69 (L._∷_ 100 (L._∷_ 105 (L._∷_ 116 L.[]))))))))))))) (Syntax.tcons q7 (Syntax.tcons q7 (Syntax.tcons q7 (Syntax.tcons q7 (Syntax.tcons q2 (Syntax.tcons q2 (Syntax.tcons (Syntax.tyInt Syntax.w64) Syntax.tnil)))))))) (Syntax.tcons (Syntax.tyStruct (L._∷_ 115 (L._∷_ 116 (L._∷_ 101 (L._∷_ 112 (L._∷_ 58 (L._∷_ 58 (L._∷_ 79 (L._∷_ 108 (L._∷_ 100 L.[]))))))))) (Syntax.tcons (Syntax.tyInt Syntax.w64) (Syntax.tcons q6 (Syntax.tcons q7 (Syntax.tcons q7 (Syntax.tcons q7 (Syntax.tcons q7 (Syntax.tcons q4 Syntax.tnil)))))))) Syntax.tnil))) Syntax.tnil)))) Syntax.tnil))))) (L._∷_ q8 (L._∷_ q25 (L._∷_ (8, Rows.sc-here Row.sBool) (L._∷_ (9, Rows.any-gone (Syntax.tyStruct (L._∷_ 114 (L._∷_ 117 (L._∷_ 108 (L._∷_ 101 (L._∷_ 115 (L._∷_ 58 (L._∷_ 58 (L._∷_ 116 (L._∷_ 114 (L._∷_ 105 (L._∷_ 101 (L._∷_ 100 (L._∷_ 58 (L._∷_ 58 (L._∷_ 76 (L._∷_ 111 (L._∷_ 111 (L._∷_ 107 (L._∷_ 101 (L._∷_ 100 L.[])))))))))))))))))))) (Syntax.tcons (Syntax.tyStruct (L._∷_ 114 (L._∷_ 117 (L._∷_ 108 (L._∷_ 101 (L._∷_ 115 (L._∷_ 58 (L._∷_ 58 (L._∷_ 102 (L._∷_ 111 (L._∷_ 117 (L._∷_ 110 (L._∷_ 100 (L._∷_ 58 (L._∷_ 58 (L._∷_ 70 (L._∷_ 111 (L._∷_ 117 (L._∷_ 110 (L._∷_ 100 L.[]))))))))))))))))))) (Syntax.tcons Syntax.tyBool (Syntax.tcons Syntax.tyBool (Syntax.tcons (Syntax.tyStruct (L._∷_ 115 (L._∷_ 116 (L._∷_ 101 (L._∷_ 112 (L._∷_ 58 (L._∷_ 58 (L._∷_ 83 (L._∷_ 116 (L._∷_ 101 (L._∷_ 112 L.[])))))))))) (Syntax.tcons (Syntax.tyInt Syntax.w64) (Syntax.tcons (Syntax.tyInt Syntax.w64) (Syntax.tcons (Syntax.tyStruct (L._∷_ 115 (L._∷_ 116 (L._∷_ 101 (L._∷_ 112 (L._∷_ 58 (L._∷_ 58 (L._∷_ 67 (L._∷_ 104 (L._∷_ 97 (L._∷_ 110 (L._∷_ 103 (L._∷_ 101 L.[])))))))))))) (Syntax.tcons (Syntax.tyStruct (L._∷_ 110 (L._∷_ 101 (L._∷_ 116 (L._∷_ 119 (L._∷_ 111 (L._∷_ 114 (L._∷_ 107 (L._∷_ 58 (L._∷_ 58 (L._∷_ 69 (L._∷_ 100 (L._∷_ 105 (L._∷_ 116 L.[]))))))))))))) (Syntax.tcons q7 (Syntax.tcons q7 (Syntax.tcons q7 (Syntax.tcons q7 (Syntax.tcons q2 (Syntax.tcons q2 (Syntax.tcons (Syntax.tyInt Syntax.w64) Syntax.tnil)))))))) (Syntax.tcons (Syntax.tyStruct (L._∷_ 115 (L._∷_ 116 (L._∷_ 101 (L._∷_ 112 (L._∷_ 58 (L._∷_ 58 (L._∷_ 79 (L._∷_ 108 (L._∷_ 100 L.[]))))))))) (Syntax.tcons (Syntax.tyInt Syntax.w64) (Syntax.tcons q6 (Syntax.tcons q7 (Syntax.tcons q7 (Syntax.tcons q7 (Syntax.tcons q7 (Syntax.tcons q4 Syntax.tnil)))))))) Syntax.tnil))) Syntax.tnil)))) Syntax.tnil)))) (Syntax.tcons q5 Syntax.tnil)))) (L._∷_ (10, Rows.any-gone (Syntax.tyStruct (L._∷_ 114 (L._∷_ 117 (L._∷_ 108 (L._∷_ 101 (L._∷_ 115 (L._∷_ 58 (L._∷_ 58 (L._∷_ 102 (L._∷_ 111 (L._∷_ 117 (L._∷_ 110 (L._∷_ 100 (L._∷_ 58 (L._∷_ 58 (L._∷_ 70 (L._∷_ 111 (L._∷_ 117 (L._∷_ 110 (L._∷_ 100 L.[]))))))))))))))))))) (Syntax.tcons Syntax.tyBool (Syntax.tcons Syntax.tyBool (Syntax.tcons (Syntax.tyStruct (L._∷_ 115 (L._∷_ 116 (L._∷_ 101 (L._∷_ 112 (L._∷_ 58 (L._∷_ 58 (L._∷_ 83 (L._∷_ 116 (L._∷_ 101 (L._∷_ 112 L.[])))))))))) (Syntax.tcons (Syntax.tyInt Syntax.w64) (Syntax.tcons (Syntax.tyInt Syntax.w64) (Syntax.tcons (Syntax.tyStruct (L._∷_ 115 (L._∷_ 116 (L._∷_ 101 (L._∷_ 112 (L._∷_ 58 (L._∷_ 58 (L._∷_ 67 (L._∷_ 104 (L._∷_ 97 (L._∷_ 110 (L._∷_ 103 (L._∷_ 101 L.[])))))))))))) (Syntax.tcons (Syntax.tyStruct (L._∷_ 110 (L._∷_ 101 (L._∷_ 116 (L._∷_ 119 (L._∷_ 111 (L._∷_ 114 (L._∷_ 107 (L._∷_ 58 (L._∷_ 58 (L._∷_ 69 (L._∷_ 100 (L._∷_ 105 (L._∷_ 116 L.[]))))))))))))) (Syntax.tcons q7 (Syntax.tcons q7 (Syntax.tcons q7 (Syntax.tcons q7 (Syntax.tcons q2 (Syntax.tcons q2 (Syntax.tcons (Syntax.tyInt Syntax.w64) Syntax.tnil)))))))) (Syntax.tcons (Syntax.tyStruct (L._∷_ 115 (L._∷_ 116 (L._∷_ 101 (L._∷_ 112 (L._∷_ 58 (L._∷_ 58 (L._∷_ 79 (L._∷_ 108 (L._∷_ 100 L.[]))))))))) (Syntax.tcons (Syntax.tyInt Syntax.w64) (Syntax.tcons q6 (Syntax.tcons q7 (Syntax.tcons q7 (Syntax.tcons q7 (Syntax.tcons q7 (Syntax.tcons q4 Syntax.tnil)))))))) Syntax.tnil))) Syntax.tnil)))) Syntax.tnil))))) (L._∷_ q15 (L._∷_ q28 (L._∷_ q29 (L._∷_ q30 (L._∷_ q31 L.[])))))))))))))))
+t45 = L._∷_ q10 (L._∷_ q0 (L._∷_ q11 (L._∷_ q3 (L._∷_ q26 (L._∷_ (5, Rows.any-gone (Syntax.tyStruct (L._∷_ 114 (L._∷_ 117 (L._∷_ 108 (L._∷_ 101 (L._∷_ 115 (L._∷_ 58 (L._∷_ 58 (L._∷_ 102 (L._∷_ 111 (L._∷_ 117 (L._∷_ 110 (L._∷_ 100 (L._∷_ 58 (L._∷_ 58 (L._∷_ 70 (L._∷_ 111 (L._∷_ 117 (L._∷_ 110 (L._∷_ 100 L.[]))))))))))))))))))) (Syntax.tcons Syntax.tyBool (Syntax.tcons Syntax.tyBool (Syntax.tcons (Syntax.tyStruct (L._∷_ 115 (L._∷_ 116 (L._∷_ 101 (L._∷_ 112 (L._∷_ 58 (L._∷_ 58 (L._∷_ 83 (L._∷_ 116 (L._∷_ 101 (L._∷_ 112 L.[])))))))))) (Syntax.tcons (Syntax.tyInt Syntax.w64) (Syntax.tcons (Syntax.tyInt Syntax.w64) (Syntax.tcons (Syntax.tyStruct (L._∷_ 115 (L._∷_ 116 (L._∷_ 101 (L._∷_ 112 (L._∷_ 58 (L._∷_ 58 (L._∷_ 67 (L._∷_ 104 (L._∷_ 97 (L._∷_ 110 (L._∷_ 103 (L._∷_ 101 L.[])))))))))))) (Syntax.tcons (Syntax.tyStruct (L._∷_ 110 (L._∷_ 101 (L._∷_ 116 (L._∷_ 119 (L._∷_ 111 (L._∷_ 114 (L._∷_ 107 (L._∷_ 58 (L._∷_ 58 (L._∷_ 69 (L._∷_ 100 (L._∷_ 105 (L._∷_ 116 L.[]))))))))))))) (Syntax.tcons q7 (Syntax.tcons q7 (Syntax.tcons q7 (Syntax.tcons q7 (Syntax.tcons q2 (Syntax.tcons q2 (Syntax.tcons (Syntax.tyInt Syntax.w64) (Syntax.tcons q6 Syntax.tnil))))))))) (Syntax.tcons (Syntax.tyStruct (L._∷_ 115 (L._∷_ 116 (L._∷_ 101 (L._∷_ 112 (L._∷_ 58 (L._∷_ 58 (L._∷_ 79 (L._∷_ 108 (L._∷_ 100 L.[]))))))))) (Syntax.tcons (Syntax.tyInt Syntax.w64) (Syntax.tcons q6 (Syntax.tcons q7 (Syntax.tcons q7 (Syntax.tcons q7 (Syntax.tcons q7 (Syntax.tcons q4 Syntax.tnil)))))))) Syntax.tnil))) Syntax.tnil)))) Syntax.tnil))))) (L._∷_ q8 (L._∷_ q25 (L._∷_ (8, Rows.sc-here Row.sBool) (L._∷_ (9, Rows.any-gone (Syntax.tyStruct (L._∷_ 114 (L._∷_ 117 (L._∷_ 108 (L._∷_ 101 (L._∷_ 115 (L._∷_ 58 (L._∷_ 58 (L._∷_ 116 (L._∷_ 114 (L._∷_ 105 (L._∷_ 101 (L._∷_ 100 (L._∷_ 58 (L._∷_ 58 (L._∷_ 76 (L._∷_ 111 (L._∷_ 111 (L._∷_ 107 (L._∷_ 101 (L._∷_ 100 L.[])))))))))))))))))))) (Syntax.tcons (Syntax.tyStruct (L._∷_ 114 (L._∷_ 117 (L._∷_ 108 (L._∷_ 101 (L._∷_ 115 (L._∷_ 58 (L._∷_ 58 (L._∷_ 102 (L._∷_ 111 (L._∷_ 117 (L._∷_ 110 (L._∷_ 100 (L._∷_ 58 (L._∷_ 58 (L._∷_ 70 (L._∷_ 111 (L._∷_ 117 (L._∷_ 110 (L._∷_ 100 L.[]))))))))))))))))))) (Syntax.tcons Syntax.tyBool (Syntax.tcons Syntax.tyBool (Syntax.tcons (Syntax.tyStruct (L._∷_ 115 (L._∷_ 116 (L._∷_ 101 (L._∷_ 112 (L._∷_ 58 (L._∷_ 58 (L._∷_ 83 (L._∷_ 116 (L._∷_ 101 (L._∷_ 112 L.[])))))))))) (Syntax.tcons (Syntax.tyInt Syntax.w64) (Syntax.tcons (Syntax.tyInt Syntax.w64) (Syntax.tcons (Syntax.tyStruct (L._∷_ 115 (L._∷_ 116 (L._∷_ 101 (L._∷_ 112 (L._∷_ 58 (L._∷_ 58 (L._∷_ 67 (L._∷_ 104 (L._∷_ 97 (L._∷_ 110 (L._∷_ 103 (L._∷_ 101 L.[])))))))))))) (Syntax.tcons (Syntax.tyStruct (L._∷_ 110 (L._∷_ 101 (L._∷_ 116 (L._∷_ 119 (L._∷_ 111 (L._∷_ 114 (L._∷_ 107 (L._∷_ 58 (L._∷_ 58 (L._∷_ 69 (L._∷_ 100 (L._∷_ 105 (L._∷_ 116 L.[]))))))))))))) (Syntax.tcons q7 (Syntax.tcons q7 (Syntax.tcons q7 (Syntax.tcons q7 (Syntax.tcons q2 (Syntax.tcons q2 (Syntax.tcons (Syntax.tyInt Syntax.w64) (Syntax.tcons q6 Syntax.tnil))))))))) (Syntax.tcons (Syntax.tyStruct (L._∷_ 115 (L._∷_ 116 (L._∷_ 101 (L._∷_ 112 (L._∷_ 58 (L._∷_ 58 (L._∷_ 79 (L._∷_ 108 (L._∷_ 100 L.[]))))))))) (Syntax.tcons (Syntax.tyInt Syntax.w64) (Syntax.tcons q6 (Syntax.tcons q7 (Syntax.tcons q7 (Syntax.tcons q7 (Syntax.tcons q7 (Syntax.tcons q4 Syntax.tnil)))))))) Syntax.tnil))) Syntax.tnil)))) Syntax.tnil)))) (Syntax.tcons q5 Syntax.tnil)))) (L._∷_ (10, Rows.any-gone (Syntax.tyStruct (L._∷_ 114 (L._∷_ 117 (L._∷_ 108 (L._∷_ 101 (L._∷_ 115 (L._∷_ 58 (L._∷_ 58 (L._∷_ 102 (L._∷_ 111 (L._∷_ 117 (L._∷_ 110 (L._∷_ 100 (L._∷_ 58 (L._∷_ 58 (L._∷_ 70 (L._∷_ 111 (L._∷_ 117 (L._∷_ 110 (L._∷_ 100 L.[]))))))))))))))))))) (Syntax.tcons Syntax.tyBool (Syntax.tcons Syntax.tyBool (Syntax.tcons (Syntax.tyStruct (L._∷_ 115 (L._∷_ 116 (L._∷_ 101 (L._∷_ 112 (L._∷_ 58 (L._∷_ 58 (L._∷_ 83 (L._∷_ 116 (L._∷_ 101 (L._∷_ 112 L.[])))))))))) (Syntax.tcons (Syntax.tyInt Syntax.w64) (Syntax.tcons (Syntax.tyInt Syntax.w64) (Syntax.tcons (Syntax.tyStruct (L._∷_ 115 (L._∷_ 116 (L._∷_ 101 (L._∷_ 112 (L._∷_ 58 (L._∷_ 58 (L._∷_ 67 (L._∷_ 104 (L._∷_ 97 (L._∷_ 110 (L._∷_ 103 (L._∷_ 101 L.[])))))))))))) (Syntax.tcons (Syntax.tyStruct (L._∷_ 110 (L._∷_ 101 (L._∷_ 116 (L._∷_ 119 (L._∷_ 111 (L._∷_ 114 (L._∷_ 107 (L._∷_ 58 (L._∷_ 58 (L._∷_ 69 (L._∷_ 100 (L._∷_ 105 (L._∷_ 116 L.[]))))))))))))) (Syntax.tcons q7 (Syntax.tcons q7 (Syntax.tcons q7 (Syntax.tcons q7 (Syntax.tcons q2 (Syntax.tcons q2 (Syntax.tcons (Syntax.tyInt Syntax.w64) (Syntax.tcons q6 Syntax.tnil))))))))) (Syntax.tcons (Syntax.tyStruct (L._∷_ 115 (L._∷_ 116 (L._∷_ 101 (L._∷_ 112 (L._∷_ 58 (L._∷_ 58 (L._∷_ 79 (L._∷_ 108 (L._∷_ 100 L.[]))))))))) (Syntax.tcons (Syntax.tyInt Syntax.w64) (Syntax.tcons q6 (Syntax.tcons q7 (Syntax.tcons q7 (Syntax.tcons q7 (Syntax.tcons q7 (Syntax.tcons q4 Syntax.tnil)))))))) Syntax.tnil))) Syntax.tnil)))) Syntax.tnil))))) (L._∷_ q15 (L._∷_ q28 (L._∷_ q29 (L._∷_ q30 (L._∷_ q31 L.[])))))))))))))))
 
 abbrev pub t46 : L.List Row.Entry
-t46 = L._∷_ q10 (L._∷_ q0 (L._∷_ q11 (L._∷_ q3 (L._∷_ q26 (L._∷_ (5, Rows.any-gone (Syntax.tyStruct (L._∷_ 114 (L._∷_ 117 (L._∷_ 108 (L._∷_ 101 (L._∷_ 115 (L._∷_ 58 (L._∷_ 58 (L._∷_ 102 (L._∷_ 111 (L._∷_ 117 (L._∷_ 110 (L._∷_ 100 (L._∷_ 58 (L._∷_ 58 (L._∷_ 70 (L._∷_ 111 (L._∷_ 117 (L._∷_ 110 (L._∷_ 100 L.[]))))))))))))))))))) (Syntax.tcons Syntax.tyBool (Syntax.tcons Syntax.tyBool (Syntax.tcons (Syntax.tyStruct (L._∷_ 115 (L._∷_ 116 (L._∷_ 101 (L._∷_ 112 (L._∷_ 58 (L._∷_ 58 (L._∷_ 83 (L._∷_ 116 (L._∷_ 101 (L._∷_ 112 L.[])))))))))) (Syntax.tcons (Syntax.tyInt Syntax.w64) (Syntax.tcons (Syntax.tyInt Syntax.w64) (Syntax.tcons (Syntax.tyStruct (L._∷_ 115 (L._∷_ 116 (L._∷_ 101 (L._∷_ 112 (L._∷_ 58 (L._∷_ 58 (L._∷_ 67 (L._∷_ 104 (L._∷_ 97 (L._∷_ 110 (L._∷_ 103 (L._∷_ 101 L.[])))))))))))) (Syntax.tcons (Syntax.tyStruct (L._∷_ 110 (L._∷_ 101 (L._∷_ 116 (L._∷_ 119 (L._∷_ 111 (L._∷_ 114 (L._∷_ 107 (L._∷_ 58 (L._∷_ 58 (L._∷_ 69 (L._∷_ 100 (L._∷_ 105 (L._∷_ 116 L.[]))))))))))))) (Syntax.tcons q7 (Syntax.tcons q7 (Syntax.tcons q7 (Syntax.tcons q7 (Syntax.tcons q2 (Syntax.tcons q2 (Syntax.tcons (Syntax.tyInt Syntax.w64) Syntax.tnil)))))))) (Syntax.tcons (Syntax.tyStruct (L._∷_ 115 (L._∷_ 116 (L._∷_ 101 (L._∷_ 112 (L._∷_ 58 (L._∷_ 58 (L._∷_ 79 (L._∷_ 108 (L._∷_ 100 L.[]))))))))) (Syntax.tcons (Syntax.tyInt Syntax.w64) (Syntax.tcons q6 (Syntax.tcons q7 (Syntax.tcons q7 (Syntax.tcons q7 (Syntax.tcons q7 (Syntax.tcons q4 Syntax.tnil)))))))) Syntax.tnil))) Syntax.tnil)))) Syntax.tnil))))) (L._∷_ q8 (L._∷_ q23 (L._∷_ (8, Rows.sc-here Row.sBool) (L._∷_ (9, Rows.any-gone (Syntax.tyStruct (L._∷_ 114 (L._∷_ 117 (L._∷_ 108 (L._∷_ 101 (L._∷_ 115 (L._∷_ 58 (L._∷_ 58 (L._∷_ 116 (L._∷_ 114 (L._∷_ 105 (L._∷_ 101 (L._∷_ 100 (L._∷_ 58 (L._∷_ 58 (L._∷_ 76 (L._∷_ 111 (L._∷_ 111 (L._∷_ 107 (L._∷_ 101 (L._∷_ 100 L.[])))))))))))))))))))) (Syntax.tcons (Syntax.tyStruct (L._∷_ 114 (L._∷_ 117 (L._∷_ 108 (L._∷_ 101 (L._∷_ 115 (L._∷_ 58 (L._∷_ 58 (L._∷_ 102 (L._∷_ 111 (L._∷_ 117 (L._∷_ 110 (L._∷_ 100 (L._∷_ 58 (L._∷_ 58 (L._∷_ 70 (L._∷_ 111 (L._∷_ 117 (L._∷_ 110 (L._∷_ 100 L.[]))))))))))))))))))) (Syntax.tcons Syntax.tyBool (Syntax.tcons Syntax.tyBool (Syntax.tcons (Syntax.tyStruct (L._∷_ 115 (L._∷_ 116 (L._∷_ 101 (L._∷_ 112 (L._∷_ 58 (L._∷_ 58 (L._∷_ 83 (L._∷_ 116 (L._∷_ 101 (L._∷_ 112 L.[])))))))))) (Syntax.tcons (Syntax.tyInt Syntax.w64) (Syntax.tcons (Syntax.tyInt Syntax.w64) (Syntax.tcons (Syntax.tyStruct (L._∷_ 115 (L._∷_ 116 (L._∷_ 101 (L._∷_ 112 (L._∷_ 58 (L._∷_ 58 (L._∷_ 67 (L._∷_ 104 (L._∷_ 97 (L._∷_ 110 (L._∷_ 103 (L._∷_ 101 L.[])))))))))))) (Syntax.tcons (Syntax.tyStruct (L._∷_ 110 (L._∷_ 101 (L._∷_ 116 (L._∷_ 119 (L._∷_ 111 (L._∷_ 114 (L._∷_ 107 (L._∷_ 58 (L._∷_ 58 (L._∷_ 69 (L._∷_ 100 (L._∷_ 105 (L._∷_ 116 L.[]))))))))))))) (Syntax.tcons q7 (Syntax.tcons q7 (Syntax.tcons q7 (Syntax.tcons q7 (Syntax.tcons q2 (Syntax.tcons q2 (Syntax.tcons (Syntax.tyInt Syntax.w64) Syntax.tnil)))))))) (Syntax.tcons (Syntax.tyStruct (L._∷_ 115 (L._∷_ 116 (L._∷_ 101 (L._∷_ 112 (L._∷_ 58 (L._∷_ 58 (L._∷_ 79 (L._∷_ 108 (L._∷_ 100 L.[]))))))))) (Syntax.tcons (Syntax.tyInt Syntax.w64) (Syntax.tcons q6 (Syntax.tcons q7 (Syntax.tcons q7 (Syntax.tcons q7 (Syntax.tcons q7 (Syntax.tcons q4 Syntax.tnil)))))))) Syntax.tnil))) Syntax.tnil)))) Syntax.tnil)))) (Syntax.tcons q5 Syntax.tnil)))) (L._∷_ (10, Rows.any-gone (Syntax.tyStruct (L._∷_ 114 (L._∷_ 117 (L._∷_ 108 (L._∷_ 101 (L._∷_ 115 (L._∷_ 58 (L._∷_ 58 (L._∷_ 102 (L._∷_ 111 (L._∷_ 117 (L._∷_ 110 (L._∷_ 100 (L._∷_ 58 (L._∷_ 58 (L._∷_ 70 (L._∷_ 111 (L._∷_ 117 (L._∷_ 110 (L._∷_ 100 L.[]))))))))))))))))))) (Syntax.tcons Syntax.tyBool (Syntax.tcons Syntax.tyBool (Syntax.tcons (Syntax.tyStruct (L._∷_ 115 (L._∷_ 116 (L._∷_ 101 (L._∷_ 112 (L._∷_ 58 (L._∷_ 58 (L._∷_ 83 (L._∷_ 116 (L._∷_ 101 (L._∷_ 112 L.[])))))))))) (Syntax.tcons (Syntax.tyInt Syntax.w64) (Syntax.tcons (Syntax.tyInt Syntax.w64) (Syntax.tcons (Syntax.tyStruct (L._∷_ 115 (L._∷_ 116 (L._∷_ 101 (L._∷_ 112 (L._∷_ 58 (L._∷_ 58 (L._∷_ 67 (L._∷_ 104 (L._∷_ 97 (L._∷_ 110 (L._∷_ 103 (L._∷_ 101 L.[])))))))))))) (Syntax.tcons (Syntax.tyStruct (L._∷_ 110 (L._∷_ 101 (L._∷_ 116 (L._∷_ 119 (L._∷_ 111 (L._∷_ 114 (L._∷_ 107 (L._∷_ 58 (L._∷_ 58 (L._∷_ 69 (L._∷_ 100 (L._∷_ 105 (L._∷_ 116 L.[]))))))))))))) (Syntax.tcons q7 (Syntax.tcons q7 (Syntax.tcons q7 (Syntax.tcons q7 (Syntax.tcons q2 (Syntax.tcons q2 (Syntax.tcons (Syntax.tyInt Syntax.w64) Syntax.tnil)))))))) (Syntax.tcons (Syntax.tyStruct (L._∷_ 115 (L._∷_ 116 (L._∷_ 101 (L._∷_ 112 (L._∷_ 58 (L._∷_ 58 (L._∷_ 79 (L._∷_ 108 (L._∷_ 100 L.[]))))))))) (Syntax.tcons (Syntax.tyInt Syntax.w64) (Syntax.tcons q6 (Syntax.tcons q7 (Syntax.tcons q7 (Syntax.tcons q7 (Syntax.tcons q7 (Syntax.tcons q4 Syntax.tnil)))))))) Syntax.tnil))) Syntax.tnil)))) Syntax.tnil))))) (L._∷_ q15 (L._∷_ q28 (L._∷_ q29 (L._∷_ q30 (L._∷_ q31 L.[])))))))))))))))
+t46 = L._∷_ q10 (L._∷_ q0 (L._∷_ q11 (L._∷_ q3 (L._∷_ q26 (L._∷_ (5, Rows.any-gone (Syntax.tyStruct (L._∷_ 114 (L._∷_ 117 (L._∷_ 108 (L._∷_ 101 (L._∷_ 115 (L._∷_ 58 (L._∷_ 58 (L._∷_ 102 (L._∷_ 111 (L._∷_ 117 (L._∷_ 110 (L._∷_ 100 (L._∷_ 58 (L._∷_ 58 (L._∷_ 70 (L._∷_ 111 (L._∷_ 117 (L._∷_ 110 (L._∷_ 100 L.[]))))))))))))))))))) (Syntax.tcons Syntax.tyBool (Syntax.tcons Syntax.tyBool (Syntax.tcons (Syntax.tyStruct (L._∷_ 115 (L._∷_ 116 (L._∷_ 101 (L._∷_ 112 (L._∷_ 58 (L._∷_ 58 (L._∷_ 83 (L._∷_ 116 (L._∷_ 101 (L._∷_ 112 L.[])))))))))) (Syntax.tcons (Syntax.tyInt Syntax.w64) (Syntax.tcons (Syntax.tyInt Syntax.w64) (Syntax.tcons (Syntax.tyStruct (L._∷_ 115 (L._∷_ 116 (L._∷_ 101 (L._∷_ 112 (L._∷_ 58 (L._∷_ 58 (L._∷_ 67 (L._∷_ 104 (L._∷_ 97 (L._∷_ 110 (L._∷_ 103 (L._∷_ 101 L.[])))))))))))) (Syntax.tcons (Syntax.tyStruct (L._∷_ 110 (L._∷_ 101 (L._∷_ 116 (L._∷_ 119 (L._∷_ 111 (L._∷_ 114 (L._∷_ 107 (L._∷_ 58 (L._∷_ 58 (L._∷_ 69 (L._∷_ 100 (L._∷_ 105 (L._∷_ 116 L.[]))))))))))))) (Syntax.tcons q7 (Syntax.tcons q7 (Syntax.tcons q7 (Syntax.tcons q7 (Syntax.tcons q2 (Syntax.tcons q2 (Syntax.tcons (Syntax.tyInt Syntax.w64) (Syntax.tcons q6 Syntax.tnil))))))))) (Syntax.tcons (Syntax.tyStruct (L._∷_ 115 (L._∷_ 116 (L._∷_ 101 (L._∷_ 112 (L._∷_ 58 (L._∷_ 58 (L._∷_ 79 (L._∷_ 108 (L._∷_ 100 L.[]))))))))) (Syntax.tcons (Syntax.tyInt Syntax.w64) (Syntax.tcons q6 (Syntax.tcons q7 (Syntax.tcons q7 (Syntax.tcons q7 (Syntax.tcons q7 (Syntax.tcons q4 Syntax.tnil)))))))) Syntax.tnil))) Syntax.tnil)))) Syntax.tnil))))) (L._∷_ q8 (L._∷_ q23 (L._∷_ (8, Rows.sc-here Row.sBool) (L._∷_ (9, Rows.any-gone (Syntax.tyStruct (L._∷_ 114 (L._∷_ 117 (L._∷_ 108 (L._∷_ 101 (L._∷_ 115 (L._∷_ 58 (L._∷_ 58 (L._∷_ 116 (L._∷_ 114 (L._∷_ 105 (L._∷_ 101 (L._∷_ 100 (L._∷_ 58 (L._∷_ 58 (L._∷_ 76 (L._∷_ 111 (L._∷_ 111 (L._∷_ 107 (L._∷_ 101 (L._∷_ 100 L.[])))))))))))))))))))) (Syntax.tcons (Syntax.tyStruct (L._∷_ 114 (L._∷_ 117 (L._∷_ 108 (L._∷_ 101 (L._∷_ 115 (L._∷_ 58 (L._∷_ 58 (L._∷_ 102 (L._∷_ 111 (L._∷_ 117 (L._∷_ 110 (L._∷_ 100 (L._∷_ 58 (L._∷_ 58 (L._∷_ 70 (L._∷_ 111 (L._∷_ 117 (L._∷_ 110 (L._∷_ 100 L.[]))))))))))))))))))) (Syntax.tcons Syntax.tyBool (Syntax.tcons Syntax.tyBool (Syntax.tcons (Syntax.tyStruct (L._∷_ 115 (L._∷_ 116 (L._∷_ 101 (L._∷_ 112 (L._∷_ 58 (L._∷_ 58 (L._∷_ 83 (L._∷_ 116 (L._∷_ 101 (L._∷_ 112 L.[])))))))))) (Syntax.tcons (Syntax.tyInt Syntax.w64) (Syntax.tcons (Syntax.tyInt Syntax.w64) (Syntax.tcons (Syntax.tyStruct (L._∷_ 115 (L._∷_ 116 (L._∷_ 101 (L._∷_ 112 (L._∷_ 58 (L._∷_ 58 (L._∷_ 67 (L._∷_ 104 (L._∷_ 97 (L._∷_ 110 (L._∷_ 103 (L._∷_ 101 L.[])))))))))))) (Syntax.tcons (Syntax.tyStruct (L._∷_ 110 (L._∷_ 101 (L._∷_ 116 (L._∷_ 119 (L._∷_ 111 (L._∷_ 114 (L._∷_ 107 (L._∷_ 58 (L._∷_ 58 (L._∷_ 69 (L._∷_ 100 (L._∷_ 105 (L._∷_ 116 L.[]))))))))))))) (Syntax.tcons q7 (Syntax.tcons q7 (Syntax.tcons q7 (Syntax.tcons q7 (Syntax.tcons q2 (Syntax.tcons q2 (Syntax.tcons (Syntax.tyInt Syntax.w64) (Syntax.tcons q6 Syntax.tnil))))))))) (Syntax.tcons (Syntax.tyStruct (L._∷_ 115 (L._∷_ 116 (L._∷_ 101 (L._∷_ 112 (L._∷_ 58 (L._∷_ 58 (L._∷_ 79 (L._∷_ 108 (L._∷_ 100 L.[]))))))))) (Syntax.tcons (Syntax.tyInt Syntax.w64) (Syntax.tcons q6 (Syntax.tcons q7 (Syntax.tcons q7 (Syntax.tcons q7 (Syntax.tcons q7 (Syntax.tcons q4 Syntax.tnil)))))))) Syntax.tnil))) Syntax.tnil)))) Syntax.tnil)))) (Syntax.tcons q5 Syntax.tnil)))) (L._∷_ (10, Rows.any-gone (Syntax.tyStruct (L._∷_ 114 (L._∷_ 117 (L._∷_ 108 (L._∷_ 101 (L._∷_ 115 (L._∷_ 58 (L._∷_ 58 (L._∷_ 102 (L._∷_ 111 (L._∷_ 117 (L._∷_ 110 (L._∷_ 100 (L._∷_ 58 (L._∷_ 58 (L._∷_ 70 (L._∷_ 111 (L._∷_ 117 (L._∷_ 110 (L._∷_ 100 L.[]))))))))))))))))))) (Syntax.tcons Syntax.tyBool (Syntax.tcons Syntax.tyBool (Syntax.tcons (Syntax.tyStruct (L._∷_ 115 (L._∷_ 116 (L._∷_ 101 (L._∷_ 112 (L._∷_ 58 (L._∷_ 58 (L._∷_ 83 (L._∷_ 116 (L._∷_ 101 (L._∷_ 112 L.[])))))))))) (Syntax.tcons (Syntax.tyInt Syntax.w64) (Syntax.tcons (Syntax.tyInt Syntax.w64) (Syntax.tcons (Syntax.tyStruct (L._∷_ 115 (L._∷_ 116 (L._∷_ 101 (L._∷_ 112 (L._∷_ 58 (L._∷_ 58 (L._∷_ 67 (L._∷_ 104 (L._∷_ 97 (L._∷_ 110 (L._∷_ 103 (L._∷_ 101 L.[])))))))))))) (Syntax.tcons (Syntax.tyStruct (L._∷_ 110 (L._∷_ 101 (L._∷_ 116 (L._∷_ 119 (L._∷_ 111 (L._∷_ 114 (L._∷_ 107 (L._∷_ 58 (L._∷_ 58 (L._∷_ 69 (L._∷_ 100 (L._∷_ 105 (L._∷_ 116 L.[]))))))))))))) (Syntax.tcons q7 (Syntax.tcons q7 (Syntax.tcons q7 (Syntax.tcons q7 (Syntax.tcons q2 (Syntax.tcons q2 (Syntax.tcons (Syntax.tyInt Syntax.w64) (Syntax.tcons q6 Syntax.tnil))))))))) (Syntax.tcons (Syntax.tyStruct (L._∷_ 115 (L._∷_ 116 (L._∷_ 101 (L._∷_ 112 (L._∷_ 58 (L._∷_ 58 (L._∷_ 79 (L._∷_ 108 (L._∷_ 100 L.[]))))))))) (Syntax.tcons (Syntax.tyInt Syntax.w64) (Syntax.tcons q6 (Syntax.tcons q7 (Syntax.tcons q7 (Syntax.tcons q7 (Syntax.tcons q7 (Syntax.tcons q4 Syntax.tnil)))))))) Syntax.tnil))) Syntax.tnil)))) Syntax.tnil))))) (L._∷_ q15 (L._∷_ q28 (L._∷_ q29 (L._∷_ q30 (L._∷_ q31 L.[])))))))))))))))
 
 abbrev pub t47 : L.List Row.Entry
-t47 = L._∷_ q10 (L._∷_ q0 (L._∷_ q11 (L._∷_ q3 (L._∷_ q26 (L._∷_ (5, Rows.any-gone (Syntax.tyStruct (L._∷_ 114 (L._∷_ 117 (L._∷_ 108 (L._∷_ 101 (L._∷_ 115 (L._∷_ 58 (L._∷_ 58 (L._∷_ 102 (L._∷_ 111 (L._∷_ 117 (L._∷_ 110 (L._∷_ 100 (L._∷_ 58 (L._∷_ 58 (L._∷_ 70 (L._∷_ 111 (L._∷_ 117 (L._∷_ 110 (L._∷_ 100 L.[]))))))))))))))))))) (Syntax.tcons Syntax.tyBool (Syntax.tcons Syntax.tyBool (Syntax.tcons (Syntax.tyStruct (L._∷_ 115 (L._∷_ 116 (L._∷_ 101 (L._∷_ 112 (L._∷_ 58 (L._∷_ 58 (L._∷_ 83 (L._∷_ 116 (L._∷_ 101 (L._∷_ 112 L.[])))))))))) (Syntax.tcons (Syntax.tyInt Syntax.w64) (Syntax.tcons (Syntax.tyInt Syntax.w64) (Syntax.tcons (Syntax.tyStruct (L._∷_ 115 (L._∷_ 116 (L._∷_ 101 (L._∷_ 112 (L._∷_ 58 (L._∷_ 58 (L._∷_ 67 (L._∷_ 104 (L._∷_ 97 (L._∷_ 110 (L._∷_ 103 (L._∷_ 101 L.[])))))))))))) (Syntax.tcons (Syntax.tyStruct (L._∷_ 110 (L._∷_ 101 (L._∷_ 116 (L._∷_ 119 (L._∷_ 111 (L._∷_ 114 (L._∷_ 107 (L._∷_ 58 (L._∷_ 58 (L._∷_ 69 (L._∷_ 100 (L._∷_ 105 (L._∷_ 116 L.[]))))))))))))) (Syntax.tcons q7 (Syntax.tcons q7 (Syntax.tcons q7 (Syntax.tcons q7 (Syntax.tcons q2 (Syntax.tcons q2 (Syntax.tcons (Syntax.tyInt Syntax.w64) Syntax.tnil)))))))) (Syntax.tcons (Syntax.tyStruct (L._∷_ 115 (L._∷_ 116 (L._∷_ 101 (L._∷_ 112 (L._∷_ 58 (L._∷_ 58 (L._∷_ 79 (L._∷_ 108 (L._∷_ 100 L.[]))))))))) (Syntax.tcons (Syntax.tyInt Syntax.w64) (Syntax.tcons q6 (Syntax.tcons q7 (Syntax.tcons q7 (Syntax.tcons q7 (Syntax.tcons q7 (Syntax.tcons q4 Syntax.tnil)))))))) Syntax.tnil))) Syntax.tnil)))) Syntax.tnil))))) (L._∷_ q8 (L._∷_ q23 (L._∷_ q32 (L._∷_ (9, Rows.any-gone (Syntax.tyStruct (L._∷_ 114 (L._∷_ 117 (L._∷_ 108 (L._∷_ 101 (L._∷_ 115 (L._∷_ 58 (L._∷_ 58 (L._∷_ 116 (L._∷_ 114 (L._∷_ 105 (L._∷_ 101 (L._∷_ 100 (L._∷_ 58 (L._∷_ 58 (L._∷_ 76 (L._∷_ 111 (L._∷_ 111 (L._∷_ 107 (L._∷_ 101 (L._∷_ 100 L.[])))))))))))))))))))) (Syntax.tcons (Syntax.tyStruct (L._∷_ 114 (L._∷_ 117 (L._∷_ 108 (L._∷_ 101 (L._∷_ 115 (L._∷_ 58 (L._∷_ 58 (L._∷_ 102 (L._∷_ 111 (L._∷_ 117 (L._∷_ 110 (L._∷_ 100 (L._∷_ 58 (L._∷_ 58 (L._∷_ 70 (L._∷_ 111 (L._∷_ 117 (L._∷_ 110 (L._∷_ 100 L.[]))))))))))))))))))) (Syntax.tcons Syntax.tyBool (Syntax.tcons Syntax.tyBool (Syntax.tcons (Syntax.tyStruct (L._∷_ 115 (L._∷_ 116 (L._∷_ 101 (L._∷_ 112 (L._∷_ 58 (L._∷_ 58 (L._∷_ 83 (L._∷_ 116 (L._∷_ 101 (L._∷_ 112 L.[])))))))))) (Syntax.tcons (Syntax.tyInt Syntax.w64) (Syntax.tcons (Syntax.tyInt Syntax.w64) (Syntax.tcons (Syntax.tyStruct (L._∷_ 115 (L._∷_ 116 (L._∷_ 101 (L._∷_ 112 (L._∷_ 58 (L._∷_ 58 (L._∷_ 67 (L._∷_ 104 (L._∷_ 97 (L._∷_ 110 (L._∷_ 103 (L._∷_ 101 L.[])))))))))))) (Syntax.tcons (Syntax.tyStruct (L._∷_ 110 (L._∷_ 101 (L._∷_ 116 (L._∷_ 119 (L._∷_ 111 (L._∷_ 114 (L._∷_ 107 (L._∷_ 58 (L._∷_ 58 (L._∷_ 69 (L._∷_ 100 (L._∷_ 105 (L._∷_ 116 L.[]))))))))))))) (Syntax.tcons q7 (Syntax.tcons q7 (Syntax.tcons q7 (Syntax.tcons q7 (Syntax.tcons q2 (Syntax.tcons q2 (Syntax.tcons (Syntax.tyInt Syntax.w64) Syntax.tnil)))))))) (Syntax.tcons (Syntax.tyStruct (L._∷_ 115 (L._∷_ 116 (L._∷_ 101 (L._∷_ 112 (L._∷_ 58 (L._∷_ 58 (L._∷_ 79 (L._∷_ 108 (L._∷_ 100 L.[]))))))))) (Syntax.tcons (Syntax.tyInt Syntax.w64) (Syntax.tcons q6 (Syntax.tcons q7 (Syntax.tcons q7 (Syntax.tcons q7 (Syntax.tcons q7 (Syntax.tcons q4 Syntax.tnil)))))))) Syntax.tnil))) Syntax.tnil)))) Syntax.tnil)))) (Syntax.tcons q5 Syntax.tnil)))) (L._∷_ (10, Rows.any-gone (Syntax.tyStruct (L._∷_ 114 (L._∷_ 117 (L._∷_ 108 (L._∷_ 101 (L._∷_ 115 (L._∷_ 58 (L._∷_ 58 (L._∷_ 102 (L._∷_ 111 (L._∷_ 117 (L._∷_ 110 (L._∷_ 100 (L._∷_ 58 (L._∷_ 58 (L._∷_ 70 (L._∷_ 111 (L._∷_ 117 (L._∷_ 110 (L._∷_ 100 L.[]))))))))))))))))))) (Syntax.tcons Syntax.tyBool (Syntax.tcons Syntax.tyBool (Syntax.tcons (Syntax.tyStruct (L._∷_ 115 (L._∷_ 116 (L._∷_ 101 (L._∷_ 112 (L._∷_ 58 (L._∷_ 58 (L._∷_ 83 (L._∷_ 116 (L._∷_ 101 (L._∷_ 112 L.[])))))))))) (Syntax.tcons (Syntax.tyInt Syntax.w64) (Syntax.tcons (Syntax.tyInt Syntax.w64) (Syntax.tcons (Syntax.tyStruct (L._∷_ 115 (L._∷_ 116 (L._∷_ 101 (L._∷_ 112 (L._∷_ 58 (L._∷_ 58 (L._∷_ 67 (L._∷_ 104 (L._∷_ 97 (L._∷_ 110 (L._∷_ 103 (L._∷_ 101 L.[])))))))))))) (Syntax.tcons (Syntax.tyStruct (L._∷_ 110 (L._∷_ 101 (L._∷_ 116 (L._∷_ 119 (L._∷_ 111 (L._∷_ 114 (L._∷_ 107 (L._∷_ 58 (L._∷_ 58 (L._∷_ 69 (L._∷_ 100 (L._∷_ 105 (L._∷_ 116 L.[]))))))))))))) (Syntax.tcons q7 (Syntax.tcons q7 (Syntax.tcons q7 (Syntax.tcons q7 (Syntax.tcons q2 (Syntax.tcons q2 (Syntax.tcons (Syntax.tyInt Syntax.w64) Syntax.tnil)))))))) (Syntax.tcons (Syntax.tyStruct (L._∷_ 115 (L._∷_ 116 (L._∷_ 101 (L._∷_ 112 (L._∷_ 58 (L._∷_ 58 (L._∷_ 79 (L._∷_ 108 (L._∷_ 100 L.[]))))))))) (Syntax.tcons (Syntax.tyInt Syntax.w64) (Syntax.tcons q6 (Syntax.tcons q7 (Syntax.tcons q7 (Syntax.tcons q7 (Syntax.tcons q7 (Syntax.tcons q4 Syntax.tnil)))))))) Syntax.tnil))) Syntax.tnil)))) Syntax.tnil))))) (L._∷_ q15 (L._∷_ q28 (L._∷_ q29 (L._∷_ q30 (L._∷_ q31 L.[])))))))))))))))
+t47 = L._∷_ q10 (L._∷_ q0 (L._∷_ q11 (L._∷_ q3 (L._∷_ q26 (L._∷_ (5, Rows.any-gone (Syntax.tyStruct (L._∷_ 114 (L._∷_ 117 (L._∷_ 108 (L._∷_ 101 (L._∷_ 115 (L._∷_ 58 (L._∷_ 58 (L._∷_ 102 (L._∷_ 111 (L._∷_ 117 (L._∷_ 110 (L._∷_ 100 (L._∷_ 58 (L._∷_ 58 (L._∷_ 70 (L._∷_ 111 (L._∷_ 117 (L._∷_ 110 (L._∷_ 100 L.[]))))))))))))))))))) (Syntax.tcons Syntax.tyBool (Syntax.tcons Syntax.tyBool (Syntax.tcons (Syntax.tyStruct (L._∷_ 115 (L._∷_ 116 (L._∷_ 101 (L._∷_ 112 (L._∷_ 58 (L._∷_ 58 (L._∷_ 83 (L._∷_ 116 (L._∷_ 101 (L._∷_ 112 L.[])))))))))) (Syntax.tcons (Syntax.tyInt Syntax.w64) (Syntax.tcons (Syntax.tyInt Syntax.w64) (Syntax.tcons (Syntax.tyStruct (L._∷_ 115 (L._∷_ 116 (L._∷_ 101 (L._∷_ 112 (L._∷_ 58 (L._∷_ 58 (L._∷_ 67 (L._∷_ 104 (L._∷_ 97 (L._∷_ 110 (L._∷_ 103 (L._∷_ 101 L.[])))))))))))) (Syntax.tcons (Syntax.tyStruct (L._∷_ 110 (L._∷_ 101 (L._∷_ 116 (L._∷_ 119 (L._∷_ 111 (L._∷_ 114 (L._∷_ 107 (L._∷_ 58 (L._∷_ 58 (L._∷_ 69 (L._∷_ 100 (L._∷_ 105 (L._∷_ 116 L.[]))))))))))))) (Syntax.tcons q7 (Syntax.tcons q7 (Syntax.tcons q7 (Syntax.tcons q7 (Syntax.tcons q2 (Syntax.tcons q2 (Syntax.tcons (Syntax.tyInt Syntax.w64) (Syntax.tcons q6 Syntax.tnil))))))))) (Syntax.tcons (Syntax.tyStruct (L._∷_ 115 (L._∷_ 116 (L._∷_ 101 (L._∷_ 112 (L._∷_ 58 (L._∷_ 58 (L._∷_ 79 (L._∷_ 108 (L._∷_ 100 L.[]))))))))) (Syntax.tcons (Syntax.tyInt Syntax.w64) (Syntax.tcons q6 (Syntax.tcons q7 (Syntax.tcons q7 (Syntax.tcons q7 (Syntax.tcons q7 (Syntax.tcons q4 Syntax.tnil)))))))) Syntax.tnil))) Syntax.tnil)))) Syntax.tnil))))) (L._∷_ q8 (L._∷_ q23 (L._∷_ q32 (L._∷_ (9, Rows.any-gone (Syntax.tyStruct (L._∷_ 114 (L._∷_ 117 (L._∷_ 108 (L._∷_ 101 (L._∷_ 115 (L._∷_ 58 (L._∷_ 58 (L._∷_ 116 (L._∷_ 114 (L._∷_ 105 (L._∷_ 101 (L._∷_ 100 (L._∷_ 58 (L._∷_ 58 (L._∷_ 76 (L._∷_ 111 (L._∷_ 111 (L._∷_ 107 (L._∷_ 101 (L._∷_ 100 L.[])))))))))))))))))))) (Syntax.tcons (Syntax.tyStruct (L._∷_ 114 (L._∷_ 117 (L._∷_ 108 (L._∷_ 101 (L._∷_ 115 (L._∷_ 58 (L._∷_ 58 (L._∷_ 102 (L._∷_ 111 (L._∷_ 117 (L._∷_ 110 (L._∷_ 100 (L._∷_ 58 (L._∷_ 58 (L._∷_ 70 (L._∷_ 111 (L._∷_ 117 (L._∷_ 110 (L._∷_ 100 L.[]))))))))))))))))))) (Syntax.tcons Syntax.tyBool (Syntax.tcons Syntax.tyBool (Syntax.tcons (Syntax.tyStruct (L._∷_ 115 (L._∷_ 116 (L._∷_ 101 (L._∷_ 112 (L._∷_ 58 (L._∷_ 58 (L._∷_ 83 (L._∷_ 116 (L._∷_ 101 (L._∷_ 112 L.[])))))))))) (Syntax.tcons (Syntax.tyInt Syntax.w64) (Syntax.tcons (Syntax.tyInt Syntax.w64) (Syntax.tcons (Syntax.tyStruct (L._∷_ 115 (L._∷_ 116 (L._∷_ 101 (L._∷_ 112 (L._∷_ 58 (L._∷_ 58 (L._∷_ 67 (L._∷_ 104 (L._∷_ 97 (L._∷_ 110 (L._∷_ 103 (L._∷_ 101 L.[])))))))))))) (Syntax.tcons (Syntax.tyStruct (L._∷_ 110 (L._∷_ 101 (L._∷_ 116 (L._∷_ 119 (L._∷_ 111 (L._∷_ 114 (L._∷_ 107 (L._∷_ 58 (L._∷_ 58 (L._∷_ 69 (L._∷_ 100 (L._∷_ 105 (L._∷_ 116 L.[]))))))))))))) (Syntax.tcons q7 (Syntax.tcons q7 (Syntax.tcons q7 (Syntax.tcons q7 (Syntax.tcons q2 (Syntax.tcons q2 (Syntax.tcons (Syntax.tyInt Syntax.w64) (Syntax.tcons q6 Syntax.tnil))))))))) (Syntax.tcons (Syntax.tyStruct (L._∷_ 115 (L._∷_ 116 (L._∷_ 101 (L._∷_ 112 (L._∷_ 58 (L._∷_ 58 (L._∷_ 79 (L._∷_ 108 (L._∷_ 100 L.[]))))))))) (Syntax.tcons (Syntax.tyInt Syntax.w64) (Syntax.tcons q6 (Syntax.tcons q7 (Syntax.tcons q7 (Syntax.tcons q7 (Syntax.tcons q7 (Syntax.tcons q4 Syntax.tnil)))))))) Syntax.tnil))) Syntax.tnil)))) Syntax.tnil)))) (Syntax.tcons q5 Syntax.tnil)))) (L._∷_ (10, Rows.any-gone (Syntax.tyStruct (L._∷_ 114 (L._∷_ 117 (L._∷_ 108 (L._∷_ 101 (L._∷_ 115 (L._∷_ 58 (L._∷_ 58 (L._∷_ 102 (L._∷_ 111 (L._∷_ 117 (L._∷_ 110 (L._∷_ 100 (L._∷_ 58 (L._∷_ 58 (L._∷_ 70 (L._∷_ 111 (L._∷_ 117 (L._∷_ 110 (L._∷_ 100 L.[]))))))))))))))))))) (Syntax.tcons Syntax.tyBool (Syntax.tcons Syntax.tyBool (Syntax.tcons (Syntax.tyStruct (L._∷_ 115 (L._∷_ 116 (L._∷_ 101 (L._∷_ 112 (L._∷_ 58 (L._∷_ 58 (L._∷_ 83 (L._∷_ 116 (L._∷_ 101 (L._∷_ 112 L.[])))))))))) (Syntax.tcons (Syntax.tyInt Syntax.w64) (Syntax.tcons (Syntax.tyInt Syntax.w64) (Syntax.tcons (Syntax.tyStruct (L._∷_ 115 (L._∷_ 116 (L._∷_ 101 (L._∷_ 112 (L._∷_ 58 (L._∷_ 58 (L._∷_ 67 (L._∷_ 104 (L._∷_ 97 (L._∷_ 110 (L._∷_ 103 (L._∷_ 101 L.[])))))))))))) (Syntax.tcons (Syntax.tyStruct (L._∷_ 110 (L._∷_ 101 (L._∷_ 116 (L._∷_ 119 (L._∷_ 111 (L._∷_ 114 (L._∷_ 107 (L._∷_ 58 (L._∷_ 58 (L._∷_ 69 (L._∷_ 100 (L._∷_ 105 (L._∷_ 116 L.[]))))))))))))) (Syntax.tcons q7 (Syntax.tcons q7 (Syntax.tcons q7 (Syntax.tcons q7 (Syntax.tcons q2 (Syntax.tcons q2 (Syntax.tcons (Syntax.tyInt Syntax.w64) (Syntax.tcons q6 Syntax.tnil))))))))) (Syntax.tcons (Syntax.tyStruct (L._∷_ 115 (L._∷_ 116 (L._∷_ 101 (L._∷_ 112 (L._∷_ 58 (L._∷_ 58 (L._∷_ 79 (L._∷_ 108 (L._∷_ 100 L.[]))))))))) (Syntax.tcons (Syntax.tyInt Syntax.w64) (Syntax.tcons q6 (Syntax.tcons q7 (Syntax.tcons q7 (Syntax.tcons q7 (Syntax.tcons q7 (Syntax.tcons q4 Syntax.tnil)))))))) Syntax.tnil))) Syntax.tnil)))) Syntax.tnil))))) (L._∷_ q15 (L._∷_ q28 (L._∷_ q29 (L._∷_ q30 (L._∷_ q31 L.[])))))))))))))))
 
 abbrev pub T0 : Row.Cx
 T0 = record { locals = t0; slots = L.[] }
@@ -776,7 +776,7 @@ MeasureT-loop = Rows.whole (Declared.row network-proofs-Nodes·.the-type) .Mod �
 
 module _ (claims· : Claims) where
   abbrev s0 : (bs : L.List Nat.ℕ) → Typed.Both T0 T2
-  s0 = λ bs. Call.callB ps·0 r·0 (claims· .0) (claims· .1) T0 (record { pos = 1; st = L.[]; d = 0; at = λ x. x }, (record { pos = 2; ty = Syntax.tyRef (Syntax.named 0) Syntax.imm Rec.named; ref = λ x. x }, tt)) 5 (L._∷_ 0 L.[]) (Syntax.tyStruct (L._∷_ 114 (L._∷_ 117 (L._∷_ 108 (L._∷_ 101 (L._∷_ 115 (L._∷_ 58 (L._∷_ 58 (L._∷_ 102 (L._∷_ 111 (L._∷_ 117 (L._∷_ 110 (L._∷_ 100 (L._∷_ 58 (L._∷_ 58 (L._∷_ 70 (L._∷_ 111 (L._∷_ 117 (L._∷_ 110 (L._∷_ 100 L.[]))))))))))))))))))) (Syntax.tcons Syntax.tyBool (Syntax.tcons Syntax.tyBool (Syntax.tcons (Syntax.tyStruct (L._∷_ 115 (L._∷_ 116 (L._∷_ 101 (L._∷_ 112 (L._∷_ 58 (L._∷_ 58 (L._∷_ 83 (L._∷_ 116 (L._∷_ 101 (L._∷_ 112 L.[])))))))))) (Syntax.tcons (Syntax.tyInt Syntax.w64) (Syntax.tcons (Syntax.tyInt Syntax.w64) (Syntax.tcons (Syntax.tyStruct (L._∷_ 115 (L._∷_ 116 (L._∷_ 101 (L._∷_ 112 (L._∷_ 58 (L._∷_ 58 (L._∷_ 67 (L._∷_ 104 (L._∷_ 97 (L._∷_ 110 (L._∷_ 103 (L._∷_ 101 L.[])))))))))))) (Syntax.tcons (Syntax.tyStruct (L._∷_ 110 (L._∷_ 101 (L._∷_ 116 (L._∷_ 119 (L._∷_ 111 (L._∷_ 114 (L._∷_ 107 (L._∷_ 58 (L._∷_ 58 (L._∷_ 69 (L._∷_ 100 (L._∷_ 105 (L._∷_ 116 L.[]))))))))))))) (Syntax.tcons q7 (Syntax.tcons q7 (Syntax.tcons q7 (Syntax.tcons q7 (Syntax.tcons q2 (Syntax.tcons q2 (Syntax.tcons (Syntax.tyInt Syntax.w64) Syntax.tnil)))))))) (Syntax.tcons (Syntax.tyStruct (L._∷_ 115 (L._∷_ 116 (L._∷_ 101 (L._∷_ 112 (L._∷_ 58 (L._∷_ 58 (L._∷_ 79 (L._∷_ 108 (L._∷_ 100 L.[]))))))))) (Syntax.tcons (Syntax.tyInt Syntax.w64) (Syntax.tcons q6 (Syntax.tcons q7 (Syntax.tcons q7 (Syntax.tcons q7 (Syntax.tcons q7 (Syntax.tcons q4 Syntax.tnil)))))))) Syntax.tnil))) Syntax.tnil)))) Syntax.tnil))))
+  s0 = λ bs. Call.callB ps·0 r·0 (claims· .0) (claims· .1) T0 (record { pos = 1; st = L.[]; d = 0; at = λ x. x }, (record { pos = 2; ty = Syntax.tyRef (Syntax.named 0) Syntax.imm Rec.named; ref = λ x. x }, tt)) 5 (L._∷_ 0 L.[]) (Syntax.tyStruct (L._∷_ 114 (L._∷_ 117 (L._∷_ 108 (L._∷_ 101 (L._∷_ 115 (L._∷_ 58 (L._∷_ 58 (L._∷_ 102 (L._∷_ 111 (L._∷_ 117 (L._∷_ 110 (L._∷_ 100 (L._∷_ 58 (L._∷_ 58 (L._∷_ 70 (L._∷_ 111 (L._∷_ 117 (L._∷_ 110 (L._∷_ 100 L.[]))))))))))))))))))) (Syntax.tcons Syntax.tyBool (Syntax.tcons Syntax.tyBool (Syntax.tcons (Syntax.tyStruct (L._∷_ 115 (L._∷_ 116 (L._∷_ 101 (L._∷_ 112 (L._∷_ 58 (L._∷_ 58 (L._∷_ 83 (L._∷_ 116 (L._∷_ 101 (L._∷_ 112 L.[])))))))))) (Syntax.tcons (Syntax.tyInt Syntax.w64) (Syntax.tcons (Syntax.tyInt Syntax.w64) (Syntax.tcons (Syntax.tyStruct (L._∷_ 115 (L._∷_ 116 (L._∷_ 101 (L._∷_ 112 (L._∷_ 58 (L._∷_ 58 (L._∷_ 67 (L._∷_ 104 (L._∷_ 97 (L._∷_ 110 (L._∷_ 103 (L._∷_ 101 L.[])))))))))))) (Syntax.tcons (Syntax.tyStruct (L._∷_ 110 (L._∷_ 101 (L._∷_ 116 (L._∷_ 119 (L._∷_ 111 (L._∷_ 114 (L._∷_ 107 (L._∷_ 58 (L._∷_ 58 (L._∷_ 69 (L._∷_ 100 (L._∷_ 105 (L._∷_ 116 L.[]))))))))))))) (Syntax.tcons q7 (Syntax.tcons q7 (Syntax.tcons q7 (Syntax.tcons q7 (Syntax.tcons q2 (Syntax.tcons q2 (Syntax.tcons (Syntax.tyInt Syntax.w64) (Syntax.tcons q6 Syntax.tnil))))))))) (Syntax.tcons (Syntax.tyStruct (L._∷_ 115 (L._∷_ 116 (L._∷_ 101 (L._∷_ 112 (L._∷_ 58 (L._∷_ 58 (L._∷_ 79 (L._∷_ 108 (L._∷_ 100 L.[]))))))))) (Syntax.tcons (Syntax.tyInt Syntax.w64) (Syntax.tcons q6 (Syntax.tcons q7 (Syntax.tcons q7 (Syntax.tcons q7 (Syntax.tcons q7 (Syntax.tcons q4 Syntax.tnil)))))))) Syntax.tnil))) Syntax.tnil)))) Syntax.tnil))))
 
   abbrev s1 : (bs : L.List Nat.ℕ) → Typed.Mo T2 → Typed.Mo T3
   s1 = λ bs. Scalar.n-use T2 (Scalar.oFld 5 (L._∷_ (Syntax.field 0) L.[]) Syntax.tyBool 0 (Reads.fieldV rules-proofs-found-Found·.the-type rules-proofs-found-Found-Laws·.the-laws 0)) 12 (Rows.sc-here Row.sBool) (Row.sBool .of)
@@ -794,7 +794,7 @@ module _ (claims· : Claims) where
   s5 = λ bs. Scalar.n-room T7 3 q5
 
   abbrev s6 : (bs : L.List Nat.ℕ) → Typed.Mo T8 → Typed.Mo T9
-  s6 = λ bs. Scalar.n-room T8 5 (Syntax.tyStruct (L._∷_ 114 (L._∷_ 117 (L._∷_ 108 (L._∷_ 101 (L._∷_ 115 (L._∷_ 58 (L._∷_ 58 (L._∷_ 102 (L._∷_ 111 (L._∷_ 117 (L._∷_ 110 (L._∷_ 100 (L._∷_ 58 (L._∷_ 58 (L._∷_ 70 (L._∷_ 111 (L._∷_ 117 (L._∷_ 110 (L._∷_ 100 L.[]))))))))))))))))))) (Syntax.tcons Syntax.tyBool (Syntax.tcons Syntax.tyBool (Syntax.tcons (Syntax.tyStruct (L._∷_ 115 (L._∷_ 116 (L._∷_ 101 (L._∷_ 112 (L._∷_ 58 (L._∷_ 58 (L._∷_ 83 (L._∷_ 116 (L._∷_ 101 (L._∷_ 112 L.[])))))))))) (Syntax.tcons (Syntax.tyInt Syntax.w64) (Syntax.tcons (Syntax.tyInt Syntax.w64) (Syntax.tcons (Syntax.tyStruct (L._∷_ 115 (L._∷_ 116 (L._∷_ 101 (L._∷_ 112 (L._∷_ 58 (L._∷_ 58 (L._∷_ 67 (L._∷_ 104 (L._∷_ 97 (L._∷_ 110 (L._∷_ 103 (L._∷_ 101 L.[])))))))))))) (Syntax.tcons (Syntax.tyStruct (L._∷_ 110 (L._∷_ 101 (L._∷_ 116 (L._∷_ 119 (L._∷_ 111 (L._∷_ 114 (L._∷_ 107 (L._∷_ 58 (L._∷_ 58 (L._∷_ 69 (L._∷_ 100 (L._∷_ 105 (L._∷_ 116 L.[]))))))))))))) (Syntax.tcons q7 (Syntax.tcons q7 (Syntax.tcons q7 (Syntax.tcons q7 (Syntax.tcons q2 (Syntax.tcons q2 (Syntax.tcons (Syntax.tyInt Syntax.w64) Syntax.tnil)))))))) (Syntax.tcons (Syntax.tyStruct (L._∷_ 115 (L._∷_ 116 (L._∷_ 101 (L._∷_ 112 (L._∷_ 58 (L._∷_ 58 (L._∷_ 79 (L._∷_ 108 (L._∷_ 100 L.[]))))))))) (Syntax.tcons (Syntax.tyInt Syntax.w64) (Syntax.tcons q6 (Syntax.tcons q7 (Syntax.tcons q7 (Syntax.tcons q7 (Syntax.tcons q7 (Syntax.tcons q4 Syntax.tnil)))))))) Syntax.tnil))) Syntax.tnil)))) Syntax.tnil))))
+  s6 = λ bs. Scalar.n-room T8 5 (Syntax.tyStruct (L._∷_ 114 (L._∷_ 117 (L._∷_ 108 (L._∷_ 101 (L._∷_ 115 (L._∷_ 58 (L._∷_ 58 (L._∷_ 102 (L._∷_ 111 (L._∷_ 117 (L._∷_ 110 (L._∷_ 100 (L._∷_ 58 (L._∷_ 58 (L._∷_ 70 (L._∷_ 111 (L._∷_ 117 (L._∷_ 110 (L._∷_ 100 L.[]))))))))))))))))))) (Syntax.tcons Syntax.tyBool (Syntax.tcons Syntax.tyBool (Syntax.tcons (Syntax.tyStruct (L._∷_ 115 (L._∷_ 116 (L._∷_ 101 (L._∷_ 112 (L._∷_ 58 (L._∷_ 58 (L._∷_ 83 (L._∷_ 116 (L._∷_ 101 (L._∷_ 112 L.[])))))))))) (Syntax.tcons (Syntax.tyInt Syntax.w64) (Syntax.tcons (Syntax.tyInt Syntax.w64) (Syntax.tcons (Syntax.tyStruct (L._∷_ 115 (L._∷_ 116 (L._∷_ 101 (L._∷_ 112 (L._∷_ 58 (L._∷_ 58 (L._∷_ 67 (L._∷_ 104 (L._∷_ 97 (L._∷_ 110 (L._∷_ 103 (L._∷_ 101 L.[])))))))))))) (Syntax.tcons (Syntax.tyStruct (L._∷_ 110 (L._∷_ 101 (L._∷_ 116 (L._∷_ 119 (L._∷_ 111 (L._∷_ 114 (L._∷_ 107 (L._∷_ 58 (L._∷_ 58 (L._∷_ 69 (L._∷_ 100 (L._∷_ 105 (L._∷_ 116 L.[]))))))))))))) (Syntax.tcons q7 (Syntax.tcons q7 (Syntax.tcons q7 (Syntax.tcons q7 (Syntax.tcons q2 (Syntax.tcons q2 (Syntax.tcons (Syntax.tyInt Syntax.w64) (Syntax.tcons q6 Syntax.tnil))))))))) (Syntax.tcons (Syntax.tyStruct (L._∷_ 115 (L._∷_ 116 (L._∷_ 101 (L._∷_ 112 (L._∷_ 58 (L._∷_ 58 (L._∷_ 79 (L._∷_ 108 (L._∷_ 100 L.[]))))))))) (Syntax.tcons (Syntax.tyInt Syntax.w64) (Syntax.tcons q6 (Syntax.tcons q7 (Syntax.tcons q7 (Syntax.tcons q7 (Syntax.tcons q7 (Syntax.tcons q4 Syntax.tnil)))))))) Syntax.tnil))) Syntax.tnil)))) Syntax.tnil))))
 
   abbrev s7 : (bs : L.List Nat.ℕ) → Typed.Mo T9 → Typed.Mo T10
   s7 = λ bs. Scalar.n-room T9 4 (Syntax.tyInt Syntax.w8)
@@ -803,7 +803,7 @@ module _ (claims· : Claims) where
   s8 = λ bs. AtSlots.n-as-by T10 0 q19 λ v. rules-proofs-tried-Looked·.struct .make v tt
 
   abbrev s9 : (bs : L.List Nat.ℕ) → Typed.Mo T3 → Typed.Mo T12
-  s9 = λ bs. Scalar.n-room T3 5 (Syntax.tyStruct (L._∷_ 114 (L._∷_ 117 (L._∷_ 108 (L._∷_ 101 (L._∷_ 115 (L._∷_ 58 (L._∷_ 58 (L._∷_ 102 (L._∷_ 111 (L._∷_ 117 (L._∷_ 110 (L._∷_ 100 (L._∷_ 58 (L._∷_ 58 (L._∷_ 70 (L._∷_ 111 (L._∷_ 117 (L._∷_ 110 (L._∷_ 100 L.[]))))))))))))))))))) (Syntax.tcons Syntax.tyBool (Syntax.tcons Syntax.tyBool (Syntax.tcons (Syntax.tyStruct (L._∷_ 115 (L._∷_ 116 (L._∷_ 101 (L._∷_ 112 (L._∷_ 58 (L._∷_ 58 (L._∷_ 83 (L._∷_ 116 (L._∷_ 101 (L._∷_ 112 L.[])))))))))) (Syntax.tcons (Syntax.tyInt Syntax.w64) (Syntax.tcons (Syntax.tyInt Syntax.w64) (Syntax.tcons (Syntax.tyStruct (L._∷_ 115 (L._∷_ 116 (L._∷_ 101 (L._∷_ 112 (L._∷_ 58 (L._∷_ 58 (L._∷_ 67 (L._∷_ 104 (L._∷_ 97 (L._∷_ 110 (L._∷_ 103 (L._∷_ 101 L.[])))))))))))) (Syntax.tcons (Syntax.tyStruct (L._∷_ 110 (L._∷_ 101 (L._∷_ 116 (L._∷_ 119 (L._∷_ 111 (L._∷_ 114 (L._∷_ 107 (L._∷_ 58 (L._∷_ 58 (L._∷_ 69 (L._∷_ 100 (L._∷_ 105 (L._∷_ 116 L.[]))))))))))))) (Syntax.tcons q7 (Syntax.tcons q7 (Syntax.tcons q7 (Syntax.tcons q7 (Syntax.tcons q2 (Syntax.tcons q2 (Syntax.tcons (Syntax.tyInt Syntax.w64) Syntax.tnil)))))))) (Syntax.tcons (Syntax.tyStruct (L._∷_ 115 (L._∷_ 116 (L._∷_ 101 (L._∷_ 112 (L._∷_ 58 (L._∷_ 58 (L._∷_ 79 (L._∷_ 108 (L._∷_ 100 L.[]))))))))) (Syntax.tcons (Syntax.tyInt Syntax.w64) (Syntax.tcons q6 (Syntax.tcons q7 (Syntax.tcons q7 (Syntax.tcons q7 (Syntax.tcons q7 (Syntax.tcons q4 Syntax.tnil)))))))) Syntax.tnil))) Syntax.tnil)))) Syntax.tnil))))
+  s9 = λ bs. Scalar.n-room T3 5 (Syntax.tyStruct (L._∷_ 114 (L._∷_ 117 (L._∷_ 108 (L._∷_ 101 (L._∷_ 115 (L._∷_ 58 (L._∷_ 58 (L._∷_ 102 (L._∷_ 111 (L._∷_ 117 (L._∷_ 110 (L._∷_ 100 (L._∷_ 58 (L._∷_ 58 (L._∷_ 70 (L._∷_ 111 (L._∷_ 117 (L._∷_ 110 (L._∷_ 100 L.[]))))))))))))))))))) (Syntax.tcons Syntax.tyBool (Syntax.tcons Syntax.tyBool (Syntax.tcons (Syntax.tyStruct (L._∷_ 115 (L._∷_ 116 (L._∷_ 101 (L._∷_ 112 (L._∷_ 58 (L._∷_ 58 (L._∷_ 83 (L._∷_ 116 (L._∷_ 101 (L._∷_ 112 L.[])))))))))) (Syntax.tcons (Syntax.tyInt Syntax.w64) (Syntax.tcons (Syntax.tyInt Syntax.w64) (Syntax.tcons (Syntax.tyStruct (L._∷_ 115 (L._∷_ 116 (L._∷_ 101 (L._∷_ 112 (L._∷_ 58 (L._∷_ 58 (L._∷_ 67 (L._∷_ 104 (L._∷_ 97 (L._∷_ 110 (L._∷_ 103 (L._∷_ 101 L.[])))))))))))) (Syntax.tcons (Syntax.tyStruct (L._∷_ 110 (L._∷_ 101 (L._∷_ 116 (L._∷_ 119 (L._∷_ 111 (L._∷_ 114 (L._∷_ 107 (L._∷_ 58 (L._∷_ 58 (L._∷_ 69 (L._∷_ 100 (L._∷_ 105 (L._∷_ 116 L.[]))))))))))))) (Syntax.tcons q7 (Syntax.tcons q7 (Syntax.tcons q7 (Syntax.tcons q7 (Syntax.tcons q2 (Syntax.tcons q2 (Syntax.tcons (Syntax.tyInt Syntax.w64) (Syntax.tcons q6 Syntax.tnil))))))))) (Syntax.tcons (Syntax.tyStruct (L._∷_ 115 (L._∷_ 116 (L._∷_ 101 (L._∷_ 112 (L._∷_ 58 (L._∷_ 58 (L._∷_ 79 (L._∷_ 108 (L._∷_ 100 L.[]))))))))) (Syntax.tcons (Syntax.tyInt Syntax.w64) (Syntax.tcons q6 (Syntax.tcons q7 (Syntax.tcons q7 (Syntax.tcons q7 (Syntax.tcons q7 (Syntax.tcons q4 Syntax.tnil)))))))) Syntax.tnil))) Syntax.tnil)))) Syntax.tnil))))
 
   abbrev s10 : (bs : L.List Nat.ℕ) → Typed.Mo T12 → Typed.Mo T13
   s10 = λ bs. Scalar.n-room T12 12 Syntax.tyBool
@@ -839,7 +839,7 @@ module _ (claims· : Claims) where
   s20 = λ bs. Scalar.n-room T24 13 Syntax.tyBool
 
   abbrev s21 : (bs : L.List Nat.ℕ) → Typed.Both T26 T27
-  s21 = λ bs. Call.callB ps·3 r·3 (claims· .6) (claims· .7) T26 (record { pos = 1; st = L.[]; d = 0; at = λ x. x }, (record { pos = 2; ty = Syntax.tyRef (Syntax.named 0) Syntax.imm Rec.named; ref = λ x. x }, (record { pos = 3; st = L.[]; d = 0; at = λ x. x }, (Num.vAt 4 λ x. x, tt)))) 9 (L._∷_ 0 L.[]) (Syntax.tyStruct (L._∷_ 114 (L._∷_ 117 (L._∷_ 108 (L._∷_ 101 (L._∷_ 115 (L._∷_ 58 (L._∷_ 58 (L._∷_ 116 (L._∷_ 114 (L._∷_ 105 (L._∷_ 101 (L._∷_ 100 (L._∷_ 58 (L._∷_ 58 (L._∷_ 76 (L._∷_ 111 (L._∷_ 111 (L._∷_ 107 (L._∷_ 101 (L._∷_ 100 L.[])))))))))))))))))))) (Syntax.tcons (Syntax.tyStruct (L._∷_ 114 (L._∷_ 117 (L._∷_ 108 (L._∷_ 101 (L._∷_ 115 (L._∷_ 58 (L._∷_ 58 (L._∷_ 102 (L._∷_ 111 (L._∷_ 117 (L._∷_ 110 (L._∷_ 100 (L._∷_ 58 (L._∷_ 58 (L._∷_ 70 (L._∷_ 111 (L._∷_ 117 (L._∷_ 110 (L._∷_ 100 L.[]))))))))))))))))))) (Syntax.tcons Syntax.tyBool (Syntax.tcons Syntax.tyBool (Syntax.tcons (Syntax.tyStruct (L._∷_ 115 (L._∷_ 116 (L._∷_ 101 (L._∷_ 112 (L._∷_ 58 (L._∷_ 58 (L._∷_ 83 (L._∷_ 116 (L._∷_ 101 (L._∷_ 112 L.[])))))))))) (Syntax.tcons (Syntax.tyInt Syntax.w64) (Syntax.tcons (Syntax.tyInt Syntax.w64) (Syntax.tcons (Syntax.tyStruct (L._∷_ 115 (L._∷_ 116 (L._∷_ 101 (L._∷_ 112 (L._∷_ 58 (L._∷_ 58 (L._∷_ 67 (L._∷_ 104 (L._∷_ 97 (L._∷_ 110 (L._∷_ 103 (L._∷_ 101 L.[])))))))))))) (Syntax.tcons (Syntax.tyStruct (L._∷_ 110 (L._∷_ 101 (L._∷_ 116 (L._∷_ 119 (L._∷_ 111 (L._∷_ 114 (L._∷_ 107 (L._∷_ 58 (L._∷_ 58 (L._∷_ 69 (L._∷_ 100 (L._∷_ 105 (L._∷_ 116 L.[]))))))))))))) (Syntax.tcons q7 (Syntax.tcons q7 (Syntax.tcons q7 (Syntax.tcons q7 (Syntax.tcons q2 (Syntax.tcons q2 (Syntax.tcons (Syntax.tyInt Syntax.w64) Syntax.tnil)))))))) (Syntax.tcons (Syntax.tyStruct (L._∷_ 115 (L._∷_ 116 (L._∷_ 101 (L._∷_ 112 (L._∷_ 58 (L._∷_ 58 (L._∷_ 79 (L._∷_ 108 (L._∷_ 100 L.[]))))))))) (Syntax.tcons (Syntax.tyInt Syntax.w64) (Syntax.tcons q6 (Syntax.tcons q7 (Syntax.tcons q7 (Syntax.tcons q7 (Syntax.tcons q7 (Syntax.tcons q4 Syntax.tnil)))))))) Syntax.tnil))) Syntax.tnil)))) Syntax.tnil)))) (Syntax.tcons q5 Syntax.tnil)))
+  s21 = λ bs. Call.callB ps·3 r·3 (claims· .6) (claims· .7) T26 (record { pos = 1; st = L.[]; d = 0; at = λ x. x }, (record { pos = 2; ty = Syntax.tyRef (Syntax.named 0) Syntax.imm Rec.named; ref = λ x. x }, (record { pos = 3; st = L.[]; d = 0; at = λ x. x }, (Num.vAt 4 λ x. x, tt)))) 9 (L._∷_ 0 L.[]) (Syntax.tyStruct (L._∷_ 114 (L._∷_ 117 (L._∷_ 108 (L._∷_ 101 (L._∷_ 115 (L._∷_ 58 (L._∷_ 58 (L._∷_ 116 (L._∷_ 114 (L._∷_ 105 (L._∷_ 101 (L._∷_ 100 (L._∷_ 58 (L._∷_ 58 (L._∷_ 76 (L._∷_ 111 (L._∷_ 111 (L._∷_ 107 (L._∷_ 101 (L._∷_ 100 L.[])))))))))))))))))))) (Syntax.tcons (Syntax.tyStruct (L._∷_ 114 (L._∷_ 117 (L._∷_ 108 (L._∷_ 101 (L._∷_ 115 (L._∷_ 58 (L._∷_ 58 (L._∷_ 102 (L._∷_ 111 (L._∷_ 117 (L._∷_ 110 (L._∷_ 100 (L._∷_ 58 (L._∷_ 58 (L._∷_ 70 (L._∷_ 111 (L._∷_ 117 (L._∷_ 110 (L._∷_ 100 L.[]))))))))))))))))))) (Syntax.tcons Syntax.tyBool (Syntax.tcons Syntax.tyBool (Syntax.tcons (Syntax.tyStruct (L._∷_ 115 (L._∷_ 116 (L._∷_ 101 (L._∷_ 112 (L._∷_ 58 (L._∷_ 58 (L._∷_ 83 (L._∷_ 116 (L._∷_ 101 (L._∷_ 112 L.[])))))))))) (Syntax.tcons (Syntax.tyInt Syntax.w64) (Syntax.tcons (Syntax.tyInt Syntax.w64) (Syntax.tcons (Syntax.tyStruct (L._∷_ 115 (L._∷_ 116 (L._∷_ 101 (L._∷_ 112 (L._∷_ 58 (L._∷_ 58 (L._∷_ 67 (L._∷_ 104 (L._∷_ 97 (L._∷_ 110 (L._∷_ 103 (L._∷_ 101 L.[])))))))))))) (Syntax.tcons (Syntax.tyStruct (L._∷_ 110 (L._∷_ 101 (L._∷_ 116 (L._∷_ 119 (L._∷_ 111 (L._∷_ 114 (L._∷_ 107 (L._∷_ 58 (L._∷_ 58 (L._∷_ 69 (L._∷_ 100 (L._∷_ 105 (L._∷_ 116 L.[]))))))))))))) (Syntax.tcons q7 (Syntax.tcons q7 (Syntax.tcons q7 (Syntax.tcons q7 (Syntax.tcons q2 (Syntax.tcons q2 (Syntax.tcons (Syntax.tyInt Syntax.w64) (Syntax.tcons q6 Syntax.tnil))))))))) (Syntax.tcons (Syntax.tyStruct (L._∷_ 115 (L._∷_ 116 (L._∷_ 101 (L._∷_ 112 (L._∷_ 58 (L._∷_ 58 (L._∷_ 79 (L._∷_ 108 (L._∷_ 100 L.[]))))))))) (Syntax.tcons (Syntax.tyInt Syntax.w64) (Syntax.tcons q6 (Syntax.tcons q7 (Syntax.tcons q7 (Syntax.tcons q7 (Syntax.tcons q7 (Syntax.tcons q4 Syntax.tnil)))))))) Syntax.tnil))) Syntax.tnil)))) Syntax.tnil)))) (Syntax.tcons q5 Syntax.tnil)))
 
   abbrev s22 : (bs : L.List Nat.ℕ) → Typed.Mo T27 → Typed.Mo T28
   s22 = λ bs. Scalar.n-room T27 3 q5
@@ -860,7 +860,7 @@ module _ (claims· : Claims) where
   s27 = λ bs. LocalCopy.n-val-copy T33 9 0 (Declared.row rules-proofs-tried-Looked·.the-type) q19 q19 (λ x. x) (λ x. x) λ x. x
 
   abbrev s28 : (bs : L.List Nat.ℕ) → Typed.Mo T34 → Typed.Mo T35
-  s28 = λ bs. Scalar.n-room T34 9 (Syntax.tyStruct (L._∷_ 114 (L._∷_ 117 (L._∷_ 108 (L._∷_ 101 (L._∷_ 115 (L._∷_ 58 (L._∷_ 58 (L._∷_ 116 (L._∷_ 114 (L._∷_ 105 (L._∷_ 101 (L._∷_ 100 (L._∷_ 58 (L._∷_ 58 (L._∷_ 76 (L._∷_ 111 (L._∷_ 111 (L._∷_ 107 (L._∷_ 101 (L._∷_ 100 L.[])))))))))))))))))))) (Syntax.tcons (Syntax.tyStruct (L._∷_ 114 (L._∷_ 117 (L._∷_ 108 (L._∷_ 101 (L._∷_ 115 (L._∷_ 58 (L._∷_ 58 (L._∷_ 102 (L._∷_ 111 (L._∷_ 117 (L._∷_ 110 (L._∷_ 100 (L._∷_ 58 (L._∷_ 58 (L._∷_ 70 (L._∷_ 111 (L._∷_ 117 (L._∷_ 110 (L._∷_ 100 L.[]))))))))))))))))))) (Syntax.tcons Syntax.tyBool (Syntax.tcons Syntax.tyBool (Syntax.tcons (Syntax.tyStruct (L._∷_ 115 (L._∷_ 116 (L._∷_ 101 (L._∷_ 112 (L._∷_ 58 (L._∷_ 58 (L._∷_ 83 (L._∷_ 116 (L._∷_ 101 (L._∷_ 112 L.[])))))))))) (Syntax.tcons (Syntax.tyInt Syntax.w64) (Syntax.tcons (Syntax.tyInt Syntax.w64) (Syntax.tcons (Syntax.tyStruct (L._∷_ 115 (L._∷_ 116 (L._∷_ 101 (L._∷_ 112 (L._∷_ 58 (L._∷_ 58 (L._∷_ 67 (L._∷_ 104 (L._∷_ 97 (L._∷_ 110 (L._∷_ 103 (L._∷_ 101 L.[])))))))))))) (Syntax.tcons (Syntax.tyStruct (L._∷_ 110 (L._∷_ 101 (L._∷_ 116 (L._∷_ 119 (L._∷_ 111 (L._∷_ 114 (L._∷_ 107 (L._∷_ 58 (L._∷_ 58 (L._∷_ 69 (L._∷_ 100 (L._∷_ 105 (L._∷_ 116 L.[]))))))))))))) (Syntax.tcons q7 (Syntax.tcons q7 (Syntax.tcons q7 (Syntax.tcons q7 (Syntax.tcons q2 (Syntax.tcons q2 (Syntax.tcons (Syntax.tyInt Syntax.w64) Syntax.tnil)))))))) (Syntax.tcons (Syntax.tyStruct (L._∷_ 115 (L._∷_ 116 (L._∷_ 101 (L._∷_ 112 (L._∷_ 58 (L._∷_ 58 (L._∷_ 79 (L._∷_ 108 (L._∷_ 100 L.[]))))))))) (Syntax.tcons (Syntax.tyInt Syntax.w64) (Syntax.tcons q6 (Syntax.tcons q7 (Syntax.tcons q7 (Syntax.tcons q7 (Syntax.tcons q7 (Syntax.tcons q4 Syntax.tnil)))))))) Syntax.tnil))) Syntax.tnil)))) Syntax.tnil)))) (Syntax.tcons q5 Syntax.tnil)))
+  s28 = λ bs. Scalar.n-room T34 9 (Syntax.tyStruct (L._∷_ 114 (L._∷_ 117 (L._∷_ 108 (L._∷_ 101 (L._∷_ 115 (L._∷_ 58 (L._∷_ 58 (L._∷_ 116 (L._∷_ 114 (L._∷_ 105 (L._∷_ 101 (L._∷_ 100 (L._∷_ 58 (L._∷_ 58 (L._∷_ 76 (L._∷_ 111 (L._∷_ 111 (L._∷_ 107 (L._∷_ 101 (L._∷_ 100 L.[])))))))))))))))))))) (Syntax.tcons (Syntax.tyStruct (L._∷_ 114 (L._∷_ 117 (L._∷_ 108 (L._∷_ 101 (L._∷_ 115 (L._∷_ 58 (L._∷_ 58 (L._∷_ 102 (L._∷_ 111 (L._∷_ 117 (L._∷_ 110 (L._∷_ 100 (L._∷_ 58 (L._∷_ 58 (L._∷_ 70 (L._∷_ 111 (L._∷_ 117 (L._∷_ 110 (L._∷_ 100 L.[]))))))))))))))))))) (Syntax.tcons Syntax.tyBool (Syntax.tcons Syntax.tyBool (Syntax.tcons (Syntax.tyStruct (L._∷_ 115 (L._∷_ 116 (L._∷_ 101 (L._∷_ 112 (L._∷_ 58 (L._∷_ 58 (L._∷_ 83 (L._∷_ 116 (L._∷_ 101 (L._∷_ 112 L.[])))))))))) (Syntax.tcons (Syntax.tyInt Syntax.w64) (Syntax.tcons (Syntax.tyInt Syntax.w64) (Syntax.tcons (Syntax.tyStruct (L._∷_ 115 (L._∷_ 116 (L._∷_ 101 (L._∷_ 112 (L._∷_ 58 (L._∷_ 58 (L._∷_ 67 (L._∷_ 104 (L._∷_ 97 (L._∷_ 110 (L._∷_ 103 (L._∷_ 101 L.[])))))))))))) (Syntax.tcons (Syntax.tyStruct (L._∷_ 110 (L._∷_ 101 (L._∷_ 116 (L._∷_ 119 (L._∷_ 111 (L._∷_ 114 (L._∷_ 107 (L._∷_ 58 (L._∷_ 58 (L._∷_ 69 (L._∷_ 100 (L._∷_ 105 (L._∷_ 116 L.[]))))))))))))) (Syntax.tcons q7 (Syntax.tcons q7 (Syntax.tcons q7 (Syntax.tcons q7 (Syntax.tcons q2 (Syntax.tcons q2 (Syntax.tcons (Syntax.tyInt Syntax.w64) (Syntax.tcons q6 Syntax.tnil))))))))) (Syntax.tcons (Syntax.tyStruct (L._∷_ 115 (L._∷_ 116 (L._∷_ 101 (L._∷_ 112 (L._∷_ 58 (L._∷_ 58 (L._∷_ 79 (L._∷_ 108 (L._∷_ 100 L.[]))))))))) (Syntax.tcons (Syntax.tyInt Syntax.w64) (Syntax.tcons q6 (Syntax.tcons q7 (Syntax.tcons q7 (Syntax.tcons q7 (Syntax.tcons q7 (Syntax.tcons q4 Syntax.tnil)))))))) Syntax.tnil))) Syntax.tnil)))) Syntax.tnil)))) (Syntax.tcons q5 Syntax.tnil)))
 
   abbrev s29 : (bs : L.List Nat.ℕ) → Typed.Mo T35 → Typed.Mo T36
   s29 = λ bs. Scalar.n-room T35 4 (Syntax.tyInt Syntax.w8)
@@ -881,13 +881,13 @@ module _ (claims· : Claims) where
   s34 = λ bs. WayStmt.k-way-copy-out T30 (Row.out 9 (T30 .locals)) (λ u. Row.drop 9 (T30 .locals) u) 3 q21 (λ u. At.getAt (rules-proofs-tried-Looked·.the-type .parts) 1 (rules-proofs-tried-Looked·.struct .as-values (u .1 .1 .1 .1 .1 .1 .1 .1 .1 .0))) (λ T′. record { locals = Row.setRow 9 q13 T′; slots = L.[] }) (λ u T′ m′. Row.set 9 q13 (u .1 .1 .1 .1 .1 .1 .1 .1 .1 .0) T′ m′) (λ u. Unit) λ u. Unit
 
   abbrev s35 : (bs : L.List Nat.ℕ) → Typed.Mo T41 → Typed.Mo T42
-  s35 = λ bs. Scalar.n-room T41 9 (Syntax.tyStruct (L._∷_ 114 (L._∷_ 117 (L._∷_ 108 (L._∷_ 101 (L._∷_ 115 (L._∷_ 58 (L._∷_ 58 (L._∷_ 116 (L._∷_ 114 (L._∷_ 105 (L._∷_ 101 (L._∷_ 100 (L._∷_ 58 (L._∷_ 58 (L._∷_ 76 (L._∷_ 111 (L._∷_ 111 (L._∷_ 107 (L._∷_ 101 (L._∷_ 100 L.[])))))))))))))))))))) (Syntax.tcons (Syntax.tyStruct (L._∷_ 114 (L._∷_ 117 (L._∷_ 108 (L._∷_ 101 (L._∷_ 115 (L._∷_ 58 (L._∷_ 58 (L._∷_ 102 (L._∷_ 111 (L._∷_ 117 (L._∷_ 110 (L._∷_ 100 (L._∷_ 58 (L._∷_ 58 (L._∷_ 70 (L._∷_ 111 (L._∷_ 117 (L._∷_ 110 (L._∷_ 100 L.[]))))))))))))))))))) (Syntax.tcons Syntax.tyBool (Syntax.tcons Syntax.tyBool (Syntax.tcons (Syntax.tyStruct (L._∷_ 115 (L._∷_ 116 (L._∷_ 101 (L._∷_ 112 (L._∷_ 58 (L._∷_ 58 (L._∷_ 83 (L._∷_ 116 (L._∷_ 101 (L._∷_ 112 L.[])))))))))) (Syntax.tcons (Syntax.tyInt Syntax.w64) (Syntax.tcons (Syntax.tyInt Syntax.w64) (Syntax.tcons (Syntax.tyStruct (L._∷_ 115 (L._∷_ 116 (L._∷_ 101 (L._∷_ 112 (L._∷_ 58 (L._∷_ 58 (L._∷_ 67 (L._∷_ 104 (L._∷_ 97 (L._∷_ 110 (L._∷_ 103 (L._∷_ 101 L.[])))))))))))) (Syntax.tcons (Syntax.tyStruct (L._∷_ 110 (L._∷_ 101 (L._∷_ 116 (L._∷_ 119 (L._∷_ 111 (L._∷_ 114 (L._∷_ 107 (L._∷_ 58 (L._∷_ 58 (L._∷_ 69 (L._∷_ 100 (L._∷_ 105 (L._∷_ 116 L.[]))))))))))))) (Syntax.tcons q7 (Syntax.tcons q7 (Syntax.tcons q7 (Syntax.tcons q7 (Syntax.tcons q2 (Syntax.tcons q2 (Syntax.tcons (Syntax.tyInt Syntax.w64) Syntax.tnil)))))))) (Syntax.tcons (Syntax.tyStruct (L._∷_ 115 (L._∷_ 116 (L._∷_ 101 (L._∷_ 112 (L._∷_ 58 (L._∷_ 58 (L._∷_ 79 (L._∷_ 108 (L._∷_ 100 L.[]))))))))) (Syntax.tcons (Syntax.tyInt Syntax.w64) (Syntax.tcons q6 (Syntax.tcons q7 (Syntax.tcons q7 (Syntax.tcons q7 (Syntax.tcons q7 (Syntax.tcons q4 Syntax.tnil)))))))) Syntax.tnil))) Syntax.tnil)))) Syntax.tnil)))) (Syntax.tcons q5 Syntax.tnil)))
+  s35 = λ bs. Scalar.n-room T41 9 (Syntax.tyStruct (L._∷_ 114 (L._∷_ 117 (L._∷_ 108 (L._∷_ 101 (L._∷_ 115 (L._∷_ 58 (L._∷_ 58 (L._∷_ 116 (L._∷_ 114 (L._∷_ 105 (L._∷_ 101 (L._∷_ 100 (L._∷_ 58 (L._∷_ 58 (L._∷_ 76 (L._∷_ 111 (L._∷_ 111 (L._∷_ 107 (L._∷_ 101 (L._∷_ 100 L.[])))))))))))))))))))) (Syntax.tcons (Syntax.tyStruct (L._∷_ 114 (L._∷_ 117 (L._∷_ 108 (L._∷_ 101 (L._∷_ 115 (L._∷_ 58 (L._∷_ 58 (L._∷_ 102 (L._∷_ 111 (L._∷_ 117 (L._∷_ 110 (L._∷_ 100 (L._∷_ 58 (L._∷_ 58 (L._∷_ 70 (L._∷_ 111 (L._∷_ 117 (L._∷_ 110 (L._∷_ 100 L.[]))))))))))))))))))) (Syntax.tcons Syntax.tyBool (Syntax.tcons Syntax.tyBool (Syntax.tcons (Syntax.tyStruct (L._∷_ 115 (L._∷_ 116 (L._∷_ 101 (L._∷_ 112 (L._∷_ 58 (L._∷_ 58 (L._∷_ 83 (L._∷_ 116 (L._∷_ 101 (L._∷_ 112 L.[])))))))))) (Syntax.tcons (Syntax.tyInt Syntax.w64) (Syntax.tcons (Syntax.tyInt Syntax.w64) (Syntax.tcons (Syntax.tyStruct (L._∷_ 115 (L._∷_ 116 (L._∷_ 101 (L._∷_ 112 (L._∷_ 58 (L._∷_ 58 (L._∷_ 67 (L._∷_ 104 (L._∷_ 97 (L._∷_ 110 (L._∷_ 103 (L._∷_ 101 L.[])))))))))))) (Syntax.tcons (Syntax.tyStruct (L._∷_ 110 (L._∷_ 101 (L._∷_ 116 (L._∷_ 119 (L._∷_ 111 (L._∷_ 114 (L._∷_ 107 (L._∷_ 58 (L._∷_ 58 (L._∷_ 69 (L._∷_ 100 (L._∷_ 105 (L._∷_ 116 L.[]))))))))))))) (Syntax.tcons q7 (Syntax.tcons q7 (Syntax.tcons q7 (Syntax.tcons q7 (Syntax.tcons q2 (Syntax.tcons q2 (Syntax.tcons (Syntax.tyInt Syntax.w64) (Syntax.tcons q6 Syntax.tnil))))))))) (Syntax.tcons (Syntax.tyStruct (L._∷_ 115 (L._∷_ 116 (L._∷_ 101 (L._∷_ 112 (L._∷_ 58 (L._∷_ 58 (L._∷_ 79 (L._∷_ 108 (L._∷_ 100 L.[]))))))))) (Syntax.tcons (Syntax.tyInt Syntax.w64) (Syntax.tcons q6 (Syntax.tcons q7 (Syntax.tcons q7 (Syntax.tcons q7 (Syntax.tcons q7 (Syntax.tcons q4 Syntax.tnil)))))))) Syntax.tnil))) Syntax.tnil)))) Syntax.tnil)))) (Syntax.tcons q5 Syntax.tnil)))
 
   abbrev s36 : (bs : L.List Nat.ℕ) → Typed.Mo T24 → Typed.Mo T43
   s36 = λ bs. Scalar.n-room T24 13 Syntax.tyBool
 
   abbrev s37 : (bs : L.List Nat.ℕ) → Typed.Both T43 T44
-  s37 = λ bs. Call.callB ps·4 r·4 (claims· .8) (claims· .9) T43 (record { pos = 1; st = L.[]; d = 0; at = λ x. x }, (record { pos = 2; ty = Syntax.tyRef (Syntax.named 0) Syntax.imm Rec.named; ref = λ x. x }, (record { pos = 6; st = L.[]; d = 0; at = λ x. x }, (Num.vAt 7 λ x. x, tt)))) 10 (L._∷_ 0 L.[]) (Syntax.tyStruct (L._∷_ 114 (L._∷_ 117 (L._∷_ 108 (L._∷_ 101 (L._∷_ 115 (L._∷_ 58 (L._∷_ 58 (L._∷_ 102 (L._∷_ 111 (L._∷_ 117 (L._∷_ 110 (L._∷_ 100 (L._∷_ 58 (L._∷_ 58 (L._∷_ 70 (L._∷_ 111 (L._∷_ 117 (L._∷_ 110 (L._∷_ 100 L.[]))))))))))))))))))) (Syntax.tcons Syntax.tyBool (Syntax.tcons Syntax.tyBool (Syntax.tcons (Syntax.tyStruct (L._∷_ 115 (L._∷_ 116 (L._∷_ 101 (L._∷_ 112 (L._∷_ 58 (L._∷_ 58 (L._∷_ 83 (L._∷_ 116 (L._∷_ 101 (L._∷_ 112 L.[])))))))))) (Syntax.tcons (Syntax.tyInt Syntax.w64) (Syntax.tcons (Syntax.tyInt Syntax.w64) (Syntax.tcons (Syntax.tyStruct (L._∷_ 115 (L._∷_ 116 (L._∷_ 101 (L._∷_ 112 (L._∷_ 58 (L._∷_ 58 (L._∷_ 67 (L._∷_ 104 (L._∷_ 97 (L._∷_ 110 (L._∷_ 103 (L._∷_ 101 L.[])))))))))))) (Syntax.tcons (Syntax.tyStruct (L._∷_ 110 (L._∷_ 101 (L._∷_ 116 (L._∷_ 119 (L._∷_ 111 (L._∷_ 114 (L._∷_ 107 (L._∷_ 58 (L._∷_ 58 (L._∷_ 69 (L._∷_ 100 (L._∷_ 105 (L._∷_ 116 L.[]))))))))))))) (Syntax.tcons q7 (Syntax.tcons q7 (Syntax.tcons q7 (Syntax.tcons q7 (Syntax.tcons q2 (Syntax.tcons q2 (Syntax.tcons (Syntax.tyInt Syntax.w64) Syntax.tnil)))))))) (Syntax.tcons (Syntax.tyStruct (L._∷_ 115 (L._∷_ 116 (L._∷_ 101 (L._∷_ 112 (L._∷_ 58 (L._∷_ 58 (L._∷_ 79 (L._∷_ 108 (L._∷_ 100 L.[]))))))))) (Syntax.tcons (Syntax.tyInt Syntax.w64) (Syntax.tcons q6 (Syntax.tcons q7 (Syntax.tcons q7 (Syntax.tcons q7 (Syntax.tcons q7 (Syntax.tcons q4 Syntax.tnil)))))))) Syntax.tnil))) Syntax.tnil)))) Syntax.tnil))))
+  s37 = λ bs. Call.callB ps·4 r·4 (claims· .8) (claims· .9) T43 (record { pos = 1; st = L.[]; d = 0; at = λ x. x }, (record { pos = 2; ty = Syntax.tyRef (Syntax.named 0) Syntax.imm Rec.named; ref = λ x. x }, (record { pos = 6; st = L.[]; d = 0; at = λ x. x }, (Num.vAt 7 λ x. x, tt)))) 10 (L._∷_ 0 L.[]) (Syntax.tyStruct (L._∷_ 114 (L._∷_ 117 (L._∷_ 108 (L._∷_ 101 (L._∷_ 115 (L._∷_ 58 (L._∷_ 58 (L._∷_ 102 (L._∷_ 111 (L._∷_ 117 (L._∷_ 110 (L._∷_ 100 (L._∷_ 58 (L._∷_ 58 (L._∷_ 70 (L._∷_ 111 (L._∷_ 117 (L._∷_ 110 (L._∷_ 100 L.[]))))))))))))))))))) (Syntax.tcons Syntax.tyBool (Syntax.tcons Syntax.tyBool (Syntax.tcons (Syntax.tyStruct (L._∷_ 115 (L._∷_ 116 (L._∷_ 101 (L._∷_ 112 (L._∷_ 58 (L._∷_ 58 (L._∷_ 83 (L._∷_ 116 (L._∷_ 101 (L._∷_ 112 L.[])))))))))) (Syntax.tcons (Syntax.tyInt Syntax.w64) (Syntax.tcons (Syntax.tyInt Syntax.w64) (Syntax.tcons (Syntax.tyStruct (L._∷_ 115 (L._∷_ 116 (L._∷_ 101 (L._∷_ 112 (L._∷_ 58 (L._∷_ 58 (L._∷_ 67 (L._∷_ 104 (L._∷_ 97 (L._∷_ 110 (L._∷_ 103 (L._∷_ 101 L.[])))))))))))) (Syntax.tcons (Syntax.tyStruct (L._∷_ 110 (L._∷_ 101 (L._∷_ 116 (L._∷_ 119 (L._∷_ 111 (L._∷_ 114 (L._∷_ 107 (L._∷_ 58 (L._∷_ 58 (L._∷_ 69 (L._∷_ 100 (L._∷_ 105 (L._∷_ 116 L.[]))))))))))))) (Syntax.tcons q7 (Syntax.tcons q7 (Syntax.tcons q7 (Syntax.tcons q7 (Syntax.tcons q2 (Syntax.tcons q2 (Syntax.tcons (Syntax.tyInt Syntax.w64) (Syntax.tcons q6 Syntax.tnil))))))))) (Syntax.tcons (Syntax.tyStruct (L._∷_ 115 (L._∷_ 116 (L._∷_ 101 (L._∷_ 112 (L._∷_ 58 (L._∷_ 58 (L._∷_ 79 (L._∷_ 108 (L._∷_ 100 L.[]))))))))) (Syntax.tcons (Syntax.tyInt Syntax.w64) (Syntax.tcons q6 (Syntax.tcons q7 (Syntax.tcons q7 (Syntax.tcons q7 (Syntax.tcons q7 (Syntax.tcons q4 Syntax.tnil)))))))) Syntax.tnil))) Syntax.tnil)))) Syntax.tnil))))
 
   abbrev s38 : (bs : L.List Nat.ℕ) → Typed.Mo T44 → Typed.Mo T45
   s38 = λ bs. Scalar.n-use T44 (Scalar.oFld 10 (L._∷_ (Syntax.field 0) L.[]) Syntax.tyBool 0 (Reads.fieldV rules-proofs-found-Found·.the-type rules-proofs-found-Found-Laws·.the-laws 0)) 15 (Rows.sc-here Row.sBool) (Row.sBool .of)
@@ -908,7 +908,7 @@ module _ (claims· : Claims) where
   s43 = λ bs. Scalar.n-room T49 3 q5
 
   abbrev s44 : (bs : L.List Nat.ℕ) → Typed.Mo T50 → Typed.Mo T51
-  s44 = λ bs. Scalar.n-room T50 10 (Syntax.tyStruct (L._∷_ 114 (L._∷_ 117 (L._∷_ 108 (L._∷_ 101 (L._∷_ 115 (L._∷_ 58 (L._∷_ 58 (L._∷_ 102 (L._∷_ 111 (L._∷_ 117 (L._∷_ 110 (L._∷_ 100 (L._∷_ 58 (L._∷_ 58 (L._∷_ 70 (L._∷_ 111 (L._∷_ 117 (L._∷_ 110 (L._∷_ 100 L.[]))))))))))))))))))) (Syntax.tcons Syntax.tyBool (Syntax.tcons Syntax.tyBool (Syntax.tcons (Syntax.tyStruct (L._∷_ 115 (L._∷_ 116 (L._∷_ 101 (L._∷_ 112 (L._∷_ 58 (L._∷_ 58 (L._∷_ 83 (L._∷_ 116 (L._∷_ 101 (L._∷_ 112 L.[])))))))))) (Syntax.tcons (Syntax.tyInt Syntax.w64) (Syntax.tcons (Syntax.tyInt Syntax.w64) (Syntax.tcons (Syntax.tyStruct (L._∷_ 115 (L._∷_ 116 (L._∷_ 101 (L._∷_ 112 (L._∷_ 58 (L._∷_ 58 (L._∷_ 67 (L._∷_ 104 (L._∷_ 97 (L._∷_ 110 (L._∷_ 103 (L._∷_ 101 L.[])))))))))))) (Syntax.tcons (Syntax.tyStruct (L._∷_ 110 (L._∷_ 101 (L._∷_ 116 (L._∷_ 119 (L._∷_ 111 (L._∷_ 114 (L._∷_ 107 (L._∷_ 58 (L._∷_ 58 (L._∷_ 69 (L._∷_ 100 (L._∷_ 105 (L._∷_ 116 L.[]))))))))))))) (Syntax.tcons q7 (Syntax.tcons q7 (Syntax.tcons q7 (Syntax.tcons q7 (Syntax.tcons q2 (Syntax.tcons q2 (Syntax.tcons (Syntax.tyInt Syntax.w64) Syntax.tnil)))))))) (Syntax.tcons (Syntax.tyStruct (L._∷_ 115 (L._∷_ 116 (L._∷_ 101 (L._∷_ 112 (L._∷_ 58 (L._∷_ 58 (L._∷_ 79 (L._∷_ 108 (L._∷_ 100 L.[]))))))))) (Syntax.tcons (Syntax.tyInt Syntax.w64) (Syntax.tcons q6 (Syntax.tcons q7 (Syntax.tcons q7 (Syntax.tcons q7 (Syntax.tcons q7 (Syntax.tcons q4 Syntax.tnil)))))))) Syntax.tnil))) Syntax.tnil)))) Syntax.tnil))))
+  s44 = λ bs. Scalar.n-room T50 10 (Syntax.tyStruct (L._∷_ 114 (L._∷_ 117 (L._∷_ 108 (L._∷_ 101 (L._∷_ 115 (L._∷_ 58 (L._∷_ 58 (L._∷_ 102 (L._∷_ 111 (L._∷_ 117 (L._∷_ 110 (L._∷_ 100 (L._∷_ 58 (L._∷_ 58 (L._∷_ 70 (L._∷_ 111 (L._∷_ 117 (L._∷_ 110 (L._∷_ 100 L.[]))))))))))))))))))) (Syntax.tcons Syntax.tyBool (Syntax.tcons Syntax.tyBool (Syntax.tcons (Syntax.tyStruct (L._∷_ 115 (L._∷_ 116 (L._∷_ 101 (L._∷_ 112 (L._∷_ 58 (L._∷_ 58 (L._∷_ 83 (L._∷_ 116 (L._∷_ 101 (L._∷_ 112 L.[])))))))))) (Syntax.tcons (Syntax.tyInt Syntax.w64) (Syntax.tcons (Syntax.tyInt Syntax.w64) (Syntax.tcons (Syntax.tyStruct (L._∷_ 115 (L._∷_ 116 (L._∷_ 101 (L._∷_ 112 (L._∷_ 58 (L._∷_ 58 (L._∷_ 67 (L._∷_ 104 (L._∷_ 97 (L._∷_ 110 (L._∷_ 103 (L._∷_ 101 L.[])))))))))))) (Syntax.tcons (Syntax.tyStruct (L._∷_ 110 (L._∷_ 101 (L._∷_ 116 (L._∷_ 119 (L._∷_ 111 (L._∷_ 114 (L._∷_ 107 (L._∷_ 58 (L._∷_ 58 (L._∷_ 69 (L._∷_ 100 (L._∷_ 105 (L._∷_ 116 L.[]))))))))))))) (Syntax.tcons q7 (Syntax.tcons q7 (Syntax.tcons q7 (Syntax.tcons q7 (Syntax.tcons q2 (Syntax.tcons q2 (Syntax.tcons (Syntax.tyInt Syntax.w64) (Syntax.tcons q6 Syntax.tnil))))))))) (Syntax.tcons (Syntax.tyStruct (L._∷_ 115 (L._∷_ 116 (L._∷_ 101 (L._∷_ 112 (L._∷_ 58 (L._∷_ 58 (L._∷_ 79 (L._∷_ 108 (L._∷_ 100 L.[]))))))))) (Syntax.tcons (Syntax.tyInt Syntax.w64) (Syntax.tcons q6 (Syntax.tcons q7 (Syntax.tcons q7 (Syntax.tcons q7 (Syntax.tcons q7 (Syntax.tcons q4 Syntax.tnil)))))))) Syntax.tnil))) Syntax.tnil)))) Syntax.tnil))))
 
   abbrev s45 : (bs : L.List Nat.ℕ) → Typed.Mo T51 → Typed.Mo T52
   s45 = λ bs. Scalar.n-room T51 4 (Syntax.tyInt Syntax.w8)
@@ -926,7 +926,7 @@ module _ (claims· : Claims) where
   s49 = λ bs. Scalar.n-room T45 8 Syntax.tyBool
 
   abbrev s50 : (bs : L.List Nat.ℕ) → Typed.Mo T56 → Typed.Mo T57
-  s50 = λ bs. Scalar.n-room T56 10 (Syntax.tyStruct (L._∷_ 114 (L._∷_ 117 (L._∷_ 108 (L._∷_ 101 (L._∷_ 115 (L._∷_ 58 (L._∷_ 58 (L._∷_ 102 (L._∷_ 111 (L._∷_ 117 (L._∷_ 110 (L._∷_ 100 (L._∷_ 58 (L._∷_ 58 (L._∷_ 70 (L._∷_ 111 (L._∷_ 117 (L._∷_ 110 (L._∷_ 100 L.[]))))))))))))))))))) (Syntax.tcons Syntax.tyBool (Syntax.tcons Syntax.tyBool (Syntax.tcons (Syntax.tyStruct (L._∷_ 115 (L._∷_ 116 (L._∷_ 101 (L._∷_ 112 (L._∷_ 58 (L._∷_ 58 (L._∷_ 83 (L._∷_ 116 (L._∷_ 101 (L._∷_ 112 L.[])))))))))) (Syntax.tcons (Syntax.tyInt Syntax.w64) (Syntax.tcons (Syntax.tyInt Syntax.w64) (Syntax.tcons (Syntax.tyStruct (L._∷_ 115 (L._∷_ 116 (L._∷_ 101 (L._∷_ 112 (L._∷_ 58 (L._∷_ 58 (L._∷_ 67 (L._∷_ 104 (L._∷_ 97 (L._∷_ 110 (L._∷_ 103 (L._∷_ 101 L.[])))))))))))) (Syntax.tcons (Syntax.tyStruct (L._∷_ 110 (L._∷_ 101 (L._∷_ 116 (L._∷_ 119 (L._∷_ 111 (L._∷_ 114 (L._∷_ 107 (L._∷_ 58 (L._∷_ 58 (L._∷_ 69 (L._∷_ 100 (L._∷_ 105 (L._∷_ 116 L.[]))))))))))))) (Syntax.tcons q7 (Syntax.tcons q7 (Syntax.tcons q7 (Syntax.tcons q7 (Syntax.tcons q2 (Syntax.tcons q2 (Syntax.tcons (Syntax.tyInt Syntax.w64) Syntax.tnil)))))))) (Syntax.tcons (Syntax.tyStruct (L._∷_ 115 (L._∷_ 116 (L._∷_ 101 (L._∷_ 112 (L._∷_ 58 (L._∷_ 58 (L._∷_ 79 (L._∷_ 108 (L._∷_ 100 L.[]))))))))) (Syntax.tcons (Syntax.tyInt Syntax.w64) (Syntax.tcons q6 (Syntax.tcons q7 (Syntax.tcons q7 (Syntax.tcons q7 (Syntax.tcons q7 (Syntax.tcons q4 Syntax.tnil)))))))) Syntax.tnil))) Syntax.tnil)))) Syntax.tnil))))
+  s50 = λ bs. Scalar.n-room T56 10 (Syntax.tyStruct (L._∷_ 114 (L._∷_ 117 (L._∷_ 108 (L._∷_ 101 (L._∷_ 115 (L._∷_ 58 (L._∷_ 58 (L._∷_ 102 (L._∷_ 111 (L._∷_ 117 (L._∷_ 110 (L._∷_ 100 (L._∷_ 58 (L._∷_ 58 (L._∷_ 70 (L._∷_ 111 (L._∷_ 117 (L._∷_ 110 (L._∷_ 100 L.[]))))))))))))))))))) (Syntax.tcons Syntax.tyBool (Syntax.tcons Syntax.tyBool (Syntax.tcons (Syntax.tyStruct (L._∷_ 115 (L._∷_ 116 (L._∷_ 101 (L._∷_ 112 (L._∷_ 58 (L._∷_ 58 (L._∷_ 83 (L._∷_ 116 (L._∷_ 101 (L._∷_ 112 L.[])))))))))) (Syntax.tcons (Syntax.tyInt Syntax.w64) (Syntax.tcons (Syntax.tyInt Syntax.w64) (Syntax.tcons (Syntax.tyStruct (L._∷_ 115 (L._∷_ 116 (L._∷_ 101 (L._∷_ 112 (L._∷_ 58 (L._∷_ 58 (L._∷_ 67 (L._∷_ 104 (L._∷_ 97 (L._∷_ 110 (L._∷_ 103 (L._∷_ 101 L.[])))))))))))) (Syntax.tcons (Syntax.tyStruct (L._∷_ 110 (L._∷_ 101 (L._∷_ 116 (L._∷_ 119 (L._∷_ 111 (L._∷_ 114 (L._∷_ 107 (L._∷_ 58 (L._∷_ 58 (L._∷_ 69 (L._∷_ 100 (L._∷_ 105 (L._∷_ 116 L.[]))))))))))))) (Syntax.tcons q7 (Syntax.tcons q7 (Syntax.tcons q7 (Syntax.tcons q7 (Syntax.tcons q2 (Syntax.tcons q2 (Syntax.tcons (Syntax.tyInt Syntax.w64) (Syntax.tcons q6 Syntax.tnil))))))))) (Syntax.tcons (Syntax.tyStruct (L._∷_ 115 (L._∷_ 116 (L._∷_ 101 (L._∷_ 112 (L._∷_ 58 (L._∷_ 58 (L._∷_ 79 (L._∷_ 108 (L._∷_ 100 L.[]))))))))) (Syntax.tcons (Syntax.tyInt Syntax.w64) (Syntax.tcons q6 (Syntax.tcons q7 (Syntax.tcons q7 (Syntax.tcons q7 (Syntax.tcons q7 (Syntax.tcons q4 Syntax.tnil)))))))) Syntax.tnil))) Syntax.tnil)))) Syntax.tnil))))
 
   abbrev s51 : (bs : L.List Nat.ℕ) → Typed.Mo T57 → Typed.Mo T58
   s51 = λ bs. Scalar.n-room T57 15 Syntax.tyBool
@@ -938,7 +938,7 @@ module _ (claims· : Claims) where
   s53 = λ bs. Call.callB ps·2 r·2 (claims· .4) (claims· .5) T59 (Num.vAt 7 λ x. x, tt) 8 L.[] Syntax.tyBool
 
   abbrev s54 : (bs : L.List Nat.ℕ) → Typed.Both T17 T61
-  s54 = λ bs. Call.callB ps·5 r·5 (claims· .10) (claims· .11) T17 tt 11 L.[] (Syntax.tyStruct (L._∷_ 114 (L._∷_ 117 (L._∷_ 108 (L._∷_ 101 (L._∷_ 115 (L._∷_ 58 (L._∷_ 58 (L._∷_ 102 (L._∷_ 111 (L._∷_ 117 (L._∷_ 110 (L._∷_ 100 (L._∷_ 58 (L._∷_ 58 (L._∷_ 70 (L._∷_ 111 (L._∷_ 117 (L._∷_ 110 (L._∷_ 100 L.[]))))))))))))))))))) (Syntax.tcons Syntax.tyBool (Syntax.tcons Syntax.tyBool (Syntax.tcons (Syntax.tyStruct (L._∷_ 115 (L._∷_ 116 (L._∷_ 101 (L._∷_ 112 (L._∷_ 58 (L._∷_ 58 (L._∷_ 83 (L._∷_ 116 (L._∷_ 101 (L._∷_ 112 L.[])))))))))) (Syntax.tcons (Syntax.tyInt Syntax.w64) (Syntax.tcons (Syntax.tyInt Syntax.w64) (Syntax.tcons (Syntax.tyStruct (L._∷_ 115 (L._∷_ 116 (L._∷_ 101 (L._∷_ 112 (L._∷_ 58 (L._∷_ 58 (L._∷_ 67 (L._∷_ 104 (L._∷_ 97 (L._∷_ 110 (L._∷_ 103 (L._∷_ 101 L.[])))))))))))) (Syntax.tcons (Syntax.tyStruct (L._∷_ 110 (L._∷_ 101 (L._∷_ 116 (L._∷_ 119 (L._∷_ 111 (L._∷_ 114 (L._∷_ 107 (L._∷_ 58 (L._∷_ 58 (L._∷_ 69 (L._∷_ 100 (L._∷_ 105 (L._∷_ 116 L.[]))))))))))))) (Syntax.tcons q7 (Syntax.tcons q7 (Syntax.tcons q7 (Syntax.tcons q7 (Syntax.tcons q2 (Syntax.tcons q2 (Syntax.tcons (Syntax.tyInt Syntax.w64) Syntax.tnil)))))))) (Syntax.tcons (Syntax.tyStruct (L._∷_ 115 (L._∷_ 116 (L._∷_ 101 (L._∷_ 112 (L._∷_ 58 (L._∷_ 58 (L._∷_ 79 (L._∷_ 108 (L._∷_ 100 L.[]))))))))) (Syntax.tcons (Syntax.tyInt Syntax.w64) (Syntax.tcons q6 (Syntax.tcons q7 (Syntax.tcons q7 (Syntax.tcons q7 (Syntax.tcons q7 (Syntax.tcons q4 Syntax.tnil)))))))) Syntax.tnil))) Syntax.tnil)))) Syntax.tnil))))
+  s54 = λ bs. Call.callB ps·5 r·5 (claims· .10) (claims· .11) T17 tt 11 L.[] (Syntax.tyStruct (L._∷_ 114 (L._∷_ 117 (L._∷_ 108 (L._∷_ 101 (L._∷_ 115 (L._∷_ 58 (L._∷_ 58 (L._∷_ 102 (L._∷_ 111 (L._∷_ 117 (L._∷_ 110 (L._∷_ 100 (L._∷_ 58 (L._∷_ 58 (L._∷_ 70 (L._∷_ 111 (L._∷_ 117 (L._∷_ 110 (L._∷_ 100 L.[]))))))))))))))))))) (Syntax.tcons Syntax.tyBool (Syntax.tcons Syntax.tyBool (Syntax.tcons (Syntax.tyStruct (L._∷_ 115 (L._∷_ 116 (L._∷_ 101 (L._∷_ 112 (L._∷_ 58 (L._∷_ 58 (L._∷_ 83 (L._∷_ 116 (L._∷_ 101 (L._∷_ 112 L.[])))))))))) (Syntax.tcons (Syntax.tyInt Syntax.w64) (Syntax.tcons (Syntax.tyInt Syntax.w64) (Syntax.tcons (Syntax.tyStruct (L._∷_ 115 (L._∷_ 116 (L._∷_ 101 (L._∷_ 112 (L._∷_ 58 (L._∷_ 58 (L._∷_ 67 (L._∷_ 104 (L._∷_ 97 (L._∷_ 110 (L._∷_ 103 (L._∷_ 101 L.[])))))))))))) (Syntax.tcons (Syntax.tyStruct (L._∷_ 110 (L._∷_ 101 (L._∷_ 116 (L._∷_ 119 (L._∷_ 111 (L._∷_ 114 (L._∷_ 107 (L._∷_ 58 (L._∷_ 58 (L._∷_ 69 (L._∷_ 100 (L._∷_ 105 (L._∷_ 116 L.[]))))))))))))) (Syntax.tcons q7 (Syntax.tcons q7 (Syntax.tcons q7 (Syntax.tcons q7 (Syntax.tcons q2 (Syntax.tcons q2 (Syntax.tcons (Syntax.tyInt Syntax.w64) (Syntax.tcons q6 Syntax.tnil))))))))) (Syntax.tcons (Syntax.tyStruct (L._∷_ 115 (L._∷_ 116 (L._∷_ 101 (L._∷_ 112 (L._∷_ 58 (L._∷_ 58 (L._∷_ 79 (L._∷_ 108 (L._∷_ 100 L.[]))))))))) (Syntax.tcons (Syntax.tyInt Syntax.w64) (Syntax.tcons q6 (Syntax.tcons q7 (Syntax.tcons q7 (Syntax.tcons q7 (Syntax.tcons q7 (Syntax.tcons q4 Syntax.tnil)))))))) Syntax.tnil))) Syntax.tnil)))) Syntax.tnil))))
 
   abbrev s55 : (bs : L.List Nat.ℕ) → Typed.Mo T61 → Typed.Mo T62
   s55 = λ bs. Make.n-make (Declared.row (Apart.apartT rules-proofs-tried-Looked·.the-type)) T61 0 λ m. (m .1 .1 .1 .1 .1 .1 .1 .1 .1 .1 .1 .0, (m .1 .1 .1 .0, tt))
@@ -953,7 +953,7 @@ module _ (claims· : Claims) where
   s58 = λ bs. Scalar.n-room T64 8 Syntax.tyBool
 
   abbrev s59 : (bs : L.List Nat.ℕ) → Typed.Mo T65 → Typed.Mo T66
-  s59 = λ bs. Scalar.n-room T65 11 (Syntax.tyStruct (L._∷_ 114 (L._∷_ 117 (L._∷_ 108 (L._∷_ 101 (L._∷_ 115 (L._∷_ 58 (L._∷_ 58 (L._∷_ 102 (L._∷_ 111 (L._∷_ 117 (L._∷_ 110 (L._∷_ 100 (L._∷_ 58 (L._∷_ 58 (L._∷_ 70 (L._∷_ 111 (L._∷_ 117 (L._∷_ 110 (L._∷_ 100 L.[]))))))))))))))))))) (Syntax.tcons Syntax.tyBool (Syntax.tcons Syntax.tyBool (Syntax.tcons (Syntax.tyStruct (L._∷_ 115 (L._∷_ 116 (L._∷_ 101 (L._∷_ 112 (L._∷_ 58 (L._∷_ 58 (L._∷_ 83 (L._∷_ 116 (L._∷_ 101 (L._∷_ 112 L.[])))))))))) (Syntax.tcons (Syntax.tyInt Syntax.w64) (Syntax.tcons (Syntax.tyInt Syntax.w64) (Syntax.tcons (Syntax.tyStruct (L._∷_ 115 (L._∷_ 116 (L._∷_ 101 (L._∷_ 112 (L._∷_ 58 (L._∷_ 58 (L._∷_ 67 (L._∷_ 104 (L._∷_ 97 (L._∷_ 110 (L._∷_ 103 (L._∷_ 101 L.[])))))))))))) (Syntax.tcons (Syntax.tyStruct (L._∷_ 110 (L._∷_ 101 (L._∷_ 116 (L._∷_ 119 (L._∷_ 111 (L._∷_ 114 (L._∷_ 107 (L._∷_ 58 (L._∷_ 58 (L._∷_ 69 (L._∷_ 100 (L._∷_ 105 (L._∷_ 116 L.[]))))))))))))) (Syntax.tcons q7 (Syntax.tcons q7 (Syntax.tcons q7 (Syntax.tcons q7 (Syntax.tcons q2 (Syntax.tcons q2 (Syntax.tcons (Syntax.tyInt Syntax.w64) Syntax.tnil)))))))) (Syntax.tcons (Syntax.tyStruct (L._∷_ 115 (L._∷_ 116 (L._∷_ 101 (L._∷_ 112 (L._∷_ 58 (L._∷_ 58 (L._∷_ 79 (L._∷_ 108 (L._∷_ 100 L.[]))))))))) (Syntax.tcons (Syntax.tyInt Syntax.w64) (Syntax.tcons q6 (Syntax.tcons q7 (Syntax.tcons q7 (Syntax.tcons q7 (Syntax.tcons q7 (Syntax.tcons q4 Syntax.tnil)))))))) Syntax.tnil))) Syntax.tnil)))) Syntax.tnil))))
+  s59 = λ bs. Scalar.n-room T65 11 (Syntax.tyStruct (L._∷_ 114 (L._∷_ 117 (L._∷_ 108 (L._∷_ 101 (L._∷_ 115 (L._∷_ 58 (L._∷_ 58 (L._∷_ 102 (L._∷_ 111 (L._∷_ 117 (L._∷_ 110 (L._∷_ 100 (L._∷_ 58 (L._∷_ 58 (L._∷_ 70 (L._∷_ 111 (L._∷_ 117 (L._∷_ 110 (L._∷_ 100 L.[]))))))))))))))))))) (Syntax.tcons Syntax.tyBool (Syntax.tcons Syntax.tyBool (Syntax.tcons (Syntax.tyStruct (L._∷_ 115 (L._∷_ 116 (L._∷_ 101 (L._∷_ 112 (L._∷_ 58 (L._∷_ 58 (L._∷_ 83 (L._∷_ 116 (L._∷_ 101 (L._∷_ 112 L.[])))))))))) (Syntax.tcons (Syntax.tyInt Syntax.w64) (Syntax.tcons (Syntax.tyInt Syntax.w64) (Syntax.tcons (Syntax.tyStruct (L._∷_ 115 (L._∷_ 116 (L._∷_ 101 (L._∷_ 112 (L._∷_ 58 (L._∷_ 58 (L._∷_ 67 (L._∷_ 104 (L._∷_ 97 (L._∷_ 110 (L._∷_ 103 (L._∷_ 101 L.[])))))))))))) (Syntax.tcons (Syntax.tyStruct (L._∷_ 110 (L._∷_ 101 (L._∷_ 116 (L._∷_ 119 (L._∷_ 111 (L._∷_ 114 (L._∷_ 107 (L._∷_ 58 (L._∷_ 58 (L._∷_ 69 (L._∷_ 100 (L._∷_ 105 (L._∷_ 116 L.[]))))))))))))) (Syntax.tcons q7 (Syntax.tcons q7 (Syntax.tcons q7 (Syntax.tcons q7 (Syntax.tcons q2 (Syntax.tcons q2 (Syntax.tcons (Syntax.tyInt Syntax.w64) (Syntax.tcons q6 Syntax.tnil))))))))) (Syntax.tcons (Syntax.tyStruct (L._∷_ 115 (L._∷_ 116 (L._∷_ 101 (L._∷_ 112 (L._∷_ 58 (L._∷_ 58 (L._∷_ 79 (L._∷_ 108 (L._∷_ 100 L.[]))))))))) (Syntax.tcons (Syntax.tyInt Syntax.w64) (Syntax.tcons q6 (Syntax.tcons q7 (Syntax.tcons q7 (Syntax.tcons q7 (Syntax.tcons q7 (Syntax.tcons q4 Syntax.tnil)))))))) Syntax.tnil))) Syntax.tnil)))) Syntax.tnil))))
 
   abbrev s60 : (bs : L.List Nat.ℕ) → Typed.Mo T66 → Typed.Mo T67
   s60 = λ bs. Scalar.n-room T66 4 (Syntax.tyInt Syntax.w8)
@@ -1469,13 +1469,13 @@ module _ (claims· : Claims) where
           d2 = Typed.g-pre 𝓤 H A W 𝓣 E G9 G10 b3 Δ1 (Typed.pass T9 T10 (s7 bs)) (at1 bs) (Scalar.g-room 𝓤 H A W E G9 4 (Syntax.tyInt Syntax.w8) (Scalar.room-sc 𝓤 H A W (Row.sInt Syntax.w8))) d1
 
           d3 : Typed.Typed 𝓤 H A 𝓣 E G8 b3 Δ1 (at3 bs)
-          d3 = Typed.g-pre 𝓤 H A W 𝓣 E G8 G9 b3 Δ1 (Typed.pass T8 T9 (s6 bs)) (at2 bs) (Scalar.g-room 𝓤 H A W E G8 5 (Syntax.tyStruct (L._∷_ 114 (L._∷_ 117 (L._∷_ 108 (L._∷_ 101 (L._∷_ 115 (L._∷_ 58 (L._∷_ 58 (L._∷_ 102 (L._∷_ 111 (L._∷_ 117 (L._∷_ 110 (L._∷_ 100 (L._∷_ 58 (L._∷_ 58 (L._∷_ 70 (L._∷_ 111 (L._∷_ 117 (L._∷_ 110 (L._∷_ 100 L.[]))))))))))))))))))) (Syntax.tcons Syntax.tyBool (Syntax.tcons Syntax.tyBool (Syntax.tcons (Syntax.tyStruct (L._∷_ 115 (L._∷_ 116 (L._∷_ 101 (L._∷_ 112 (L._∷_ 58 (L._∷_ 58 (L._∷_ 83 (L._∷_ 116 (L._∷_ 101 (L._∷_ 112 L.[])))))))))) (Syntax.tcons (Syntax.tyInt Syntax.w64) (Syntax.tcons (Syntax.tyInt Syntax.w64) (Syntax.tcons (Syntax.tyStruct (L._∷_ 115 (L._∷_ 116 (L._∷_ 101 (L._∷_ 112 (L._∷_ 58 (L._∷_ 58 (L._∷_ 67 (L._∷_ 104 (L._∷_ 97 (L._∷_ 110 (L._∷_ 103 (L._∷_ 101 L.[])))))))))))) (Syntax.tcons (Syntax.tyStruct (L._∷_ 110 (L._∷_ 101 (L._∷_ 116 (L._∷_ 119 (L._∷_ 111 (L._∷_ 114 (L._∷_ 107 (L._∷_ 58 (L._∷_ 58 (L._∷_ 69 (L._∷_ 100 (L._∷_ 105 (L._∷_ 116 L.[]))))))))))))) (Syntax.tcons q7 (Syntax.tcons q7 (Syntax.tcons q7 (Syntax.tcons q7 (Syntax.tcons q2 (Syntax.tcons q2 (Syntax.tcons (Syntax.tyInt Syntax.w64) Syntax.tnil)))))))) (Syntax.tcons (Syntax.tyStruct (L._∷_ 115 (L._∷_ 116 (L._∷_ 101 (L._∷_ 112 (L._∷_ 58 (L._∷_ 58 (L._∷_ 79 (L._∷_ 108 (L._∷_ 100 L.[]))))))))) (Syntax.tcons (Syntax.tyInt Syntax.w64) (Syntax.tcons q6 (Syntax.tcons q7 (Syntax.tcons q7 (Syntax.tcons q7 (Syntax.tcons q7 (Syntax.tcons q4 Syntax.tnil)))))))) Syntax.tnil))) Syntax.tnil)))) Syntax.tnil)))) (Local.room-whole 𝓤 H A W (Declared.row rules-proofs-found-Found·.the-type) (Syntax.tyStruct (L._∷_ 114 (L._∷_ 117 (L._∷_ 108 (L._∷_ 101 (L._∷_ 115 (L._∷_ 58 (L._∷_ 58 (L._∷_ 102 (L._∷_ 111 (L._∷_ 117 (L._∷_ 110 (L._∷_ 100 (L._∷_ 58 (L._∷_ 58 (L._∷_ 70 (L._∷_ 111 (L._∷_ 117 (L._∷_ 110 (L._∷_ 100 L.[]))))))))))))))))))) (Syntax.tcons Syntax.tyBool (Syntax.tcons Syntax.tyBool (Syntax.tcons (Syntax.tyStruct (L._∷_ 115 (L._∷_ 116 (L._∷_ 101 (L._∷_ 112 (L._∷_ 58 (L._∷_ 58 (L._∷_ 83 (L._∷_ 116 (L._∷_ 101 (L._∷_ 112 L.[])))))))))) (Syntax.tcons (Syntax.tyInt Syntax.w64) (Syntax.tcons (Syntax.tyInt Syntax.w64) (Syntax.tcons (Syntax.tyStruct (L._∷_ 115 (L._∷_ 116 (L._∷_ 101 (L._∷_ 112 (L._∷_ 58 (L._∷_ 58 (L._∷_ 67 (L._∷_ 104 (L._∷_ 97 (L._∷_ 110 (L._∷_ 103 (L._∷_ 101 L.[])))))))))))) (Syntax.tcons (Syntax.tyStruct (L._∷_ 110 (L._∷_ 101 (L._∷_ 116 (L._∷_ 119 (L._∷_ 111 (L._∷_ 114 (L._∷_ 107 (L._∷_ 58 (L._∷_ 58 (L._∷_ 69 (L._∷_ 100 (L._∷_ 105 (L._∷_ 116 L.[]))))))))))))) (Syntax.tcons q7 (Syntax.tcons q7 (Syntax.tcons q7 (Syntax.tcons q7 (Syntax.tcons q2 (Syntax.tcons q2 (Syntax.tcons (Syntax.tyInt Syntax.w64) Syntax.tnil)))))))) (Syntax.tcons (Syntax.tyStruct (L._∷_ 115 (L._∷_ 116 (L._∷_ 101 (L._∷_ 112 (L._∷_ 58 (L._∷_ 58 (L._∷_ 79 (L._∷_ 108 (L._∷_ 100 L.[]))))))))) (Syntax.tcons (Syntax.tyInt Syntax.w64) (Syntax.tcons q6 (Syntax.tcons q7 (Syntax.tcons q7 (Syntax.tcons q7 (Syntax.tcons q7 (Syntax.tcons q4 Syntax.tnil)))))))) Syntax.tnil))) Syntax.tnil)))) Syntax.tnil)))) Path.refl)) d2
+          d3 = Typed.g-pre 𝓤 H A W 𝓣 E G8 G9 b3 Δ1 (Typed.pass T8 T9 (s6 bs)) (at2 bs) (Scalar.g-room 𝓤 H A W E G8 5 (Syntax.tyStruct (L._∷_ 114 (L._∷_ 117 (L._∷_ 108 (L._∷_ 101 (L._∷_ 115 (L._∷_ 58 (L._∷_ 58 (L._∷_ 102 (L._∷_ 111 (L._∷_ 117 (L._∷_ 110 (L._∷_ 100 (L._∷_ 58 (L._∷_ 58 (L._∷_ 70 (L._∷_ 111 (L._∷_ 117 (L._∷_ 110 (L._∷_ 100 L.[]))))))))))))))))))) (Syntax.tcons Syntax.tyBool (Syntax.tcons Syntax.tyBool (Syntax.tcons (Syntax.tyStruct (L._∷_ 115 (L._∷_ 116 (L._∷_ 101 (L._∷_ 112 (L._∷_ 58 (L._∷_ 58 (L._∷_ 83 (L._∷_ 116 (L._∷_ 101 (L._∷_ 112 L.[])))))))))) (Syntax.tcons (Syntax.tyInt Syntax.w64) (Syntax.tcons (Syntax.tyInt Syntax.w64) (Syntax.tcons (Syntax.tyStruct (L._∷_ 115 (L._∷_ 116 (L._∷_ 101 (L._∷_ 112 (L._∷_ 58 (L._∷_ 58 (L._∷_ 67 (L._∷_ 104 (L._∷_ 97 (L._∷_ 110 (L._∷_ 103 (L._∷_ 101 L.[])))))))))))) (Syntax.tcons (Syntax.tyStruct (L._∷_ 110 (L._∷_ 101 (L._∷_ 116 (L._∷_ 119 (L._∷_ 111 (L._∷_ 114 (L._∷_ 107 (L._∷_ 58 (L._∷_ 58 (L._∷_ 69 (L._∷_ 100 (L._∷_ 105 (L._∷_ 116 L.[]))))))))))))) (Syntax.tcons q7 (Syntax.tcons q7 (Syntax.tcons q7 (Syntax.tcons q7 (Syntax.tcons q2 (Syntax.tcons q2 (Syntax.tcons (Syntax.tyInt Syntax.w64) (Syntax.tcons q6 Syntax.tnil))))))))) (Syntax.tcons (Syntax.tyStruct (L._∷_ 115 (L._∷_ 116 (L._∷_ 101 (L._∷_ 112 (L._∷_ 58 (L._∷_ 58 (L._∷_ 79 (L._∷_ 108 (L._∷_ 100 L.[]))))))))) (Syntax.tcons (Syntax.tyInt Syntax.w64) (Syntax.tcons q6 (Syntax.tcons q7 (Syntax.tcons q7 (Syntax.tcons q7 (Syntax.tcons q7 (Syntax.tcons q4 Syntax.tnil)))))))) Syntax.tnil))) Syntax.tnil)))) Syntax.tnil)))) (Local.room-whole 𝓤 H A W (Declared.row rules-proofs-found-Found·.the-type) (Syntax.tyStruct (L._∷_ 114 (L._∷_ 117 (L._∷_ 108 (L._∷_ 101 (L._∷_ 115 (L._∷_ 58 (L._∷_ 58 (L._∷_ 102 (L._∷_ 111 (L._∷_ 117 (L._∷_ 110 (L._∷_ 100 (L._∷_ 58 (L._∷_ 58 (L._∷_ 70 (L._∷_ 111 (L._∷_ 117 (L._∷_ 110 (L._∷_ 100 L.[]))))))))))))))))))) (Syntax.tcons Syntax.tyBool (Syntax.tcons Syntax.tyBool (Syntax.tcons (Syntax.tyStruct (L._∷_ 115 (L._∷_ 116 (L._∷_ 101 (L._∷_ 112 (L._∷_ 58 (L._∷_ 58 (L._∷_ 83 (L._∷_ 116 (L._∷_ 101 (L._∷_ 112 L.[])))))))))) (Syntax.tcons (Syntax.tyInt Syntax.w64) (Syntax.tcons (Syntax.tyInt Syntax.w64) (Syntax.tcons (Syntax.tyStruct (L._∷_ 115 (L._∷_ 116 (L._∷_ 101 (L._∷_ 112 (L._∷_ 58 (L._∷_ 58 (L._∷_ 67 (L._∷_ 104 (L._∷_ 97 (L._∷_ 110 (L._∷_ 103 (L._∷_ 101 L.[])))))))))))) (Syntax.tcons (Syntax.tyStruct (L._∷_ 110 (L._∷_ 101 (L._∷_ 116 (L._∷_ 119 (L._∷_ 111 (L._∷_ 114 (L._∷_ 107 (L._∷_ 58 (L._∷_ 58 (L._∷_ 69 (L._∷_ 100 (L._∷_ 105 (L._∷_ 116 L.[]))))))))))))) (Syntax.tcons q7 (Syntax.tcons q7 (Syntax.tcons q7 (Syntax.tcons q7 (Syntax.tcons q2 (Syntax.tcons q2 (Syntax.tcons (Syntax.tyInt Syntax.w64) (Syntax.tcons q6 Syntax.tnil))))))))) (Syntax.tcons (Syntax.tyStruct (L._∷_ 115 (L._∷_ 116 (L._∷_ 101 (L._∷_ 112 (L._∷_ 58 (L._∷_ 58 (L._∷_ 79 (L._∷_ 108 (L._∷_ 100 L.[]))))))))) (Syntax.tcons (Syntax.tyInt Syntax.w64) (Syntax.tcons q6 (Syntax.tcons q7 (Syntax.tcons q7 (Syntax.tcons q7 (Syntax.tcons q7 (Syntax.tcons q4 Syntax.tnil)))))))) Syntax.tnil))) Syntax.tnil)))) Syntax.tnil)))) Path.refl)) d2
 
           d4 : Typed.Typed 𝓤 H A 𝓣 E G7 b3 Δ1 (at4 bs)
           d4 = Typed.g-pre 𝓤 H A W 𝓣 E G7 G8 b3 Δ1 (Typed.pass T7 T8 (s5 bs)) (at3 bs) (Scalar.g-room 𝓤 H A W E G7 3 q5 (Local.room-whole 𝓤 H A W (Declared.row costly-arc-proofs-Seen·.the-type) q5 Path.refl)) d3
 
           d5 : Typed.Typed 𝓤 H A 𝓣 E G6 b4 Δ1 (at5 bs)
-          d5 = Typed.s-seq 𝓤 H A W 𝓣 E G6 G7 b2 b3 Δ1 (Typed.pass T6 T7 (s4 bs)) (at4 bs) (Make.t-make-told 𝓤 H A W E 𝓣 (Declared.row (Apart.apartT rules-proofs-tried-Looked·.the-type)) Path.refl (StructLaws.val (Apart.apartT rules-proofs-tried-Looked·.the-type) rules-proofs-tried-Looked-Laws·.the-laws) (StructLaws.lawful (Apart.apartT rules-proofs-tried-Looked·.the-type) rules-proofs-tried-Looked-Laws·.the-laws 𝓤 H A W) (StructLaws.makes (Apart.apartT rules-proofs-tried-Looked·.the-type) rules-proofs-tried-Looked-Laws·.the-plain 𝓤 H A) G6 0 (L._∷_ (Scalar.oAt 5 (Syntax.tyStruct (L._∷_ 114 (L._∷_ 117 (L._∷_ 108 (L._∷_ 101 (L._∷_ 115 (L._∷_ 58 (L._∷_ 58 (L._∷_ 102 (L._∷_ 111 (L._∷_ 117 (L._∷_ 110 (L._∷_ 100 (L._∷_ 58 (L._∷_ 58 (L._∷_ 70 (L._∷_ 111 (L._∷_ 117 (L._∷_ 110 (L._∷_ 100 L.[]))))))))))))))))))) (Syntax.tcons Syntax.tyBool (Syntax.tcons Syntax.tyBool (Syntax.tcons (Syntax.tyStruct (L._∷_ 115 (L._∷_ 116 (L._∷_ 101 (L._∷_ 112 (L._∷_ 58 (L._∷_ 58 (L._∷_ 83 (L._∷_ 116 (L._∷_ 101 (L._∷_ 112 L.[])))))))))) (Syntax.tcons (Syntax.tyInt Syntax.w64) (Syntax.tcons (Syntax.tyInt Syntax.w64) (Syntax.tcons (Syntax.tyStruct (L._∷_ 115 (L._∷_ 116 (L._∷_ 101 (L._∷_ 112 (L._∷_ 58 (L._∷_ 58 (L._∷_ 67 (L._∷_ 104 (L._∷_ 97 (L._∷_ 110 (L._∷_ 103 (L._∷_ 101 L.[])))))))))))) (Syntax.tcons (Syntax.tyStruct (L._∷_ 110 (L._∷_ 101 (L._∷_ 116 (L._∷_ 119 (L._∷_ 111 (L._∷_ 114 (L._∷_ 107 (L._∷_ 58 (L._∷_ 58 (L._∷_ 69 (L._∷_ 100 (L._∷_ 105 (L._∷_ 116 L.[]))))))))))))) (Syntax.tcons q7 (Syntax.tcons q7 (Syntax.tcons q7 (Syntax.tcons q7 (Syntax.tcons q2 (Syntax.tcons q2 (Syntax.tcons (Syntax.tyInt Syntax.w64) Syntax.tnil)))))))) (Syntax.tcons (Syntax.tyStruct (L._∷_ 115 (L._∷_ 116 (L._∷_ 101 (L._∷_ 112 (L._∷_ 58 (L._∷_ 58 (L._∷_ 79 (L._∷_ 108 (L._∷_ 100 L.[]))))))))) (Syntax.tcons (Syntax.tyInt Syntax.w64) (Syntax.tcons q6 (Syntax.tcons q7 (Syntax.tcons q7 (Syntax.tcons q7 (Syntax.tcons q7 (Syntax.tcons q4 Syntax.tnil)))))))) Syntax.tnil))) Syntax.tnil)))) Syntax.tnil)))) (StructLaws.val rules-proofs-found-Found·.the-type rules-proofs-found-Found-Laws·.the-laws)) (L._∷_ (Scalar.oAt 3 q5 (StructLaws.val costly-arc-proofs-Seen·.the-type costly-arc-proofs-Seen-Laws·.the-laws)) L.[])) (λ m. (m .1 .1 .1 .1 .1 .0, (m .1 .1 .1 .0, tt))) (λ m. denoteLaws.Is (Declared.row rules-proofs-found-Found·.the-type) (m .1 .1 .1 .1 .1 .0) (StructLaws.vals rules-proofs-found-Found·.the-type rules-proofs-found-Found-Laws·.the-laws (m .1 .1 .1 .1 .1 .0)) × denoteLaws.Is (Declared.row costly-arc-proofs-Seen·.the-type) (m .1 .1 .1 .0) (StructLaws.vals costly-arc-proofs-Seen·.the-type costly-arc-proofs-Seen-Laws·.the-laws (m .1 .1 .1 .0))) (TReads.room-gone 𝓤 H A (Syntax.tyStruct (L._∷_ 114 (L._∷_ 117 (L._∷_ 108 (L._∷_ 101 (L._∷_ 115 (L._∷_ 58 (L._∷_ 58 (L._∷_ 116 (L._∷_ 114 (L._∷_ 105 (L._∷_ 101 (L._∷_ 100 (L._∷_ 58 (L._∷_ 58 (L._∷_ 76 (L._∷_ 111 (L._∷_ 111 (L._∷_ 107 (L._∷_ 101 (L._∷_ 100 L.[])))))))))))))))))))) (Syntax.tcons (Syntax.tyStruct (L._∷_ 114 (L._∷_ 117 (L._∷_ 108 (L._∷_ 101 (L._∷_ 115 (L._∷_ 58 (L._∷_ 58 (L._∷_ 102 (L._∷_ 111 (L._∷_ 117 (L._∷_ 110 (L._∷_ 100 (L._∷_ 58 (L._∷_ 58 (L._∷_ 70 (L._∷_ 111 (L._∷_ 117 (L._∷_ 110 (L._∷_ 100 L.[]))))))))))))))))))) (Syntax.tcons Syntax.tyBool (Syntax.tcons Syntax.tyBool (Syntax.tcons (Syntax.tyStruct (L._∷_ 115 (L._∷_ 116 (L._∷_ 101 (L._∷_ 112 (L._∷_ 58 (L._∷_ 58 (L._∷_ 83 (L._∷_ 116 (L._∷_ 101 (L._∷_ 112 L.[])))))))))) (Syntax.tcons (Syntax.tyInt Syntax.w64) (Syntax.tcons (Syntax.tyInt Syntax.w64) (Syntax.tcons (Syntax.tyStruct (L._∷_ 115 (L._∷_ 116 (L._∷_ 101 (L._∷_ 112 (L._∷_ 58 (L._∷_ 58 (L._∷_ 67 (L._∷_ 104 (L._∷_ 97 (L._∷_ 110 (L._∷_ 103 (L._∷_ 101 L.[])))))))))))) (Syntax.tcons (Syntax.tyStruct (L._∷_ 110 (L._∷_ 101 (L._∷_ 116 (L._∷_ 119 (L._∷_ 111 (L._∷_ 114 (L._∷_ 107 (L._∷_ 58 (L._∷_ 58 (L._∷_ 69 (L._∷_ 100 (L._∷_ 105 (L._∷_ 116 L.[]))))))))))))) (Syntax.tcons q7 (Syntax.tcons q7 (Syntax.tcons q7 (Syntax.tcons q7 (Syntax.tcons q2 (Syntax.tcons q2 (Syntax.tcons (Syntax.tyInt Syntax.w64) Syntax.tnil)))))))) (Syntax.tcons (Syntax.tyStruct (L._∷_ 115 (L._∷_ 116 (L._∷_ 101 (L._∷_ 112 (L._∷_ 58 (L._∷_ 58 (L._∷_ 79 (L._∷_ 108 (L._∷_ 100 L.[]))))))))) (Syntax.tcons (Syntax.tyInt Syntax.w64) (Syntax.tcons q6 (Syntax.tcons q7 (Syntax.tcons q7 (Syntax.tcons q7 (Syntax.tcons q7 (Syntax.tcons q4 Syntax.tnil)))))))) Syntax.tnil))) Syntax.tnil)))) Syntax.tnil)))) (Syntax.tcons q5 Syntax.tnil)))) ((Reads.reads-struct 𝓤 H A W rules-proofs-found-Found·.the-type rules-proofs-found-Found-Laws·.the-laws, Path.refl), ((Reads.reads-struct 𝓤 H A W costly-arc-proofs-Seen·.the-type costly-arc-proofs-Seen-Laws·.the-laws, Path.refl), tt)) Path.refl (λ ρ m. Make.tells-both 𝓤 H A W E ρ (Row.out 0 (G6 .locals)) m (denoteLaws.Is (Declared.row rules-proofs-found-Found·.the-type) (m .1 .1 .1 .1 .1 .0) (StructLaws.vals rules-proofs-found-Found·.the-type rules-proofs-found-Found-Laws·.the-laws (m .1 .1 .1 .1 .1 .0))) (denoteLaws.Is (Declared.row costly-arc-proofs-Seen·.the-type) (m .1 .1 .1 .0) (StructLaws.vals costly-arc-proofs-Seen·.the-type costly-arc-proofs-Seen-Laws·.the-laws (m .1 .1 .1 .0))) (Make.tells-row 𝓤 H A W E ρ (Row.out 0 (G6 .locals)) m 5 (denoteLaws.Is (Declared.row rules-proofs-found-Found·.the-type) (m .1 .1 .1 .1 .1 .0) (StructLaws.vals rules-proofs-found-Found·.the-type rules-proofs-found-Found-Laws·.the-laws (m .1 .1 .1 .1 .1 .0))) (Make.whole-is 𝓤 H A W E (Declared.row rules-proofs-found-Found·.the-type) Path.refl (StructLaws.val rules-proofs-found-Found·.the-type rules-proofs-found-Found-Laws·.the-laws) (StructLaws.tells rules-proofs-found-Found·.the-type rules-proofs-found-Found-Laws·.the-laws) ρ 5 (m .1 .1 .1 .1 .1 .0))) (Make.tells-row 𝓤 H A W E ρ (Row.out 0 (G6 .locals)) m 3 (denoteLaws.Is (Declared.row costly-arc-proofs-Seen·.the-type) (m .1 .1 .1 .0) (StructLaws.vals costly-arc-proofs-Seen·.the-type costly-arc-proofs-Seen-Laws·.the-laws (m .1 .1 .1 .0))) (Make.whole-is 𝓤 H A W E (Declared.row costly-arc-proofs-Seen·.the-type) Path.refl (StructLaws.val costly-arc-proofs-Seen·.the-type costly-arc-proofs-Seen-Laws·.the-laws) (StructLaws.tells costly-arc-proofs-Seen·.the-type costly-arc-proofs-Seen-Laws·.the-laws) ρ 3 (m .1 .1 .1 .0)))) (λ m q. StructSigned.made-val (Apart.apartT rules-proofs-tried-Looked·.the-type) rules-proofs-tried-Looked-Laws·.the-laws (L._∷_ (StructLaws.val rules-proofs-found-Found·.the-type rules-proofs-found-Found-Laws·.the-laws (m .1 .1 .1 .1 .1 .0)) (L._∷_ (StructLaws.val costly-arc-proofs-Seen·.the-type costly-arc-proofs-Seen-Laws·.the-laws (m .1 .1 .1 .0)) L.[])) (m .1 .1 .1 .1 .1 .0, (m .1 .1 .1 .0, tt)) (StructSigned.made-struct rules-proofs-found-Found·.the-type rules-proofs-found-Found-Laws·.the-laws rules-proofs-found-Found-Laws·.lowers (m .1 .1 .1 .1 .1 .0) (q .0), (StructSigned.made-struct costly-arc-proofs-Seen·.the-type costly-arc-proofs-Seen-Laws·.the-laws costly-arc-proofs-Seen-Laws·.lowers (m .1 .1 .1 .0) (q .1), tt))) λ m q. StructSigned.made-is (Apart.apartT rules-proofs-tried-Looked·.the-type) rules-proofs-tried-Looked-Laws·.the-laws (L._∷_ (StructLaws.val rules-proofs-found-Found·.the-type rules-proofs-found-Found-Laws·.the-laws (m .1 .1 .1 .1 .1 .0)) (L._∷_ (StructLaws.val costly-arc-proofs-Seen·.the-type costly-arc-proofs-Seen-Laws·.the-laws (m .1 .1 .1 .0)) L.[])) (m .1 .1 .1 .1 .1 .0, (m .1 .1 .1 .0, tt)) (StructSigned.made-struct rules-proofs-found-Found·.the-type rules-proofs-found-Found-Laws·.the-laws rules-proofs-found-Found-Laws·.lowers (m .1 .1 .1 .1 .1 .0) (q .0), (StructSigned.made-struct costly-arc-proofs-Seen·.the-type costly-arc-proofs-Seen-Laws·.the-laws costly-arc-proofs-Seen-Laws·.lowers (m .1 .1 .1 .0) (q .1), tt))) d4
+          d5 = Typed.s-seq 𝓤 H A W 𝓣 E G6 G7 b2 b3 Δ1 (Typed.pass T6 T7 (s4 bs)) (at4 bs) (Make.t-make-told 𝓤 H A W E 𝓣 (Declared.row (Apart.apartT rules-proofs-tried-Looked·.the-type)) Path.refl (StructLaws.val (Apart.apartT rules-proofs-tried-Looked·.the-type) rules-proofs-tried-Looked-Laws·.the-laws) (StructLaws.lawful (Apart.apartT rules-proofs-tried-Looked·.the-type) rules-proofs-tried-Looked-Laws·.the-laws 𝓤 H A W) (StructLaws.makes (Apart.apartT rules-proofs-tried-Looked·.the-type) rules-proofs-tried-Looked-Laws·.the-plain 𝓤 H A) G6 0 (L._∷_ (Scalar.oAt 5 (Syntax.tyStruct (L._∷_ 114 (L._∷_ 117 (L._∷_ 108 (L._∷_ 101 (L._∷_ 115 (L._∷_ 58 (L._∷_ 58 (L._∷_ 102 (L._∷_ 111 (L._∷_ 117 (L._∷_ 110 (L._∷_ 100 (L._∷_ 58 (L._∷_ 58 (L._∷_ 70 (L._∷_ 111 (L._∷_ 117 (L._∷_ 110 (L._∷_ 100 L.[]))))))))))))))))))) (Syntax.tcons Syntax.tyBool (Syntax.tcons Syntax.tyBool (Syntax.tcons (Syntax.tyStruct (L._∷_ 115 (L._∷_ 116 (L._∷_ 101 (L._∷_ 112 (L._∷_ 58 (L._∷_ 58 (L._∷_ 83 (L._∷_ 116 (L._∷_ 101 (L._∷_ 112 L.[])))))))))) (Syntax.tcons (Syntax.tyInt Syntax.w64) (Syntax.tcons (Syntax.tyInt Syntax.w64) (Syntax.tcons (Syntax.tyStruct (L._∷_ 115 (L._∷_ 116 (L._∷_ 101 (L._∷_ 112 (L._∷_ 58 (L._∷_ 58 (L._∷_ 67 (L._∷_ 104 (L._∷_ 97 (L._∷_ 110 (L._∷_ 103 (L._∷_ 101 L.[])))))))))))) (Syntax.tcons (Syntax.tyStruct (L._∷_ 110 (L._∷_ 101 (L._∷_ 116 (L._∷_ 119 (L._∷_ 111 (L._∷_ 114 (L._∷_ 107 (L._∷_ 58 (L._∷_ 58 (L._∷_ 69 (L._∷_ 100 (L._∷_ 105 (L._∷_ 116 L.[]))))))))))))) (Syntax.tcons q7 (Syntax.tcons q7 (Syntax.tcons q7 (Syntax.tcons q7 (Syntax.tcons q2 (Syntax.tcons q2 (Syntax.tcons (Syntax.tyInt Syntax.w64) (Syntax.tcons q6 Syntax.tnil))))))))) (Syntax.tcons (Syntax.tyStruct (L._∷_ 115 (L._∷_ 116 (L._∷_ 101 (L._∷_ 112 (L._∷_ 58 (L._∷_ 58 (L._∷_ 79 (L._∷_ 108 (L._∷_ 100 L.[]))))))))) (Syntax.tcons (Syntax.tyInt Syntax.w64) (Syntax.tcons q6 (Syntax.tcons q7 (Syntax.tcons q7 (Syntax.tcons q7 (Syntax.tcons q7 (Syntax.tcons q4 Syntax.tnil)))))))) Syntax.tnil))) Syntax.tnil)))) Syntax.tnil)))) (StructLaws.val rules-proofs-found-Found·.the-type rules-proofs-found-Found-Laws·.the-laws)) (L._∷_ (Scalar.oAt 3 q5 (StructLaws.val costly-arc-proofs-Seen·.the-type costly-arc-proofs-Seen-Laws·.the-laws)) L.[])) (λ m. (m .1 .1 .1 .1 .1 .0, (m .1 .1 .1 .0, tt))) (λ m. denoteLaws.Is (Declared.row rules-proofs-found-Found·.the-type) (m .1 .1 .1 .1 .1 .0) (StructLaws.vals rules-proofs-found-Found·.the-type rules-proofs-found-Found-Laws·.the-laws (m .1 .1 .1 .1 .1 .0)) × denoteLaws.Is (Declared.row costly-arc-proofs-Seen·.the-type) (m .1 .1 .1 .0) (StructLaws.vals costly-arc-proofs-Seen·.the-type costly-arc-proofs-Seen-Laws·.the-laws (m .1 .1 .1 .0))) (TReads.room-gone 𝓤 H A (Syntax.tyStruct (L._∷_ 114 (L._∷_ 117 (L._∷_ 108 (L._∷_ 101 (L._∷_ 115 (L._∷_ 58 (L._∷_ 58 (L._∷_ 116 (L._∷_ 114 (L._∷_ 105 (L._∷_ 101 (L._∷_ 100 (L._∷_ 58 (L._∷_ 58 (L._∷_ 76 (L._∷_ 111 (L._∷_ 111 (L._∷_ 107 (L._∷_ 101 (L._∷_ 100 L.[])))))))))))))))))))) (Syntax.tcons (Syntax.tyStruct (L._∷_ 114 (L._∷_ 117 (L._∷_ 108 (L._∷_ 101 (L._∷_ 115 (L._∷_ 58 (L._∷_ 58 (L._∷_ 102 (L._∷_ 111 (L._∷_ 117 (L._∷_ 110 (L._∷_ 100 (L._∷_ 58 (L._∷_ 58 (L._∷_ 70 (L._∷_ 111 (L._∷_ 117 (L._∷_ 110 (L._∷_ 100 L.[]))))))))))))))))))) (Syntax.tcons Syntax.tyBool (Syntax.tcons Syntax.tyBool (Syntax.tcons (Syntax.tyStruct (L._∷_ 115 (L._∷_ 116 (L._∷_ 101 (L._∷_ 112 (L._∷_ 58 (L._∷_ 58 (L._∷_ 83 (L._∷_ 116 (L._∷_ 101 (L._∷_ 112 L.[])))))))))) (Syntax.tcons (Syntax.tyInt Syntax.w64) (Syntax.tcons (Syntax.tyInt Syntax.w64) (Syntax.tcons (Syntax.tyStruct (L._∷_ 115 (L._∷_ 116 (L._∷_ 101 (L._∷_ 112 (L._∷_ 58 (L._∷_ 58 (L._∷_ 67 (L._∷_ 104 (L._∷_ 97 (L._∷_ 110 (L._∷_ 103 (L._∷_ 101 L.[])))))))))))) (Syntax.tcons (Syntax.tyStruct (L._∷_ 110 (L._∷_ 101 (L._∷_ 116 (L._∷_ 119 (L._∷_ 111 (L._∷_ 114 (L._∷_ 107 (L._∷_ 58 (L._∷_ 58 (L._∷_ 69 (L._∷_ 100 (L._∷_ 105 (L._∷_ 116 L.[]))))))))))))) (Syntax.tcons q7 (Syntax.tcons q7 (Syntax.tcons q7 (Syntax.tcons q7 (Syntax.tcons q2 (Syntax.tcons q2 (Syntax.tcons (Syntax.tyInt Syntax.w64) (Syntax.tcons q6 Syntax.tnil))))))))) (Syntax.tcons (Syntax.tyStruct (L._∷_ 115 (L._∷_ 116 (L._∷_ 101 (L._∷_ 112 (L._∷_ 58 (L._∷_ 58 (L._∷_ 79 (L._∷_ 108 (L._∷_ 100 L.[]))))))))) (Syntax.tcons (Syntax.tyInt Syntax.w64) (Syntax.tcons q6 (Syntax.tcons q7 (Syntax.tcons q7 (Syntax.tcons q7 (Syntax.tcons q7 (Syntax.tcons q4 Syntax.tnil)))))))) Syntax.tnil))) Syntax.tnil)))) Syntax.tnil)))) (Syntax.tcons q5 Syntax.tnil)))) ((Reads.reads-struct 𝓤 H A W rules-proofs-found-Found·.the-type rules-proofs-found-Found-Laws·.the-laws, Path.refl), ((Reads.reads-struct 𝓤 H A W costly-arc-proofs-Seen·.the-type costly-arc-proofs-Seen-Laws·.the-laws, Path.refl), tt)) Path.refl (λ ρ m. Make.tells-both 𝓤 H A W E ρ (Row.out 0 (G6 .locals)) m (denoteLaws.Is (Declared.row rules-proofs-found-Found·.the-type) (m .1 .1 .1 .1 .1 .0) (StructLaws.vals rules-proofs-found-Found·.the-type rules-proofs-found-Found-Laws·.the-laws (m .1 .1 .1 .1 .1 .0))) (denoteLaws.Is (Declared.row costly-arc-proofs-Seen·.the-type) (m .1 .1 .1 .0) (StructLaws.vals costly-arc-proofs-Seen·.the-type costly-arc-proofs-Seen-Laws·.the-laws (m .1 .1 .1 .0))) (Make.tells-row 𝓤 H A W E ρ (Row.out 0 (G6 .locals)) m 5 (denoteLaws.Is (Declared.row rules-proofs-found-Found·.the-type) (m .1 .1 .1 .1 .1 .0) (StructLaws.vals rules-proofs-found-Found·.the-type rules-proofs-found-Found-Laws·.the-laws (m .1 .1 .1 .1 .1 .0))) (Make.whole-is 𝓤 H A W E (Declared.row rules-proofs-found-Found·.the-type) Path.refl (StructLaws.val rules-proofs-found-Found·.the-type rules-proofs-found-Found-Laws·.the-laws) (StructLaws.tells rules-proofs-found-Found·.the-type rules-proofs-found-Found-Laws·.the-laws) ρ 5 (m .1 .1 .1 .1 .1 .0))) (Make.tells-row 𝓤 H A W E ρ (Row.out 0 (G6 .locals)) m 3 (denoteLaws.Is (Declared.row costly-arc-proofs-Seen·.the-type) (m .1 .1 .1 .0) (StructLaws.vals costly-arc-proofs-Seen·.the-type costly-arc-proofs-Seen-Laws·.the-laws (m .1 .1 .1 .0))) (Make.whole-is 𝓤 H A W E (Declared.row costly-arc-proofs-Seen·.the-type) Path.refl (StructLaws.val costly-arc-proofs-Seen·.the-type costly-arc-proofs-Seen-Laws·.the-laws) (StructLaws.tells costly-arc-proofs-Seen·.the-type costly-arc-proofs-Seen-Laws·.the-laws) ρ 3 (m .1 .1 .1 .0)))) (λ m q. StructSigned.made-val (Apart.apartT rules-proofs-tried-Looked·.the-type) rules-proofs-tried-Looked-Laws·.the-laws (L._∷_ (StructLaws.val rules-proofs-found-Found·.the-type rules-proofs-found-Found-Laws·.the-laws (m .1 .1 .1 .1 .1 .0)) (L._∷_ (StructLaws.val costly-arc-proofs-Seen·.the-type costly-arc-proofs-Seen-Laws·.the-laws (m .1 .1 .1 .0)) L.[])) (m .1 .1 .1 .1 .1 .0, (m .1 .1 .1 .0, tt)) (StructSigned.made-struct rules-proofs-found-Found·.the-type rules-proofs-found-Found-Laws·.the-laws rules-proofs-found-Found-Laws·.lowers (m .1 .1 .1 .1 .1 .0) (q .0), (StructSigned.made-struct costly-arc-proofs-Seen·.the-type costly-arc-proofs-Seen-Laws·.the-laws costly-arc-proofs-Seen-Laws·.lowers (m .1 .1 .1 .0) (q .1), tt))) λ m q. StructSigned.made-is (Apart.apartT rules-proofs-tried-Looked·.the-type) rules-proofs-tried-Looked-Laws·.the-laws (L._∷_ (StructLaws.val rules-proofs-found-Found·.the-type rules-proofs-found-Found-Laws·.the-laws (m .1 .1 .1 .1 .1 .0)) (L._∷_ (StructLaws.val costly-arc-proofs-Seen·.the-type costly-arc-proofs-Seen-Laws·.the-laws (m .1 .1 .1 .0)) L.[])) (m .1 .1 .1 .1 .1 .0, (m .1 .1 .1 .0, tt)) (StructSigned.made-struct rules-proofs-found-Found·.the-type rules-proofs-found-Found-Laws·.the-laws rules-proofs-found-Found-Laws·.lowers (m .1 .1 .1 .1 .1 .0) (q .0), (StructSigned.made-struct costly-arc-proofs-Seen·.the-type costly-arc-proofs-Seen-Laws·.the-laws costly-arc-proofs-Seen-Laws·.lowers (m .1 .1 .1 .0) (q .1), tt))) d4
 
           d6 : Typed.Typed 𝓤 H A 𝓣 E G5 b4 Δ1 (at6 bs)
           d6 = Typed.g-pre 𝓤 H A W 𝓣 E G5 G6 b4 Δ1 (Typed.pass T5 T6 (s3 bs)) (at5 bs) (Scalar.g-room 𝓤 H A W E G5 12 Syntax.tyBool (Scalar.room-sc 𝓤 H A W Row.sBool)) d5
@@ -1490,7 +1490,7 @@ module _ (claims· : Claims) where
           d9 = Typed.g-pre 𝓤 H A W 𝓣 E G12 G13 b5 Δ1 (Typed.pass T12 T13 (s10 bs)) (at8 bs) (Scalar.g-room 𝓤 H A W E G12 12 Syntax.tyBool (Scalar.room-sc 𝓤 H A W Row.sBool)) d8
 
           d10 : Typed.Typed 𝓤 H A 𝓣 E G3 b5 Δ1 (at10 bs)
-          d10 = Typed.g-pre 𝓤 H A W 𝓣 E G3 G12 b5 Δ1 (Typed.pass T3 T12 (s9 bs)) (at9 bs) (Scalar.g-room 𝓤 H A W E G3 5 (Syntax.tyStruct (L._∷_ 114 (L._∷_ 117 (L._∷_ 108 (L._∷_ 101 (L._∷_ 115 (L._∷_ 58 (L._∷_ 58 (L._∷_ 102 (L._∷_ 111 (L._∷_ 117 (L._∷_ 110 (L._∷_ 100 (L._∷_ 58 (L._∷_ 58 (L._∷_ 70 (L._∷_ 111 (L._∷_ 117 (L._∷_ 110 (L._∷_ 100 L.[]))))))))))))))))))) (Syntax.tcons Syntax.tyBool (Syntax.tcons Syntax.tyBool (Syntax.tcons (Syntax.tyStruct (L._∷_ 115 (L._∷_ 116 (L._∷_ 101 (L._∷_ 112 (L._∷_ 58 (L._∷_ 58 (L._∷_ 83 (L._∷_ 116 (L._∷_ 101 (L._∷_ 112 L.[])))))))))) (Syntax.tcons (Syntax.tyInt Syntax.w64) (Syntax.tcons (Syntax.tyInt Syntax.w64) (Syntax.tcons (Syntax.tyStruct (L._∷_ 115 (L._∷_ 116 (L._∷_ 101 (L._∷_ 112 (L._∷_ 58 (L._∷_ 58 (L._∷_ 67 (L._∷_ 104 (L._∷_ 97 (L._∷_ 110 (L._∷_ 103 (L._∷_ 101 L.[])))))))))))) (Syntax.tcons (Syntax.tyStruct (L._∷_ 110 (L._∷_ 101 (L._∷_ 116 (L._∷_ 119 (L._∷_ 111 (L._∷_ 114 (L._∷_ 107 (L._∷_ 58 (L._∷_ 58 (L._∷_ 69 (L._∷_ 100 (L._∷_ 105 (L._∷_ 116 L.[]))))))))))))) (Syntax.tcons q7 (Syntax.tcons q7 (Syntax.tcons q7 (Syntax.tcons q7 (Syntax.tcons q2 (Syntax.tcons q2 (Syntax.tcons (Syntax.tyInt Syntax.w64) Syntax.tnil)))))))) (Syntax.tcons (Syntax.tyStruct (L._∷_ 115 (L._∷_ 116 (L._∷_ 101 (L._∷_ 112 (L._∷_ 58 (L._∷_ 58 (L._∷_ 79 (L._∷_ 108 (L._∷_ 100 L.[]))))))))) (Syntax.tcons (Syntax.tyInt Syntax.w64) (Syntax.tcons q6 (Syntax.tcons q7 (Syntax.tcons q7 (Syntax.tcons q7 (Syntax.tcons q7 (Syntax.tcons q4 Syntax.tnil)))))))) Syntax.tnil))) Syntax.tnil)))) Syntax.tnil)))) (Local.room-whole 𝓤 H A W (Declared.row rules-proofs-found-Found·.the-type) (Syntax.tyStruct (L._∷_ 114 (L._∷_ 117 (L._∷_ 108 (L._∷_ 101 (L._∷_ 115 (L._∷_ 58 (L._∷_ 58 (L._∷_ 102 (L._∷_ 111 (L._∷_ 117 (L._∷_ 110 (L._∷_ 100 (L._∷_ 58 (L._∷_ 58 (L._∷_ 70 (L._∷_ 111 (L._∷_ 117 (L._∷_ 110 (L._∷_ 100 L.[]))))))))))))))))))) (Syntax.tcons Syntax.tyBool (Syntax.tcons Syntax.tyBool (Syntax.tcons (Syntax.tyStruct (L._∷_ 115 (L._∷_ 116 (L._∷_ 101 (L._∷_ 112 (L._∷_ 58 (L._∷_ 58 (L._∷_ 83 (L._∷_ 116 (L._∷_ 101 (L._∷_ 112 L.[])))))))))) (Syntax.tcons (Syntax.tyInt Syntax.w64) (Syntax.tcons (Syntax.tyInt Syntax.w64) (Syntax.tcons (Syntax.tyStruct (L._∷_ 115 (L._∷_ 116 (L._∷_ 101 (L._∷_ 112 (L._∷_ 58 (L._∷_ 58 (L._∷_ 67 (L._∷_ 104 (L._∷_ 97 (L._∷_ 110 (L._∷_ 103 (L._∷_ 101 L.[])))))))))))) (Syntax.tcons (Syntax.tyStruct (L._∷_ 110 (L._∷_ 101 (L._∷_ 116 (L._∷_ 119 (L._∷_ 111 (L._∷_ 114 (L._∷_ 107 (L._∷_ 58 (L._∷_ 58 (L._∷_ 69 (L._∷_ 100 (L._∷_ 105 (L._∷_ 116 L.[]))))))))))))) (Syntax.tcons q7 (Syntax.tcons q7 (Syntax.tcons q7 (Syntax.tcons q7 (Syntax.tcons q2 (Syntax.tcons q2 (Syntax.tcons (Syntax.tyInt Syntax.w64) Syntax.tnil)))))))) (Syntax.tcons (Syntax.tyStruct (L._∷_ 115 (L._∷_ 116 (L._∷_ 101 (L._∷_ 112 (L._∷_ 58 (L._∷_ 58 (L._∷_ 79 (L._∷_ 108 (L._∷_ 100 L.[]))))))))) (Syntax.tcons (Syntax.tyInt Syntax.w64) (Syntax.tcons q6 (Syntax.tcons q7 (Syntax.tcons q7 (Syntax.tcons q7 (Syntax.tcons q7 (Syntax.tcons q4 Syntax.tnil)))))))) Syntax.tnil))) Syntax.tnil)))) Syntax.tnil)))) Path.refl)) d9
+          d10 = Typed.g-pre 𝓤 H A W 𝓣 E G3 G12 b5 Δ1 (Typed.pass T3 T12 (s9 bs)) (at9 bs) (Scalar.g-room 𝓤 H A W E G3 5 (Syntax.tyStruct (L._∷_ 114 (L._∷_ 117 (L._∷_ 108 (L._∷_ 101 (L._∷_ 115 (L._∷_ 58 (L._∷_ 58 (L._∷_ 102 (L._∷_ 111 (L._∷_ 117 (L._∷_ 110 (L._∷_ 100 (L._∷_ 58 (L._∷_ 58 (L._∷_ 70 (L._∷_ 111 (L._∷_ 117 (L._∷_ 110 (L._∷_ 100 L.[]))))))))))))))))))) (Syntax.tcons Syntax.tyBool (Syntax.tcons Syntax.tyBool (Syntax.tcons (Syntax.tyStruct (L._∷_ 115 (L._∷_ 116 (L._∷_ 101 (L._∷_ 112 (L._∷_ 58 (L._∷_ 58 (L._∷_ 83 (L._∷_ 116 (L._∷_ 101 (L._∷_ 112 L.[])))))))))) (Syntax.tcons (Syntax.tyInt Syntax.w64) (Syntax.tcons (Syntax.tyInt Syntax.w64) (Syntax.tcons (Syntax.tyStruct (L._∷_ 115 (L._∷_ 116 (L._∷_ 101 (L._∷_ 112 (L._∷_ 58 (L._∷_ 58 (L._∷_ 67 (L._∷_ 104 (L._∷_ 97 (L._∷_ 110 (L._∷_ 103 (L._∷_ 101 L.[])))))))))))) (Syntax.tcons (Syntax.tyStruct (L._∷_ 110 (L._∷_ 101 (L._∷_ 116 (L._∷_ 119 (L._∷_ 111 (L._∷_ 114 (L._∷_ 107 (L._∷_ 58 (L._∷_ 58 (L._∷_ 69 (L._∷_ 100 (L._∷_ 105 (L._∷_ 116 L.[]))))))))))))) (Syntax.tcons q7 (Syntax.tcons q7 (Syntax.tcons q7 (Syntax.tcons q7 (Syntax.tcons q2 (Syntax.tcons q2 (Syntax.tcons (Syntax.tyInt Syntax.w64) (Syntax.tcons q6 Syntax.tnil))))))))) (Syntax.tcons (Syntax.tyStruct (L._∷_ 115 (L._∷_ 116 (L._∷_ 101 (L._∷_ 112 (L._∷_ 58 (L._∷_ 58 (L._∷_ 79 (L._∷_ 108 (L._∷_ 100 L.[]))))))))) (Syntax.tcons (Syntax.tyInt Syntax.w64) (Syntax.tcons q6 (Syntax.tcons q7 (Syntax.tcons q7 (Syntax.tcons q7 (Syntax.tcons q7 (Syntax.tcons q4 Syntax.tnil)))))))) Syntax.tnil))) Syntax.tnil)))) Syntax.tnil)))) (Local.room-whole 𝓤 H A W (Declared.row rules-proofs-found-Found·.the-type) (Syntax.tyStruct (L._∷_ 114 (L._∷_ 117 (L._∷_ 108 (L._∷_ 101 (L._∷_ 115 (L._∷_ 58 (L._∷_ 58 (L._∷_ 102 (L._∷_ 111 (L._∷_ 117 (L._∷_ 110 (L._∷_ 100 (L._∷_ 58 (L._∷_ 58 (L._∷_ 70 (L._∷_ 111 (L._∷_ 117 (L._∷_ 110 (L._∷_ 100 L.[]))))))))))))))))))) (Syntax.tcons Syntax.tyBool (Syntax.tcons Syntax.tyBool (Syntax.tcons (Syntax.tyStruct (L._∷_ 115 (L._∷_ 116 (L._∷_ 101 (L._∷_ 112 (L._∷_ 58 (L._∷_ 58 (L._∷_ 83 (L._∷_ 116 (L._∷_ 101 (L._∷_ 112 L.[])))))))))) (Syntax.tcons (Syntax.tyInt Syntax.w64) (Syntax.tcons (Syntax.tyInt Syntax.w64) (Syntax.tcons (Syntax.tyStruct (L._∷_ 115 (L._∷_ 116 (L._∷_ 101 (L._∷_ 112 (L._∷_ 58 (L._∷_ 58 (L._∷_ 67 (L._∷_ 104 (L._∷_ 97 (L._∷_ 110 (L._∷_ 103 (L._∷_ 101 L.[])))))))))))) (Syntax.tcons (Syntax.tyStruct (L._∷_ 110 (L._∷_ 101 (L._∷_ 116 (L._∷_ 119 (L._∷_ 111 (L._∷_ 114 (L._∷_ 107 (L._∷_ 58 (L._∷_ 58 (L._∷_ 69 (L._∷_ 100 (L._∷_ 105 (L._∷_ 116 L.[]))))))))))))) (Syntax.tcons q7 (Syntax.tcons q7 (Syntax.tcons q7 (Syntax.tcons q7 (Syntax.tcons q2 (Syntax.tcons q2 (Syntax.tcons (Syntax.tyInt Syntax.w64) (Syntax.tcons q6 Syntax.tnil))))))))) (Syntax.tcons (Syntax.tyStruct (L._∷_ 115 (L._∷_ 116 (L._∷_ 101 (L._∷_ 112 (L._∷_ 58 (L._∷_ 58 (L._∷_ 79 (L._∷_ 108 (L._∷_ 100 L.[]))))))))) (Syntax.tcons (Syntax.tyInt Syntax.w64) (Syntax.tcons q6 (Syntax.tcons q7 (Syntax.tcons q7 (Syntax.tcons q7 (Syntax.tcons q7 (Syntax.tcons q4 Syntax.tnil)))))))) Syntax.tnil))) Syntax.tnil)))) Syntax.tnil)))) Path.refl)) d9
 
           d11 : Typed.Typed 𝓤 H A 𝓣 E G3 b6 Δ1 (at11 bs)
           d11 = Scalar.t-cond 𝓤 H A W E 𝓣 G3 12 (λ x. x) b4 b5 Δ1 (at7 bs) (at10 bs) (Scalar.reads-sc 𝓤 H A W Row.sBool) Path.refl d7 d10
@@ -1529,10 +1529,10 @@ module _ (claims· : Claims) where
           d22 = Typed.g-pre 𝓤 H A W 𝓣 E G35 G36 b18 Δ7 (Typed.pass T35 T36 (s29 bs)) (at21 bs) (Scalar.g-room 𝓤 H A W E G35 4 (Syntax.tyInt Syntax.w8) (Scalar.room-sc 𝓤 H A W (Row.sInt Syntax.w8))) d21
 
           d23 : Typed.Typed 𝓤 H A 𝓣 E G34 b18 Δ7 (at23 bs)
-          d23 = Typed.g-pre 𝓤 H A W 𝓣 E G34 G35 b18 Δ7 (Typed.pass T34 T35 (s28 bs)) (at22 bs) (Scalar.g-room 𝓤 H A W E G34 9 (Syntax.tyStruct (L._∷_ 114 (L._∷_ 117 (L._∷_ 108 (L._∷_ 101 (L._∷_ 115 (L._∷_ 58 (L._∷_ 58 (L._∷_ 116 (L._∷_ 114 (L._∷_ 105 (L._∷_ 101 (L._∷_ 100 (L._∷_ 58 (L._∷_ 58 (L._∷_ 76 (L._∷_ 111 (L._∷_ 111 (L._∷_ 107 (L._∷_ 101 (L._∷_ 100 L.[])))))))))))))))))))) (Syntax.tcons (Syntax.tyStruct (L._∷_ 114 (L._∷_ 117 (L._∷_ 108 (L._∷_ 101 (L._∷_ 115 (L._∷_ 58 (L._∷_ 58 (L._∷_ 102 (L._∷_ 111 (L._∷_ 117 (L._∷_ 110 (L._∷_ 100 (L._∷_ 58 (L._∷_ 58 (L._∷_ 70 (L._∷_ 111 (L._∷_ 117 (L._∷_ 110 (L._∷_ 100 L.[]))))))))))))))))))) (Syntax.tcons Syntax.tyBool (Syntax.tcons Syntax.tyBool (Syntax.tcons (Syntax.tyStruct (L._∷_ 115 (L._∷_ 116 (L._∷_ 101 (L._∷_ 112 (L._∷_ 58 (L._∷_ 58 (L._∷_ 83 (L._∷_ 116 (L._∷_ 101 (L._∷_ 112 L.[])))))))))) (Syntax.tcons (Syntax.tyInt Syntax.w64) (Syntax.tcons (Syntax.tyInt Syntax.w64) (Syntax.tcons (Syntax.tyStruct (L._∷_ 115 (L._∷_ 116 (L._∷_ 101 (L._∷_ 112 (L._∷_ 58 (L._∷_ 58 (L._∷_ 67 (L._∷_ 104 (L._∷_ 97 (L._∷_ 110 (L._∷_ 103 (L._∷_ 101 L.[])))))))))))) (Syntax.tcons (Syntax.tyStruct (L._∷_ 110 (L._∷_ 101 (L._∷_ 116 (L._∷_ 119 (L._∷_ 111 (L._∷_ 114 (L._∷_ 107 (L._∷_ 58 (L._∷_ 58 (L._∷_ 69 (L._∷_ 100 (L._∷_ 105 (L._∷_ 116 L.[]))))))))))))) (Syntax.tcons q7 (Syntax.tcons q7 (Syntax.tcons q7 (Syntax.tcons q7 (Syntax.tcons q2 (Syntax.tcons q2 (Syntax.tcons (Syntax.tyInt Syntax.w64) Syntax.tnil)))))))) (Syntax.tcons (Syntax.tyStruct (L._∷_ 115 (L._∷_ 116 (L._∷_ 101 (L._∷_ 112 (L._∷_ 58 (L._∷_ 58 (L._∷_ 79 (L._∷_ 108 (L._∷_ 100 L.[]))))))))) (Syntax.tcons (Syntax.tyInt Syntax.w64) (Syntax.tcons q6 (Syntax.tcons q7 (Syntax.tcons q7 (Syntax.tcons q7 (Syntax.tcons q7 (Syntax.tcons q4 Syntax.tnil)))))))) Syntax.tnil))) Syntax.tnil)))) Syntax.tnil)))) (Syntax.tcons q5 Syntax.tnil))) (Local.room-whole 𝓤 H A W (Declared.row rules-proofs-tried-Looked·.the-type) (Syntax.tyStruct (L._∷_ 114 (L._∷_ 117 (L._∷_ 108 (L._∷_ 101 (L._∷_ 115 (L._∷_ 58 (L._∷_ 58 (L._∷_ 116 (L._∷_ 114 (L._∷_ 105 (L._∷_ 101 (L._∷_ 100 (L._∷_ 58 (L._∷_ 58 (L._∷_ 76 (L._∷_ 111 (L._∷_ 111 (L._∷_ 107 (L._∷_ 101 (L._∷_ 100 L.[])))))))))))))))))))) (Syntax.tcons (Syntax.tyStruct (L._∷_ 114 (L._∷_ 117 (L._∷_ 108 (L._∷_ 101 (L._∷_ 115 (L._∷_ 58 (L._∷_ 58 (L._∷_ 102 (L._∷_ 111 (L._∷_ 117 (L._∷_ 110 (L._∷_ 100 (L._∷_ 58 (L._∷_ 58 (L._∷_ 70 (L._∷_ 111 (L._∷_ 117 (L._∷_ 110 (L._∷_ 100 L.[]))))))))))))))))))) (Syntax.tcons Syntax.tyBool (Syntax.tcons Syntax.tyBool (Syntax.tcons (Syntax.tyStruct (L._∷_ 115 (L._∷_ 116 (L._∷_ 101 (L._∷_ 112 (L._∷_ 58 (L._∷_ 58 (L._∷_ 83 (L._∷_ 116 (L._∷_ 101 (L._∷_ 112 L.[])))))))))) (Syntax.tcons (Syntax.tyInt Syntax.w64) (Syntax.tcons (Syntax.tyInt Syntax.w64) (Syntax.tcons (Syntax.tyStruct (L._∷_ 115 (L._∷_ 116 (L._∷_ 101 (L._∷_ 112 (L._∷_ 58 (L._∷_ 58 (L._∷_ 67 (L._∷_ 104 (L._∷_ 97 (L._∷_ 110 (L._∷_ 103 (L._∷_ 101 L.[])))))))))))) (Syntax.tcons (Syntax.tyStruct (L._∷_ 110 (L._∷_ 101 (L._∷_ 116 (L._∷_ 119 (L._∷_ 111 (L._∷_ 114 (L._∷_ 107 (L._∷_ 58 (L._∷_ 58 (L._∷_ 69 (L._∷_ 100 (L._∷_ 105 (L._∷_ 116 L.[]))))))))))))) (Syntax.tcons q7 (Syntax.tcons q7 (Syntax.tcons q7 (Syntax.tcons q7 (Syntax.tcons q2 (Syntax.tcons q2 (Syntax.tcons (Syntax.tyInt Syntax.w64) Syntax.tnil)))))))) (Syntax.tcons (Syntax.tyStruct (L._∷_ 115 (L._∷_ 116 (L._∷_ 101 (L._∷_ 112 (L._∷_ 58 (L._∷_ 58 (L._∷_ 79 (L._∷_ 108 (L._∷_ 100 L.[]))))))))) (Syntax.tcons (Syntax.tyInt Syntax.w64) (Syntax.tcons q6 (Syntax.tcons q7 (Syntax.tcons q7 (Syntax.tcons q7 (Syntax.tcons q7 (Syntax.tcons q4 Syntax.tnil)))))))) Syntax.tnil))) Syntax.tnil)))) Syntax.tnil)))) (Syntax.tcons q5 Syntax.tnil))) Path.refl)) d22
+          d23 = Typed.g-pre 𝓤 H A W 𝓣 E G34 G35 b18 Δ7 (Typed.pass T34 T35 (s28 bs)) (at22 bs) (Scalar.g-room 𝓤 H A W E G34 9 (Syntax.tyStruct (L._∷_ 114 (L._∷_ 117 (L._∷_ 108 (L._∷_ 101 (L._∷_ 115 (L._∷_ 58 (L._∷_ 58 (L._∷_ 116 (L._∷_ 114 (L._∷_ 105 (L._∷_ 101 (L._∷_ 100 (L._∷_ 58 (L._∷_ 58 (L._∷_ 76 (L._∷_ 111 (L._∷_ 111 (L._∷_ 107 (L._∷_ 101 (L._∷_ 100 L.[])))))))))))))))))))) (Syntax.tcons (Syntax.tyStruct (L._∷_ 114 (L._∷_ 117 (L._∷_ 108 (L._∷_ 101 (L._∷_ 115 (L._∷_ 58 (L._∷_ 58 (L._∷_ 102 (L._∷_ 111 (L._∷_ 117 (L._∷_ 110 (L._∷_ 100 (L._∷_ 58 (L._∷_ 58 (L._∷_ 70 (L._∷_ 111 (L._∷_ 117 (L._∷_ 110 (L._∷_ 100 L.[]))))))))))))))))))) (Syntax.tcons Syntax.tyBool (Syntax.tcons Syntax.tyBool (Syntax.tcons (Syntax.tyStruct (L._∷_ 115 (L._∷_ 116 (L._∷_ 101 (L._∷_ 112 (L._∷_ 58 (L._∷_ 58 (L._∷_ 83 (L._∷_ 116 (L._∷_ 101 (L._∷_ 112 L.[])))))))))) (Syntax.tcons (Syntax.tyInt Syntax.w64) (Syntax.tcons (Syntax.tyInt Syntax.w64) (Syntax.tcons (Syntax.tyStruct (L._∷_ 115 (L._∷_ 116 (L._∷_ 101 (L._∷_ 112 (L._∷_ 58 (L._∷_ 58 (L._∷_ 67 (L._∷_ 104 (L._∷_ 97 (L._∷_ 110 (L._∷_ 103 (L._∷_ 101 L.[])))))))))))) (Syntax.tcons (Syntax.tyStruct (L._∷_ 110 (L._∷_ 101 (L._∷_ 116 (L._∷_ 119 (L._∷_ 111 (L._∷_ 114 (L._∷_ 107 (L._∷_ 58 (L._∷_ 58 (L._∷_ 69 (L._∷_ 100 (L._∷_ 105 (L._∷_ 116 L.[]))))))))))))) (Syntax.tcons q7 (Syntax.tcons q7 (Syntax.tcons q7 (Syntax.tcons q7 (Syntax.tcons q2 (Syntax.tcons q2 (Syntax.tcons (Syntax.tyInt Syntax.w64) (Syntax.tcons q6 Syntax.tnil))))))))) (Syntax.tcons (Syntax.tyStruct (L._∷_ 115 (L._∷_ 116 (L._∷_ 101 (L._∷_ 112 (L._∷_ 58 (L._∷_ 58 (L._∷_ 79 (L._∷_ 108 (L._∷_ 100 L.[]))))))))) (Syntax.tcons (Syntax.tyInt Syntax.w64) (Syntax.tcons q6 (Syntax.tcons q7 (Syntax.tcons q7 (Syntax.tcons q7 (Syntax.tcons q7 (Syntax.tcons q4 Syntax.tnil)))))))) Syntax.tnil))) Syntax.tnil)))) Syntax.tnil)))) (Syntax.tcons q5 Syntax.tnil))) (Local.room-whole 𝓤 H A W (Declared.row rules-proofs-tried-Looked·.the-type) (Syntax.tyStruct (L._∷_ 114 (L._∷_ 117 (L._∷_ 108 (L._∷_ 101 (L._∷_ 115 (L._∷_ 58 (L._∷_ 58 (L._∷_ 116 (L._∷_ 114 (L._∷_ 105 (L._∷_ 101 (L._∷_ 100 (L._∷_ 58 (L._∷_ 58 (L._∷_ 76 (L._∷_ 111 (L._∷_ 111 (L._∷_ 107 (L._∷_ 101 (L._∷_ 100 L.[])))))))))))))))))))) (Syntax.tcons (Syntax.tyStruct (L._∷_ 114 (L._∷_ 117 (L._∷_ 108 (L._∷_ 101 (L._∷_ 115 (L._∷_ 58 (L._∷_ 58 (L._∷_ 102 (L._∷_ 111 (L._∷_ 117 (L._∷_ 110 (L._∷_ 100 (L._∷_ 58 (L._∷_ 58 (L._∷_ 70 (L._∷_ 111 (L._∷_ 117 (L._∷_ 110 (L._∷_ 100 L.[]))))))))))))))))))) (Syntax.tcons Syntax.tyBool (Syntax.tcons Syntax.tyBool (Syntax.tcons (Syntax.tyStruct (L._∷_ 115 (L._∷_ 116 (L._∷_ 101 (L._∷_ 112 (L._∷_ 58 (L._∷_ 58 (L._∷_ 83 (L._∷_ 116 (L._∷_ 101 (L._∷_ 112 L.[])))))))))) (Syntax.tcons (Syntax.tyInt Syntax.w64) (Syntax.tcons (Syntax.tyInt Syntax.w64) (Syntax.tcons (Syntax.tyStruct (L._∷_ 115 (L._∷_ 116 (L._∷_ 101 (L._∷_ 112 (L._∷_ 58 (L._∷_ 58 (L._∷_ 67 (L._∷_ 104 (L._∷_ 97 (L._∷_ 110 (L._∷_ 103 (L._∷_ 101 L.[])))))))))))) (Syntax.tcons (Syntax.tyStruct (L._∷_ 110 (L._∷_ 101 (L._∷_ 116 (L._∷_ 119 (L._∷_ 111 (L._∷_ 114 (L._∷_ 107 (L._∷_ 58 (L._∷_ 58 (L._∷_ 69 (L._∷_ 100 (L._∷_ 105 (L._∷_ 116 L.[]))))))))))))) (Syntax.tcons q7 (Syntax.tcons q7 (Syntax.tcons q7 (Syntax.tcons q7 (Syntax.tcons q2 (Syntax.tcons q2 (Syntax.tcons (Syntax.tyInt Syntax.w64) (Syntax.tcons q6 Syntax.tnil))))))))) (Syntax.tcons (Syntax.tyStruct (L._∷_ 115 (L._∷_ 116 (L._∷_ 101 (L._∷_ 112 (L._∷_ 58 (L._∷_ 58 (L._∷_ 79 (L._∷_ 108 (L._∷_ 100 L.[]))))))))) (Syntax.tcons (Syntax.tyInt Syntax.w64) (Syntax.tcons q6 (Syntax.tcons q7 (Syntax.tcons q7 (Syntax.tcons q7 (Syntax.tcons q7 (Syntax.tcons q4 Syntax.tnil)))))))) Syntax.tnil))) Syntax.tnil)))) Syntax.tnil)))) (Syntax.tcons q5 Syntax.tnil))) Path.refl)) d22
 
           d24 : Typed.Typed 𝓤 H A 𝓣 E G33 b19 Δ7 (at24 bs)
-          d24 = Typed.s-seq 𝓤 H A W 𝓣 E G33 G34 b17 b18 Δ7 (Typed.pass T33 T34 (s27 bs)) (at23 bs) (LocalCopy.t-val-copy 𝓤 H A W E 𝓣 (λ ρ. Unit) G33 9 0 (Declared.row rules-proofs-tried-Looked·.the-type) (Syntax.tyStruct (L._∷_ 114 (L._∷_ 117 (L._∷_ 108 (L._∷_ 101 (L._∷_ 115 (L._∷_ 58 (L._∷_ 58 (L._∷_ 116 (L._∷_ 114 (L._∷_ 105 (L._∷_ 101 (L._∷_ 100 (L._∷_ 58 (L._∷_ 58 (L._∷_ 76 (L._∷_ 111 (L._∷_ 111 (L._∷_ 107 (L._∷_ 101 (L._∷_ 100 L.[])))))))))))))))))))) (Syntax.tcons (Syntax.tyStruct (L._∷_ 114 (L._∷_ 117 (L._∷_ 108 (L._∷_ 101 (L._∷_ 115 (L._∷_ 58 (L._∷_ 58 (L._∷_ 102 (L._∷_ 111 (L._∷_ 117 (L._∷_ 110 (L._∷_ 100 (L._∷_ 58 (L._∷_ 58 (L._∷_ 70 (L._∷_ 111 (L._∷_ 117 (L._∷_ 110 (L._∷_ 100 L.[]))))))))))))))))))) (Syntax.tcons Syntax.tyBool (Syntax.tcons Syntax.tyBool (Syntax.tcons (Syntax.tyStruct (L._∷_ 115 (L._∷_ 116 (L._∷_ 101 (L._∷_ 112 (L._∷_ 58 (L._∷_ 58 (L._∷_ 83 (L._∷_ 116 (L._∷_ 101 (L._∷_ 112 L.[])))))))))) (Syntax.tcons (Syntax.tyInt Syntax.w64) (Syntax.tcons (Syntax.tyInt Syntax.w64) (Syntax.tcons (Syntax.tyStruct (L._∷_ 115 (L._∷_ 116 (L._∷_ 101 (L._∷_ 112 (L._∷_ 58 (L._∷_ 58 (L._∷_ 67 (L._∷_ 104 (L._∷_ 97 (L._∷_ 110 (L._∷_ 103 (L._∷_ 101 L.[])))))))))))) (Syntax.tcons (Syntax.tyStruct (L._∷_ 110 (L._∷_ 101 (L._∷_ 116 (L._∷_ 119 (L._∷_ 111 (L._∷_ 114 (L._∷_ 107 (L._∷_ 58 (L._∷_ 58 (L._∷_ 69 (L._∷_ 100 (L._∷_ 105 (L._∷_ 116 L.[]))))))))))))) (Syntax.tcons q7 (Syntax.tcons q7 (Syntax.tcons q7 (Syntax.tcons q7 (Syntax.tcons q2 (Syntax.tcons q2 (Syntax.tcons (Syntax.tyInt Syntax.w64) Syntax.tnil)))))))) (Syntax.tcons (Syntax.tyStruct (L._∷_ 115 (L._∷_ 116 (L._∷_ 101 (L._∷_ 112 (L._∷_ 58 (L._∷_ 58 (L._∷_ 79 (L._∷_ 108 (L._∷_ 100 L.[]))))))))) (Syntax.tcons (Syntax.tyInt Syntax.w64) (Syntax.tcons q6 (Syntax.tcons q7 (Syntax.tcons q7 (Syntax.tcons q7 (Syntax.tcons q7 (Syntax.tcons q4 Syntax.tnil)))))))) Syntax.tnil))) Syntax.tnil)))) Syntax.tnil)))) (Syntax.tcons q5 Syntax.tnil))) (Syntax.tyStruct (L._∷_ 114 (L._∷_ 117 (L._∷_ 108 (L._∷_ 101 (L._∷_ 115 (L._∷_ 58 (L._∷_ 58 (L._∷_ 116 (L._∷_ 114 (L._∷_ 105 (L._∷_ 101 (L._∷_ 100 (L._∷_ 58 (L._∷_ 58 (L._∷_ 76 (L._∷_ 111 (L._∷_ 111 (L._∷_ 107 (L._∷_ 101 (L._∷_ 100 L.[])))))))))))))))))))) (Syntax.tcons (Syntax.tyStruct (L._∷_ 114 (L._∷_ 117 (L._∷_ 108 (L._∷_ 101 (L._∷_ 115 (L._∷_ 58 (L._∷_ 58 (L._∷_ 102 (L._∷_ 111 (L._∷_ 117 (L._∷_ 110 (L._∷_ 100 (L._∷_ 58 (L._∷_ 58 (L._∷_ 70 (L._∷_ 111 (L._∷_ 117 (L._∷_ 110 (L._∷_ 100 L.[]))))))))))))))))))) (Syntax.tcons Syntax.tyBool (Syntax.tcons Syntax.tyBool (Syntax.tcons (Syntax.tyStruct (L._∷_ 115 (L._∷_ 116 (L._∷_ 101 (L._∷_ 112 (L._∷_ 58 (L._∷_ 58 (L._∷_ 83 (L._∷_ 116 (L._∷_ 101 (L._∷_ 112 L.[])))))))))) (Syntax.tcons (Syntax.tyInt Syntax.w64) (Syntax.tcons (Syntax.tyInt Syntax.w64) (Syntax.tcons (Syntax.tyStruct (L._∷_ 115 (L._∷_ 116 (L._∷_ 101 (L._∷_ 112 (L._∷_ 58 (L._∷_ 58 (L._∷_ 67 (L._∷_ 104 (L._∷_ 97 (L._∷_ 110 (L._∷_ 103 (L._∷_ 101 L.[])))))))))))) (Syntax.tcons (Syntax.tyStruct (L._∷_ 110 (L._∷_ 101 (L._∷_ 116 (L._∷_ 119 (L._∷_ 111 (L._∷_ 114 (L._∷_ 107 (L._∷_ 58 (L._∷_ 58 (L._∷_ 69 (L._∷_ 100 (L._∷_ 105 (L._∷_ 116 L.[]))))))))))))) (Syntax.tcons q7 (Syntax.tcons q7 (Syntax.tcons q7 (Syntax.tcons q7 (Syntax.tcons q2 (Syntax.tcons q2 (Syntax.tcons (Syntax.tyInt Syntax.w64) Syntax.tnil)))))))) (Syntax.tcons (Syntax.tyStruct (L._∷_ 115 (L._∷_ 116 (L._∷_ 101 (L._∷_ 112 (L._∷_ 58 (L._∷_ 58 (L._∷_ 79 (L._∷_ 108 (L._∷_ 100 L.[]))))))))) (Syntax.tcons (Syntax.tyInt Syntax.w64) (Syntax.tcons q6 (Syntax.tcons q7 (Syntax.tcons q7 (Syntax.tcons q7 (Syntax.tcons q7 (Syntax.tcons q4 Syntax.tnil)))))))) Syntax.tnil))) Syntax.tnil)))) Syntax.tnil)))) (Syntax.tcons q5 Syntax.tnil))) q19 q19 (λ x. x) (λ x. x) (λ x. x) Path.refl (Own.told-none 𝓤 H A (G33 .slots)) (Yields.yields-copy 𝓤 H A W (λ ρ. Unit) (Declared.row rules-proofs-tried-Looked·.the-type) Path.refl (Copies.cStruct rules-proofs-tried-Looked·.the-type rules-proofs-tried-Looked-Laws·.the-laws rules-proofs-tried-Looked-Laws·.the-copy .copy 𝓤 H A W) q19 (λ x. x) (λ x. x) (λ ρ told. Local.mem-whole 𝓤 H A W (Declared.row rules-proofs-tried-Looked·.the-type) ρ) λ ρ told. Local.whole-mem 𝓤 H A W (Declared.row rules-proofs-tried-Looked·.the-type) ρ) (TReads.room-gone 𝓤 H A (Syntax.tyStruct (L._∷_ 114 (L._∷_ 117 (L._∷_ 108 (L._∷_ 101 (L._∷_ 115 (L._∷_ 58 (L._∷_ 58 (L._∷_ 116 (L._∷_ 114 (L._∷_ 105 (L._∷_ 101 (L._∷_ 100 (L._∷_ 58 (L._∷_ 58 (L._∷_ 76 (L._∷_ 111 (L._∷_ 111 (L._∷_ 107 (L._∷_ 101 (L._∷_ 100 L.[])))))))))))))))))))) (Syntax.tcons (Syntax.tyStruct (L._∷_ 114 (L._∷_ 117 (L._∷_ 108 (L._∷_ 101 (L._∷_ 115 (L._∷_ 58 (L._∷_ 58 (L._∷_ 102 (L._∷_ 111 (L._∷_ 117 (L._∷_ 110 (L._∷_ 100 (L._∷_ 58 (L._∷_ 58 (L._∷_ 70 (L._∷_ 111 (L._∷_ 117 (L._∷_ 110 (L._∷_ 100 L.[]))))))))))))))))))) (Syntax.tcons Syntax.tyBool (Syntax.tcons Syntax.tyBool (Syntax.tcons (Syntax.tyStruct (L._∷_ 115 (L._∷_ 116 (L._∷_ 101 (L._∷_ 112 (L._∷_ 58 (L._∷_ 58 (L._∷_ 83 (L._∷_ 116 (L._∷_ 101 (L._∷_ 112 L.[])))))))))) (Syntax.tcons (Syntax.tyInt Syntax.w64) (Syntax.tcons (Syntax.tyInt Syntax.w64) (Syntax.tcons (Syntax.tyStruct (L._∷_ 115 (L._∷_ 116 (L._∷_ 101 (L._∷_ 112 (L._∷_ 58 (L._∷_ 58 (L._∷_ 67 (L._∷_ 104 (L._∷_ 97 (L._∷_ 110 (L._∷_ 103 (L._∷_ 101 L.[])))))))))))) (Syntax.tcons (Syntax.tyStruct (L._∷_ 110 (L._∷_ 101 (L._∷_ 116 (L._∷_ 119 (L._∷_ 111 (L._∷_ 114 (L._∷_ 107 (L._∷_ 58 (L._∷_ 58 (L._∷_ 69 (L._∷_ 100 (L._∷_ 105 (L._∷_ 116 L.[]))))))))))))) (Syntax.tcons q7 (Syntax.tcons q7 (Syntax.tcons q7 (Syntax.tcons q7 (Syntax.tcons q2 (Syntax.tcons q2 (Syntax.tcons (Syntax.tyInt Syntax.w64) Syntax.tnil)))))))) (Syntax.tcons (Syntax.tyStruct (L._∷_ 115 (L._∷_ 116 (L._∷_ 101 (L._∷_ 112 (L._∷_ 58 (L._∷_ 58 (L._∷_ 79 (L._∷_ 108 (L._∷_ 100 L.[]))))))))) (Syntax.tcons (Syntax.tyInt Syntax.w64) (Syntax.tcons q6 (Syntax.tcons q7 (Syntax.tcons q7 (Syntax.tcons q7 (Syntax.tcons q7 (Syntax.tcons q4 Syntax.tnil)))))))) Syntax.tnil))) Syntax.tnil)))) Syntax.tnil)))) (Syntax.tcons q5 Syntax.tnil)))) (Yields.makes-mem 𝓤 H A W (λ ρ. Unit) (Declared.row rules-proofs-tried-Looked·.the-type) Path.refl q19 (λ x. x) λ ρ told. Local.whole-mem 𝓤 H A W (Declared.row rules-proofs-tried-Looked·.the-type) ρ) Path.refl Path.refl) d23
+          d24 = Typed.s-seq 𝓤 H A W 𝓣 E G33 G34 b17 b18 Δ7 (Typed.pass T33 T34 (s27 bs)) (at23 bs) (LocalCopy.t-val-copy 𝓤 H A W E 𝓣 (λ ρ. Unit) G33 9 0 (Declared.row rules-proofs-tried-Looked·.the-type) (Syntax.tyStruct (L._∷_ 114 (L._∷_ 117 (L._∷_ 108 (L._∷_ 101 (L._∷_ 115 (L._∷_ 58 (L._∷_ 58 (L._∷_ 116 (L._∷_ 114 (L._∷_ 105 (L._∷_ 101 (L._∷_ 100 (L._∷_ 58 (L._∷_ 58 (L._∷_ 76 (L._∷_ 111 (L._∷_ 111 (L._∷_ 107 (L._∷_ 101 (L._∷_ 100 L.[])))))))))))))))))))) (Syntax.tcons (Syntax.tyStruct (L._∷_ 114 (L._∷_ 117 (L._∷_ 108 (L._∷_ 101 (L._∷_ 115 (L._∷_ 58 (L._∷_ 58 (L._∷_ 102 (L._∷_ 111 (L._∷_ 117 (L._∷_ 110 (L._∷_ 100 (L._∷_ 58 (L._∷_ 58 (L._∷_ 70 (L._∷_ 111 (L._∷_ 117 (L._∷_ 110 (L._∷_ 100 L.[]))))))))))))))))))) (Syntax.tcons Syntax.tyBool (Syntax.tcons Syntax.tyBool (Syntax.tcons (Syntax.tyStruct (L._∷_ 115 (L._∷_ 116 (L._∷_ 101 (L._∷_ 112 (L._∷_ 58 (L._∷_ 58 (L._∷_ 83 (L._∷_ 116 (L._∷_ 101 (L._∷_ 112 L.[])))))))))) (Syntax.tcons (Syntax.tyInt Syntax.w64) (Syntax.tcons (Syntax.tyInt Syntax.w64) (Syntax.tcons (Syntax.tyStruct (L._∷_ 115 (L._∷_ 116 (L._∷_ 101 (L._∷_ 112 (L._∷_ 58 (L._∷_ 58 (L._∷_ 67 (L._∷_ 104 (L._∷_ 97 (L._∷_ 110 (L._∷_ 103 (L._∷_ 101 L.[])))))))))))) (Syntax.tcons (Syntax.tyStruct (L._∷_ 110 (L._∷_ 101 (L._∷_ 116 (L._∷_ 119 (L._∷_ 111 (L._∷_ 114 (L._∷_ 107 (L._∷_ 58 (L._∷_ 58 (L._∷_ 69 (L._∷_ 100 (L._∷_ 105 (L._∷_ 116 L.[]))))))))))))) (Syntax.tcons q7 (Syntax.tcons q7 (Syntax.tcons q7 (Syntax.tcons q7 (Syntax.tcons q2 (Syntax.tcons q2 (Syntax.tcons (Syntax.tyInt Syntax.w64) (Syntax.tcons q6 Syntax.tnil))))))))) (Syntax.tcons (Syntax.tyStruct (L._∷_ 115 (L._∷_ 116 (L._∷_ 101 (L._∷_ 112 (L._∷_ 58 (L._∷_ 58 (L._∷_ 79 (L._∷_ 108 (L._∷_ 100 L.[]))))))))) (Syntax.tcons (Syntax.tyInt Syntax.w64) (Syntax.tcons q6 (Syntax.tcons q7 (Syntax.tcons q7 (Syntax.tcons q7 (Syntax.tcons q7 (Syntax.tcons q4 Syntax.tnil)))))))) Syntax.tnil))) Syntax.tnil)))) Syntax.tnil)))) (Syntax.tcons q5 Syntax.tnil))) (Syntax.tyStruct (L._∷_ 114 (L._∷_ 117 (L._∷_ 108 (L._∷_ 101 (L._∷_ 115 (L._∷_ 58 (L._∷_ 58 (L._∷_ 116 (L._∷_ 114 (L._∷_ 105 (L._∷_ 101 (L._∷_ 100 (L._∷_ 58 (L._∷_ 58 (L._∷_ 76 (L._∷_ 111 (L._∷_ 111 (L._∷_ 107 (L._∷_ 101 (L._∷_ 100 L.[])))))))))))))))))))) (Syntax.tcons (Syntax.tyStruct (L._∷_ 114 (L._∷_ 117 (L._∷_ 108 (L._∷_ 101 (L._∷_ 115 (L._∷_ 58 (L._∷_ 58 (L._∷_ 102 (L._∷_ 111 (L._∷_ 117 (L._∷_ 110 (L._∷_ 100 (L._∷_ 58 (L._∷_ 58 (L._∷_ 70 (L._∷_ 111 (L._∷_ 117 (L._∷_ 110 (L._∷_ 100 L.[]))))))))))))))))))) (Syntax.tcons Syntax.tyBool (Syntax.tcons Syntax.tyBool (Syntax.tcons (Syntax.tyStruct (L._∷_ 115 (L._∷_ 116 (L._∷_ 101 (L._∷_ 112 (L._∷_ 58 (L._∷_ 58 (L._∷_ 83 (L._∷_ 116 (L._∷_ 101 (L._∷_ 112 L.[])))))))))) (Syntax.tcons (Syntax.tyInt Syntax.w64) (Syntax.tcons (Syntax.tyInt Syntax.w64) (Syntax.tcons (Syntax.tyStruct (L._∷_ 115 (L._∷_ 116 (L._∷_ 101 (L._∷_ 112 (L._∷_ 58 (L._∷_ 58 (L._∷_ 67 (L._∷_ 104 (L._∷_ 97 (L._∷_ 110 (L._∷_ 103 (L._∷_ 101 L.[])))))))))))) (Syntax.tcons (Syntax.tyStruct (L._∷_ 110 (L._∷_ 101 (L._∷_ 116 (L._∷_ 119 (L._∷_ 111 (L._∷_ 114 (L._∷_ 107 (L._∷_ 58 (L._∷_ 58 (L._∷_ 69 (L._∷_ 100 (L._∷_ 105 (L._∷_ 116 L.[]))))))))))))) (Syntax.tcons q7 (Syntax.tcons q7 (Syntax.tcons q7 (Syntax.tcons q7 (Syntax.tcons q2 (Syntax.tcons q2 (Syntax.tcons (Syntax.tyInt Syntax.w64) (Syntax.tcons q6 Syntax.tnil))))))))) (Syntax.tcons (Syntax.tyStruct (L._∷_ 115 (L._∷_ 116 (L._∷_ 101 (L._∷_ 112 (L._∷_ 58 (L._∷_ 58 (L._∷_ 79 (L._∷_ 108 (L._∷_ 100 L.[]))))))))) (Syntax.tcons (Syntax.tyInt Syntax.w64) (Syntax.tcons q6 (Syntax.tcons q7 (Syntax.tcons q7 (Syntax.tcons q7 (Syntax.tcons q7 (Syntax.tcons q4 Syntax.tnil)))))))) Syntax.tnil))) Syntax.tnil)))) Syntax.tnil)))) (Syntax.tcons q5 Syntax.tnil))) q19 q19 (λ x. x) (λ x. x) (λ x. x) Path.refl (Own.told-none 𝓤 H A (G33 .slots)) (Yields.yields-copy 𝓤 H A W (λ ρ. Unit) (Declared.row rules-proofs-tried-Looked·.the-type) Path.refl (Copies.cStruct rules-proofs-tried-Looked·.the-type rules-proofs-tried-Looked-Laws·.the-laws rules-proofs-tried-Looked-Laws·.the-copy .copy 𝓤 H A W) q19 (λ x. x) (λ x. x) (λ ρ told. Local.mem-whole 𝓤 H A W (Declared.row rules-proofs-tried-Looked·.the-type) ρ) λ ρ told. Local.whole-mem 𝓤 H A W (Declared.row rules-proofs-tried-Looked·.the-type) ρ) (TReads.room-gone 𝓤 H A (Syntax.tyStruct (L._∷_ 114 (L._∷_ 117 (L._∷_ 108 (L._∷_ 101 (L._∷_ 115 (L._∷_ 58 (L._∷_ 58 (L._∷_ 116 (L._∷_ 114 (L._∷_ 105 (L._∷_ 101 (L._∷_ 100 (L._∷_ 58 (L._∷_ 58 (L._∷_ 76 (L._∷_ 111 (L._∷_ 111 (L._∷_ 107 (L._∷_ 101 (L._∷_ 100 L.[])))))))))))))))))))) (Syntax.tcons (Syntax.tyStruct (L._∷_ 114 (L._∷_ 117 (L._∷_ 108 (L._∷_ 101 (L._∷_ 115 (L._∷_ 58 (L._∷_ 58 (L._∷_ 102 (L._∷_ 111 (L._∷_ 117 (L._∷_ 110 (L._∷_ 100 (L._∷_ 58 (L._∷_ 58 (L._∷_ 70 (L._∷_ 111 (L._∷_ 117 (L._∷_ 110 (L._∷_ 100 L.[]))))))))))))))))))) (Syntax.tcons Syntax.tyBool (Syntax.tcons Syntax.tyBool (Syntax.tcons (Syntax.tyStruct (L._∷_ 115 (L._∷_ 116 (L._∷_ 101 (L._∷_ 112 (L._∷_ 58 (L._∷_ 58 (L._∷_ 83 (L._∷_ 116 (L._∷_ 101 (L._∷_ 112 L.[])))))))))) (Syntax.tcons (Syntax.tyInt Syntax.w64) (Syntax.tcons (Syntax.tyInt Syntax.w64) (Syntax.tcons (Syntax.tyStruct (L._∷_ 115 (L._∷_ 116 (L._∷_ 101 (L._∷_ 112 (L._∷_ 58 (L._∷_ 58 (L._∷_ 67 (L._∷_ 104 (L._∷_ 97 (L._∷_ 110 (L._∷_ 103 (L._∷_ 101 L.[])))))))))))) (Syntax.tcons (Syntax.tyStruct (L._∷_ 110 (L._∷_ 101 (L._∷_ 116 (L._∷_ 119 (L._∷_ 111 (L._∷_ 114 (L._∷_ 107 (L._∷_ 58 (L._∷_ 58 (L._∷_ 69 (L._∷_ 100 (L._∷_ 105 (L._∷_ 116 L.[]))))))))))))) (Syntax.tcons q7 (Syntax.tcons q7 (Syntax.tcons q7 (Syntax.tcons q7 (Syntax.tcons q2 (Syntax.tcons q2 (Syntax.tcons (Syntax.tyInt Syntax.w64) (Syntax.tcons q6 Syntax.tnil))))))))) (Syntax.tcons (Syntax.tyStruct (L._∷_ 115 (L._∷_ 116 (L._∷_ 101 (L._∷_ 112 (L._∷_ 58 (L._∷_ 58 (L._∷_ 79 (L._∷_ 108 (L._∷_ 100 L.[]))))))))) (Syntax.tcons (Syntax.tyInt Syntax.w64) (Syntax.tcons q6 (Syntax.tcons q7 (Syntax.tcons q7 (Syntax.tcons q7 (Syntax.tcons q7 (Syntax.tcons q4 Syntax.tnil)))))))) Syntax.tnil))) Syntax.tnil)))) Syntax.tnil)))) (Syntax.tcons q5 Syntax.tnil)))) (Yields.makes-mem 𝓤 H A W (λ ρ. Unit) (Declared.row rules-proofs-tried-Looked·.the-type) Path.refl q19 (λ x. x) λ ρ told. Local.whole-mem 𝓤 H A W (Declared.row rules-proofs-tried-Looked·.the-type) ρ) Path.refl Path.refl) d23
 
           d25 : Typed.Typed 𝓤 H A 𝓣 E G32 b19 Δ7 (at25 bs)
           d25 = Typed.g-pre 𝓤 H A W 𝓣 E G32 G33 b19 Δ7 (Typed.pass T32 T33 (s26 bs)) (at24 bs) (Scalar.g-room 𝓤 H A W E G32 14 Syntax.tyBool (Scalar.room-sc 𝓤 H A W Row.sBool)) d24
@@ -1556,19 +1556,19 @@ module _ (claims· : Claims) where
           d31 = Scalar.t-cond 𝓤 H A W E 𝓣 G29 14 (λ x. x) b19 b20 Δ7 (at27 bs) (at30 bs) (Scalar.reads-sc 𝓤 H A W Row.sBool) Path.refl d27 d30
 
           d32 : Typed.Typed 𝓤 H A 𝓣 E G30 b22 Δ6 (at32 bs)
-          d32 = Typed.s-typed 𝓤 H A W 𝓣 E G30 b22 Δ6 (λ Ψ. Typed.both (s34 bs) (Typed.pass T41 T42 (s35 bs) Ψ)) tt (Typed.g-post 𝓤 H A W 𝓣 E G30 G41 G42 b22 (Typed.both (s34 bs)) (Typed.pass T41 T42 (s35 bs)) (WayStmt.t-way-copy-out 𝓤 H A W E 𝓣 (Declared.row costly-arc-proofs-Seen·.the-type) Path.refl (Copies.cStruct costly-arc-proofs-Seen·.the-type costly-arc-proofs-Seen-Laws·.the-laws costly-arc-proofs-Seen-Laws·.the-copy .copy 𝓤 H A W) (λ ρ. Unit) G30 (Row.out 9 (G30 .locals)) (λ u. Row.drop 9 (G30 .locals) u) (G30 .slots) 9 (λ t. L._∷_ (Syntax.field 1) t) q5 q5 3 q21 (λ x. x) (λ u. At.getAt (rules-proofs-tried-Looked·.the-type .parts) 1 (rules-proofs-tried-Looked·.struct .as-values (u .1 .1 .1 .1 .1 .1 .1 .1 .1 .0))) (λ u. (Row.hd 0 (Row.tl (Row.tl (Row.tl (Row.tl (Row.tl (Row.tl (Row.tl (Row.tl (Row.tl bs))))))))), Nat._+_ 0 624)) (λ T′. record { locals = Row.setRow 9 q13 T′; slots = G30 .slots }) (λ u T′ m′. Row.set 9 q13 (u .1 .1 .1 .1 .1 .1 .1 .1 .1 .0) T′ m′) (λ u. Unit) (λ x. Unit) (Own.told-none 𝓤 H A (G30 .slots)) (DerefMove.learns-nothing 𝓤 H A (Declared.row costly-arc-proofs-Seen·.the-type)) (λ ρ told u asked. StructWay.w-partˢ 𝓤 H A W E (Declared.row rules-proofs-tried-Looked·.the-type) (Declared.row costly-arc-proofs-Seen·.the-type) (Syntax.tyStruct (L._∷_ 114 (L._∷_ 117 (L._∷_ 108 (L._∷_ 101 (L._∷_ 115 (L._∷_ 58 (L._∷_ 58 (L._∷_ 116 (L._∷_ 114 (L._∷_ 105 (L._∷_ 101 (L._∷_ 100 (L._∷_ 58 (L._∷_ 58 (L._∷_ 76 (L._∷_ 111 (L._∷_ 111 (L._∷_ 107 (L._∷_ 101 (L._∷_ 100 L.[])))))))))))))))))))) (Syntax.tcons (Syntax.tyStruct (L._∷_ 114 (L._∷_ 117 (L._∷_ 108 (L._∷_ 101 (L._∷_ 115 (L._∷_ 58 (L._∷_ 58 (L._∷_ 102 (L._∷_ 111 (L._∷_ 117 (L._∷_ 110 (L._∷_ 100 (L._∷_ 58 (L._∷_ 58 (L._∷_ 70 (L._∷_ 111 (L._∷_ 117 (L._∷_ 110 (L._∷_ 100 L.[]))))))))))))))))))) (Syntax.tcons Syntax.tyBool (Syntax.tcons Syntax.tyBool (Syntax.tcons (Syntax.tyStruct (L._∷_ 115 (L._∷_ 116 (L._∷_ 101 (L._∷_ 112 (L._∷_ 58 (L._∷_ 58 (L._∷_ 83 (L._∷_ 116 (L._∷_ 101 (L._∷_ 112 L.[])))))))))) (Syntax.tcons (Syntax.tyInt Syntax.w64) (Syntax.tcons (Syntax.tyInt Syntax.w64) (Syntax.tcons (Syntax.tyStruct (L._∷_ 115 (L._∷_ 116 (L._∷_ 101 (L._∷_ 112 (L._∷_ 58 (L._∷_ 58 (L._∷_ 67 (L._∷_ 104 (L._∷_ 97 (L._∷_ 110 (L._∷_ 103 (L._∷_ 101 L.[])))))))))))) (Syntax.tcons (Syntax.tyStruct (L._∷_ 110 (L._∷_ 101 (L._∷_ 116 (L._∷_ 119 (L._∷_ 111 (L._∷_ 114 (L._∷_ 107 (L._∷_ 58 (L._∷_ 58 (L._∷_ 69 (L._∷_ 100 (L._∷_ 105 (L._∷_ 116 L.[]))))))))))))) (Syntax.tcons q7 (Syntax.tcons q7 (Syntax.tcons q7 (Syntax.tcons q7 (Syntax.tcons q2 (Syntax.tcons q2 (Syntax.tcons (Syntax.tyInt Syntax.w64) Syntax.tnil)))))))) (Syntax.tcons (Syntax.tyStruct (L._∷_ 115 (L._∷_ 116 (L._∷_ 101 (L._∷_ 112 (L._∷_ 58 (L._∷_ 58 (L._∷_ 79 (L._∷_ 108 (L._∷_ 100 L.[]))))))))) (Syntax.tcons (Syntax.tyInt Syntax.w64) (Syntax.tcons q6 (Syntax.tcons q7 (Syntax.tcons q7 (Syntax.tcons q7 (Syntax.tcons q7 (Syntax.tcons q4 Syntax.tnil)))))))) Syntax.tnil))) Syntax.tnil)))) Syntax.tnil)))) (Syntax.tcons q5 Syntax.tnil))) q5 1 624 (u .1 .1 .1 .1 .1 .1 .1 .1 .1 .0) (At.getAt (rules-proofs-tried-Looked·.the-type .parts) 1 (rules-proofs-tried-Looked·.struct .as-values (u .1 .1 .1 .1 .1 .1 .1 .1 .1 .0))) (Row.hd 0 (Row.tl (Row.tl (Row.tl (Row.tl (Row.tl (Row.tl (Row.tl (Row.tl (Row.tl bs))))))))), 0) (RuleWay.w-look 𝓤 H A W E (RuleWay.w-local 𝓤 H A W E G30 ρ u (G30 .slots) 9 (Declared.row rules-proofs-tried-Looked·.the-type) q19 (λ x. x) (λ x. x) (u .1 .1 .1 .1 .1 .1 .1 .1 .1 .0) (Local.mem-whole 𝓤 H A W (Declared.row rules-proofs-tried-Looked·.the-type) ρ (u .1 .1 .1 .1 .1 .1 .1 .1 .1 .0) (Row.hd 0 (Row.tl (Row.tl (Row.tl (Row.tl (Row.tl (Row.tl (Row.tl (Row.tl (Row.tl bs))))))))))) (Local.whole-mem 𝓤 H A W (Declared.row rules-proofs-tried-Looked·.the-type) ρ (u .1 .1 .1 .1 .1 .1 .1 .1 .1 .0) (Row.hd 0 (Row.tl (Row.tl (Row.tl (Row.tl (Row.tl (Row.tl (Row.tl (Row.tl (Row.tl bs))))))))))))) Path.refl λ q. Inner.cut-record 𝓤 H A q (Declared.row rules-proofs-tried-Looked·.the-type) costly-arc-proofs-Seen·.the-type 624 (u .1 .1 .1 .1 .1 .1 .1 .1 .1 .0) (u .1 .1 .1 .1 .1 .1 .1 .1 .1 .0) (At.getAt (rules-proofs-tried-Looked·.the-type .parts) 1 (rules-proofs-tried-Looked·.struct .as-values (u .1 .1 .1 .1 .1 .1 .1 .1 .1 .0))) (At.getAt (rules-proofs-tried-Looked·.the-type .parts) 1 (rules-proofs-tried-Looked·.struct .as-values (u .1 .1 .1 .1 .1 .1 .1 .1 .1 .0))) (Row.hd 0 (Row.tl (Row.tl (Row.tl (Row.tl (Row.tl (Row.tl (Row.tl (Row.tl (Row.tl bs))))))))), 0) (Behind.look-at 𝓤 H A W q rules-proofs-tried-Looked·.the-type rules-proofs-tried-Looked-Laws·.the-laws 1 624 Path.refl Path.refl (Row.hd 0 (Row.tl (Row.tl (Row.tl (Row.tl (Row.tl (Row.tl (Row.tl (Row.tl (Row.tl bs))))))))), 0) (u .1 .1 .1 .1 .1 .1 .1 .1 .1 .0) (rules-proofs-tried-Looked·.struct .as-values (u .1 .1 .1 .1 .1 .1 .1 .1 .1 .0)) Path.refl)) (TReads.room-gone 𝓤 H A q5) (Yields.makes-mem 𝓤 H A W (λ ρ. Unit) (Declared.row costly-arc-proofs-Seen·.the-type) Path.refl q21 (λ x. x) λ ρ told. Local.whole-mem 𝓤 H A W (Declared.row costly-arc-proofs-Seen·.the-type) ρ) Path.refl Path.refl Path.refl) (Scalar.g-room 𝓤 H A W E G41 9 (Syntax.tyStruct (L._∷_ 114 (L._∷_ 117 (L._∷_ 108 (L._∷_ 101 (L._∷_ 115 (L._∷_ 58 (L._∷_ 58 (L._∷_ 116 (L._∷_ 114 (L._∷_ 105 (L._∷_ 101 (L._∷_ 100 (L._∷_ 58 (L._∷_ 58 (L._∷_ 76 (L._∷_ 111 (L._∷_ 111 (L._∷_ 107 (L._∷_ 101 (L._∷_ 100 L.[])))))))))))))))))))) (Syntax.tcons (Syntax.tyStruct (L._∷_ 114 (L._∷_ 117 (L._∷_ 108 (L._∷_ 101 (L._∷_ 115 (L._∷_ 58 (L._∷_ 58 (L._∷_ 102 (L._∷_ 111 (L._∷_ 117 (L._∷_ 110 (L._∷_ 100 (L._∷_ 58 (L._∷_ 58 (L._∷_ 70 (L._∷_ 111 (L._∷_ 117 (L._∷_ 110 (L._∷_ 100 L.[]))))))))))))))))))) (Syntax.tcons Syntax.tyBool (Syntax.tcons Syntax.tyBool (Syntax.tcons (Syntax.tyStruct (L._∷_ 115 (L._∷_ 116 (L._∷_ 101 (L._∷_ 112 (L._∷_ 58 (L._∷_ 58 (L._∷_ 83 (L._∷_ 116 (L._∷_ 101 (L._∷_ 112 L.[])))))))))) (Syntax.tcons (Syntax.tyInt Syntax.w64) (Syntax.tcons (Syntax.tyInt Syntax.w64) (Syntax.tcons (Syntax.tyStruct (L._∷_ 115 (L._∷_ 116 (L._∷_ 101 (L._∷_ 112 (L._∷_ 58 (L._∷_ 58 (L._∷_ 67 (L._∷_ 104 (L._∷_ 97 (L._∷_ 110 (L._∷_ 103 (L._∷_ 101 L.[])))))))))))) (Syntax.tcons (Syntax.tyStruct (L._∷_ 110 (L._∷_ 101 (L._∷_ 116 (L._∷_ 119 (L._∷_ 111 (L._∷_ 114 (L._∷_ 107 (L._∷_ 58 (L._∷_ 58 (L._∷_ 69 (L._∷_ 100 (L._∷_ 105 (L._∷_ 116 L.[]))))))))))))) (Syntax.tcons q7 (Syntax.tcons q7 (Syntax.tcons q7 (Syntax.tcons q7 (Syntax.tcons q2 (Syntax.tcons q2 (Syntax.tcons (Syntax.tyInt Syntax.w64) Syntax.tnil)))))))) (Syntax.tcons (Syntax.tyStruct (L._∷_ 115 (L._∷_ 116 (L._∷_ 101 (L._∷_ 112 (L._∷_ 58 (L._∷_ 58 (L._∷_ 79 (L._∷_ 108 (L._∷_ 100 L.[]))))))))) (Syntax.tcons (Syntax.tyInt Syntax.w64) (Syntax.tcons q6 (Syntax.tcons q7 (Syntax.tcons q7 (Syntax.tcons q7 (Syntax.tcons q7 (Syntax.tcons q4 Syntax.tnil)))))))) Syntax.tnil))) Syntax.tnil)))) Syntax.tnil)))) (Syntax.tcons q5 Syntax.tnil))) (Local.room-whole 𝓤 H A W (Declared.row rules-proofs-tried-Looked·.the-type) (Syntax.tyStruct (L._∷_ 114 (L._∷_ 117 (L._∷_ 108 (L._∷_ 101 (L._∷_ 115 (L._∷_ 58 (L._∷_ 58 (L._∷_ 116 (L._∷_ 114 (L._∷_ 105 (L._∷_ 101 (L._∷_ 100 (L._∷_ 58 (L._∷_ 58 (L._∷_ 76 (L._∷_ 111 (L._∷_ 111 (L._∷_ 107 (L._∷_ 101 (L._∷_ 100 L.[])))))))))))))))))))) (Syntax.tcons (Syntax.tyStruct (L._∷_ 114 (L._∷_ 117 (L._∷_ 108 (L._∷_ 101 (L._∷_ 115 (L._∷_ 58 (L._∷_ 58 (L._∷_ 102 (L._∷_ 111 (L._∷_ 117 (L._∷_ 110 (L._∷_ 100 (L._∷_ 58 (L._∷_ 58 (L._∷_ 70 (L._∷_ 111 (L._∷_ 117 (L._∷_ 110 (L._∷_ 100 L.[]))))))))))))))))))) (Syntax.tcons Syntax.tyBool (Syntax.tcons Syntax.tyBool (Syntax.tcons (Syntax.tyStruct (L._∷_ 115 (L._∷_ 116 (L._∷_ 101 (L._∷_ 112 (L._∷_ 58 (L._∷_ 58 (L._∷_ 83 (L._∷_ 116 (L._∷_ 101 (L._∷_ 112 L.[])))))))))) (Syntax.tcons (Syntax.tyInt Syntax.w64) (Syntax.tcons (Syntax.tyInt Syntax.w64) (Syntax.tcons (Syntax.tyStruct (L._∷_ 115 (L._∷_ 116 (L._∷_ 101 (L._∷_ 112 (L._∷_ 58 (L._∷_ 58 (L._∷_ 67 (L._∷_ 104 (L._∷_ 97 (L._∷_ 110 (L._∷_ 103 (L._∷_ 101 L.[])))))))))))) (Syntax.tcons (Syntax.tyStruct (L._∷_ 110 (L._∷_ 101 (L._∷_ 116 (L._∷_ 119 (L._∷_ 111 (L._∷_ 114 (L._∷_ 107 (L._∷_ 58 (L._∷_ 58 (L._∷_ 69 (L._∷_ 100 (L._∷_ 105 (L._∷_ 116 L.[]))))))))))))) (Syntax.tcons q7 (Syntax.tcons q7 (Syntax.tcons q7 (Syntax.tcons q7 (Syntax.tcons q2 (Syntax.tcons q2 (Syntax.tcons (Syntax.tyInt Syntax.w64) Syntax.tnil)))))))) (Syntax.tcons (Syntax.tyStruct (L._∷_ 115 (L._∷_ 116 (L._∷_ 101 (L._∷_ 112 (L._∷_ 58 (L._∷_ 58 (L._∷_ 79 (L._∷_ 108 (L._∷_ 100 L.[]))))))))) (Syntax.tcons (Syntax.tyInt Syntax.w64) (Syntax.tcons q6 (Syntax.tcons q7 (Syntax.tcons q7 (Syntax.tcons q7 (Syntax.tcons q7 (Syntax.tcons q4 Syntax.tnil)))))))) Syntax.tnil))) Syntax.tnil)))) Syntax.tnil)))) (Syntax.tcons q5 Syntax.tnil))) Path.refl)))
+          d32 = Typed.s-typed 𝓤 H A W 𝓣 E G30 b22 Δ6 (λ Ψ. Typed.both (s34 bs) (Typed.pass T41 T42 (s35 bs) Ψ)) tt (Typed.g-post 𝓤 H A W 𝓣 E G30 G41 G42 b22 (Typed.both (s34 bs)) (Typed.pass T41 T42 (s35 bs)) (WayStmt.t-way-copy-out 𝓤 H A W E 𝓣 (Declared.row costly-arc-proofs-Seen·.the-type) Path.refl (Copies.cStruct costly-arc-proofs-Seen·.the-type costly-arc-proofs-Seen-Laws·.the-laws costly-arc-proofs-Seen-Laws·.the-copy .copy 𝓤 H A W) (λ ρ. Unit) G30 (Row.out 9 (G30 .locals)) (λ u. Row.drop 9 (G30 .locals) u) (G30 .slots) 9 (λ t. L._∷_ (Syntax.field 1) t) q5 q5 3 q21 (λ x. x) (λ u. At.getAt (rules-proofs-tried-Looked·.the-type .parts) 1 (rules-proofs-tried-Looked·.struct .as-values (u .1 .1 .1 .1 .1 .1 .1 .1 .1 .0))) (λ u. (Row.hd 0 (Row.tl (Row.tl (Row.tl (Row.tl (Row.tl (Row.tl (Row.tl (Row.tl (Row.tl bs))))))))), Nat._+_ 0 632)) (λ T′. record { locals = Row.setRow 9 q13 T′; slots = G30 .slots }) (λ u T′ m′. Row.set 9 q13 (u .1 .1 .1 .1 .1 .1 .1 .1 .1 .0) T′ m′) (λ u. Unit) (λ x. Unit) (Own.told-none 𝓤 H A (G30 .slots)) (DerefMove.learns-nothing 𝓤 H A (Declared.row costly-arc-proofs-Seen·.the-type)) (λ ρ told u asked. StructWay.w-partˢ 𝓤 H A W E (Declared.row rules-proofs-tried-Looked·.the-type) (Declared.row costly-arc-proofs-Seen·.the-type) (Syntax.tyStruct (L._∷_ 114 (L._∷_ 117 (L._∷_ 108 (L._∷_ 101 (L._∷_ 115 (L._∷_ 58 (L._∷_ 58 (L._∷_ 116 (L._∷_ 114 (L._∷_ 105 (L._∷_ 101 (L._∷_ 100 (L._∷_ 58 (L._∷_ 58 (L._∷_ 76 (L._∷_ 111 (L._∷_ 111 (L._∷_ 107 (L._∷_ 101 (L._∷_ 100 L.[])))))))))))))))))))) (Syntax.tcons (Syntax.tyStruct (L._∷_ 114 (L._∷_ 117 (L._∷_ 108 (L._∷_ 101 (L._∷_ 115 (L._∷_ 58 (L._∷_ 58 (L._∷_ 102 (L._∷_ 111 (L._∷_ 117 (L._∷_ 110 (L._∷_ 100 (L._∷_ 58 (L._∷_ 58 (L._∷_ 70 (L._∷_ 111 (L._∷_ 117 (L._∷_ 110 (L._∷_ 100 L.[]))))))))))))))))))) (Syntax.tcons Syntax.tyBool (Syntax.tcons Syntax.tyBool (Syntax.tcons (Syntax.tyStruct (L._∷_ 115 (L._∷_ 116 (L._∷_ 101 (L._∷_ 112 (L._∷_ 58 (L._∷_ 58 (L._∷_ 83 (L._∷_ 116 (L._∷_ 101 (L._∷_ 112 L.[])))))))))) (Syntax.tcons (Syntax.tyInt Syntax.w64) (Syntax.tcons (Syntax.tyInt Syntax.w64) (Syntax.tcons (Syntax.tyStruct (L._∷_ 115 (L._∷_ 116 (L._∷_ 101 (L._∷_ 112 (L._∷_ 58 (L._∷_ 58 (L._∷_ 67 (L._∷_ 104 (L._∷_ 97 (L._∷_ 110 (L._∷_ 103 (L._∷_ 101 L.[])))))))))))) (Syntax.tcons (Syntax.tyStruct (L._∷_ 110 (L._∷_ 101 (L._∷_ 116 (L._∷_ 119 (L._∷_ 111 (L._∷_ 114 (L._∷_ 107 (L._∷_ 58 (L._∷_ 58 (L._∷_ 69 (L._∷_ 100 (L._∷_ 105 (L._∷_ 116 L.[]))))))))))))) (Syntax.tcons q7 (Syntax.tcons q7 (Syntax.tcons q7 (Syntax.tcons q7 (Syntax.tcons q2 (Syntax.tcons q2 (Syntax.tcons (Syntax.tyInt Syntax.w64) (Syntax.tcons q6 Syntax.tnil))))))))) (Syntax.tcons (Syntax.tyStruct (L._∷_ 115 (L._∷_ 116 (L._∷_ 101 (L._∷_ 112 (L._∷_ 58 (L._∷_ 58 (L._∷_ 79 (L._∷_ 108 (L._∷_ 100 L.[]))))))))) (Syntax.tcons (Syntax.tyInt Syntax.w64) (Syntax.tcons q6 (Syntax.tcons q7 (Syntax.tcons q7 (Syntax.tcons q7 (Syntax.tcons q7 (Syntax.tcons q4 Syntax.tnil)))))))) Syntax.tnil))) Syntax.tnil)))) Syntax.tnil)))) (Syntax.tcons q5 Syntax.tnil))) q5 1 632 (u .1 .1 .1 .1 .1 .1 .1 .1 .1 .0) (At.getAt (rules-proofs-tried-Looked·.the-type .parts) 1 (rules-proofs-tried-Looked·.struct .as-values (u .1 .1 .1 .1 .1 .1 .1 .1 .1 .0))) (Row.hd 0 (Row.tl (Row.tl (Row.tl (Row.tl (Row.tl (Row.tl (Row.tl (Row.tl (Row.tl bs))))))))), 0) (RuleWay.w-look 𝓤 H A W E (RuleWay.w-local 𝓤 H A W E G30 ρ u (G30 .slots) 9 (Declared.row rules-proofs-tried-Looked·.the-type) q19 (λ x. x) (λ x. x) (u .1 .1 .1 .1 .1 .1 .1 .1 .1 .0) (Local.mem-whole 𝓤 H A W (Declared.row rules-proofs-tried-Looked·.the-type) ρ (u .1 .1 .1 .1 .1 .1 .1 .1 .1 .0) (Row.hd 0 (Row.tl (Row.tl (Row.tl (Row.tl (Row.tl (Row.tl (Row.tl (Row.tl (Row.tl bs))))))))))) (Local.whole-mem 𝓤 H A W (Declared.row rules-proofs-tried-Looked·.the-type) ρ (u .1 .1 .1 .1 .1 .1 .1 .1 .1 .0) (Row.hd 0 (Row.tl (Row.tl (Row.tl (Row.tl (Row.tl (Row.tl (Row.tl (Row.tl (Row.tl bs))))))))))))) Path.refl λ q. Inner.cut-record 𝓤 H A q (Declared.row rules-proofs-tried-Looked·.the-type) costly-arc-proofs-Seen·.the-type 632 (u .1 .1 .1 .1 .1 .1 .1 .1 .1 .0) (u .1 .1 .1 .1 .1 .1 .1 .1 .1 .0) (At.getAt (rules-proofs-tried-Looked·.the-type .parts) 1 (rules-proofs-tried-Looked·.struct .as-values (u .1 .1 .1 .1 .1 .1 .1 .1 .1 .0))) (At.getAt (rules-proofs-tried-Looked·.the-type .parts) 1 (rules-proofs-tried-Looked·.struct .as-values (u .1 .1 .1 .1 .1 .1 .1 .1 .1 .0))) (Row.hd 0 (Row.tl (Row.tl (Row.tl (Row.tl (Row.tl (Row.tl (Row.tl (Row.tl (Row.tl bs))))))))), 0) (Behind.look-at 𝓤 H A W q rules-proofs-tried-Looked·.the-type rules-proofs-tried-Looked-Laws·.the-laws 1 632 Path.refl Path.refl (Row.hd 0 (Row.tl (Row.tl (Row.tl (Row.tl (Row.tl (Row.tl (Row.tl (Row.tl (Row.tl bs))))))))), 0) (u .1 .1 .1 .1 .1 .1 .1 .1 .1 .0) (rules-proofs-tried-Looked·.struct .as-values (u .1 .1 .1 .1 .1 .1 .1 .1 .1 .0)) Path.refl)) (TReads.room-gone 𝓤 H A q5) (Yields.makes-mem 𝓤 H A W (λ ρ. Unit) (Declared.row costly-arc-proofs-Seen·.the-type) Path.refl q21 (λ x. x) λ ρ told. Local.whole-mem 𝓤 H A W (Declared.row costly-arc-proofs-Seen·.the-type) ρ) Path.refl Path.refl Path.refl) (Scalar.g-room 𝓤 H A W E G41 9 (Syntax.tyStruct (L._∷_ 114 (L._∷_ 117 (L._∷_ 108 (L._∷_ 101 (L._∷_ 115 (L._∷_ 58 (L._∷_ 58 (L._∷_ 116 (L._∷_ 114 (L._∷_ 105 (L._∷_ 101 (L._∷_ 100 (L._∷_ 58 (L._∷_ 58 (L._∷_ 76 (L._∷_ 111 (L._∷_ 111 (L._∷_ 107 (L._∷_ 101 (L._∷_ 100 L.[])))))))))))))))))))) (Syntax.tcons (Syntax.tyStruct (L._∷_ 114 (L._∷_ 117 (L._∷_ 108 (L._∷_ 101 (L._∷_ 115 (L._∷_ 58 (L._∷_ 58 (L._∷_ 102 (L._∷_ 111 (L._∷_ 117 (L._∷_ 110 (L._∷_ 100 (L._∷_ 58 (L._∷_ 58 (L._∷_ 70 (L._∷_ 111 (L._∷_ 117 (L._∷_ 110 (L._∷_ 100 L.[]))))))))))))))))))) (Syntax.tcons Syntax.tyBool (Syntax.tcons Syntax.tyBool (Syntax.tcons (Syntax.tyStruct (L._∷_ 115 (L._∷_ 116 (L._∷_ 101 (L._∷_ 112 (L._∷_ 58 (L._∷_ 58 (L._∷_ 83 (L._∷_ 116 (L._∷_ 101 (L._∷_ 112 L.[])))))))))) (Syntax.tcons (Syntax.tyInt Syntax.w64) (Syntax.tcons (Syntax.tyInt Syntax.w64) (Syntax.tcons (Syntax.tyStruct (L._∷_ 115 (L._∷_ 116 (L._∷_ 101 (L._∷_ 112 (L._∷_ 58 (L._∷_ 58 (L._∷_ 67 (L._∷_ 104 (L._∷_ 97 (L._∷_ 110 (L._∷_ 103 (L._∷_ 101 L.[])))))))))))) (Syntax.tcons (Syntax.tyStruct (L._∷_ 110 (L._∷_ 101 (L._∷_ 116 (L._∷_ 119 (L._∷_ 111 (L._∷_ 114 (L._∷_ 107 (L._∷_ 58 (L._∷_ 58 (L._∷_ 69 (L._∷_ 100 (L._∷_ 105 (L._∷_ 116 L.[]))))))))))))) (Syntax.tcons q7 (Syntax.tcons q7 (Syntax.tcons q7 (Syntax.tcons q7 (Syntax.tcons q2 (Syntax.tcons q2 (Syntax.tcons (Syntax.tyInt Syntax.w64) (Syntax.tcons q6 Syntax.tnil))))))))) (Syntax.tcons (Syntax.tyStruct (L._∷_ 115 (L._∷_ 116 (L._∷_ 101 (L._∷_ 112 (L._∷_ 58 (L._∷_ 58 (L._∷_ 79 (L._∷_ 108 (L._∷_ 100 L.[]))))))))) (Syntax.tcons (Syntax.tyInt Syntax.w64) (Syntax.tcons q6 (Syntax.tcons q7 (Syntax.tcons q7 (Syntax.tcons q7 (Syntax.tcons q7 (Syntax.tcons q4 Syntax.tnil)))))))) Syntax.tnil))) Syntax.tnil)))) Syntax.tnil)))) (Syntax.tcons q5 Syntax.tnil))) (Local.room-whole 𝓤 H A W (Declared.row rules-proofs-tried-Looked·.the-type) (Syntax.tyStruct (L._∷_ 114 (L._∷_ 117 (L._∷_ 108 (L._∷_ 101 (L._∷_ 115 (L._∷_ 58 (L._∷_ 58 (L._∷_ 116 (L._∷_ 114 (L._∷_ 105 (L._∷_ 101 (L._∷_ 100 (L._∷_ 58 (L._∷_ 58 (L._∷_ 76 (L._∷_ 111 (L._∷_ 111 (L._∷_ 107 (L._∷_ 101 (L._∷_ 100 L.[])))))))))))))))))))) (Syntax.tcons (Syntax.tyStruct (L._∷_ 114 (L._∷_ 117 (L._∷_ 108 (L._∷_ 101 (L._∷_ 115 (L._∷_ 58 (L._∷_ 58 (L._∷_ 102 (L._∷_ 111 (L._∷_ 117 (L._∷_ 110 (L._∷_ 100 (L._∷_ 58 (L._∷_ 58 (L._∷_ 70 (L._∷_ 111 (L._∷_ 117 (L._∷_ 110 (L._∷_ 100 L.[]))))))))))))))))))) (Syntax.tcons Syntax.tyBool (Syntax.tcons Syntax.tyBool (Syntax.tcons (Syntax.tyStruct (L._∷_ 115 (L._∷_ 116 (L._∷_ 101 (L._∷_ 112 (L._∷_ 58 (L._∷_ 58 (L._∷_ 83 (L._∷_ 116 (L._∷_ 101 (L._∷_ 112 L.[])))))))))) (Syntax.tcons (Syntax.tyInt Syntax.w64) (Syntax.tcons (Syntax.tyInt Syntax.w64) (Syntax.tcons (Syntax.tyStruct (L._∷_ 115 (L._∷_ 116 (L._∷_ 101 (L._∷_ 112 (L._∷_ 58 (L._∷_ 58 (L._∷_ 67 (L._∷_ 104 (L._∷_ 97 (L._∷_ 110 (L._∷_ 103 (L._∷_ 101 L.[])))))))))))) (Syntax.tcons (Syntax.tyStruct (L._∷_ 110 (L._∷_ 101 (L._∷_ 116 (L._∷_ 119 (L._∷_ 111 (L._∷_ 114 (L._∷_ 107 (L._∷_ 58 (L._∷_ 58 (L._∷_ 69 (L._∷_ 100 (L._∷_ 105 (L._∷_ 116 L.[]))))))))))))) (Syntax.tcons q7 (Syntax.tcons q7 (Syntax.tcons q7 (Syntax.tcons q7 (Syntax.tcons q2 (Syntax.tcons q2 (Syntax.tcons (Syntax.tyInt Syntax.w64) (Syntax.tcons q6 Syntax.tnil))))))))) (Syntax.tcons (Syntax.tyStruct (L._∷_ 115 (L._∷_ 116 (L._∷_ 101 (L._∷_ 112 (L._∷_ 58 (L._∷_ 58 (L._∷_ 79 (L._∷_ 108 (L._∷_ 100 L.[]))))))))) (Syntax.tcons (Syntax.tyInt Syntax.w64) (Syntax.tcons q6 (Syntax.tcons q7 (Syntax.tcons q7 (Syntax.tcons q7 (Syntax.tcons q7 (Syntax.tcons q4 Syntax.tnil)))))))) Syntax.tnil))) Syntax.tnil)))) Syntax.tnil)))) (Syntax.tcons q5 Syntax.tnil))) Path.refl)))
 
           d33 : Typed.Typed 𝓤 H A 𝓣 E G29 b23 Δ6 (at33 bs)
           d33 = Typed.t-seq 𝓤 H A W 𝓣 E G29 G30 b21 b22 Δ6 (at31 bs) (at32 bs) d31 d32
 
           d34 : Typed.Typed 𝓤 H A 𝓣 E G28 b24 Δ6 (at34 bs)
-          d34 = Typed.s-seq 𝓤 H A W 𝓣 E G28 G29 b16 b23 Δ6 (Typed.pass T28 T29 (s23 bs)) (at33 bs) (Scalar.t-use 𝓤 H A W E 𝓣 G28 (Scalar.oFld 9 (L._∷_ (Syntax.field 0) (L._∷_ (Syntax.field 0) L.[])) Syntax.tyBool 0 λ x. Reads.fieldV rules-proofs-found-Found·.the-type rules-proofs-found-Found-Laws·.the-laws 0 (rules-proofs-tried-Looked·.struct .as-values x .0)) 14 (Rows.sc-here Row.sBool) Syntax.tyBool (Row.valS Row.sBool) (Row.sBool .of) (Reads.reads-inner 𝓤 H A W rules-proofs-found-Found·.the-type rules-proofs-found-Found-Laws·.the-laws q19 0 (λ x. rules-proofs-tried-Looked·.struct .as-values x .0) (Reads.reads-field 𝓤 H A W rules-proofs-tried-Looked·.the-type rules-proofs-tried-Looked-Laws·.the-laws 0 (Syntax.tyStruct (L._∷_ 114 (L._∷_ 117 (L._∷_ 108 (L._∷_ 101 (L._∷_ 115 (L._∷_ 58 (L._∷_ 58 (L._∷_ 102 (L._∷_ 111 (L._∷_ 117 (L._∷_ 110 (L._∷_ 100 (L._∷_ 58 (L._∷_ 58 (L._∷_ 70 (L._∷_ 111 (L._∷_ 117 (L._∷_ 110 (L._∷_ 100 L.[]))))))))))))))))))) (Syntax.tcons Syntax.tyBool (Syntax.tcons Syntax.tyBool (Syntax.tcons (Syntax.tyStruct (L._∷_ 115 (L._∷_ 116 (L._∷_ 101 (L._∷_ 112 (L._∷_ 58 (L._∷_ 58 (L._∷_ 83 (L._∷_ 116 (L._∷_ 101 (L._∷_ 112 L.[])))))))))) (Syntax.tcons (Syntax.tyInt Syntax.w64) (Syntax.tcons (Syntax.tyInt Syntax.w64) (Syntax.tcons (Syntax.tyStruct (L._∷_ 115 (L._∷_ 116 (L._∷_ 101 (L._∷_ 112 (L._∷_ 58 (L._∷_ 58 (L._∷_ 67 (L._∷_ 104 (L._∷_ 97 (L._∷_ 110 (L._∷_ 103 (L._∷_ 101 L.[])))))))))))) (Syntax.tcons (Syntax.tyStruct (L._∷_ 110 (L._∷_ 101 (L._∷_ 116 (L._∷_ 119 (L._∷_ 111 (L._∷_ 114 (L._∷_ 107 (L._∷_ 58 (L._∷_ 58 (L._∷_ 69 (L._∷_ 100 (L._∷_ 105 (L._∷_ 116 L.[]))))))))))))) (Syntax.tcons q7 (Syntax.tcons q7 (Syntax.tcons q7 (Syntax.tcons q7 (Syntax.tcons q2 (Syntax.tcons q2 (Syntax.tcons (Syntax.tyInt Syntax.w64) Syntax.tnil)))))))) (Syntax.tcons (Syntax.tyStruct (L._∷_ 115 (L._∷_ 116 (L._∷_ 101 (L._∷_ 112 (L._∷_ 58 (L._∷_ 58 (L._∷_ 79 (L._∷_ 108 (L._∷_ 100 L.[]))))))))) (Syntax.tcons (Syntax.tyInt Syntax.w64) (Syntax.tcons q6 (Syntax.tcons q7 (Syntax.tcons q7 (Syntax.tcons q7 (Syntax.tcons q7 (Syntax.tcons q4 Syntax.tnil)))))))) Syntax.tnil))) Syntax.tnil)))) Syntax.tnil)))) 0 Path.refl) 0 Syntax.tyBool 0 Path.refl, Path.refl) (TReads.room-gone 𝓤 H A Syntax.tyBool) (Scalar.holds-sc 𝓤 H A W Row.sBool) Path.refl (λ u. Path.refl) λ u. tt) d33
+          d34 = Typed.s-seq 𝓤 H A W 𝓣 E G28 G29 b16 b23 Δ6 (Typed.pass T28 T29 (s23 bs)) (at33 bs) (Scalar.t-use 𝓤 H A W E 𝓣 G28 (Scalar.oFld 9 (L._∷_ (Syntax.field 0) (L._∷_ (Syntax.field 0) L.[])) Syntax.tyBool 0 λ x. Reads.fieldV rules-proofs-found-Found·.the-type rules-proofs-found-Found-Laws·.the-laws 0 (rules-proofs-tried-Looked·.struct .as-values x .0)) 14 (Rows.sc-here Row.sBool) Syntax.tyBool (Row.valS Row.sBool) (Row.sBool .of) (Reads.reads-inner 𝓤 H A W rules-proofs-found-Found·.the-type rules-proofs-found-Found-Laws·.the-laws q19 0 (λ x. rules-proofs-tried-Looked·.struct .as-values x .0) (Reads.reads-field 𝓤 H A W rules-proofs-tried-Looked·.the-type rules-proofs-tried-Looked-Laws·.the-laws 0 (Syntax.tyStruct (L._∷_ 114 (L._∷_ 117 (L._∷_ 108 (L._∷_ 101 (L._∷_ 115 (L._∷_ 58 (L._∷_ 58 (L._∷_ 102 (L._∷_ 111 (L._∷_ 117 (L._∷_ 110 (L._∷_ 100 (L._∷_ 58 (L._∷_ 58 (L._∷_ 70 (L._∷_ 111 (L._∷_ 117 (L._∷_ 110 (L._∷_ 100 L.[]))))))))))))))))))) (Syntax.tcons Syntax.tyBool (Syntax.tcons Syntax.tyBool (Syntax.tcons (Syntax.tyStruct (L._∷_ 115 (L._∷_ 116 (L._∷_ 101 (L._∷_ 112 (L._∷_ 58 (L._∷_ 58 (L._∷_ 83 (L._∷_ 116 (L._∷_ 101 (L._∷_ 112 L.[])))))))))) (Syntax.tcons (Syntax.tyInt Syntax.w64) (Syntax.tcons (Syntax.tyInt Syntax.w64) (Syntax.tcons (Syntax.tyStruct (L._∷_ 115 (L._∷_ 116 (L._∷_ 101 (L._∷_ 112 (L._∷_ 58 (L._∷_ 58 (L._∷_ 67 (L._∷_ 104 (L._∷_ 97 (L._∷_ 110 (L._∷_ 103 (L._∷_ 101 L.[])))))))))))) (Syntax.tcons (Syntax.tyStruct (L._∷_ 110 (L._∷_ 101 (L._∷_ 116 (L._∷_ 119 (L._∷_ 111 (L._∷_ 114 (L._∷_ 107 (L._∷_ 58 (L._∷_ 58 (L._∷_ 69 (L._∷_ 100 (L._∷_ 105 (L._∷_ 116 L.[]))))))))))))) (Syntax.tcons q7 (Syntax.tcons q7 (Syntax.tcons q7 (Syntax.tcons q7 (Syntax.tcons q2 (Syntax.tcons q2 (Syntax.tcons (Syntax.tyInt Syntax.w64) (Syntax.tcons q6 Syntax.tnil))))))))) (Syntax.tcons (Syntax.tyStruct (L._∷_ 115 (L._∷_ 116 (L._∷_ 101 (L._∷_ 112 (L._∷_ 58 (L._∷_ 58 (L._∷_ 79 (L._∷_ 108 (L._∷_ 100 L.[]))))))))) (Syntax.tcons (Syntax.tyInt Syntax.w64) (Syntax.tcons q6 (Syntax.tcons q7 (Syntax.tcons q7 (Syntax.tcons q7 (Syntax.tcons q7 (Syntax.tcons q4 Syntax.tnil)))))))) Syntax.tnil))) Syntax.tnil)))) Syntax.tnil)))) 0 Path.refl) 0 Syntax.tyBool 0 Path.refl, Path.refl) (TReads.room-gone 𝓤 H A Syntax.tyBool) (Scalar.holds-sc 𝓤 H A W Row.sBool) Path.refl (λ u. Path.refl) λ u. tt) d33
 
           d35 : Typed.Typed 𝓤 H A 𝓣 E G27 b24 Δ6 (at35 bs)
           d35 = Typed.g-pre 𝓤 H A W 𝓣 E G27 G28 b24 Δ6 (Typed.pass T27 T28 (s22 bs)) (at34 bs) (Scalar.g-room 𝓤 H A W E G27 3 q5 (Local.room-whole 𝓤 H A W (Declared.row costly-arc-proofs-Seen·.the-type) q5 Path.refl)) d34
 
           d36 : Typed.Typed 𝓤 H A 𝓣 E G26 b25 Δ6 (at36 bs)
-          d36 = Typed.s-seq 𝓤 H A W 𝓣 E G26 G27 b15 b24 Δ6 (Typed.both (s21 bs)) (at35 bs) (Plain.t-call-plain 𝓤 H A W 𝓣 1 ps·3 r·3 (claims· .6) (claims· .7) "search::scan::scan_costly" (known .3) E (λ pos β. β) G26 (record { pos = 1; st = L.[]; d = 0; at = λ x. x }, (record { pos = 2; ty = Syntax.tyRef (Syntax.named 0) Syntax.imm Rec.named; ref = λ x. x }, (record { pos = 3; st = L.[]; d = 0; at = λ x. x }, (Num.vAt 4 λ x. x, tt)))) 9 (L._∷_ 0 L.[]) (Call.sub-id 𝓤 H A W (G26 .slots)) ((Yields.yields-copy 𝓤 H A W (λ ρ. Unit) (Declared.row network-proofs-Nodes·.the-type) Path.refl (Copies.cStruct network-proofs-Nodes·.the-type network-proofs-Nodes-Laws·.the-laws network-proofs-Nodes-Laws·.the-copy .copy 𝓤 H A W) (Rows.whole (Declared.row network-proofs-Nodes·.the-type)) (λ x. x) (λ x. x) (λ ρ told. Local.mem-whole 𝓤 H A W (Declared.row network-proofs-Nodes·.the-type) ρ) λ ρ told. Local.whole-mem 𝓤 H A W (Declared.row network-proofs-Nodes·.the-type) ρ, Path.refl), (ShrSlice.spares-sslice 𝓤 H A W Rec.row q22 0, Shared.reads-sslice 𝓤 H A W Rec.row q22 0, Path.refl, ((Yields.yields-copy 𝓤 H A W (λ ρ. Unit) (Declared.row costly-arc-proofs-Seen·.the-type) Path.refl (Copies.cStruct costly-arc-proofs-Seen·.the-type costly-arc-proofs-Seen-Laws·.the-laws costly-arc-proofs-Seen-Laws·.the-copy .copy 𝓤 H A W) q21 (λ x. x) (λ x. x) (λ ρ told. Local.mem-whole 𝓤 H A W (Declared.row costly-arc-proofs-Seen·.the-type) ρ) λ ρ told. Local.whole-mem 𝓤 H A W (Declared.row costly-arc-proofs-Seen·.the-type) ρ, Path.refl), ((Scalar.reads-sc 𝓤 H A W (Row.sInt Syntax.w8), Path.refl), tt)))) (TReads.room-gone 𝓤 H A (Syntax.tyStruct (L._∷_ 114 (L._∷_ 117 (L._∷_ 108 (L._∷_ 101 (L._∷_ 115 (L._∷_ 58 (L._∷_ 58 (L._∷_ 116 (L._∷_ 114 (L._∷_ 105 (L._∷_ 101 (L._∷_ 100 (L._∷_ 58 (L._∷_ 58 (L._∷_ 76 (L._∷_ 111 (L._∷_ 111 (L._∷_ 107 (L._∷_ 101 (L._∷_ 100 L.[])))))))))))))))))))) (Syntax.tcons (Syntax.tyStruct (L._∷_ 114 (L._∷_ 117 (L._∷_ 108 (L._∷_ 101 (L._∷_ 115 (L._∷_ 58 (L._∷_ 58 (L._∷_ 102 (L._∷_ 111 (L._∷_ 117 (L._∷_ 110 (L._∷_ 100 (L._∷_ 58 (L._∷_ 58 (L._∷_ 70 (L._∷_ 111 (L._∷_ 117 (L._∷_ 110 (L._∷_ 100 L.[]))))))))))))))))))) (Syntax.tcons Syntax.tyBool (Syntax.tcons Syntax.tyBool (Syntax.tcons (Syntax.tyStruct (L._∷_ 115 (L._∷_ 116 (L._∷_ 101 (L._∷_ 112 (L._∷_ 58 (L._∷_ 58 (L._∷_ 83 (L._∷_ 116 (L._∷_ 101 (L._∷_ 112 L.[])))))))))) (Syntax.tcons (Syntax.tyInt Syntax.w64) (Syntax.tcons (Syntax.tyInt Syntax.w64) (Syntax.tcons (Syntax.tyStruct (L._∷_ 115 (L._∷_ 116 (L._∷_ 101 (L._∷_ 112 (L._∷_ 58 (L._∷_ 58 (L._∷_ 67 (L._∷_ 104 (L._∷_ 97 (L._∷_ 110 (L._∷_ 103 (L._∷_ 101 L.[])))))))))))) (Syntax.tcons (Syntax.tyStruct (L._∷_ 110 (L._∷_ 101 (L._∷_ 116 (L._∷_ 119 (L._∷_ 111 (L._∷_ 114 (L._∷_ 107 (L._∷_ 58 (L._∷_ 58 (L._∷_ 69 (L._∷_ 100 (L._∷_ 105 (L._∷_ 116 L.[]))))))))))))) (Syntax.tcons q7 (Syntax.tcons q7 (Syntax.tcons q7 (Syntax.tcons q7 (Syntax.tcons q2 (Syntax.tcons q2 (Syntax.tcons (Syntax.tyInt Syntax.w64) Syntax.tnil)))))))) (Syntax.tcons (Syntax.tyStruct (L._∷_ 115 (L._∷_ 116 (L._∷_ 101 (L._∷_ 112 (L._∷_ 58 (L._∷_ 58 (L._∷_ 79 (L._∷_ 108 (L._∷_ 100 L.[]))))))))) (Syntax.tcons (Syntax.tyInt Syntax.w64) (Syntax.tcons q6 (Syntax.tcons q7 (Syntax.tcons q7 (Syntax.tcons q7 (Syntax.tcons q7 (Syntax.tcons q4 Syntax.tnil)))))))) Syntax.tnil))) Syntax.tnil)))) Syntax.tnil)))) (Syntax.tcons q5 Syntax.tnil)))) (tt, tt) Path.refl) d35
+          d36 = Typed.s-seq 𝓤 H A W 𝓣 E G26 G27 b15 b24 Δ6 (Typed.both (s21 bs)) (at35 bs) (Plain.t-call-plain 𝓤 H A W 𝓣 1 ps·3 r·3 (claims· .6) (claims· .7) "search::scan::scan_costly" (known .3) E (λ pos β. β) G26 (record { pos = 1; st = L.[]; d = 0; at = λ x. x }, (record { pos = 2; ty = Syntax.tyRef (Syntax.named 0) Syntax.imm Rec.named; ref = λ x. x }, (record { pos = 3; st = L.[]; d = 0; at = λ x. x }, (Num.vAt 4 λ x. x, tt)))) 9 (L._∷_ 0 L.[]) (Call.sub-id 𝓤 H A W (G26 .slots)) ((Yields.yields-copy 𝓤 H A W (λ ρ. Unit) (Declared.row network-proofs-Nodes·.the-type) Path.refl (Copies.cStruct network-proofs-Nodes·.the-type network-proofs-Nodes-Laws·.the-laws network-proofs-Nodes-Laws·.the-copy .copy 𝓤 H A W) (Rows.whole (Declared.row network-proofs-Nodes·.the-type)) (λ x. x) (λ x. x) (λ ρ told. Local.mem-whole 𝓤 H A W (Declared.row network-proofs-Nodes·.the-type) ρ) λ ρ told. Local.whole-mem 𝓤 H A W (Declared.row network-proofs-Nodes·.the-type) ρ, Path.refl), (ShrSlice.spares-sslice 𝓤 H A W Rec.row q22 0, Shared.reads-sslice 𝓤 H A W Rec.row q22 0, Path.refl, ((Yields.yields-copy 𝓤 H A W (λ ρ. Unit) (Declared.row costly-arc-proofs-Seen·.the-type) Path.refl (Copies.cStruct costly-arc-proofs-Seen·.the-type costly-arc-proofs-Seen-Laws·.the-laws costly-arc-proofs-Seen-Laws·.the-copy .copy 𝓤 H A W) q21 (λ x. x) (λ x. x) (λ ρ told. Local.mem-whole 𝓤 H A W (Declared.row costly-arc-proofs-Seen·.the-type) ρ) λ ρ told. Local.whole-mem 𝓤 H A W (Declared.row costly-arc-proofs-Seen·.the-type) ρ, Path.refl), ((Scalar.reads-sc 𝓤 H A W (Row.sInt Syntax.w8), Path.refl), tt)))) (TReads.room-gone 𝓤 H A (Syntax.tyStruct (L._∷_ 114 (L._∷_ 117 (L._∷_ 108 (L._∷_ 101 (L._∷_ 115 (L._∷_ 58 (L._∷_ 58 (L._∷_ 116 (L._∷_ 114 (L._∷_ 105 (L._∷_ 101 (L._∷_ 100 (L._∷_ 58 (L._∷_ 58 (L._∷_ 76 (L._∷_ 111 (L._∷_ 111 (L._∷_ 107 (L._∷_ 101 (L._∷_ 100 L.[])))))))))))))))))))) (Syntax.tcons (Syntax.tyStruct (L._∷_ 114 (L._∷_ 117 (L._∷_ 108 (L._∷_ 101 (L._∷_ 115 (L._∷_ 58 (L._∷_ 58 (L._∷_ 102 (L._∷_ 111 (L._∷_ 117 (L._∷_ 110 (L._∷_ 100 (L._∷_ 58 (L._∷_ 58 (L._∷_ 70 (L._∷_ 111 (L._∷_ 117 (L._∷_ 110 (L._∷_ 100 L.[]))))))))))))))))))) (Syntax.tcons Syntax.tyBool (Syntax.tcons Syntax.tyBool (Syntax.tcons (Syntax.tyStruct (L._∷_ 115 (L._∷_ 116 (L._∷_ 101 (L._∷_ 112 (L._∷_ 58 (L._∷_ 58 (L._∷_ 83 (L._∷_ 116 (L._∷_ 101 (L._∷_ 112 L.[])))))))))) (Syntax.tcons (Syntax.tyInt Syntax.w64) (Syntax.tcons (Syntax.tyInt Syntax.w64) (Syntax.tcons (Syntax.tyStruct (L._∷_ 115 (L._∷_ 116 (L._∷_ 101 (L._∷_ 112 (L._∷_ 58 (L._∷_ 58 (L._∷_ 67 (L._∷_ 104 (L._∷_ 97 (L._∷_ 110 (L._∷_ 103 (L._∷_ 101 L.[])))))))))))) (Syntax.tcons (Syntax.tyStruct (L._∷_ 110 (L._∷_ 101 (L._∷_ 116 (L._∷_ 119 (L._∷_ 111 (L._∷_ 114 (L._∷_ 107 (L._∷_ 58 (L._∷_ 58 (L._∷_ 69 (L._∷_ 100 (L._∷_ 105 (L._∷_ 116 L.[]))))))))))))) (Syntax.tcons q7 (Syntax.tcons q7 (Syntax.tcons q7 (Syntax.tcons q7 (Syntax.tcons q2 (Syntax.tcons q2 (Syntax.tcons (Syntax.tyInt Syntax.w64) (Syntax.tcons q6 Syntax.tnil))))))))) (Syntax.tcons (Syntax.tyStruct (L._∷_ 115 (L._∷_ 116 (L._∷_ 101 (L._∷_ 112 (L._∷_ 58 (L._∷_ 58 (L._∷_ 79 (L._∷_ 108 (L._∷_ 100 L.[]))))))))) (Syntax.tcons (Syntax.tyInt Syntax.w64) (Syntax.tcons q6 (Syntax.tcons q7 (Syntax.tcons q7 (Syntax.tcons q7 (Syntax.tcons q7 (Syntax.tcons q4 Syntax.tnil)))))))) Syntax.tnil))) Syntax.tnil)))) Syntax.tnil)))) (Syntax.tcons q5 Syntax.tnil)))) (tt, tt) Path.refl) d35
 
           d37 : Typed.Typed 𝓤 H A 𝓣 E G24 b25 Δ6 (at37 bs)
           d37 = Typed.g-pre 𝓤 H A W 𝓣 E G24 G26 b25 Δ6 (Typed.pass T24 T26 (s20 bs)) (at36 bs) (Scalar.g-room 𝓤 H A W E G24 13 Syntax.tyBool (Scalar.room-sc 𝓤 H A W Row.sBool)) d36
@@ -1589,13 +1589,13 @@ module _ (claims· : Claims) where
           d42 = Typed.g-pre 𝓤 H A W 𝓣 E G51 G52 b29 Δ6 (Typed.pass T51 T52 (s45 bs)) (at41 bs) (Scalar.g-room 𝓤 H A W E G51 4 (Syntax.tyInt Syntax.w8) (Scalar.room-sc 𝓤 H A W (Row.sInt Syntax.w8))) d41
 
           d43 : Typed.Typed 𝓤 H A 𝓣 E G50 b29 Δ6 (at43 bs)
-          d43 = Typed.g-pre 𝓤 H A W 𝓣 E G50 G51 b29 Δ6 (Typed.pass T50 T51 (s44 bs)) (at42 bs) (Scalar.g-room 𝓤 H A W E G50 10 (Syntax.tyStruct (L._∷_ 114 (L._∷_ 117 (L._∷_ 108 (L._∷_ 101 (L._∷_ 115 (L._∷_ 58 (L._∷_ 58 (L._∷_ 102 (L._∷_ 111 (L._∷_ 117 (L._∷_ 110 (L._∷_ 100 (L._∷_ 58 (L._∷_ 58 (L._∷_ 70 (L._∷_ 111 (L._∷_ 117 (L._∷_ 110 (L._∷_ 100 L.[]))))))))))))))))))) (Syntax.tcons Syntax.tyBool (Syntax.tcons Syntax.tyBool (Syntax.tcons (Syntax.tyStruct (L._∷_ 115 (L._∷_ 116 (L._∷_ 101 (L._∷_ 112 (L._∷_ 58 (L._∷_ 58 (L._∷_ 83 (L._∷_ 116 (L._∷_ 101 (L._∷_ 112 L.[])))))))))) (Syntax.tcons (Syntax.tyInt Syntax.w64) (Syntax.tcons (Syntax.tyInt Syntax.w64) (Syntax.tcons (Syntax.tyStruct (L._∷_ 115 (L._∷_ 116 (L._∷_ 101 (L._∷_ 112 (L._∷_ 58 (L._∷_ 58 (L._∷_ 67 (L._∷_ 104 (L._∷_ 97 (L._∷_ 110 (L._∷_ 103 (L._∷_ 101 L.[])))))))))))) (Syntax.tcons (Syntax.tyStruct (L._∷_ 110 (L._∷_ 101 (L._∷_ 116 (L._∷_ 119 (L._∷_ 111 (L._∷_ 114 (L._∷_ 107 (L._∷_ 58 (L._∷_ 58 (L._∷_ 69 (L._∷_ 100 (L._∷_ 105 (L._∷_ 116 L.[]))))))))))))) (Syntax.tcons q7 (Syntax.tcons q7 (Syntax.tcons q7 (Syntax.tcons q7 (Syntax.tcons q2 (Syntax.tcons q2 (Syntax.tcons (Syntax.tyInt Syntax.w64) Syntax.tnil)))))))) (Syntax.tcons (Syntax.tyStruct (L._∷_ 115 (L._∷_ 116 (L._∷_ 101 (L._∷_ 112 (L._∷_ 58 (L._∷_ 58 (L._∷_ 79 (L._∷_ 108 (L._∷_ 100 L.[]))))))))) (Syntax.tcons (Syntax.tyInt Syntax.w64) (Syntax.tcons q6 (Syntax.tcons q7 (Syntax.tcons q7 (Syntax.tcons q7 (Syntax.tcons q7 (Syntax.tcons q4 Syntax.tnil)))))))) Syntax.tnil))) Syntax.tnil)))) Syntax.tnil)))) (Local.room-whole 𝓤 H A W (Declared.row rules-proofs-found-Found·.the-type) (Syntax.tyStruct (L._∷_ 114 (L._∷_ 117 (L._∷_ 108 (L._∷_ 101 (L._∷_ 115 (L._∷_ 58 (L._∷_ 58 (L._∷_ 102 (L._∷_ 111 (L._∷_ 117 (L._∷_ 110 (L._∷_ 100 (L._∷_ 58 (L._∷_ 58 (L._∷_ 70 (L._∷_ 111 (L._∷_ 117 (L._∷_ 110 (L._∷_ 100 L.[]))))))))))))))))))) (Syntax.tcons Syntax.tyBool (Syntax.tcons Syntax.tyBool (Syntax.tcons (Syntax.tyStruct (L._∷_ 115 (L._∷_ 116 (L._∷_ 101 (L._∷_ 112 (L._∷_ 58 (L._∷_ 58 (L._∷_ 83 (L._∷_ 116 (L._∷_ 101 (L._∷_ 112 L.[])))))))))) (Syntax.tcons (Syntax.tyInt Syntax.w64) (Syntax.tcons (Syntax.tyInt Syntax.w64) (Syntax.tcons (Syntax.tyStruct (L._∷_ 115 (L._∷_ 116 (L._∷_ 101 (L._∷_ 112 (L._∷_ 58 (L._∷_ 58 (L._∷_ 67 (L._∷_ 104 (L._∷_ 97 (L._∷_ 110 (L._∷_ 103 (L._∷_ 101 L.[])))))))))))) (Syntax.tcons (Syntax.tyStruct (L._∷_ 110 (L._∷_ 101 (L._∷_ 116 (L._∷_ 119 (L._∷_ 111 (L._∷_ 114 (L._∷_ 107 (L._∷_ 58 (L._∷_ 58 (L._∷_ 69 (L._∷_ 100 (L._∷_ 105 (L._∷_ 116 L.[]))))))))))))) (Syntax.tcons q7 (Syntax.tcons q7 (Syntax.tcons q7 (Syntax.tcons q7 (Syntax.tcons q2 (Syntax.tcons q2 (Syntax.tcons (Syntax.tyInt Syntax.w64) Syntax.tnil)))))))) (Syntax.tcons (Syntax.tyStruct (L._∷_ 115 (L._∷_ 116 (L._∷_ 101 (L._∷_ 112 (L._∷_ 58 (L._∷_ 58 (L._∷_ 79 (L._∷_ 108 (L._∷_ 100 L.[]))))))))) (Syntax.tcons (Syntax.tyInt Syntax.w64) (Syntax.tcons q6 (Syntax.tcons q7 (Syntax.tcons q7 (Syntax.tcons q7 (Syntax.tcons q7 (Syntax.tcons q4 Syntax.tnil)))))))) Syntax.tnil))) Syntax.tnil)))) Syntax.tnil)))) Path.refl)) d42
+          d43 = Typed.g-pre 𝓤 H A W 𝓣 E G50 G51 b29 Δ6 (Typed.pass T50 T51 (s44 bs)) (at42 bs) (Scalar.g-room 𝓤 H A W E G50 10 (Syntax.tyStruct (L._∷_ 114 (L._∷_ 117 (L._∷_ 108 (L._∷_ 101 (L._∷_ 115 (L._∷_ 58 (L._∷_ 58 (L._∷_ 102 (L._∷_ 111 (L._∷_ 117 (L._∷_ 110 (L._∷_ 100 (L._∷_ 58 (L._∷_ 58 (L._∷_ 70 (L._∷_ 111 (L._∷_ 117 (L._∷_ 110 (L._∷_ 100 L.[]))))))))))))))))))) (Syntax.tcons Syntax.tyBool (Syntax.tcons Syntax.tyBool (Syntax.tcons (Syntax.tyStruct (L._∷_ 115 (L._∷_ 116 (L._∷_ 101 (L._∷_ 112 (L._∷_ 58 (L._∷_ 58 (L._∷_ 83 (L._∷_ 116 (L._∷_ 101 (L._∷_ 112 L.[])))))))))) (Syntax.tcons (Syntax.tyInt Syntax.w64) (Syntax.tcons (Syntax.tyInt Syntax.w64) (Syntax.tcons (Syntax.tyStruct (L._∷_ 115 (L._∷_ 116 (L._∷_ 101 (L._∷_ 112 (L._∷_ 58 (L._∷_ 58 (L._∷_ 67 (L._∷_ 104 (L._∷_ 97 (L._∷_ 110 (L._∷_ 103 (L._∷_ 101 L.[])))))))))))) (Syntax.tcons (Syntax.tyStruct (L._∷_ 110 (L._∷_ 101 (L._∷_ 116 (L._∷_ 119 (L._∷_ 111 (L._∷_ 114 (L._∷_ 107 (L._∷_ 58 (L._∷_ 58 (L._∷_ 69 (L._∷_ 100 (L._∷_ 105 (L._∷_ 116 L.[]))))))))))))) (Syntax.tcons q7 (Syntax.tcons q7 (Syntax.tcons q7 (Syntax.tcons q7 (Syntax.tcons q2 (Syntax.tcons q2 (Syntax.tcons (Syntax.tyInt Syntax.w64) (Syntax.tcons q6 Syntax.tnil))))))))) (Syntax.tcons (Syntax.tyStruct (L._∷_ 115 (L._∷_ 116 (L._∷_ 101 (L._∷_ 112 (L._∷_ 58 (L._∷_ 58 (L._∷_ 79 (L._∷_ 108 (L._∷_ 100 L.[]))))))))) (Syntax.tcons (Syntax.tyInt Syntax.w64) (Syntax.tcons q6 (Syntax.tcons q7 (Syntax.tcons q7 (Syntax.tcons q7 (Syntax.tcons q7 (Syntax.tcons q4 Syntax.tnil)))))))) Syntax.tnil))) Syntax.tnil)))) Syntax.tnil)))) (Local.room-whole 𝓤 H A W (Declared.row rules-proofs-found-Found·.the-type) (Syntax.tyStruct (L._∷_ 114 (L._∷_ 117 (L._∷_ 108 (L._∷_ 101 (L._∷_ 115 (L._∷_ 58 (L._∷_ 58 (L._∷_ 102 (L._∷_ 111 (L._∷_ 117 (L._∷_ 110 (L._∷_ 100 (L._∷_ 58 (L._∷_ 58 (L._∷_ 70 (L._∷_ 111 (L._∷_ 117 (L._∷_ 110 (L._∷_ 100 L.[]))))))))))))))))))) (Syntax.tcons Syntax.tyBool (Syntax.tcons Syntax.tyBool (Syntax.tcons (Syntax.tyStruct (L._∷_ 115 (L._∷_ 116 (L._∷_ 101 (L._∷_ 112 (L._∷_ 58 (L._∷_ 58 (L._∷_ 83 (L._∷_ 116 (L._∷_ 101 (L._∷_ 112 L.[])))))))))) (Syntax.tcons (Syntax.tyInt Syntax.w64) (Syntax.tcons (Syntax.tyInt Syntax.w64) (Syntax.tcons (Syntax.tyStruct (L._∷_ 115 (L._∷_ 116 (L._∷_ 101 (L._∷_ 112 (L._∷_ 58 (L._∷_ 58 (L._∷_ 67 (L._∷_ 104 (L._∷_ 97 (L._∷_ 110 (L._∷_ 103 (L._∷_ 101 L.[])))))))))))) (Syntax.tcons (Syntax.tyStruct (L._∷_ 110 (L._∷_ 101 (L._∷_ 116 (L._∷_ 119 (L._∷_ 111 (L._∷_ 114 (L._∷_ 107 (L._∷_ 58 (L._∷_ 58 (L._∷_ 69 (L._∷_ 100 (L._∷_ 105 (L._∷_ 116 L.[]))))))))))))) (Syntax.tcons q7 (Syntax.tcons q7 (Syntax.tcons q7 (Syntax.tcons q7 (Syntax.tcons q2 (Syntax.tcons q2 (Syntax.tcons (Syntax.tyInt Syntax.w64) (Syntax.tcons q6 Syntax.tnil))))))))) (Syntax.tcons (Syntax.tyStruct (L._∷_ 115 (L._∷_ 116 (L._∷_ 101 (L._∷_ 112 (L._∷_ 58 (L._∷_ 58 (L._∷_ 79 (L._∷_ 108 (L._∷_ 100 L.[]))))))))) (Syntax.tcons (Syntax.tyInt Syntax.w64) (Syntax.tcons q6 (Syntax.tcons q7 (Syntax.tcons q7 (Syntax.tcons q7 (Syntax.tcons q7 (Syntax.tcons q4 Syntax.tnil)))))))) Syntax.tnil))) Syntax.tnil)))) Syntax.tnil)))) Path.refl)) d42
 
           d44 : Typed.Typed 𝓤 H A 𝓣 E G49 b29 Δ6 (at44 bs)
           d44 = Typed.g-pre 𝓤 H A W 𝓣 E G49 G50 b29 Δ6 (Typed.pass T49 T50 (s43 bs)) (at43 bs) (Scalar.g-room 𝓤 H A W E G49 3 q5 (Local.room-whole 𝓤 H A W (Declared.row costly-arc-proofs-Seen·.the-type) q5 Path.refl)) d43
 
           d45 : Typed.Typed 𝓤 H A 𝓣 E G48 b30 Δ6 (at45 bs)
-          d45 = Typed.s-seq 𝓤 H A W 𝓣 E G48 G49 b28 b29 Δ6 (Typed.pass T48 T49 (s42 bs)) (at44 bs) (Make.t-make-told 𝓤 H A W E 𝓣 (Declared.row (Apart.apartT rules-proofs-tried-Looked·.the-type)) Path.refl (StructLaws.val (Apart.apartT rules-proofs-tried-Looked·.the-type) rules-proofs-tried-Looked-Laws·.the-laws) (StructLaws.lawful (Apart.apartT rules-proofs-tried-Looked·.the-type) rules-proofs-tried-Looked-Laws·.the-laws 𝓤 H A W) (StructLaws.makes (Apart.apartT rules-proofs-tried-Looked·.the-type) rules-proofs-tried-Looked-Laws·.the-plain 𝓤 H A) G48 0 (L._∷_ (Scalar.oAt 10 (Syntax.tyStruct (L._∷_ 114 (L._∷_ 117 (L._∷_ 108 (L._∷_ 101 (L._∷_ 115 (L._∷_ 58 (L._∷_ 58 (L._∷_ 102 (L._∷_ 111 (L._∷_ 117 (L._∷_ 110 (L._∷_ 100 (L._∷_ 58 (L._∷_ 58 (L._∷_ 70 (L._∷_ 111 (L._∷_ 117 (L._∷_ 110 (L._∷_ 100 L.[]))))))))))))))))))) (Syntax.tcons Syntax.tyBool (Syntax.tcons Syntax.tyBool (Syntax.tcons (Syntax.tyStruct (L._∷_ 115 (L._∷_ 116 (L._∷_ 101 (L._∷_ 112 (L._∷_ 58 (L._∷_ 58 (L._∷_ 83 (L._∷_ 116 (L._∷_ 101 (L._∷_ 112 L.[])))))))))) (Syntax.tcons (Syntax.tyInt Syntax.w64) (Syntax.tcons (Syntax.tyInt Syntax.w64) (Syntax.tcons (Syntax.tyStruct (L._∷_ 115 (L._∷_ 116 (L._∷_ 101 (L._∷_ 112 (L._∷_ 58 (L._∷_ 58 (L._∷_ 67 (L._∷_ 104 (L._∷_ 97 (L._∷_ 110 (L._∷_ 103 (L._∷_ 101 L.[])))))))))))) (Syntax.tcons (Syntax.tyStruct (L._∷_ 110 (L._∷_ 101 (L._∷_ 116 (L._∷_ 119 (L._∷_ 111 (L._∷_ 114 (L._∷_ 107 (L._∷_ 58 (L._∷_ 58 (L._∷_ 69 (L._∷_ 100 (L._∷_ 105 (L._∷_ 116 L.[]))))))))))))) (Syntax.tcons q7 (Syntax.tcons q7 (Syntax.tcons q7 (Syntax.tcons q7 (Syntax.tcons q2 (Syntax.tcons q2 (Syntax.tcons (Syntax.tyInt Syntax.w64) Syntax.tnil)))))))) (Syntax.tcons (Syntax.tyStruct (L._∷_ 115 (L._∷_ 116 (L._∷_ 101 (L._∷_ 112 (L._∷_ 58 (L._∷_ 58 (L._∷_ 79 (L._∷_ 108 (L._∷_ 100 L.[]))))))))) (Syntax.tcons (Syntax.tyInt Syntax.w64) (Syntax.tcons q6 (Syntax.tcons q7 (Syntax.tcons q7 (Syntax.tcons q7 (Syntax.tcons q7 (Syntax.tcons q4 Syntax.tnil)))))))) Syntax.tnil))) Syntax.tnil)))) Syntax.tnil)))) (StructLaws.val rules-proofs-found-Found·.the-type rules-proofs-found-Found-Laws·.the-laws)) (L._∷_ (Scalar.oAt 3 q5 (StructLaws.val costly-arc-proofs-Seen·.the-type costly-arc-proofs-Seen-Laws·.the-laws)) L.[])) (λ m. (m .1 .1 .1 .1 .1 .1 .1 .1 .1 .1 .0, (m .1 .1 .1 .0, tt))) (λ m. denoteLaws.Is (Declared.row rules-proofs-found-Found·.the-type) (m .1 .1 .1 .1 .1 .1 .1 .1 .1 .1 .0) (StructLaws.vals rules-proofs-found-Found·.the-type rules-proofs-found-Found-Laws·.the-laws (m .1 .1 .1 .1 .1 .1 .1 .1 .1 .1 .0)) × denoteLaws.Is (Declared.row costly-arc-proofs-Seen·.the-type) (m .1 .1 .1 .0) (StructLaws.vals costly-arc-proofs-Seen·.the-type costly-arc-proofs-Seen-Laws·.the-laws (m .1 .1 .1 .0))) (TReads.room-gone 𝓤 H A (Syntax.tyStruct (L._∷_ 114 (L._∷_ 117 (L._∷_ 108 (L._∷_ 101 (L._∷_ 115 (L._∷_ 58 (L._∷_ 58 (L._∷_ 116 (L._∷_ 114 (L._∷_ 105 (L._∷_ 101 (L._∷_ 100 (L._∷_ 58 (L._∷_ 58 (L._∷_ 76 (L._∷_ 111 (L._∷_ 111 (L._∷_ 107 (L._∷_ 101 (L._∷_ 100 L.[])))))))))))))))))))) (Syntax.tcons (Syntax.tyStruct (L._∷_ 114 (L._∷_ 117 (L._∷_ 108 (L._∷_ 101 (L._∷_ 115 (L._∷_ 58 (L._∷_ 58 (L._∷_ 102 (L._∷_ 111 (L._∷_ 117 (L._∷_ 110 (L._∷_ 100 (L._∷_ 58 (L._∷_ 58 (L._∷_ 70 (L._∷_ 111 (L._∷_ 117 (L._∷_ 110 (L._∷_ 100 L.[]))))))))))))))))))) (Syntax.tcons Syntax.tyBool (Syntax.tcons Syntax.tyBool (Syntax.tcons (Syntax.tyStruct (L._∷_ 115 (L._∷_ 116 (L._∷_ 101 (L._∷_ 112 (L._∷_ 58 (L._∷_ 58 (L._∷_ 83 (L._∷_ 116 (L._∷_ 101 (L._∷_ 112 L.[])))))))))) (Syntax.tcons (Syntax.tyInt Syntax.w64) (Syntax.tcons (Syntax.tyInt Syntax.w64) (Syntax.tcons (Syntax.tyStruct (L._∷_ 115 (L._∷_ 116 (L._∷_ 101 (L._∷_ 112 (L._∷_ 58 (L._∷_ 58 (L._∷_ 67 (L._∷_ 104 (L._∷_ 97 (L._∷_ 110 (L._∷_ 103 (L._∷_ 101 L.[])))))))))))) (Syntax.tcons (Syntax.tyStruct (L._∷_ 110 (L._∷_ 101 (L._∷_ 116 (L._∷_ 119 (L._∷_ 111 (L._∷_ 114 (L._∷_ 107 (L._∷_ 58 (L._∷_ 58 (L._∷_ 69 (L._∷_ 100 (L._∷_ 105 (L._∷_ 116 L.[]))))))))))))) (Syntax.tcons q7 (Syntax.tcons q7 (Syntax.tcons q7 (Syntax.tcons q7 (Syntax.tcons q2 (Syntax.tcons q2 (Syntax.tcons (Syntax.tyInt Syntax.w64) Syntax.tnil)))))))) (Syntax.tcons (Syntax.tyStruct (L._∷_ 115 (L._∷_ 116 (L._∷_ 101 (L._∷_ 112 (L._∷_ 58 (L._∷_ 58 (L._∷_ 79 (L._∷_ 108 (L._∷_ 100 L.[]))))))))) (Syntax.tcons (Syntax.tyInt Syntax.w64) (Syntax.tcons q6 (Syntax.tcons q7 (Syntax.tcons q7 (Syntax.tcons q7 (Syntax.tcons q7 (Syntax.tcons q4 Syntax.tnil)))))))) Syntax.tnil))) Syntax.tnil)))) Syntax.tnil)))) (Syntax.tcons q5 Syntax.tnil)))) ((Reads.reads-struct 𝓤 H A W rules-proofs-found-Found·.the-type rules-proofs-found-Found-Laws·.the-laws, Path.refl), ((Reads.reads-struct 𝓤 H A W costly-arc-proofs-Seen·.the-type costly-arc-proofs-Seen-Laws·.the-laws, Path.refl), tt)) Path.refl (λ ρ m. Make.tells-both 𝓤 H A W E ρ (Row.out 0 (G48 .locals)) m (denoteLaws.Is (Declared.row rules-proofs-found-Found·.the-type) (m .1 .1 .1 .1 .1 .1 .1 .1 .1 .1 .0) (StructLaws.vals rules-proofs-found-Found·.the-type rules-proofs-found-Found-Laws·.the-laws (m .1 .1 .1 .1 .1 .1 .1 .1 .1 .1 .0))) (denoteLaws.Is (Declared.row costly-arc-proofs-Seen·.the-type) (m .1 .1 .1 .0) (StructLaws.vals costly-arc-proofs-Seen·.the-type costly-arc-proofs-Seen-Laws·.the-laws (m .1 .1 .1 .0))) (Make.tells-row 𝓤 H A W E ρ (Row.out 0 (G48 .locals)) m 10 (denoteLaws.Is (Declared.row rules-proofs-found-Found·.the-type) (m .1 .1 .1 .1 .1 .1 .1 .1 .1 .1 .0) (StructLaws.vals rules-proofs-found-Found·.the-type rules-proofs-found-Found-Laws·.the-laws (m .1 .1 .1 .1 .1 .1 .1 .1 .1 .1 .0))) (Make.whole-is 𝓤 H A W E (Declared.row rules-proofs-found-Found·.the-type) Path.refl (StructLaws.val rules-proofs-found-Found·.the-type rules-proofs-found-Found-Laws·.the-laws) (StructLaws.tells rules-proofs-found-Found·.the-type rules-proofs-found-Found-Laws·.the-laws) ρ 10 (m .1 .1 .1 .1 .1 .1 .1 .1 .1 .1 .0))) (Make.tells-row 𝓤 H A W E ρ (Row.out 0 (G48 .locals)) m 3 (denoteLaws.Is (Declared.row costly-arc-proofs-Seen·.the-type) (m .1 .1 .1 .0) (StructLaws.vals costly-arc-proofs-Seen·.the-type costly-arc-proofs-Seen-Laws·.the-laws (m .1 .1 .1 .0))) (Make.whole-is 𝓤 H A W E (Declared.row costly-arc-proofs-Seen·.the-type) Path.refl (StructLaws.val costly-arc-proofs-Seen·.the-type costly-arc-proofs-Seen-Laws·.the-laws) (StructLaws.tells costly-arc-proofs-Seen·.the-type costly-arc-proofs-Seen-Laws·.the-laws) ρ 3 (m .1 .1 .1 .0)))) (λ m q. StructSigned.made-val (Apart.apartT rules-proofs-tried-Looked·.the-type) rules-proofs-tried-Looked-Laws·.the-laws (L._∷_ (StructLaws.val rules-proofs-found-Found·.the-type rules-proofs-found-Found-Laws·.the-laws (m .1 .1 .1 .1 .1 .1 .1 .1 .1 .1 .0)) (L._∷_ (StructLaws.val costly-arc-proofs-Seen·.the-type costly-arc-proofs-Seen-Laws·.the-laws (m .1 .1 .1 .0)) L.[])) (m .1 .1 .1 .1 .1 .1 .1 .1 .1 .1 .0, (m .1 .1 .1 .0, tt)) (StructSigned.made-struct rules-proofs-found-Found·.the-type rules-proofs-found-Found-Laws·.the-laws rules-proofs-found-Found-Laws·.lowers (m .1 .1 .1 .1 .1 .1 .1 .1 .1 .1 .0) (q .0), (StructSigned.made-struct costly-arc-proofs-Seen·.the-type costly-arc-proofs-Seen-Laws·.the-laws costly-arc-proofs-Seen-Laws·.lowers (m .1 .1 .1 .0) (q .1), tt))) λ m q. StructSigned.made-is (Apart.apartT rules-proofs-tried-Looked·.the-type) rules-proofs-tried-Looked-Laws·.the-laws (L._∷_ (StructLaws.val rules-proofs-found-Found·.the-type rules-proofs-found-Found-Laws·.the-laws (m .1 .1 .1 .1 .1 .1 .1 .1 .1 .1 .0)) (L._∷_ (StructLaws.val costly-arc-proofs-Seen·.the-type costly-arc-proofs-Seen-Laws·.the-laws (m .1 .1 .1 .0)) L.[])) (m .1 .1 .1 .1 .1 .1 .1 .1 .1 .1 .0, (m .1 .1 .1 .0, tt)) (StructSigned.made-struct rules-proofs-found-Found·.the-type rules-proofs-found-Found-Laws·.the-laws rules-proofs-found-Found-Laws·.lowers (m .1 .1 .1 .1 .1 .1 .1 .1 .1 .1 .0) (q .0), (StructSigned.made-struct costly-arc-proofs-Seen·.the-type costly-arc-proofs-Seen-Laws·.the-laws costly-arc-proofs-Seen-Laws·.lowers (m .1 .1 .1 .0) (q .1), tt))) d44
+          d45 = Typed.s-seq 𝓤 H A W 𝓣 E G48 G49 b28 b29 Δ6 (Typed.pass T48 T49 (s42 bs)) (at44 bs) (Make.t-make-told 𝓤 H A W E 𝓣 (Declared.row (Apart.apartT rules-proofs-tried-Looked·.the-type)) Path.refl (StructLaws.val (Apart.apartT rules-proofs-tried-Looked·.the-type) rules-proofs-tried-Looked-Laws·.the-laws) (StructLaws.lawful (Apart.apartT rules-proofs-tried-Looked·.the-type) rules-proofs-tried-Looked-Laws·.the-laws 𝓤 H A W) (StructLaws.makes (Apart.apartT rules-proofs-tried-Looked·.the-type) rules-proofs-tried-Looked-Laws·.the-plain 𝓤 H A) G48 0 (L._∷_ (Scalar.oAt 10 (Syntax.tyStruct (L._∷_ 114 (L._∷_ 117 (L._∷_ 108 (L._∷_ 101 (L._∷_ 115 (L._∷_ 58 (L._∷_ 58 (L._∷_ 102 (L._∷_ 111 (L._∷_ 117 (L._∷_ 110 (L._∷_ 100 (L._∷_ 58 (L._∷_ 58 (L._∷_ 70 (L._∷_ 111 (L._∷_ 117 (L._∷_ 110 (L._∷_ 100 L.[]))))))))))))))))))) (Syntax.tcons Syntax.tyBool (Syntax.tcons Syntax.tyBool (Syntax.tcons (Syntax.tyStruct (L._∷_ 115 (L._∷_ 116 (L._∷_ 101 (L._∷_ 112 (L._∷_ 58 (L._∷_ 58 (L._∷_ 83 (L._∷_ 116 (L._∷_ 101 (L._∷_ 112 L.[])))))))))) (Syntax.tcons (Syntax.tyInt Syntax.w64) (Syntax.tcons (Syntax.tyInt Syntax.w64) (Syntax.tcons (Syntax.tyStruct (L._∷_ 115 (L._∷_ 116 (L._∷_ 101 (L._∷_ 112 (L._∷_ 58 (L._∷_ 58 (L._∷_ 67 (L._∷_ 104 (L._∷_ 97 (L._∷_ 110 (L._∷_ 103 (L._∷_ 101 L.[])))))))))))) (Syntax.tcons (Syntax.tyStruct (L._∷_ 110 (L._∷_ 101 (L._∷_ 116 (L._∷_ 119 (L._∷_ 111 (L._∷_ 114 (L._∷_ 107 (L._∷_ 58 (L._∷_ 58 (L._∷_ 69 (L._∷_ 100 (L._∷_ 105 (L._∷_ 116 L.[]))))))))))))) (Syntax.tcons q7 (Syntax.tcons q7 (Syntax.tcons q7 (Syntax.tcons q7 (Syntax.tcons q2 (Syntax.tcons q2 (Syntax.tcons (Syntax.tyInt Syntax.w64) (Syntax.tcons q6 Syntax.tnil))))))))) (Syntax.tcons (Syntax.tyStruct (L._∷_ 115 (L._∷_ 116 (L._∷_ 101 (L._∷_ 112 (L._∷_ 58 (L._∷_ 58 (L._∷_ 79 (L._∷_ 108 (L._∷_ 100 L.[]))))))))) (Syntax.tcons (Syntax.tyInt Syntax.w64) (Syntax.tcons q6 (Syntax.tcons q7 (Syntax.tcons q7 (Syntax.tcons q7 (Syntax.tcons q7 (Syntax.tcons q4 Syntax.tnil)))))))) Syntax.tnil))) Syntax.tnil)))) Syntax.tnil)))) (StructLaws.val rules-proofs-found-Found·.the-type rules-proofs-found-Found-Laws·.the-laws)) (L._∷_ (Scalar.oAt 3 q5 (StructLaws.val costly-arc-proofs-Seen·.the-type costly-arc-proofs-Seen-Laws·.the-laws)) L.[])) (λ m. (m .1 .1 .1 .1 .1 .1 .1 .1 .1 .1 .0, (m .1 .1 .1 .0, tt))) (λ m. denoteLaws.Is (Declared.row rules-proofs-found-Found·.the-type) (m .1 .1 .1 .1 .1 .1 .1 .1 .1 .1 .0) (StructLaws.vals rules-proofs-found-Found·.the-type rules-proofs-found-Found-Laws·.the-laws (m .1 .1 .1 .1 .1 .1 .1 .1 .1 .1 .0)) × denoteLaws.Is (Declared.row costly-arc-proofs-Seen·.the-type) (m .1 .1 .1 .0) (StructLaws.vals costly-arc-proofs-Seen·.the-type costly-arc-proofs-Seen-Laws·.the-laws (m .1 .1 .1 .0))) (TReads.room-gone 𝓤 H A (Syntax.tyStruct (L._∷_ 114 (L._∷_ 117 (L._∷_ 108 (L._∷_ 101 (L._∷_ 115 (L._∷_ 58 (L._∷_ 58 (L._∷_ 116 (L._∷_ 114 (L._∷_ 105 (L._∷_ 101 (L._∷_ 100 (L._∷_ 58 (L._∷_ 58 (L._∷_ 76 (L._∷_ 111 (L._∷_ 111 (L._∷_ 107 (L._∷_ 101 (L._∷_ 100 L.[])))))))))))))))))))) (Syntax.tcons (Syntax.tyStruct (L._∷_ 114 (L._∷_ 117 (L._∷_ 108 (L._∷_ 101 (L._∷_ 115 (L._∷_ 58 (L._∷_ 58 (L._∷_ 102 (L._∷_ 111 (L._∷_ 117 (L._∷_ 110 (L._∷_ 100 (L._∷_ 58 (L._∷_ 58 (L._∷_ 70 (L._∷_ 111 (L._∷_ 117 (L._∷_ 110 (L._∷_ 100 L.[]))))))))))))))))))) (Syntax.tcons Syntax.tyBool (Syntax.tcons Syntax.tyBool (Syntax.tcons (Syntax.tyStruct (L._∷_ 115 (L._∷_ 116 (L._∷_ 101 (L._∷_ 112 (L._∷_ 58 (L._∷_ 58 (L._∷_ 83 (L._∷_ 116 (L._∷_ 101 (L._∷_ 112 L.[])))))))))) (Syntax.tcons (Syntax.tyInt Syntax.w64) (Syntax.tcons (Syntax.tyInt Syntax.w64) (Syntax.tcons (Syntax.tyStruct (L._∷_ 115 (L._∷_ 116 (L._∷_ 101 (L._∷_ 112 (L._∷_ 58 (L._∷_ 58 (L._∷_ 67 (L._∷_ 104 (L._∷_ 97 (L._∷_ 110 (L._∷_ 103 (L._∷_ 101 L.[])))))))))))) (Syntax.tcons (Syntax.tyStruct (L._∷_ 110 (L._∷_ 101 (L._∷_ 116 (L._∷_ 119 (L._∷_ 111 (L._∷_ 114 (L._∷_ 107 (L._∷_ 58 (L._∷_ 58 (L._∷_ 69 (L._∷_ 100 (L._∷_ 105 (L._∷_ 116 L.[]))))))))))))) (Syntax.tcons q7 (Syntax.tcons q7 (Syntax.tcons q7 (Syntax.tcons q7 (Syntax.tcons q2 (Syntax.tcons q2 (Syntax.tcons (Syntax.tyInt Syntax.w64) (Syntax.tcons q6 Syntax.tnil))))))))) (Syntax.tcons (Syntax.tyStruct (L._∷_ 115 (L._∷_ 116 (L._∷_ 101 (L._∷_ 112 (L._∷_ 58 (L._∷_ 58 (L._∷_ 79 (L._∷_ 108 (L._∷_ 100 L.[]))))))))) (Syntax.tcons (Syntax.tyInt Syntax.w64) (Syntax.tcons q6 (Syntax.tcons q7 (Syntax.tcons q7 (Syntax.tcons q7 (Syntax.tcons q7 (Syntax.tcons q4 Syntax.tnil)))))))) Syntax.tnil))) Syntax.tnil)))) Syntax.tnil)))) (Syntax.tcons q5 Syntax.tnil)))) ((Reads.reads-struct 𝓤 H A W rules-proofs-found-Found·.the-type rules-proofs-found-Found-Laws·.the-laws, Path.refl), ((Reads.reads-struct 𝓤 H A W costly-arc-proofs-Seen·.the-type costly-arc-proofs-Seen-Laws·.the-laws, Path.refl), tt)) Path.refl (λ ρ m. Make.tells-both 𝓤 H A W E ρ (Row.out 0 (G48 .locals)) m (denoteLaws.Is (Declared.row rules-proofs-found-Found·.the-type) (m .1 .1 .1 .1 .1 .1 .1 .1 .1 .1 .0) (StructLaws.vals rules-proofs-found-Found·.the-type rules-proofs-found-Found-Laws·.the-laws (m .1 .1 .1 .1 .1 .1 .1 .1 .1 .1 .0))) (denoteLaws.Is (Declared.row costly-arc-proofs-Seen·.the-type) (m .1 .1 .1 .0) (StructLaws.vals costly-arc-proofs-Seen·.the-type costly-arc-proofs-Seen-Laws·.the-laws (m .1 .1 .1 .0))) (Make.tells-row 𝓤 H A W E ρ (Row.out 0 (G48 .locals)) m 10 (denoteLaws.Is (Declared.row rules-proofs-found-Found·.the-type) (m .1 .1 .1 .1 .1 .1 .1 .1 .1 .1 .0) (StructLaws.vals rules-proofs-found-Found·.the-type rules-proofs-found-Found-Laws·.the-laws (m .1 .1 .1 .1 .1 .1 .1 .1 .1 .1 .0))) (Make.whole-is 𝓤 H A W E (Declared.row rules-proofs-found-Found·.the-type) Path.refl (StructLaws.val rules-proofs-found-Found·.the-type rules-proofs-found-Found-Laws·.the-laws) (StructLaws.tells rules-proofs-found-Found·.the-type rules-proofs-found-Found-Laws·.the-laws) ρ 10 (m .1 .1 .1 .1 .1 .1 .1 .1 .1 .1 .0))) (Make.tells-row 𝓤 H A W E ρ (Row.out 0 (G48 .locals)) m 3 (denoteLaws.Is (Declared.row costly-arc-proofs-Seen·.the-type) (m .1 .1 .1 .0) (StructLaws.vals costly-arc-proofs-Seen·.the-type costly-arc-proofs-Seen-Laws·.the-laws (m .1 .1 .1 .0))) (Make.whole-is 𝓤 H A W E (Declared.row costly-arc-proofs-Seen·.the-type) Path.refl (StructLaws.val costly-arc-proofs-Seen·.the-type costly-arc-proofs-Seen-Laws·.the-laws) (StructLaws.tells costly-arc-proofs-Seen·.the-type costly-arc-proofs-Seen-Laws·.the-laws) ρ 3 (m .1 .1 .1 .0)))) (λ m q. StructSigned.made-val (Apart.apartT rules-proofs-tried-Looked·.the-type) rules-proofs-tried-Looked-Laws·.the-laws (L._∷_ (StructLaws.val rules-proofs-found-Found·.the-type rules-proofs-found-Found-Laws·.the-laws (m .1 .1 .1 .1 .1 .1 .1 .1 .1 .1 .0)) (L._∷_ (StructLaws.val costly-arc-proofs-Seen·.the-type costly-arc-proofs-Seen-Laws·.the-laws (m .1 .1 .1 .0)) L.[])) (m .1 .1 .1 .1 .1 .1 .1 .1 .1 .1 .0, (m .1 .1 .1 .0, tt)) (StructSigned.made-struct rules-proofs-found-Found·.the-type rules-proofs-found-Found-Laws·.the-laws rules-proofs-found-Found-Laws·.lowers (m .1 .1 .1 .1 .1 .1 .1 .1 .1 .1 .0) (q .0), (StructSigned.made-struct costly-arc-proofs-Seen·.the-type costly-arc-proofs-Seen-Laws·.the-laws costly-arc-proofs-Seen-Laws·.lowers (m .1 .1 .1 .0) (q .1), tt))) λ m q. StructSigned.made-is (Apart.apartT rules-proofs-tried-Looked·.the-type) rules-proofs-tried-Looked-Laws·.the-laws (L._∷_ (StructLaws.val rules-proofs-found-Found·.the-type rules-proofs-found-Found-Laws·.the-laws (m .1 .1 .1 .1 .1 .1 .1 .1 .1 .1 .0)) (L._∷_ (StructLaws.val costly-arc-proofs-Seen·.the-type costly-arc-proofs-Seen-Laws·.the-laws (m .1 .1 .1 .0)) L.[])) (m .1 .1 .1 .1 .1 .1 .1 .1 .1 .1 .0, (m .1 .1 .1 .0, tt)) (StructSigned.made-struct rules-proofs-found-Found·.the-type rules-proofs-found-Found-Laws·.the-laws rules-proofs-found-Found-Laws·.lowers (m .1 .1 .1 .1 .1 .1 .1 .1 .1 .1 .0) (q .0), (StructSigned.made-struct costly-arc-proofs-Seen·.the-type costly-arc-proofs-Seen-Laws·.the-laws costly-arc-proofs-Seen-Laws·.lowers (m .1 .1 .1 .0) (q .1), tt))) d44
 
           d46 : Typed.Typed 𝓤 H A 𝓣 E G47 b30 Δ6 (at46 bs)
           d46 = Typed.g-pre 𝓤 H A W 𝓣 E G47 G48 b30 Δ6 (Typed.pass T47 T48 (s41 bs)) (at45 bs) (Scalar.g-room 𝓤 H A W E G47 15 Syntax.tyBool (Scalar.room-sc 𝓤 H A W Row.sBool)) d45
@@ -1613,7 +1613,7 @@ module _ (claims· : Claims) where
           d50 = Typed.g-pre 𝓤 H A W 𝓣 E G57 G58 b31 Δ6 (Typed.pass T57 T58 (s51 bs)) (at49 bs) (Scalar.g-room 𝓤 H A W E G57 15 Syntax.tyBool (Scalar.room-sc 𝓤 H A W Row.sBool)) d49
 
           d51 : Typed.Typed 𝓤 H A 𝓣 E G56 b31 Δ6 (at51 bs)
-          d51 = Typed.g-pre 𝓤 H A W 𝓣 E G56 G57 b31 Δ6 (Typed.pass T56 T57 (s50 bs)) (at50 bs) (Scalar.g-room 𝓤 H A W E G56 10 (Syntax.tyStruct (L._∷_ 114 (L._∷_ 117 (L._∷_ 108 (L._∷_ 101 (L._∷_ 115 (L._∷_ 58 (L._∷_ 58 (L._∷_ 102 (L._∷_ 111 (L._∷_ 117 (L._∷_ 110 (L._∷_ 100 (L._∷_ 58 (L._∷_ 58 (L._∷_ 70 (L._∷_ 111 (L._∷_ 117 (L._∷_ 110 (L._∷_ 100 L.[]))))))))))))))))))) (Syntax.tcons Syntax.tyBool (Syntax.tcons Syntax.tyBool (Syntax.tcons (Syntax.tyStruct (L._∷_ 115 (L._∷_ 116 (L._∷_ 101 (L._∷_ 112 (L._∷_ 58 (L._∷_ 58 (L._∷_ 83 (L._∷_ 116 (L._∷_ 101 (L._∷_ 112 L.[])))))))))) (Syntax.tcons (Syntax.tyInt Syntax.w64) (Syntax.tcons (Syntax.tyInt Syntax.w64) (Syntax.tcons (Syntax.tyStruct (L._∷_ 115 (L._∷_ 116 (L._∷_ 101 (L._∷_ 112 (L._∷_ 58 (L._∷_ 58 (L._∷_ 67 (L._∷_ 104 (L._∷_ 97 (L._∷_ 110 (L._∷_ 103 (L._∷_ 101 L.[])))))))))))) (Syntax.tcons (Syntax.tyStruct (L._∷_ 110 (L._∷_ 101 (L._∷_ 116 (L._∷_ 119 (L._∷_ 111 (L._∷_ 114 (L._∷_ 107 (L._∷_ 58 (L._∷_ 58 (L._∷_ 69 (L._∷_ 100 (L._∷_ 105 (L._∷_ 116 L.[]))))))))))))) (Syntax.tcons q7 (Syntax.tcons q7 (Syntax.tcons q7 (Syntax.tcons q7 (Syntax.tcons q2 (Syntax.tcons q2 (Syntax.tcons (Syntax.tyInt Syntax.w64) Syntax.tnil)))))))) (Syntax.tcons (Syntax.tyStruct (L._∷_ 115 (L._∷_ 116 (L._∷_ 101 (L._∷_ 112 (L._∷_ 58 (L._∷_ 58 (L._∷_ 79 (L._∷_ 108 (L._∷_ 100 L.[]))))))))) (Syntax.tcons (Syntax.tyInt Syntax.w64) (Syntax.tcons q6 (Syntax.tcons q7 (Syntax.tcons q7 (Syntax.tcons q7 (Syntax.tcons q7 (Syntax.tcons q4 Syntax.tnil)))))))) Syntax.tnil))) Syntax.tnil)))) Syntax.tnil)))) (Local.room-whole 𝓤 H A W (Declared.row rules-proofs-found-Found·.the-type) (Syntax.tyStruct (L._∷_ 114 (L._∷_ 117 (L._∷_ 108 (L._∷_ 101 (L._∷_ 115 (L._∷_ 58 (L._∷_ 58 (L._∷_ 102 (L._∷_ 111 (L._∷_ 117 (L._∷_ 110 (L._∷_ 100 (L._∷_ 58 (L._∷_ 58 (L._∷_ 70 (L._∷_ 111 (L._∷_ 117 (L._∷_ 110 (L._∷_ 100 L.[]))))))))))))))))))) (Syntax.tcons Syntax.tyBool (Syntax.tcons Syntax.tyBool (Syntax.tcons (Syntax.tyStruct (L._∷_ 115 (L._∷_ 116 (L._∷_ 101 (L._∷_ 112 (L._∷_ 58 (L._∷_ 58 (L._∷_ 83 (L._∷_ 116 (L._∷_ 101 (L._∷_ 112 L.[])))))))))) (Syntax.tcons (Syntax.tyInt Syntax.w64) (Syntax.tcons (Syntax.tyInt Syntax.w64) (Syntax.tcons (Syntax.tyStruct (L._∷_ 115 (L._∷_ 116 (L._∷_ 101 (L._∷_ 112 (L._∷_ 58 (L._∷_ 58 (L._∷_ 67 (L._∷_ 104 (L._∷_ 97 (L._∷_ 110 (L._∷_ 103 (L._∷_ 101 L.[])))))))))))) (Syntax.tcons (Syntax.tyStruct (L._∷_ 110 (L._∷_ 101 (L._∷_ 116 (L._∷_ 119 (L._∷_ 111 (L._∷_ 114 (L._∷_ 107 (L._∷_ 58 (L._∷_ 58 (L._∷_ 69 (L._∷_ 100 (L._∷_ 105 (L._∷_ 116 L.[]))))))))))))) (Syntax.tcons q7 (Syntax.tcons q7 (Syntax.tcons q7 (Syntax.tcons q7 (Syntax.tcons q2 (Syntax.tcons q2 (Syntax.tcons (Syntax.tyInt Syntax.w64) Syntax.tnil)))))))) (Syntax.tcons (Syntax.tyStruct (L._∷_ 115 (L._∷_ 116 (L._∷_ 101 (L._∷_ 112 (L._∷_ 58 (L._∷_ 58 (L._∷_ 79 (L._∷_ 108 (L._∷_ 100 L.[]))))))))) (Syntax.tcons (Syntax.tyInt Syntax.w64) (Syntax.tcons q6 (Syntax.tcons q7 (Syntax.tcons q7 (Syntax.tcons q7 (Syntax.tcons q7 (Syntax.tcons q4 Syntax.tnil)))))))) Syntax.tnil))) Syntax.tnil)))) Syntax.tnil)))) Path.refl)) d50
+          d51 = Typed.g-pre 𝓤 H A W 𝓣 E G56 G57 b31 Δ6 (Typed.pass T56 T57 (s50 bs)) (at50 bs) (Scalar.g-room 𝓤 H A W E G56 10 (Syntax.tyStruct (L._∷_ 114 (L._∷_ 117 (L._∷_ 108 (L._∷_ 101 (L._∷_ 115 (L._∷_ 58 (L._∷_ 58 (L._∷_ 102 (L._∷_ 111 (L._∷_ 117 (L._∷_ 110 (L._∷_ 100 (L._∷_ 58 (L._∷_ 58 (L._∷_ 70 (L._∷_ 111 (L._∷_ 117 (L._∷_ 110 (L._∷_ 100 L.[]))))))))))))))))))) (Syntax.tcons Syntax.tyBool (Syntax.tcons Syntax.tyBool (Syntax.tcons (Syntax.tyStruct (L._∷_ 115 (L._∷_ 116 (L._∷_ 101 (L._∷_ 112 (L._∷_ 58 (L._∷_ 58 (L._∷_ 83 (L._∷_ 116 (L._∷_ 101 (L._∷_ 112 L.[])))))))))) (Syntax.tcons (Syntax.tyInt Syntax.w64) (Syntax.tcons (Syntax.tyInt Syntax.w64) (Syntax.tcons (Syntax.tyStruct (L._∷_ 115 (L._∷_ 116 (L._∷_ 101 (L._∷_ 112 (L._∷_ 58 (L._∷_ 58 (L._∷_ 67 (L._∷_ 104 (L._∷_ 97 (L._∷_ 110 (L._∷_ 103 (L._∷_ 101 L.[])))))))))))) (Syntax.tcons (Syntax.tyStruct (L._∷_ 110 (L._∷_ 101 (L._∷_ 116 (L._∷_ 119 (L._∷_ 111 (L._∷_ 114 (L._∷_ 107 (L._∷_ 58 (L._∷_ 58 (L._∷_ 69 (L._∷_ 100 (L._∷_ 105 (L._∷_ 116 L.[]))))))))))))) (Syntax.tcons q7 (Syntax.tcons q7 (Syntax.tcons q7 (Syntax.tcons q7 (Syntax.tcons q2 (Syntax.tcons q2 (Syntax.tcons (Syntax.tyInt Syntax.w64) (Syntax.tcons q6 Syntax.tnil))))))))) (Syntax.tcons (Syntax.tyStruct (L._∷_ 115 (L._∷_ 116 (L._∷_ 101 (L._∷_ 112 (L._∷_ 58 (L._∷_ 58 (L._∷_ 79 (L._∷_ 108 (L._∷_ 100 L.[]))))))))) (Syntax.tcons (Syntax.tyInt Syntax.w64) (Syntax.tcons q6 (Syntax.tcons q7 (Syntax.tcons q7 (Syntax.tcons q7 (Syntax.tcons q7 (Syntax.tcons q4 Syntax.tnil)))))))) Syntax.tnil))) Syntax.tnil)))) Syntax.tnil)))) (Local.room-whole 𝓤 H A W (Declared.row rules-proofs-found-Found·.the-type) (Syntax.tyStruct (L._∷_ 114 (L._∷_ 117 (L._∷_ 108 (L._∷_ 101 (L._∷_ 115 (L._∷_ 58 (L._∷_ 58 (L._∷_ 102 (L._∷_ 111 (L._∷_ 117 (L._∷_ 110 (L._∷_ 100 (L._∷_ 58 (L._∷_ 58 (L._∷_ 70 (L._∷_ 111 (L._∷_ 117 (L._∷_ 110 (L._∷_ 100 L.[]))))))))))))))))))) (Syntax.tcons Syntax.tyBool (Syntax.tcons Syntax.tyBool (Syntax.tcons (Syntax.tyStruct (L._∷_ 115 (L._∷_ 116 (L._∷_ 101 (L._∷_ 112 (L._∷_ 58 (L._∷_ 58 (L._∷_ 83 (L._∷_ 116 (L._∷_ 101 (L._∷_ 112 L.[])))))))))) (Syntax.tcons (Syntax.tyInt Syntax.w64) (Syntax.tcons (Syntax.tyInt Syntax.w64) (Syntax.tcons (Syntax.tyStruct (L._∷_ 115 (L._∷_ 116 (L._∷_ 101 (L._∷_ 112 (L._∷_ 58 (L._∷_ 58 (L._∷_ 67 (L._∷_ 104 (L._∷_ 97 (L._∷_ 110 (L._∷_ 103 (L._∷_ 101 L.[])))))))))))) (Syntax.tcons (Syntax.tyStruct (L._∷_ 110 (L._∷_ 101 (L._∷_ 116 (L._∷_ 119 (L._∷_ 111 (L._∷_ 114 (L._∷_ 107 (L._∷_ 58 (L._∷_ 58 (L._∷_ 69 (L._∷_ 100 (L._∷_ 105 (L._∷_ 116 L.[]))))))))))))) (Syntax.tcons q7 (Syntax.tcons q7 (Syntax.tcons q7 (Syntax.tcons q7 (Syntax.tcons q2 (Syntax.tcons q2 (Syntax.tcons (Syntax.tyInt Syntax.w64) (Syntax.tcons q6 Syntax.tnil))))))))) (Syntax.tcons (Syntax.tyStruct (L._∷_ 115 (L._∷_ 116 (L._∷_ 101 (L._∷_ 112 (L._∷_ 58 (L._∷_ 58 (L._∷_ 79 (L._∷_ 108 (L._∷_ 100 L.[]))))))))) (Syntax.tcons (Syntax.tyInt Syntax.w64) (Syntax.tcons q6 (Syntax.tcons q7 (Syntax.tcons q7 (Syntax.tcons q7 (Syntax.tcons q7 (Syntax.tcons q4 Syntax.tnil)))))))) Syntax.tnil))) Syntax.tnil)))) Syntax.tnil)))) Path.refl)) d50
 
           d52 : Typed.Typed 𝓤 H A 𝓣 E G45 b31 Δ6 (at52 bs)
           d52 = Typed.g-pre 𝓤 H A W 𝓣 E G45 G56 b31 Δ6 (Typed.pass T45 T56 (s49 bs)) (at51 bs) (Scalar.g-room 𝓤 H A W E G45 8 Syntax.tyBool (Scalar.room-sc 𝓤 H A W Row.sBool)) d51
@@ -1625,7 +1625,7 @@ module _ (claims· : Claims) where
           d54 = Typed.s-seq 𝓤 H A W 𝓣 E G44 G45 b27 b32 Δ6 (Typed.pass T44 T45 (s38 bs)) (at53 bs) (Scalar.t-use 𝓤 H A W E 𝓣 G44 (Scalar.oFld 10 (L._∷_ (Syntax.field 0) L.[]) Syntax.tyBool 0 (Reads.fieldV rules-proofs-found-Found·.the-type rules-proofs-found-Found-Laws·.the-laws 0)) 15 (Rows.sc-here Row.sBool) Syntax.tyBool (Row.valS Row.sBool) (Row.sBool .of) (Reads.reads-field 𝓤 H A W rules-proofs-found-Found·.the-type rules-proofs-found-Found-Laws·.the-laws 0 Syntax.tyBool 0 Path.refl, Path.refl) (TReads.room-gone 𝓤 H A Syntax.tyBool) (Scalar.holds-sc 𝓤 H A W Row.sBool) Path.refl (λ u. Path.refl) λ u. tt) d53
 
           d55 : Typed.Typed 𝓤 H A 𝓣 E G43 b34 Δ6 (at55 bs)
-          d55 = Typed.s-seq 𝓤 H A W 𝓣 E G43 G44 b26 b33 Δ6 (Typed.both (s37 bs)) (at54 bs) (Plain.t-call-plain 𝓤 H A W 𝓣 1 ps·4 r·4 (claims· .8) (claims· .9) "search::scan::scan_nodes" (known .4) E (λ pos β. β) G43 (record { pos = 1; st = L.[]; d = 0; at = λ x. x }, (record { pos = 2; ty = Syntax.tyRef (Syntax.named 0) Syntax.imm Rec.named; ref = λ x. x }, (record { pos = 6; st = L.[]; d = 0; at = λ x. x }, (Num.vAt 7 λ x. x, tt)))) 10 (L._∷_ 0 L.[]) (Call.sub-id 𝓤 H A W (G43 .slots)) ((Yields.yields-copy 𝓤 H A W (λ ρ. Unit) (Declared.row network-proofs-Nodes·.the-type) Path.refl (Copies.cStruct network-proofs-Nodes·.the-type network-proofs-Nodes-Laws·.the-laws network-proofs-Nodes-Laws·.the-copy .copy 𝓤 H A W) (Rows.whole (Declared.row network-proofs-Nodes·.the-type)) (λ x. x) (λ x. x) (λ ρ told. Local.mem-whole 𝓤 H A W (Declared.row network-proofs-Nodes·.the-type) ρ) λ ρ told. Local.whole-mem 𝓤 H A W (Declared.row network-proofs-Nodes·.the-type) ρ, Path.refl), (ShrSlice.spares-sslice 𝓤 H A W Rec.row q22 0, Shared.reads-sslice 𝓤 H A W Rec.row q22 0, Path.refl, ((Yields.yields-copy 𝓤 H A W (λ ρ. Unit) (Declared.row network-proofs-Degrees·.the-type) Path.refl (Copies.cStruct network-proofs-Degrees·.the-type network-proofs-Degrees-Laws·.the-laws network-proofs-Degrees-Laws·.the-copy .copy 𝓤 H A W) (Rows.whole (Declared.row network-proofs-Degrees·.the-type)) (λ x. x) (λ x. x) (λ ρ told. Local.mem-whole 𝓤 H A W (Declared.row network-proofs-Degrees·.the-type) ρ) λ ρ told. Local.whole-mem 𝓤 H A W (Declared.row network-proofs-Degrees·.the-type) ρ, Path.refl), ((Scalar.reads-sc 𝓤 H A W (Row.sInt Syntax.w64), Path.refl), tt)))) (TReads.room-gone 𝓤 H A (Syntax.tyStruct (L._∷_ 114 (L._∷_ 117 (L._∷_ 108 (L._∷_ 101 (L._∷_ 115 (L._∷_ 58 (L._∷_ 58 (L._∷_ 102 (L._∷_ 111 (L._∷_ 117 (L._∷_ 110 (L._∷_ 100 (L._∷_ 58 (L._∷_ 58 (L._∷_ 70 (L._∷_ 111 (L._∷_ 117 (L._∷_ 110 (L._∷_ 100 L.[]))))))))))))))))))) (Syntax.tcons Syntax.tyBool (Syntax.tcons Syntax.tyBool (Syntax.tcons (Syntax.tyStruct (L._∷_ 115 (L._∷_ 116 (L._∷_ 101 (L._∷_ 112 (L._∷_ 58 (L._∷_ 58 (L._∷_ 83 (L._∷_ 116 (L._∷_ 101 (L._∷_ 112 L.[])))))))))) (Syntax.tcons (Syntax.tyInt Syntax.w64) (Syntax.tcons (Syntax.tyInt Syntax.w64) (Syntax.tcons (Syntax.tyStruct (L._∷_ 115 (L._∷_ 116 (L._∷_ 101 (L._∷_ 112 (L._∷_ 58 (L._∷_ 58 (L._∷_ 67 (L._∷_ 104 (L._∷_ 97 (L._∷_ 110 (L._∷_ 103 (L._∷_ 101 L.[])))))))))))) (Syntax.tcons (Syntax.tyStruct (L._∷_ 110 (L._∷_ 101 (L._∷_ 116 (L._∷_ 119 (L._∷_ 111 (L._∷_ 114 (L._∷_ 107 (L._∷_ 58 (L._∷_ 58 (L._∷_ 69 (L._∷_ 100 (L._∷_ 105 (L._∷_ 116 L.[]))))))))))))) (Syntax.tcons q7 (Syntax.tcons q7 (Syntax.tcons q7 (Syntax.tcons q7 (Syntax.tcons q2 (Syntax.tcons q2 (Syntax.tcons (Syntax.tyInt Syntax.w64) Syntax.tnil)))))))) (Syntax.tcons (Syntax.tyStruct (L._∷_ 115 (L._∷_ 116 (L._∷_ 101 (L._∷_ 112 (L._∷_ 58 (L._∷_ 58 (L._∷_ 79 (L._∷_ 108 (L._∷_ 100 L.[]))))))))) (Syntax.tcons (Syntax.tyInt Syntax.w64) (Syntax.tcons q6 (Syntax.tcons q7 (Syntax.tcons q7 (Syntax.tcons q7 (Syntax.tcons q7 (Syntax.tcons q4 Syntax.tnil)))))))) Syntax.tnil))) Syntax.tnil)))) Syntax.tnil))))) (tt, tt) Path.refl) d54
+          d55 = Typed.s-seq 𝓤 H A W 𝓣 E G43 G44 b26 b33 Δ6 (Typed.both (s37 bs)) (at54 bs) (Plain.t-call-plain 𝓤 H A W 𝓣 1 ps·4 r·4 (claims· .8) (claims· .9) "search::scan::scan_nodes" (known .4) E (λ pos β. β) G43 (record { pos = 1; st = L.[]; d = 0; at = λ x. x }, (record { pos = 2; ty = Syntax.tyRef (Syntax.named 0) Syntax.imm Rec.named; ref = λ x. x }, (record { pos = 6; st = L.[]; d = 0; at = λ x. x }, (Num.vAt 7 λ x. x, tt)))) 10 (L._∷_ 0 L.[]) (Call.sub-id 𝓤 H A W (G43 .slots)) ((Yields.yields-copy 𝓤 H A W (λ ρ. Unit) (Declared.row network-proofs-Nodes·.the-type) Path.refl (Copies.cStruct network-proofs-Nodes·.the-type network-proofs-Nodes-Laws·.the-laws network-proofs-Nodes-Laws·.the-copy .copy 𝓤 H A W) (Rows.whole (Declared.row network-proofs-Nodes·.the-type)) (λ x. x) (λ x. x) (λ ρ told. Local.mem-whole 𝓤 H A W (Declared.row network-proofs-Nodes·.the-type) ρ) λ ρ told. Local.whole-mem 𝓤 H A W (Declared.row network-proofs-Nodes·.the-type) ρ, Path.refl), (ShrSlice.spares-sslice 𝓤 H A W Rec.row q22 0, Shared.reads-sslice 𝓤 H A W Rec.row q22 0, Path.refl, ((Yields.yields-copy 𝓤 H A W (λ ρ. Unit) (Declared.row network-proofs-Degrees·.the-type) Path.refl (Copies.cStruct network-proofs-Degrees·.the-type network-proofs-Degrees-Laws·.the-laws network-proofs-Degrees-Laws·.the-copy .copy 𝓤 H A W) (Rows.whole (Declared.row network-proofs-Degrees·.the-type)) (λ x. x) (λ x. x) (λ ρ told. Local.mem-whole 𝓤 H A W (Declared.row network-proofs-Degrees·.the-type) ρ) λ ρ told. Local.whole-mem 𝓤 H A W (Declared.row network-proofs-Degrees·.the-type) ρ, Path.refl), ((Scalar.reads-sc 𝓤 H A W (Row.sInt Syntax.w64), Path.refl), tt)))) (TReads.room-gone 𝓤 H A (Syntax.tyStruct (L._∷_ 114 (L._∷_ 117 (L._∷_ 108 (L._∷_ 101 (L._∷_ 115 (L._∷_ 58 (L._∷_ 58 (L._∷_ 102 (L._∷_ 111 (L._∷_ 117 (L._∷_ 110 (L._∷_ 100 (L._∷_ 58 (L._∷_ 58 (L._∷_ 70 (L._∷_ 111 (L._∷_ 117 (L._∷_ 110 (L._∷_ 100 L.[]))))))))))))))))))) (Syntax.tcons Syntax.tyBool (Syntax.tcons Syntax.tyBool (Syntax.tcons (Syntax.tyStruct (L._∷_ 115 (L._∷_ 116 (L._∷_ 101 (L._∷_ 112 (L._∷_ 58 (L._∷_ 58 (L._∷_ 83 (L._∷_ 116 (L._∷_ 101 (L._∷_ 112 L.[])))))))))) (Syntax.tcons (Syntax.tyInt Syntax.w64) (Syntax.tcons (Syntax.tyInt Syntax.w64) (Syntax.tcons (Syntax.tyStruct (L._∷_ 115 (L._∷_ 116 (L._∷_ 101 (L._∷_ 112 (L._∷_ 58 (L._∷_ 58 (L._∷_ 67 (L._∷_ 104 (L._∷_ 97 (L._∷_ 110 (L._∷_ 103 (L._∷_ 101 L.[])))))))))))) (Syntax.tcons (Syntax.tyStruct (L._∷_ 110 (L._∷_ 101 (L._∷_ 116 (L._∷_ 119 (L._∷_ 111 (L._∷_ 114 (L._∷_ 107 (L._∷_ 58 (L._∷_ 58 (L._∷_ 69 (L._∷_ 100 (L._∷_ 105 (L._∷_ 116 L.[]))))))))))))) (Syntax.tcons q7 (Syntax.tcons q7 (Syntax.tcons q7 (Syntax.tcons q7 (Syntax.tcons q2 (Syntax.tcons q2 (Syntax.tcons (Syntax.tyInt Syntax.w64) (Syntax.tcons q6 Syntax.tnil))))))))) (Syntax.tcons (Syntax.tyStruct (L._∷_ 115 (L._∷_ 116 (L._∷_ 101 (L._∷_ 112 (L._∷_ 58 (L._∷_ 58 (L._∷_ 79 (L._∷_ 108 (L._∷_ 100 L.[]))))))))) (Syntax.tcons (Syntax.tyInt Syntax.w64) (Syntax.tcons q6 (Syntax.tcons q7 (Syntax.tcons q7 (Syntax.tcons q7 (Syntax.tcons q7 (Syntax.tcons q4 Syntax.tnil)))))))) Syntax.tnil))) Syntax.tnil)))) Syntax.tnil))))) (tt, tt) Path.refl) d54
 
           d56 : Typed.Typed 𝓤 H A 𝓣 E G24 b34 Δ6 (at56 bs)
           d56 = Typed.g-pre 𝓤 H A W 𝓣 E G24 G43 b34 Δ6 (Typed.pass T24 T43 (s36 bs)) (at55 bs) (Scalar.g-room 𝓤 H A W E G24 13 Syntax.tyBool (Scalar.room-sc 𝓤 H A W Row.sBool)) d55
@@ -1668,7 +1668,7 @@ module _ (claims· : Claims) where
           d68 = Typed.g-pre 𝓤 H A W 𝓣 E G66 G67 b47 Δ0 (Typed.pass T66 T67 (s60 bs)) (at67 bs) (Scalar.g-room 𝓤 H A W E G66 4 (Syntax.tyInt Syntax.w8) (Scalar.room-sc 𝓤 H A W (Row.sInt Syntax.w8))) d67
 
           d69 : Typed.Typed 𝓤 H A 𝓣 E G65 b47 Δ0 (at69 bs)
-          d69 = Typed.g-pre 𝓤 H A W 𝓣 E G65 G66 b47 Δ0 (Typed.pass T65 T66 (s59 bs)) (at68 bs) (Scalar.g-room 𝓤 H A W E G65 11 (Syntax.tyStruct (L._∷_ 114 (L._∷_ 117 (L._∷_ 108 (L._∷_ 101 (L._∷_ 115 (L._∷_ 58 (L._∷_ 58 (L._∷_ 102 (L._∷_ 111 (L._∷_ 117 (L._∷_ 110 (L._∷_ 100 (L._∷_ 58 (L._∷_ 58 (L._∷_ 70 (L._∷_ 111 (L._∷_ 117 (L._∷_ 110 (L._∷_ 100 L.[]))))))))))))))))))) (Syntax.tcons Syntax.tyBool (Syntax.tcons Syntax.tyBool (Syntax.tcons (Syntax.tyStruct (L._∷_ 115 (L._∷_ 116 (L._∷_ 101 (L._∷_ 112 (L._∷_ 58 (L._∷_ 58 (L._∷_ 83 (L._∷_ 116 (L._∷_ 101 (L._∷_ 112 L.[])))))))))) (Syntax.tcons (Syntax.tyInt Syntax.w64) (Syntax.tcons (Syntax.tyInt Syntax.w64) (Syntax.tcons (Syntax.tyStruct (L._∷_ 115 (L._∷_ 116 (L._∷_ 101 (L._∷_ 112 (L._∷_ 58 (L._∷_ 58 (L._∷_ 67 (L._∷_ 104 (L._∷_ 97 (L._∷_ 110 (L._∷_ 103 (L._∷_ 101 L.[])))))))))))) (Syntax.tcons (Syntax.tyStruct (L._∷_ 110 (L._∷_ 101 (L._∷_ 116 (L._∷_ 119 (L._∷_ 111 (L._∷_ 114 (L._∷_ 107 (L._∷_ 58 (L._∷_ 58 (L._∷_ 69 (L._∷_ 100 (L._∷_ 105 (L._∷_ 116 L.[]))))))))))))) (Syntax.tcons q7 (Syntax.tcons q7 (Syntax.tcons q7 (Syntax.tcons q7 (Syntax.tcons q2 (Syntax.tcons q2 (Syntax.tcons (Syntax.tyInt Syntax.w64) Syntax.tnil)))))))) (Syntax.tcons (Syntax.tyStruct (L._∷_ 115 (L._∷_ 116 (L._∷_ 101 (L._∷_ 112 (L._∷_ 58 (L._∷_ 58 (L._∷_ 79 (L._∷_ 108 (L._∷_ 100 L.[]))))))))) (Syntax.tcons (Syntax.tyInt Syntax.w64) (Syntax.tcons q6 (Syntax.tcons q7 (Syntax.tcons q7 (Syntax.tcons q7 (Syntax.tcons q7 (Syntax.tcons q4 Syntax.tnil)))))))) Syntax.tnil))) Syntax.tnil)))) Syntax.tnil)))) (Local.room-whole 𝓤 H A W (Declared.row rules-proofs-found-Found·.the-type) (Syntax.tyStruct (L._∷_ 114 (L._∷_ 117 (L._∷_ 108 (L._∷_ 101 (L._∷_ 115 (L._∷_ 58 (L._∷_ 58 (L._∷_ 102 (L._∷_ 111 (L._∷_ 117 (L._∷_ 110 (L._∷_ 100 (L._∷_ 58 (L._∷_ 58 (L._∷_ 70 (L._∷_ 111 (L._∷_ 117 (L._∷_ 110 (L._∷_ 100 L.[]))))))))))))))))))) (Syntax.tcons Syntax.tyBool (Syntax.tcons Syntax.tyBool (Syntax.tcons (Syntax.tyStruct (L._∷_ 115 (L._∷_ 116 (L._∷_ 101 (L._∷_ 112 (L._∷_ 58 (L._∷_ 58 (L._∷_ 83 (L._∷_ 116 (L._∷_ 101 (L._∷_ 112 L.[])))))))))) (Syntax.tcons (Syntax.tyInt Syntax.w64) (Syntax.tcons (Syntax.tyInt Syntax.w64) (Syntax.tcons (Syntax.tyStruct (L._∷_ 115 (L._∷_ 116 (L._∷_ 101 (L._∷_ 112 (L._∷_ 58 (L._∷_ 58 (L._∷_ 67 (L._∷_ 104 (L._∷_ 97 (L._∷_ 110 (L._∷_ 103 (L._∷_ 101 L.[])))))))))))) (Syntax.tcons (Syntax.tyStruct (L._∷_ 110 (L._∷_ 101 (L._∷_ 116 (L._∷_ 119 (L._∷_ 111 (L._∷_ 114 (L._∷_ 107 (L._∷_ 58 (L._∷_ 58 (L._∷_ 69 (L._∷_ 100 (L._∷_ 105 (L._∷_ 116 L.[]))))))))))))) (Syntax.tcons q7 (Syntax.tcons q7 (Syntax.tcons q7 (Syntax.tcons q7 (Syntax.tcons q2 (Syntax.tcons q2 (Syntax.tcons (Syntax.tyInt Syntax.w64) Syntax.tnil)))))))) (Syntax.tcons (Syntax.tyStruct (L._∷_ 115 (L._∷_ 116 (L._∷_ 101 (L._∷_ 112 (L._∷_ 58 (L._∷_ 58 (L._∷_ 79 (L._∷_ 108 (L._∷_ 100 L.[]))))))))) (Syntax.tcons (Syntax.tyInt Syntax.w64) (Syntax.tcons q6 (Syntax.tcons q7 (Syntax.tcons q7 (Syntax.tcons q7 (Syntax.tcons q7 (Syntax.tcons q4 Syntax.tnil)))))))) Syntax.tnil))) Syntax.tnil)))) Syntax.tnil)))) Path.refl)) d68
+          d69 = Typed.g-pre 𝓤 H A W 𝓣 E G65 G66 b47 Δ0 (Typed.pass T65 T66 (s59 bs)) (at68 bs) (Scalar.g-room 𝓤 H A W E G65 11 (Syntax.tyStruct (L._∷_ 114 (L._∷_ 117 (L._∷_ 108 (L._∷_ 101 (L._∷_ 115 (L._∷_ 58 (L._∷_ 58 (L._∷_ 102 (L._∷_ 111 (L._∷_ 117 (L._∷_ 110 (L._∷_ 100 (L._∷_ 58 (L._∷_ 58 (L._∷_ 70 (L._∷_ 111 (L._∷_ 117 (L._∷_ 110 (L._∷_ 100 L.[]))))))))))))))))))) (Syntax.tcons Syntax.tyBool (Syntax.tcons Syntax.tyBool (Syntax.tcons (Syntax.tyStruct (L._∷_ 115 (L._∷_ 116 (L._∷_ 101 (L._∷_ 112 (L._∷_ 58 (L._∷_ 58 (L._∷_ 83 (L._∷_ 116 (L._∷_ 101 (L._∷_ 112 L.[])))))))))) (Syntax.tcons (Syntax.tyInt Syntax.w64) (Syntax.tcons (Syntax.tyInt Syntax.w64) (Syntax.tcons (Syntax.tyStruct (L._∷_ 115 (L._∷_ 116 (L._∷_ 101 (L._∷_ 112 (L._∷_ 58 (L._∷_ 58 (L._∷_ 67 (L._∷_ 104 (L._∷_ 97 (L._∷_ 110 (L._∷_ 103 (L._∷_ 101 L.[])))))))))))) (Syntax.tcons (Syntax.tyStruct (L._∷_ 110 (L._∷_ 101 (L._∷_ 116 (L._∷_ 119 (L._∷_ 111 (L._∷_ 114 (L._∷_ 107 (L._∷_ 58 (L._∷_ 58 (L._∷_ 69 (L._∷_ 100 (L._∷_ 105 (L._∷_ 116 L.[]))))))))))))) (Syntax.tcons q7 (Syntax.tcons q7 (Syntax.tcons q7 (Syntax.tcons q7 (Syntax.tcons q2 (Syntax.tcons q2 (Syntax.tcons (Syntax.tyInt Syntax.w64) (Syntax.tcons q6 Syntax.tnil))))))))) (Syntax.tcons (Syntax.tyStruct (L._∷_ 115 (L._∷_ 116 (L._∷_ 101 (L._∷_ 112 (L._∷_ 58 (L._∷_ 58 (L._∷_ 79 (L._∷_ 108 (L._∷_ 100 L.[]))))))))) (Syntax.tcons (Syntax.tyInt Syntax.w64) (Syntax.tcons q6 (Syntax.tcons q7 (Syntax.tcons q7 (Syntax.tcons q7 (Syntax.tcons q7 (Syntax.tcons q4 Syntax.tnil)))))))) Syntax.tnil))) Syntax.tnil)))) Syntax.tnil)))) (Local.room-whole 𝓤 H A W (Declared.row rules-proofs-found-Found·.the-type) (Syntax.tyStruct (L._∷_ 114 (L._∷_ 117 (L._∷_ 108 (L._∷_ 101 (L._∷_ 115 (L._∷_ 58 (L._∷_ 58 (L._∷_ 102 (L._∷_ 111 (L._∷_ 117 (L._∷_ 110 (L._∷_ 100 (L._∷_ 58 (L._∷_ 58 (L._∷_ 70 (L._∷_ 111 (L._∷_ 117 (L._∷_ 110 (L._∷_ 100 L.[]))))))))))))))))))) (Syntax.tcons Syntax.tyBool (Syntax.tcons Syntax.tyBool (Syntax.tcons (Syntax.tyStruct (L._∷_ 115 (L._∷_ 116 (L._∷_ 101 (L._∷_ 112 (L._∷_ 58 (L._∷_ 58 (L._∷_ 83 (L._∷_ 116 (L._∷_ 101 (L._∷_ 112 L.[])))))))))) (Syntax.tcons (Syntax.tyInt Syntax.w64) (Syntax.tcons (Syntax.tyInt Syntax.w64) (Syntax.tcons (Syntax.tyStruct (L._∷_ 115 (L._∷_ 116 (L._∷_ 101 (L._∷_ 112 (L._∷_ 58 (L._∷_ 58 (L._∷_ 67 (L._∷_ 104 (L._∷_ 97 (L._∷_ 110 (L._∷_ 103 (L._∷_ 101 L.[])))))))))))) (Syntax.tcons (Syntax.tyStruct (L._∷_ 110 (L._∷_ 101 (L._∷_ 116 (L._∷_ 119 (L._∷_ 111 (L._∷_ 114 (L._∷_ 107 (L._∷_ 58 (L._∷_ 58 (L._∷_ 69 (L._∷_ 100 (L._∷_ 105 (L._∷_ 116 L.[]))))))))))))) (Syntax.tcons q7 (Syntax.tcons q7 (Syntax.tcons q7 (Syntax.tcons q7 (Syntax.tcons q2 (Syntax.tcons q2 (Syntax.tcons (Syntax.tyInt Syntax.w64) (Syntax.tcons q6 Syntax.tnil))))))))) (Syntax.tcons (Syntax.tyStruct (L._∷_ 115 (L._∷_ 116 (L._∷_ 101 (L._∷_ 112 (L._∷_ 58 (L._∷_ 58 (L._∷_ 79 (L._∷_ 108 (L._∷_ 100 L.[]))))))))) (Syntax.tcons (Syntax.tyInt Syntax.w64) (Syntax.tcons q6 (Syntax.tcons q7 (Syntax.tcons q7 (Syntax.tcons q7 (Syntax.tcons q7 (Syntax.tcons q4 Syntax.tnil)))))))) Syntax.tnil))) Syntax.tnil)))) Syntax.tnil)))) Path.refl)) d68
 
           d70 : Typed.Typed 𝓤 H A 𝓣 E G64 b47 Δ0 (at70 bs)
           d70 = Typed.g-pre 𝓤 H A W 𝓣 E G64 G65 b47 Δ0 (Typed.pass T64 T65 (s58 bs)) (at69 bs) (Scalar.g-room 𝓤 H A W E G64 8 Syntax.tyBool (Scalar.room-sc 𝓤 H A W Row.sBool)) d69
@@ -1680,10 +1680,10 @@ module _ (claims· : Claims) where
           d72 = Typed.g-pre 𝓤 H A W 𝓣 E G62 G63 b47 Δ0 (Typed.pass T62 T63 (s56 bs)) (at71 bs) (Scalar.g-room 𝓤 H A W E G62 3 q5 (Local.room-whole 𝓤 H A W (Declared.row costly-arc-proofs-Seen·.the-type) q5 Path.refl)) d71
 
           d73 : Typed.Typed 𝓤 H A 𝓣 E G61 b48 Δ0 (at73 bs)
-          d73 = Typed.s-seq 𝓤 H A W 𝓣 E G61 G62 b46 b47 Δ0 (Typed.pass T61 T62 (s55 bs)) (at72 bs) (Make.t-make-told 𝓤 H A W E 𝓣 (Declared.row (Apart.apartT rules-proofs-tried-Looked·.the-type)) Path.refl (StructLaws.val (Apart.apartT rules-proofs-tried-Looked·.the-type) rules-proofs-tried-Looked-Laws·.the-laws) (StructLaws.lawful (Apart.apartT rules-proofs-tried-Looked·.the-type) rules-proofs-tried-Looked-Laws·.the-laws 𝓤 H A W) (StructLaws.makes (Apart.apartT rules-proofs-tried-Looked·.the-type) rules-proofs-tried-Looked-Laws·.the-plain 𝓤 H A) G61 0 (L._∷_ (Scalar.oAt 11 (Syntax.tyStruct (L._∷_ 114 (L._∷_ 117 (L._∷_ 108 (L._∷_ 101 (L._∷_ 115 (L._∷_ 58 (L._∷_ 58 (L._∷_ 102 (L._∷_ 111 (L._∷_ 117 (L._∷_ 110 (L._∷_ 100 (L._∷_ 58 (L._∷_ 58 (L._∷_ 70 (L._∷_ 111 (L._∷_ 117 (L._∷_ 110 (L._∷_ 100 L.[]))))))))))))))))))) (Syntax.tcons Syntax.tyBool (Syntax.tcons Syntax.tyBool (Syntax.tcons (Syntax.tyStruct (L._∷_ 115 (L._∷_ 116 (L._∷_ 101 (L._∷_ 112 (L._∷_ 58 (L._∷_ 58 (L._∷_ 83 (L._∷_ 116 (L._∷_ 101 (L._∷_ 112 L.[])))))))))) (Syntax.tcons (Syntax.tyInt Syntax.w64) (Syntax.tcons (Syntax.tyInt Syntax.w64) (Syntax.tcons (Syntax.tyStruct (L._∷_ 115 (L._∷_ 116 (L._∷_ 101 (L._∷_ 112 (L._∷_ 58 (L._∷_ 58 (L._∷_ 67 (L._∷_ 104 (L._∷_ 97 (L._∷_ 110 (L._∷_ 103 (L._∷_ 101 L.[])))))))))))) (Syntax.tcons (Syntax.tyStruct (L._∷_ 110 (L._∷_ 101 (L._∷_ 116 (L._∷_ 119 (L._∷_ 111 (L._∷_ 114 (L._∷_ 107 (L._∷_ 58 (L._∷_ 58 (L._∷_ 69 (L._∷_ 100 (L._∷_ 105 (L._∷_ 116 L.[]))))))))))))) (Syntax.tcons q7 (Syntax.tcons q7 (Syntax.tcons q7 (Syntax.tcons q7 (Syntax.tcons q2 (Syntax.tcons q2 (Syntax.tcons (Syntax.tyInt Syntax.w64) Syntax.tnil)))))))) (Syntax.tcons (Syntax.tyStruct (L._∷_ 115 (L._∷_ 116 (L._∷_ 101 (L._∷_ 112 (L._∷_ 58 (L._∷_ 58 (L._∷_ 79 (L._∷_ 108 (L._∷_ 100 L.[]))))))))) (Syntax.tcons (Syntax.tyInt Syntax.w64) (Syntax.tcons q6 (Syntax.tcons q7 (Syntax.tcons q7 (Syntax.tcons q7 (Syntax.tcons q7 (Syntax.tcons q4 Syntax.tnil)))))))) Syntax.tnil))) Syntax.tnil)))) Syntax.tnil)))) (StructLaws.val rules-proofs-found-Found·.the-type rules-proofs-found-Found-Laws·.the-laws)) (L._∷_ (Scalar.oAt 3 q5 (StructLaws.val costly-arc-proofs-Seen·.the-type costly-arc-proofs-Seen-Laws·.the-laws)) L.[])) (λ m. (m .1 .1 .1 .1 .1 .1 .1 .1 .1 .1 .1 .0, (m .1 .1 .1 .0, tt))) (λ m. denoteLaws.Is (Declared.row rules-proofs-found-Found·.the-type) (m .1 .1 .1 .1 .1 .1 .1 .1 .1 .1 .1 .0) (StructLaws.vals rules-proofs-found-Found·.the-type rules-proofs-found-Found-Laws·.the-laws (m .1 .1 .1 .1 .1 .1 .1 .1 .1 .1 .1 .0)) × denoteLaws.Is (Declared.row costly-arc-proofs-Seen·.the-type) (m .1 .1 .1 .0) (StructLaws.vals costly-arc-proofs-Seen·.the-type costly-arc-proofs-Seen-Laws·.the-laws (m .1 .1 .1 .0))) (TReads.room-gone 𝓤 H A (Syntax.tyStruct (L._∷_ 114 (L._∷_ 117 (L._∷_ 108 (L._∷_ 101 (L._∷_ 115 (L._∷_ 58 (L._∷_ 58 (L._∷_ 116 (L._∷_ 114 (L._∷_ 105 (L._∷_ 101 (L._∷_ 100 (L._∷_ 58 (L._∷_ 58 (L._∷_ 76 (L._∷_ 111 (L._∷_ 111 (L._∷_ 107 (L._∷_ 101 (L._∷_ 100 L.[])))))))))))))))))))) (Syntax.tcons (Syntax.tyStruct (L._∷_ 114 (L._∷_ 117 (L._∷_ 108 (L._∷_ 101 (L._∷_ 115 (L._∷_ 58 (L._∷_ 58 (L._∷_ 102 (L._∷_ 111 (L._∷_ 117 (L._∷_ 110 (L._∷_ 100 (L._∷_ 58 (L._∷_ 58 (L._∷_ 70 (L._∷_ 111 (L._∷_ 117 (L._∷_ 110 (L._∷_ 100 L.[]))))))))))))))))))) (Syntax.tcons Syntax.tyBool (Syntax.tcons Syntax.tyBool (Syntax.tcons (Syntax.tyStruct (L._∷_ 115 (L._∷_ 116 (L._∷_ 101 (L._∷_ 112 (L._∷_ 58 (L._∷_ 58 (L._∷_ 83 (L._∷_ 116 (L._∷_ 101 (L._∷_ 112 L.[])))))))))) (Syntax.tcons (Syntax.tyInt Syntax.w64) (Syntax.tcons (Syntax.tyInt Syntax.w64) (Syntax.tcons (Syntax.tyStruct (L._∷_ 115 (L._∷_ 116 (L._∷_ 101 (L._∷_ 112 (L._∷_ 58 (L._∷_ 58 (L._∷_ 67 (L._∷_ 104 (L._∷_ 97 (L._∷_ 110 (L._∷_ 103 (L._∷_ 101 L.[])))))))))))) (Syntax.tcons (Syntax.tyStruct (L._∷_ 110 (L._∷_ 101 (L._∷_ 116 (L._∷_ 119 (L._∷_ 111 (L._∷_ 114 (L._∷_ 107 (L._∷_ 58 (L._∷_ 58 (L._∷_ 69 (L._∷_ 100 (L._∷_ 105 (L._∷_ 116 L.[]))))))))))))) (Syntax.tcons q7 (Syntax.tcons q7 (Syntax.tcons q7 (Syntax.tcons q7 (Syntax.tcons q2 (Syntax.tcons q2 (Syntax.tcons (Syntax.tyInt Syntax.w64) Syntax.tnil)))))))) (Syntax.tcons (Syntax.tyStruct (L._∷_ 115 (L._∷_ 116 (L._∷_ 101 (L._∷_ 112 (L._∷_ 58 (L._∷_ 58 (L._∷_ 79 (L._∷_ 108 (L._∷_ 100 L.[]))))))))) (Syntax.tcons (Syntax.tyInt Syntax.w64) (Syntax.tcons q6 (Syntax.tcons q7 (Syntax.tcons q7 (Syntax.tcons q7 (Syntax.tcons q7 (Syntax.tcons q4 Syntax.tnil)))))))) Syntax.tnil))) Syntax.tnil)))) Syntax.tnil)))) (Syntax.tcons q5 Syntax.tnil)))) ((Reads.reads-struct 𝓤 H A W rules-proofs-found-Found·.the-type rules-proofs-found-Found-Laws·.the-laws, Path.refl), ((Reads.reads-struct 𝓤 H A W costly-arc-proofs-Seen·.the-type costly-arc-proofs-Seen-Laws·.the-laws, Path.refl), tt)) Path.refl (λ ρ m. Make.tells-both 𝓤 H A W E ρ (Row.out 0 (G61 .locals)) m (denoteLaws.Is (Declared.row rules-proofs-found-Found·.the-type) (m .1 .1 .1 .1 .1 .1 .1 .1 .1 .1 .1 .0) (StructLaws.vals rules-proofs-found-Found·.the-type rules-proofs-found-Found-Laws·.the-laws (m .1 .1 .1 .1 .1 .1 .1 .1 .1 .1 .1 .0))) (denoteLaws.Is (Declared.row costly-arc-proofs-Seen·.the-type) (m .1 .1 .1 .0) (StructLaws.vals costly-arc-proofs-Seen·.the-type costly-arc-proofs-Seen-Laws·.the-laws (m .1 .1 .1 .0))) (Make.tells-row 𝓤 H A W E ρ (Row.out 0 (G61 .locals)) m 11 (denoteLaws.Is (Declared.row rules-proofs-found-Found·.the-type) (m .1 .1 .1 .1 .1 .1 .1 .1 .1 .1 .1 .0) (StructLaws.vals rules-proofs-found-Found·.the-type rules-proofs-found-Found-Laws·.the-laws (m .1 .1 .1 .1 .1 .1 .1 .1 .1 .1 .1 .0))) (Make.whole-is 𝓤 H A W E (Declared.row rules-proofs-found-Found·.the-type) Path.refl (StructLaws.val rules-proofs-found-Found·.the-type rules-proofs-found-Found-Laws·.the-laws) (StructLaws.tells rules-proofs-found-Found·.the-type rules-proofs-found-Found-Laws·.the-laws) ρ 11 (m .1 .1 .1 .1 .1 .1 .1 .1 .1 .1 .1 .0))) (Make.tells-row 𝓤 H A W E ρ (Row.out 0 (G61 .locals)) m 3 (denoteLaws.Is (Declared.row costly-arc-proofs-Seen·.the-type) (m .1 .1 .1 .0) (StructLaws.vals costly-arc-proofs-Seen·.the-type costly-arc-proofs-Seen-Laws·.the-laws (m .1 .1 .1 .0))) (Make.whole-is 𝓤 H A W E (Declared.row costly-arc-proofs-Seen·.the-type) Path.refl (StructLaws.val costly-arc-proofs-Seen·.the-type costly-arc-proofs-Seen-Laws·.the-laws) (StructLaws.tells costly-arc-proofs-Seen·.the-type costly-arc-proofs-Seen-Laws·.the-laws) ρ 3 (m .1 .1 .1 .0)))) (λ m q. StructSigned.made-val (Apart.apartT rules-proofs-tried-Looked·.the-type) rules-proofs-tried-Looked-Laws·.the-laws (L._∷_ (StructLaws.val rules-proofs-found-Found·.the-type rules-proofs-found-Found-Laws·.the-laws (m .1 .1 .1 .1 .1 .1 .1 .1 .1 .1 .1 .0)) (L._∷_ (StructLaws.val costly-arc-proofs-Seen·.the-type costly-arc-proofs-Seen-Laws·.the-laws (m .1 .1 .1 .0)) L.[])) (m .1 .1 .1 .1 .1 .1 .1 .1 .1 .1 .1 .0, (m .1 .1 .1 .0, tt)) (StructSigned.made-struct rules-proofs-found-Found·.the-type rules-proofs-found-Found-Laws·.the-laws rules-proofs-found-Found-Laws·.lowers (m .1 .1 .1 .1 .1 .1 .1 .1 .1 .1 .1 .0) (q .0), (StructSigned.made-struct costly-arc-proofs-Seen·.the-type costly-arc-proofs-Seen-Laws·.the-laws costly-arc-proofs-Seen-Laws·.lowers (m .1 .1 .1 .0) (q .1), tt))) λ m q. StructSigned.made-is (Apart.apartT rules-proofs-tried-Looked·.the-type) rules-proofs-tried-Looked-Laws·.the-laws (L._∷_ (StructLaws.val rules-proofs-found-Found·.the-type rules-proofs-found-Found-Laws·.the-laws (m .1 .1 .1 .1 .1 .1 .1 .1 .1 .1 .1 .0)) (L._∷_ (StructLaws.val costly-arc-proofs-Seen·.the-type costly-arc-proofs-Seen-Laws·.the-laws (m .1 .1 .1 .0)) L.[])) (m .1 .1 .1 .1 .1 .1 .1 .1 .1 .1 .1 .0, (m .1 .1 .1 .0, tt)) (StructSigned.made-struct rules-proofs-found-Found·.the-type rules-proofs-found-Found-Laws·.the-laws rules-proofs-found-Found-Laws·.lowers (m .1 .1 .1 .1 .1 .1 .1 .1 .1 .1 .1 .0) (q .0), (StructSigned.made-struct costly-arc-proofs-Seen·.the-type costly-arc-proofs-Seen-Laws·.the-laws costly-arc-proofs-Seen-Laws·.lowers (m .1 .1 .1 .0) (q .1), tt))) d72
+          d73 = Typed.s-seq 𝓤 H A W 𝓣 E G61 G62 b46 b47 Δ0 (Typed.pass T61 T62 (s55 bs)) (at72 bs) (Make.t-make-told 𝓤 H A W E 𝓣 (Declared.row (Apart.apartT rules-proofs-tried-Looked·.the-type)) Path.refl (StructLaws.val (Apart.apartT rules-proofs-tried-Looked·.the-type) rules-proofs-tried-Looked-Laws·.the-laws) (StructLaws.lawful (Apart.apartT rules-proofs-tried-Looked·.the-type) rules-proofs-tried-Looked-Laws·.the-laws 𝓤 H A W) (StructLaws.makes (Apart.apartT rules-proofs-tried-Looked·.the-type) rules-proofs-tried-Looked-Laws·.the-plain 𝓤 H A) G61 0 (L._∷_ (Scalar.oAt 11 (Syntax.tyStruct (L._∷_ 114 (L._∷_ 117 (L._∷_ 108 (L._∷_ 101 (L._∷_ 115 (L._∷_ 58 (L._∷_ 58 (L._∷_ 102 (L._∷_ 111 (L._∷_ 117 (L._∷_ 110 (L._∷_ 100 (L._∷_ 58 (L._∷_ 58 (L._∷_ 70 (L._∷_ 111 (L._∷_ 117 (L._∷_ 110 (L._∷_ 100 L.[]))))))))))))))))))) (Syntax.tcons Syntax.tyBool (Syntax.tcons Syntax.tyBool (Syntax.tcons (Syntax.tyStruct (L._∷_ 115 (L._∷_ 116 (L._∷_ 101 (L._∷_ 112 (L._∷_ 58 (L._∷_ 58 (L._∷_ 83 (L._∷_ 116 (L._∷_ 101 (L._∷_ 112 L.[])))))))))) (Syntax.tcons (Syntax.tyInt Syntax.w64) (Syntax.tcons (Syntax.tyInt Syntax.w64) (Syntax.tcons (Syntax.tyStruct (L._∷_ 115 (L._∷_ 116 (L._∷_ 101 (L._∷_ 112 (L._∷_ 58 (L._∷_ 58 (L._∷_ 67 (L._∷_ 104 (L._∷_ 97 (L._∷_ 110 (L._∷_ 103 (L._∷_ 101 L.[])))))))))))) (Syntax.tcons (Syntax.tyStruct (L._∷_ 110 (L._∷_ 101 (L._∷_ 116 (L._∷_ 119 (L._∷_ 111 (L._∷_ 114 (L._∷_ 107 (L._∷_ 58 (L._∷_ 58 (L._∷_ 69 (L._∷_ 100 (L._∷_ 105 (L._∷_ 116 L.[]))))))))))))) (Syntax.tcons q7 (Syntax.tcons q7 (Syntax.tcons q7 (Syntax.tcons q7 (Syntax.tcons q2 (Syntax.tcons q2 (Syntax.tcons (Syntax.tyInt Syntax.w64) (Syntax.tcons q6 Syntax.tnil))))))))) (Syntax.tcons (Syntax.tyStruct (L._∷_ 115 (L._∷_ 116 (L._∷_ 101 (L._∷_ 112 (L._∷_ 58 (L._∷_ 58 (L._∷_ 79 (L._∷_ 108 (L._∷_ 100 L.[]))))))))) (Syntax.tcons (Syntax.tyInt Syntax.w64) (Syntax.tcons q6 (Syntax.tcons q7 (Syntax.tcons q7 (Syntax.tcons q7 (Syntax.tcons q7 (Syntax.tcons q4 Syntax.tnil)))))))) Syntax.tnil))) Syntax.tnil)))) Syntax.tnil)))) (StructLaws.val rules-proofs-found-Found·.the-type rules-proofs-found-Found-Laws·.the-laws)) (L._∷_ (Scalar.oAt 3 q5 (StructLaws.val costly-arc-proofs-Seen·.the-type costly-arc-proofs-Seen-Laws·.the-laws)) L.[])) (λ m. (m .1 .1 .1 .1 .1 .1 .1 .1 .1 .1 .1 .0, (m .1 .1 .1 .0, tt))) (λ m. denoteLaws.Is (Declared.row rules-proofs-found-Found·.the-type) (m .1 .1 .1 .1 .1 .1 .1 .1 .1 .1 .1 .0) (StructLaws.vals rules-proofs-found-Found·.the-type rules-proofs-found-Found-Laws·.the-laws (m .1 .1 .1 .1 .1 .1 .1 .1 .1 .1 .1 .0)) × denoteLaws.Is (Declared.row costly-arc-proofs-Seen·.the-type) (m .1 .1 .1 .0) (StructLaws.vals costly-arc-proofs-Seen·.the-type costly-arc-proofs-Seen-Laws·.the-laws (m .1 .1 .1 .0))) (TReads.room-gone 𝓤 H A (Syntax.tyStruct (L._∷_ 114 (L._∷_ 117 (L._∷_ 108 (L._∷_ 101 (L._∷_ 115 (L._∷_ 58 (L._∷_ 58 (L._∷_ 116 (L._∷_ 114 (L._∷_ 105 (L._∷_ 101 (L._∷_ 100 (L._∷_ 58 (L._∷_ 58 (L._∷_ 76 (L._∷_ 111 (L._∷_ 111 (L._∷_ 107 (L._∷_ 101 (L._∷_ 100 L.[])))))))))))))))))))) (Syntax.tcons (Syntax.tyStruct (L._∷_ 114 (L._∷_ 117 (L._∷_ 108 (L._∷_ 101 (L._∷_ 115 (L._∷_ 58 (L._∷_ 58 (L._∷_ 102 (L._∷_ 111 (L._∷_ 117 (L._∷_ 110 (L._∷_ 100 (L._∷_ 58 (L._∷_ 58 (L._∷_ 70 (L._∷_ 111 (L._∷_ 117 (L._∷_ 110 (L._∷_ 100 L.[]))))))))))))))))))) (Syntax.tcons Syntax.tyBool (Syntax.tcons Syntax.tyBool (Syntax.tcons (Syntax.tyStruct (L._∷_ 115 (L._∷_ 116 (L._∷_ 101 (L._∷_ 112 (L._∷_ 58 (L._∷_ 58 (L._∷_ 83 (L._∷_ 116 (L._∷_ 101 (L._∷_ 112 L.[])))))))))) (Syntax.tcons (Syntax.tyInt Syntax.w64) (Syntax.tcons (Syntax.tyInt Syntax.w64) (Syntax.tcons (Syntax.tyStruct (L._∷_ 115 (L._∷_ 116 (L._∷_ 101 (L._∷_ 112 (L._∷_ 58 (L._∷_ 58 (L._∷_ 67 (L._∷_ 104 (L._∷_ 97 (L._∷_ 110 (L._∷_ 103 (L._∷_ 101 L.[])))))))))))) (Syntax.tcons (Syntax.tyStruct (L._∷_ 110 (L._∷_ 101 (L._∷_ 116 (L._∷_ 119 (L._∷_ 111 (L._∷_ 114 (L._∷_ 107 (L._∷_ 58 (L._∷_ 58 (L._∷_ 69 (L._∷_ 100 (L._∷_ 105 (L._∷_ 116 L.[]))))))))))))) (Syntax.tcons q7 (Syntax.tcons q7 (Syntax.tcons q7 (Syntax.tcons q7 (Syntax.tcons q2 (Syntax.tcons q2 (Syntax.tcons (Syntax.tyInt Syntax.w64) (Syntax.tcons q6 Syntax.tnil))))))))) (Syntax.tcons (Syntax.tyStruct (L._∷_ 115 (L._∷_ 116 (L._∷_ 101 (L._∷_ 112 (L._∷_ 58 (L._∷_ 58 (L._∷_ 79 (L._∷_ 108 (L._∷_ 100 L.[]))))))))) (Syntax.tcons (Syntax.tyInt Syntax.w64) (Syntax.tcons q6 (Syntax.tcons q7 (Syntax.tcons q7 (Syntax.tcons q7 (Syntax.tcons q7 (Syntax.tcons q4 Syntax.tnil)))))))) Syntax.tnil))) Syntax.tnil)))) Syntax.tnil)))) (Syntax.tcons q5 Syntax.tnil)))) ((Reads.reads-struct 𝓤 H A W rules-proofs-found-Found·.the-type rules-proofs-found-Found-Laws·.the-laws, Path.refl), ((Reads.reads-struct 𝓤 H A W costly-arc-proofs-Seen·.the-type costly-arc-proofs-Seen-Laws·.the-laws, Path.refl), tt)) Path.refl (λ ρ m. Make.tells-both 𝓤 H A W E ρ (Row.out 0 (G61 .locals)) m (denoteLaws.Is (Declared.row rules-proofs-found-Found·.the-type) (m .1 .1 .1 .1 .1 .1 .1 .1 .1 .1 .1 .0) (StructLaws.vals rules-proofs-found-Found·.the-type rules-proofs-found-Found-Laws·.the-laws (m .1 .1 .1 .1 .1 .1 .1 .1 .1 .1 .1 .0))) (denoteLaws.Is (Declared.row costly-arc-proofs-Seen·.the-type) (m .1 .1 .1 .0) (StructLaws.vals costly-arc-proofs-Seen·.the-type costly-arc-proofs-Seen-Laws·.the-laws (m .1 .1 .1 .0))) (Make.tells-row 𝓤 H A W E ρ (Row.out 0 (G61 .locals)) m 11 (denoteLaws.Is (Declared.row rules-proofs-found-Found·.the-type) (m .1 .1 .1 .1 .1 .1 .1 .1 .1 .1 .1 .0) (StructLaws.vals rules-proofs-found-Found·.the-type rules-proofs-found-Found-Laws·.the-laws (m .1 .1 .1 .1 .1 .1 .1 .1 .1 .1 .1 .0))) (Make.whole-is 𝓤 H A W E (Declared.row rules-proofs-found-Found·.the-type) Path.refl (StructLaws.val rules-proofs-found-Found·.the-type rules-proofs-found-Found-Laws·.the-laws) (StructLaws.tells rules-proofs-found-Found·.the-type rules-proofs-found-Found-Laws·.the-laws) ρ 11 (m .1 .1 .1 .1 .1 .1 .1 .1 .1 .1 .1 .0))) (Make.tells-row 𝓤 H A W E ρ (Row.out 0 (G61 .locals)) m 3 (denoteLaws.Is (Declared.row costly-arc-proofs-Seen·.the-type) (m .1 .1 .1 .0) (StructLaws.vals costly-arc-proofs-Seen·.the-type costly-arc-proofs-Seen-Laws·.the-laws (m .1 .1 .1 .0))) (Make.whole-is 𝓤 H A W E (Declared.row costly-arc-proofs-Seen·.the-type) Path.refl (StructLaws.val costly-arc-proofs-Seen·.the-type costly-arc-proofs-Seen-Laws·.the-laws) (StructLaws.tells costly-arc-proofs-Seen·.the-type costly-arc-proofs-Seen-Laws·.the-laws) ρ 3 (m .1 .1 .1 .0)))) (λ m q. StructSigned.made-val (Apart.apartT rules-proofs-tried-Looked·.the-type) rules-proofs-tried-Looked-Laws·.the-laws (L._∷_ (StructLaws.val rules-proofs-found-Found·.the-type rules-proofs-found-Found-Laws·.the-laws (m .1 .1 .1 .1 .1 .1 .1 .1 .1 .1 .1 .0)) (L._∷_ (StructLaws.val costly-arc-proofs-Seen·.the-type costly-arc-proofs-Seen-Laws·.the-laws (m .1 .1 .1 .0)) L.[])) (m .1 .1 .1 .1 .1 .1 .1 .1 .1 .1 .1 .0, (m .1 .1 .1 .0, tt)) (StructSigned.made-struct rules-proofs-found-Found·.the-type rules-proofs-found-Found-Laws·.the-laws rules-proofs-found-Found-Laws·.lowers (m .1 .1 .1 .1 .1 .1 .1 .1 .1 .1 .1 .0) (q .0), (StructSigned.made-struct costly-arc-proofs-Seen·.the-type costly-arc-proofs-Seen-Laws·.the-laws costly-arc-proofs-Seen-Laws·.lowers (m .1 .1 .1 .0) (q .1), tt))) λ m q. StructSigned.made-is (Apart.apartT rules-proofs-tried-Looked·.the-type) rules-proofs-tried-Looked-Laws·.the-laws (L._∷_ (StructLaws.val rules-proofs-found-Found·.the-type rules-proofs-found-Found-Laws·.the-laws (m .1 .1 .1 .1 .1 .1 .1 .1 .1 .1 .1 .0)) (L._∷_ (StructLaws.val costly-arc-proofs-Seen·.the-type costly-arc-proofs-Seen-Laws·.the-laws (m .1 .1 .1 .0)) L.[])) (m .1 .1 .1 .1 .1 .1 .1 .1 .1 .1 .1 .0, (m .1 .1 .1 .0, tt)) (StructSigned.made-struct rules-proofs-found-Found·.the-type rules-proofs-found-Found-Laws·.the-laws rules-proofs-found-Found-Laws·.lowers (m .1 .1 .1 .1 .1 .1 .1 .1 .1 .1 .1 .0) (q .0), (StructSigned.made-struct costly-arc-proofs-Seen·.the-type costly-arc-proofs-Seen-Laws·.the-laws costly-arc-proofs-Seen-Laws·.lowers (m .1 .1 .1 .0) (q .1), tt))) d72
 
           d74 : Typed.Typed 𝓤 H A 𝓣 E G17 b49 Δ0 (at74 bs)
-          d74 = Typed.s-seq 𝓤 H A W 𝓣 E G17 G61 b45 b48 Δ0 (Typed.both (s54 bs)) (at73 bs) (Plain.t-call-plain 𝓤 H A W 𝓣 0 ps·5 r·5 (claims· .10) (claims· .11) "rules::found::nothing" (known .5) E (λ pos β. β) G17 tt 11 L.[] (Call.sub-id 𝓤 H A W (G17 .slots)) tt (TReads.room-gone 𝓤 H A (Syntax.tyStruct (L._∷_ 114 (L._∷_ 117 (L._∷_ 108 (L._∷_ 101 (L._∷_ 115 (L._∷_ 58 (L._∷_ 58 (L._∷_ 102 (L._∷_ 111 (L._∷_ 117 (L._∷_ 110 (L._∷_ 100 (L._∷_ 58 (L._∷_ 58 (L._∷_ 70 (L._∷_ 111 (L._∷_ 117 (L._∷_ 110 (L._∷_ 100 L.[]))))))))))))))))))) (Syntax.tcons Syntax.tyBool (Syntax.tcons Syntax.tyBool (Syntax.tcons (Syntax.tyStruct (L._∷_ 115 (L._∷_ 116 (L._∷_ 101 (L._∷_ 112 (L._∷_ 58 (L._∷_ 58 (L._∷_ 83 (L._∷_ 116 (L._∷_ 101 (L._∷_ 112 L.[])))))))))) (Syntax.tcons (Syntax.tyInt Syntax.w64) (Syntax.tcons (Syntax.tyInt Syntax.w64) (Syntax.tcons (Syntax.tyStruct (L._∷_ 115 (L._∷_ 116 (L._∷_ 101 (L._∷_ 112 (L._∷_ 58 (L._∷_ 58 (L._∷_ 67 (L._∷_ 104 (L._∷_ 97 (L._∷_ 110 (L._∷_ 103 (L._∷_ 101 L.[])))))))))))) (Syntax.tcons (Syntax.tyStruct (L._∷_ 110 (L._∷_ 101 (L._∷_ 116 (L._∷_ 119 (L._∷_ 111 (L._∷_ 114 (L._∷_ 107 (L._∷_ 58 (L._∷_ 58 (L._∷_ 69 (L._∷_ 100 (L._∷_ 105 (L._∷_ 116 L.[]))))))))))))) (Syntax.tcons q7 (Syntax.tcons q7 (Syntax.tcons q7 (Syntax.tcons q7 (Syntax.tcons q2 (Syntax.tcons q2 (Syntax.tcons (Syntax.tyInt Syntax.w64) Syntax.tnil)))))))) (Syntax.tcons (Syntax.tyStruct (L._∷_ 115 (L._∷_ 116 (L._∷_ 101 (L._∷_ 112 (L._∷_ 58 (L._∷_ 58 (L._∷_ 79 (L._∷_ 108 (L._∷_ 100 L.[]))))))))) (Syntax.tcons (Syntax.tyInt Syntax.w64) (Syntax.tcons q6 (Syntax.tcons q7 (Syntax.tcons q7 (Syntax.tcons q7 (Syntax.tcons q7 (Syntax.tcons q4 Syntax.tnil)))))))) Syntax.tnil))) Syntax.tnil)))) Syntax.tnil))))) tt Path.refl) d73
+          d74 = Typed.s-seq 𝓤 H A W 𝓣 E G17 G61 b45 b48 Δ0 (Typed.both (s54 bs)) (at73 bs) (Plain.t-call-plain 𝓤 H A W 𝓣 0 ps·5 r·5 (claims· .10) (claims· .11) "rules::found::nothing" (known .5) E (λ pos β. β) G17 tt 11 L.[] (Call.sub-id 𝓤 H A W (G17 .slots)) tt (TReads.room-gone 𝓤 H A (Syntax.tyStruct (L._∷_ 114 (L._∷_ 117 (L._∷_ 108 (L._∷_ 101 (L._∷_ 115 (L._∷_ 58 (L._∷_ 58 (L._∷_ 102 (L._∷_ 111 (L._∷_ 117 (L._∷_ 110 (L._∷_ 100 (L._∷_ 58 (L._∷_ 58 (L._∷_ 70 (L._∷_ 111 (L._∷_ 117 (L._∷_ 110 (L._∷_ 100 L.[]))))))))))))))))))) (Syntax.tcons Syntax.tyBool (Syntax.tcons Syntax.tyBool (Syntax.tcons (Syntax.tyStruct (L._∷_ 115 (L._∷_ 116 (L._∷_ 101 (L._∷_ 112 (L._∷_ 58 (L._∷_ 58 (L._∷_ 83 (L._∷_ 116 (L._∷_ 101 (L._∷_ 112 L.[])))))))))) (Syntax.tcons (Syntax.tyInt Syntax.w64) (Syntax.tcons (Syntax.tyInt Syntax.w64) (Syntax.tcons (Syntax.tyStruct (L._∷_ 115 (L._∷_ 116 (L._∷_ 101 (L._∷_ 112 (L._∷_ 58 (L._∷_ 58 (L._∷_ 67 (L._∷_ 104 (L._∷_ 97 (L._∷_ 110 (L._∷_ 103 (L._∷_ 101 L.[])))))))))))) (Syntax.tcons (Syntax.tyStruct (L._∷_ 110 (L._∷_ 101 (L._∷_ 116 (L._∷_ 119 (L._∷_ 111 (L._∷_ 114 (L._∷_ 107 (L._∷_ 58 (L._∷_ 58 (L._∷_ 69 (L._∷_ 100 (L._∷_ 105 (L._∷_ 116 L.[]))))))))))))) (Syntax.tcons q7 (Syntax.tcons q7 (Syntax.tcons q7 (Syntax.tcons q7 (Syntax.tcons q2 (Syntax.tcons q2 (Syntax.tcons (Syntax.tyInt Syntax.w64) (Syntax.tcons q6 Syntax.tnil))))))))) (Syntax.tcons (Syntax.tyStruct (L._∷_ 115 (L._∷_ 116 (L._∷_ 101 (L._∷_ 112 (L._∷_ 58 (L._∷_ 58 (L._∷_ 79 (L._∷_ 108 (L._∷_ 100 L.[]))))))))) (Syntax.tcons (Syntax.tyInt Syntax.w64) (Syntax.tcons q6 (Syntax.tcons q7 (Syntax.tcons q7 (Syntax.tcons q7 (Syntax.tcons q7 (Syntax.tcons q4 Syntax.tnil)))))))) Syntax.tnil))) Syntax.tnil)))) Syntax.tnil))))) tt Path.refl) d73
 
           d75 : Typed.Typed 𝓤 H A 𝓣 E G16 b50 Δ0 (at75 bs)
           d75 = Typed.t-seq 𝓤 H A W 𝓣 E G16 G17 b44 b49 Δ0 (at65 bs) (at74 bs) d65 d74
@@ -1704,7 +1704,7 @@ module _ (claims· : Claims) where
           d80 = Typed.s-seq 𝓤 H A W 𝓣 E G2 G3 b1 b54 Δ0 (Typed.pass T2 T3 (s1 bs)) (at79 bs) (Scalar.t-use 𝓤 H A W E 𝓣 G2 (Scalar.oFld 5 (L._∷_ (Syntax.field 0) L.[]) Syntax.tyBool 0 (Reads.fieldV rules-proofs-found-Found·.the-type rules-proofs-found-Found-Laws·.the-laws 0)) 12 (Rows.sc-here Row.sBool) Syntax.tyBool (Row.valS Row.sBool) (Row.sBool .of) (Reads.reads-field 𝓤 H A W rules-proofs-found-Found·.the-type rules-proofs-found-Found-Laws·.the-laws 0 Syntax.tyBool 0 Path.refl, Path.refl) (TReads.room-gone 𝓤 H A Syntax.tyBool) (Scalar.holds-sc 𝓤 H A W Row.sBool) Path.refl (λ u. Path.refl) λ u. tt) d79
 
           d81 : Typed.Typed 𝓤 H A 𝓣 E G0 b56 Δ0 (at81 bs)
-          d81 = Typed.s-seq 𝓤 H A W 𝓣 E G0 G2 b0 b55 Δ0 (Typed.both (s0 bs)) (at80 bs) (Plain.t-call-plain 𝓤 H A W 𝓣 1 ps·0 r·0 (claims· .0) (claims· .1) "search::scan::scan_closed" (known .0) E (λ pos β. β) G0 (record { pos = 1; st = L.[]; d = 0; at = λ x. x }, (record { pos = 2; ty = Syntax.tyRef (Syntax.named 0) Syntax.imm Rec.named; ref = λ x. x }, tt)) 5 (L._∷_ 0 L.[]) (Call.sub-id 𝓤 H A W (G0 .slots)) ((Yields.yields-copy 𝓤 H A W (λ ρ. Unit) (Declared.row network-proofs-Nodes·.the-type) Path.refl (Copies.cStruct network-proofs-Nodes·.the-type network-proofs-Nodes-Laws·.the-laws network-proofs-Nodes-Laws·.the-copy .copy 𝓤 H A W) (Rows.whole (Declared.row network-proofs-Nodes·.the-type)) (λ x. x) (λ x. x) (λ ρ told. Local.mem-whole 𝓤 H A W (Declared.row network-proofs-Nodes·.the-type) ρ) λ ρ told. Local.whole-mem 𝓤 H A W (Declared.row network-proofs-Nodes·.the-type) ρ, Path.refl), (ShrSlice.spares-sslice 𝓤 H A W Rec.row q22 0, Shared.reads-sslice 𝓤 H A W Rec.row q22 0, Path.refl, tt)) (TReads.room-gone 𝓤 H A (Syntax.tyStruct (L._∷_ 114 (L._∷_ 117 (L._∷_ 108 (L._∷_ 101 (L._∷_ 115 (L._∷_ 58 (L._∷_ 58 (L._∷_ 102 (L._∷_ 111 (L._∷_ 117 (L._∷_ 110 (L._∷_ 100 (L._∷_ 58 (L._∷_ 58 (L._∷_ 70 (L._∷_ 111 (L._∷_ 117 (L._∷_ 110 (L._∷_ 100 L.[]))))))))))))))))))) (Syntax.tcons Syntax.tyBool (Syntax.tcons Syntax.tyBool (Syntax.tcons (Syntax.tyStruct (L._∷_ 115 (L._∷_ 116 (L._∷_ 101 (L._∷_ 112 (L._∷_ 58 (L._∷_ 58 (L._∷_ 83 (L._∷_ 116 (L._∷_ 101 (L._∷_ 112 L.[])))))))))) (Syntax.tcons (Syntax.tyInt Syntax.w64) (Syntax.tcons (Syntax.tyInt Syntax.w64) (Syntax.tcons (Syntax.tyStruct (L._∷_ 115 (L._∷_ 116 (L._∷_ 101 (L._∷_ 112 (L._∷_ 58 (L._∷_ 58 (L._∷_ 67 (L._∷_ 104 (L._∷_ 97 (L._∷_ 110 (L._∷_ 103 (L._∷_ 101 L.[])))))))))))) (Syntax.tcons (Syntax.tyStruct (L._∷_ 110 (L._∷_ 101 (L._∷_ 116 (L._∷_ 119 (L._∷_ 111 (L._∷_ 114 (L._∷_ 107 (L._∷_ 58 (L._∷_ 58 (L._∷_ 69 (L._∷_ 100 (L._∷_ 105 (L._∷_ 116 L.[]))))))))))))) (Syntax.tcons q7 (Syntax.tcons q7 (Syntax.tcons q7 (Syntax.tcons q7 (Syntax.tcons q2 (Syntax.tcons q2 (Syntax.tcons (Syntax.tyInt Syntax.w64) Syntax.tnil)))))))) (Syntax.tcons (Syntax.tyStruct (L._∷_ 115 (L._∷_ 116 (L._∷_ 101 (L._∷_ 112 (L._∷_ 58 (L._∷_ 58 (L._∷_ 79 (L._∷_ 108 (L._∷_ 100 L.[]))))))))) (Syntax.tcons (Syntax.tyInt Syntax.w64) (Syntax.tcons q6 (Syntax.tcons q7 (Syntax.tcons q7 (Syntax.tcons q7 (Syntax.tcons q7 (Syntax.tcons q4 Syntax.tnil)))))))) Syntax.tnil))) Syntax.tnil)))) Syntax.tnil))))) (tt, tt) Path.refl) d80
+          d81 = Typed.s-seq 𝓤 H A W 𝓣 E G0 G2 b0 b55 Δ0 (Typed.both (s0 bs)) (at80 bs) (Plain.t-call-plain 𝓤 H A W 𝓣 1 ps·0 r·0 (claims· .0) (claims· .1) "search::scan::scan_closed" (known .0) E (λ pos β. β) G0 (record { pos = 1; st = L.[]; d = 0; at = λ x. x }, (record { pos = 2; ty = Syntax.tyRef (Syntax.named 0) Syntax.imm Rec.named; ref = λ x. x }, tt)) 5 (L._∷_ 0 L.[]) (Call.sub-id 𝓤 H A W (G0 .slots)) ((Yields.yields-copy 𝓤 H A W (λ ρ. Unit) (Declared.row network-proofs-Nodes·.the-type) Path.refl (Copies.cStruct network-proofs-Nodes·.the-type network-proofs-Nodes-Laws·.the-laws network-proofs-Nodes-Laws·.the-copy .copy 𝓤 H A W) (Rows.whole (Declared.row network-proofs-Nodes·.the-type)) (λ x. x) (λ x. x) (λ ρ told. Local.mem-whole 𝓤 H A W (Declared.row network-proofs-Nodes·.the-type) ρ) λ ρ told. Local.whole-mem 𝓤 H A W (Declared.row network-proofs-Nodes·.the-type) ρ, Path.refl), (ShrSlice.spares-sslice 𝓤 H A W Rec.row q22 0, Shared.reads-sslice 𝓤 H A W Rec.row q22 0, Path.refl, tt)) (TReads.room-gone 𝓤 H A (Syntax.tyStruct (L._∷_ 114 (L._∷_ 117 (L._∷_ 108 (L._∷_ 101 (L._∷_ 115 (L._∷_ 58 (L._∷_ 58 (L._∷_ 102 (L._∷_ 111 (L._∷_ 117 (L._∷_ 110 (L._∷_ 100 (L._∷_ 58 (L._∷_ 58 (L._∷_ 70 (L._∷_ 111 (L._∷_ 117 (L._∷_ 110 (L._∷_ 100 L.[]))))))))))))))))))) (Syntax.tcons Syntax.tyBool (Syntax.tcons Syntax.tyBool (Syntax.tcons (Syntax.tyStruct (L._∷_ 115 (L._∷_ 116 (L._∷_ 101 (L._∷_ 112 (L._∷_ 58 (L._∷_ 58 (L._∷_ 83 (L._∷_ 116 (L._∷_ 101 (L._∷_ 112 L.[])))))))))) (Syntax.tcons (Syntax.tyInt Syntax.w64) (Syntax.tcons (Syntax.tyInt Syntax.w64) (Syntax.tcons (Syntax.tyStruct (L._∷_ 115 (L._∷_ 116 (L._∷_ 101 (L._∷_ 112 (L._∷_ 58 (L._∷_ 58 (L._∷_ 67 (L._∷_ 104 (L._∷_ 97 (L._∷_ 110 (L._∷_ 103 (L._∷_ 101 L.[])))))))))))) (Syntax.tcons (Syntax.tyStruct (L._∷_ 110 (L._∷_ 101 (L._∷_ 116 (L._∷_ 119 (L._∷_ 111 (L._∷_ 114 (L._∷_ 107 (L._∷_ 58 (L._∷_ 58 (L._∷_ 69 (L._∷_ 100 (L._∷_ 105 (L._∷_ 116 L.[]))))))))))))) (Syntax.tcons q7 (Syntax.tcons q7 (Syntax.tcons q7 (Syntax.tcons q7 (Syntax.tcons q2 (Syntax.tcons q2 (Syntax.tcons (Syntax.tyInt Syntax.w64) (Syntax.tcons q6 Syntax.tnil))))))))) (Syntax.tcons (Syntax.tyStruct (L._∷_ 115 (L._∷_ 116 (L._∷_ 101 (L._∷_ 112 (L._∷_ 58 (L._∷_ 58 (L._∷_ 79 (L._∷_ 108 (L._∷_ 100 L.[]))))))))) (Syntax.tcons (Syntax.tyInt Syntax.w64) (Syntax.tcons q6 (Syntax.tcons q7 (Syntax.tcons q7 (Syntax.tcons q7 (Syntax.tcons q7 (Syntax.tcons q4 Syntax.tnil)))))))) Syntax.tnil))) Syntax.tnil)))) Syntax.tnil))))) (tt, tt) Path.refl) d80
 
           pub typed : Typed.Typed 𝓤 H A 𝓣 E (Function.Γin 1 ps r xs m κs qs) b56 (Function.Δret 1 ps r xs m κs qs) (Φ bs)
           typed = d81
@@ -2099,7 +2099,7 @@ module _ (claims· : Claims) where
         pub if4 : Else4·own before
 
       abbrev pub m54 : (before : In-loop) → (seen : Rows.whole (Declared.row costly-arc-proofs-Seen·.the-type) .Mod) → Typed.Mo T25
-      m54 = λ before seen. Row.set 15 q31 tt (Row.setRow 14 q30 (Row.setRow 13 q29 (Row.setRow 10 (10, Rows.any-gone (Syntax.tyStruct (L._∷_ 114 (L._∷_ 117 (L._∷_ 108 (L._∷_ 101 (L._∷_ 115 (L._∷_ 58 (L._∷_ 58 (L._∷_ 102 (L._∷_ 111 (L._∷_ 117 (L._∷_ 110 (L._∷_ 100 (L._∷_ 58 (L._∷_ 58 (L._∷_ 70 (L._∷_ 111 (L._∷_ 117 (L._∷_ 110 (L._∷_ 100 L.[]))))))))))))))))))) (Syntax.tcons Syntax.tyBool (Syntax.tcons Syntax.tyBool (Syntax.tcons (Syntax.tyStruct (L._∷_ 115 (L._∷_ 116 (L._∷_ 101 (L._∷_ 112 (L._∷_ 58 (L._∷_ 58 (L._∷_ 83 (L._∷_ 116 (L._∷_ 101 (L._∷_ 112 L.[])))))))))) (Syntax.tcons (Syntax.tyInt Syntax.w64) (Syntax.tcons (Syntax.tyInt Syntax.w64) (Syntax.tcons (Syntax.tyStruct (L._∷_ 115 (L._∷_ 116 (L._∷_ 101 (L._∷_ 112 (L._∷_ 58 (L._∷_ 58 (L._∷_ 67 (L._∷_ 104 (L._∷_ 97 (L._∷_ 110 (L._∷_ 103 (L._∷_ 101 L.[])))))))))))) (Syntax.tcons (Syntax.tyStruct (L._∷_ 110 (L._∷_ 101 (L._∷_ 116 (L._∷_ 119 (L._∷_ 111 (L._∷_ 114 (L._∷_ 107 (L._∷_ 58 (L._∷_ 58 (L._∷_ 69 (L._∷_ 100 (L._∷_ 105 (L._∷_ 116 L.[]))))))))))))) (Syntax.tcons q7 (Syntax.tcons q7 (Syntax.tcons q7 (Syntax.tcons q7 (Syntax.tcons q2 (Syntax.tcons q2 (Syntax.tcons (Syntax.tyInt Syntax.w64) Syntax.tnil)))))))) (Syntax.tcons (Syntax.tyStruct (L._∷_ 115 (L._∷_ 116 (L._∷_ 101 (L._∷_ 112 (L._∷_ 58 (L._∷_ 58 (L._∷_ 79 (L._∷_ 108 (L._∷_ 100 L.[]))))))))) (Syntax.tcons (Syntax.tyInt Syntax.w64) (Syntax.tcons q6 (Syntax.tcons q7 (Syntax.tcons q7 (Syntax.tcons q7 (Syntax.tcons q7 (Syntax.tcons q4 Syntax.tnil)))))))) Syntax.tnil))) Syntax.tnil)))) Syntax.tnil))))) (Row.setRow 9 (9, Rows.any-gone (Syntax.tyStruct (L._∷_ 114 (L._∷_ 117 (L._∷_ 108 (L._∷_ 101 (L._∷_ 115 (L._∷_ 58 (L._∷_ 58 (L._∷_ 116 (L._∷_ 114 (L._∷_ 105 (L._∷_ 101 (L._∷_ 100 (L._∷_ 58 (L._∷_ 58 (L._∷_ 76 (L._∷_ 111 (L._∷_ 111 (L._∷_ 107 (L._∷_ 101 (L._∷_ 100 L.[])))))))))))))))))))) (Syntax.tcons (Syntax.tyStruct (L._∷_ 114 (L._∷_ 117 (L._∷_ 108 (L._∷_ 101 (L._∷_ 115 (L._∷_ 58 (L._∷_ 58 (L._∷_ 102 (L._∷_ 111 (L._∷_ 117 (L._∷_ 110 (L._∷_ 100 (L._∷_ 58 (L._∷_ 58 (L._∷_ 70 (L._∷_ 111 (L._∷_ 117 (L._∷_ 110 (L._∷_ 100 L.[]))))))))))))))))))) (Syntax.tcons Syntax.tyBool (Syntax.tcons Syntax.tyBool (Syntax.tcons (Syntax.tyStruct (L._∷_ 115 (L._∷_ 116 (L._∷_ 101 (L._∷_ 112 (L._∷_ 58 (L._∷_ 58 (L._∷_ 83 (L._∷_ 116 (L._∷_ 101 (L._∷_ 112 L.[])))))))))) (Syntax.tcons (Syntax.tyInt Syntax.w64) (Syntax.tcons (Syntax.tyInt Syntax.w64) (Syntax.tcons (Syntax.tyStruct (L._∷_ 115 (L._∷_ 116 (L._∷_ 101 (L._∷_ 112 (L._∷_ 58 (L._∷_ 58 (L._∷_ 67 (L._∷_ 104 (L._∷_ 97 (L._∷_ 110 (L._∷_ 103 (L._∷_ 101 L.[])))))))))))) (Syntax.tcons (Syntax.tyStruct (L._∷_ 110 (L._∷_ 101 (L._∷_ 116 (L._∷_ 119 (L._∷_ 111 (L._∷_ 114 (L._∷_ 107 (L._∷_ 58 (L._∷_ 58 (L._∷_ 69 (L._∷_ 100 (L._∷_ 105 (L._∷_ 116 L.[]))))))))))))) (Syntax.tcons q7 (Syntax.tcons q7 (Syntax.tcons q7 (Syntax.tcons q7 (Syntax.tcons q2 (Syntax.tcons q2 (Syntax.tcons (Syntax.tyInt Syntax.w64) Syntax.tnil)))))))) (Syntax.tcons (Syntax.tyStruct (L._∷_ 115 (L._∷_ 116 (L._∷_ 101 (L._∷_ 112 (L._∷_ 58 (L._∷_ 58 (L._∷_ 79 (L._∷_ 108 (L._∷_ 100 L.[]))))))))) (Syntax.tcons (Syntax.tyInt Syntax.w64) (Syntax.tcons q6 (Syntax.tcons q7 (Syntax.tcons q7 (Syntax.tcons q7 (Syntax.tcons q7 (Syntax.tcons q4 Syntax.tnil)))))))) Syntax.tnil))) Syntax.tnil)))) Syntax.tnil)))) (Syntax.tcons q5 Syntax.tnil)))) (Row.setRow 8 q32 (Row.setRow 3 q17 (T24 .locals))))))) (Row.set 14 q30 tt (Row.setRow 13 q29 (Row.setRow 10 (10, Rows.any-gone (Syntax.tyStruct (L._∷_ 114 (L._∷_ 117 (L._∷_ 108 (L._∷_ 101 (L._∷_ 115 (L._∷_ 58 (L._∷_ 58 (L._∷_ 102 (L._∷_ 111 (L._∷_ 117 (L._∷_ 110 (L._∷_ 100 (L._∷_ 58 (L._∷_ 58 (L._∷_ 70 (L._∷_ 111 (L._∷_ 117 (L._∷_ 110 (L._∷_ 100 L.[]))))))))))))))))))) (Syntax.tcons Syntax.tyBool (Syntax.tcons Syntax.tyBool (Syntax.tcons (Syntax.tyStruct (L._∷_ 115 (L._∷_ 116 (L._∷_ 101 (L._∷_ 112 (L._∷_ 58 (L._∷_ 58 (L._∷_ 83 (L._∷_ 116 (L._∷_ 101 (L._∷_ 112 L.[])))))))))) (Syntax.tcons (Syntax.tyInt Syntax.w64) (Syntax.tcons (Syntax.tyInt Syntax.w64) (Syntax.tcons (Syntax.tyStruct (L._∷_ 115 (L._∷_ 116 (L._∷_ 101 (L._∷_ 112 (L._∷_ 58 (L._∷_ 58 (L._∷_ 67 (L._∷_ 104 (L._∷_ 97 (L._∷_ 110 (L._∷_ 103 (L._∷_ 101 L.[])))))))))))) (Syntax.tcons (Syntax.tyStruct (L._∷_ 110 (L._∷_ 101 (L._∷_ 116 (L._∷_ 119 (L._∷_ 111 (L._∷_ 114 (L._∷_ 107 (L._∷_ 58 (L._∷_ 58 (L._∷_ 69 (L._∷_ 100 (L._∷_ 105 (L._∷_ 116 L.[]))))))))))))) (Syntax.tcons q7 (Syntax.tcons q7 (Syntax.tcons q7 (Syntax.tcons q7 (Syntax.tcons q2 (Syntax.tcons q2 (Syntax.tcons (Syntax.tyInt Syntax.w64) Syntax.tnil)))))))) (Syntax.tcons (Syntax.tyStruct (L._∷_ 115 (L._∷_ 116 (L._∷_ 101 (L._∷_ 112 (L._∷_ 58 (L._∷_ 58 (L._∷_ 79 (L._∷_ 108 (L._∷_ 100 L.[]))))))))) (Syntax.tcons (Syntax.tyInt Syntax.w64) (Syntax.tcons q6 (Syntax.tcons q7 (Syntax.tcons q7 (Syntax.tcons q7 (Syntax.tcons q7 (Syntax.tcons q4 Syntax.tnil)))))))) Syntax.tnil))) Syntax.tnil)))) Syntax.tnil))))) (Row.setRow 9 (9, Rows.any-gone (Syntax.tyStruct (L._∷_ 114 (L._∷_ 117 (L._∷_ 108 (L._∷_ 101 (L._∷_ 115 (L._∷_ 58 (L._∷_ 58 (L._∷_ 116 (L._∷_ 114 (L._∷_ 105 (L._∷_ 101 (L._∷_ 100 (L._∷_ 58 (L._∷_ 58 (L._∷_ 76 (L._∷_ 111 (L._∷_ 111 (L._∷_ 107 (L._∷_ 101 (L._∷_ 100 L.[])))))))))))))))))))) (Syntax.tcons (Syntax.tyStruct (L._∷_ 114 (L._∷_ 117 (L._∷_ 108 (L._∷_ 101 (L._∷_ 115 (L._∷_ 58 (L._∷_ 58 (L._∷_ 102 (L._∷_ 111 (L._∷_ 117 (L._∷_ 110 (L._∷_ 100 (L._∷_ 58 (L._∷_ 58 (L._∷_ 70 (L._∷_ 111 (L._∷_ 117 (L._∷_ 110 (L._∷_ 100 L.[]))))))))))))))))))) (Syntax.tcons Syntax.tyBool (Syntax.tcons Syntax.tyBool (Syntax.tcons (Syntax.tyStruct (L._∷_ 115 (L._∷_ 116 (L._∷_ 101 (L._∷_ 112 (L._∷_ 58 (L._∷_ 58 (L._∷_ 83 (L._∷_ 116 (L._∷_ 101 (L._∷_ 112 L.[])))))))))) (Syntax.tcons (Syntax.tyInt Syntax.w64) (Syntax.tcons (Syntax.tyInt Syntax.w64) (Syntax.tcons (Syntax.tyStruct (L._∷_ 115 (L._∷_ 116 (L._∷_ 101 (L._∷_ 112 (L._∷_ 58 (L._∷_ 58 (L._∷_ 67 (L._∷_ 104 (L._∷_ 97 (L._∷_ 110 (L._∷_ 103 (L._∷_ 101 L.[])))))))))))) (Syntax.tcons (Syntax.tyStruct (L._∷_ 110 (L._∷_ 101 (L._∷_ 116 (L._∷_ 119 (L._∷_ 111 (L._∷_ 114 (L._∷_ 107 (L._∷_ 58 (L._∷_ 58 (L._∷_ 69 (L._∷_ 100 (L._∷_ 105 (L._∷_ 116 L.[]))))))))))))) (Syntax.tcons q7 (Syntax.tcons q7 (Syntax.tcons q7 (Syntax.tcons q7 (Syntax.tcons q2 (Syntax.tcons q2 (Syntax.tcons (Syntax.tyInt Syntax.w64) Syntax.tnil)))))))) (Syntax.tcons (Syntax.tyStruct (L._∷_ 115 (L._∷_ 116 (L._∷_ 101 (L._∷_ 112 (L._∷_ 58 (L._∷_ 58 (L._∷_ 79 (L._∷_ 108 (L._∷_ 100 L.[]))))))))) (Syntax.tcons (Syntax.tyInt Syntax.w64) (Syntax.tcons q6 (Syntax.tcons q7 (Syntax.tcons q7 (Syntax.tcons q7 (Syntax.tcons q7 (Syntax.tcons q4 Syntax.tnil)))))))) Syntax.tnil))) Syntax.tnil)))) Syntax.tnil)))) (Syntax.tcons q5 Syntax.tnil)))) (Row.setRow 8 q32 (Row.setRow 3 q17 (T24 .locals)))))) (Row.set 13 q29 tt (Row.setRow 10 (10, Rows.any-gone (Syntax.tyStruct (L._∷_ 114 (L._∷_ 117 (L._∷_ 108 (L._∷_ 101 (L._∷_ 115 (L._∷_ 58 (L._∷_ 58 (L._∷_ 102 (L._∷_ 111 (L._∷_ 117 (L._∷_ 110 (L._∷_ 100 (L._∷_ 58 (L._∷_ 58 (L._∷_ 70 (L._∷_ 111 (L._∷_ 117 (L._∷_ 110 (L._∷_ 100 L.[]))))))))))))))))))) (Syntax.tcons Syntax.tyBool (Syntax.tcons Syntax.tyBool (Syntax.tcons (Syntax.tyStruct (L._∷_ 115 (L._∷_ 116 (L._∷_ 101 (L._∷_ 112 (L._∷_ 58 (L._∷_ 58 (L._∷_ 83 (L._∷_ 116 (L._∷_ 101 (L._∷_ 112 L.[])))))))))) (Syntax.tcons (Syntax.tyInt Syntax.w64) (Syntax.tcons (Syntax.tyInt Syntax.w64) (Syntax.tcons (Syntax.tyStruct (L._∷_ 115 (L._∷_ 116 (L._∷_ 101 (L._∷_ 112 (L._∷_ 58 (L._∷_ 58 (L._∷_ 67 (L._∷_ 104 (L._∷_ 97 (L._∷_ 110 (L._∷_ 103 (L._∷_ 101 L.[])))))))))))) (Syntax.tcons (Syntax.tyStruct (L._∷_ 110 (L._∷_ 101 (L._∷_ 116 (L._∷_ 119 (L._∷_ 111 (L._∷_ 114 (L._∷_ 107 (L._∷_ 58 (L._∷_ 58 (L._∷_ 69 (L._∷_ 100 (L._∷_ 105 (L._∷_ 116 L.[]))))))))))))) (Syntax.tcons q7 (Syntax.tcons q7 (Syntax.tcons q7 (Syntax.tcons q7 (Syntax.tcons q2 (Syntax.tcons q2 (Syntax.tcons (Syntax.tyInt Syntax.w64) Syntax.tnil)))))))) (Syntax.tcons (Syntax.tyStruct (L._∷_ 115 (L._∷_ 116 (L._∷_ 101 (L._∷_ 112 (L._∷_ 58 (L._∷_ 58 (L._∷_ 79 (L._∷_ 108 (L._∷_ 100 L.[]))))))))) (Syntax.tcons (Syntax.tyInt Syntax.w64) (Syntax.tcons q6 (Syntax.tcons q7 (Syntax.tcons q7 (Syntax.tcons q7 (Syntax.tcons q7 (Syntax.tcons q4 Syntax.tnil)))))))) Syntax.tnil))) Syntax.tnil)))) Syntax.tnil))))) (Row.setRow 9 (9, Rows.any-gone (Syntax.tyStruct (L._∷_ 114 (L._∷_ 117 (L._∷_ 108 (L._∷_ 101 (L._∷_ 115 (L._∷_ 58 (L._∷_ 58 (L._∷_ 116 (L._∷_ 114 (L._∷_ 105 (L._∷_ 101 (L._∷_ 100 (L._∷_ 58 (L._∷_ 58 (L._∷_ 76 (L._∷_ 111 (L._∷_ 111 (L._∷_ 107 (L._∷_ 101 (L._∷_ 100 L.[])))))))))))))))))))) (Syntax.tcons (Syntax.tyStruct (L._∷_ 114 (L._∷_ 117 (L._∷_ 108 (L._∷_ 101 (L._∷_ 115 (L._∷_ 58 (L._∷_ 58 (L._∷_ 102 (L._∷_ 111 (L._∷_ 117 (L._∷_ 110 (L._∷_ 100 (L._∷_ 58 (L._∷_ 58 (L._∷_ 70 (L._∷_ 111 (L._∷_ 117 (L._∷_ 110 (L._∷_ 100 L.[]))))))))))))))))))) (Syntax.tcons Syntax.tyBool (Syntax.tcons Syntax.tyBool (Syntax.tcons (Syntax.tyStruct (L._∷_ 115 (L._∷_ 116 (L._∷_ 101 (L._∷_ 112 (L._∷_ 58 (L._∷_ 58 (L._∷_ 83 (L._∷_ 116 (L._∷_ 101 (L._∷_ 112 L.[])))))))))) (Syntax.tcons (Syntax.tyInt Syntax.w64) (Syntax.tcons (Syntax.tyInt Syntax.w64) (Syntax.tcons (Syntax.tyStruct (L._∷_ 115 (L._∷_ 116 (L._∷_ 101 (L._∷_ 112 (L._∷_ 58 (L._∷_ 58 (L._∷_ 67 (L._∷_ 104 (L._∷_ 97 (L._∷_ 110 (L._∷_ 103 (L._∷_ 101 L.[])))))))))))) (Syntax.tcons (Syntax.tyStruct (L._∷_ 110 (L._∷_ 101 (L._∷_ 116 (L._∷_ 119 (L._∷_ 111 (L._∷_ 114 (L._∷_ 107 (L._∷_ 58 (L._∷_ 58 (L._∷_ 69 (L._∷_ 100 (L._∷_ 105 (L._∷_ 116 L.[]))))))))))))) (Syntax.tcons q7 (Syntax.tcons q7 (Syntax.tcons q7 (Syntax.tcons q7 (Syntax.tcons q2 (Syntax.tcons q2 (Syntax.tcons (Syntax.tyInt Syntax.w64) Syntax.tnil)))))))) (Syntax.tcons (Syntax.tyStruct (L._∷_ 115 (L._∷_ 116 (L._∷_ 101 (L._∷_ 112 (L._∷_ 58 (L._∷_ 58 (L._∷_ 79 (L._∷_ 108 (L._∷_ 100 L.[]))))))))) (Syntax.tcons (Syntax.tyInt Syntax.w64) (Syntax.tcons q6 (Syntax.tcons q7 (Syntax.tcons q7 (Syntax.tcons q7 (Syntax.tcons q7 (Syntax.tcons q4 Syntax.tnil)))))))) Syntax.tnil))) Syntax.tnil)))) Syntax.tnil)))) (Syntax.tcons q5 Syntax.tnil)))) (Row.setRow 8 q32 (Row.setRow 3 q17 (T24 .locals))))) (Row.set 10 (10, Rows.any-gone (Syntax.tyStruct (L._∷_ 114 (L._∷_ 117 (L._∷_ 108 (L._∷_ 101 (L._∷_ 115 (L._∷_ 58 (L._∷_ 58 (L._∷_ 102 (L._∷_ 111 (L._∷_ 117 (L._∷_ 110 (L._∷_ 100 (L._∷_ 58 (L._∷_ 58 (L._∷_ 70 (L._∷_ 111 (L._∷_ 117 (L._∷_ 110 (L._∷_ 100 L.[]))))))))))))))))))) (Syntax.tcons Syntax.tyBool (Syntax.tcons Syntax.tyBool (Syntax.tcons (Syntax.tyStruct (L._∷_ 115 (L._∷_ 116 (L._∷_ 101 (L._∷_ 112 (L._∷_ 58 (L._∷_ 58 (L._∷_ 83 (L._∷_ 116 (L._∷_ 101 (L._∷_ 112 L.[])))))))))) (Syntax.tcons (Syntax.tyInt Syntax.w64) (Syntax.tcons (Syntax.tyInt Syntax.w64) (Syntax.tcons (Syntax.tyStruct (L._∷_ 115 (L._∷_ 116 (L._∷_ 101 (L._∷_ 112 (L._∷_ 58 (L._∷_ 58 (L._∷_ 67 (L._∷_ 104 (L._∷_ 97 (L._∷_ 110 (L._∷_ 103 (L._∷_ 101 L.[])))))))))))) (Syntax.tcons (Syntax.tyStruct (L._∷_ 110 (L._∷_ 101 (L._∷_ 116 (L._∷_ 119 (L._∷_ 111 (L._∷_ 114 (L._∷_ 107 (L._∷_ 58 (L._∷_ 58 (L._∷_ 69 (L._∷_ 100 (L._∷_ 105 (L._∷_ 116 L.[]))))))))))))) (Syntax.tcons q7 (Syntax.tcons q7 (Syntax.tcons q7 (Syntax.tcons q7 (Syntax.tcons q2 (Syntax.tcons q2 (Syntax.tcons (Syntax.tyInt Syntax.w64) Syntax.tnil)))))))) (Syntax.tcons (Syntax.tyStruct (L._∷_ 115 (L._∷_ 116 (L._∷_ 101 (L._∷_ 112 (L._∷_ 58 (L._∷_ 58 (L._∷_ 79 (L._∷_ 108 (L._∷_ 100 L.[]))))))))) (Syntax.tcons (Syntax.tyInt Syntax.w64) (Syntax.tcons q6 (Syntax.tcons q7 (Syntax.tcons q7 (Syntax.tcons q7 (Syntax.tcons q7 (Syntax.tcons q4 Syntax.tnil)))))))) Syntax.tnil))) Syntax.tnil)))) Syntax.tnil))))) tt (Row.setRow 9 (9, Rows.any-gone (Syntax.tyStruct (L._∷_ 114 (L._∷_ 117 (L._∷_ 108 (L._∷_ 101 (L._∷_ 115 (L._∷_ 58 (L._∷_ 58 (L._∷_ 116 (L._∷_ 114 (L._∷_ 105 (L._∷_ 101 (L._∷_ 100 (L._∷_ 58 (L._∷_ 58 (L._∷_ 76 (L._∷_ 111 (L._∷_ 111 (L._∷_ 107 (L._∷_ 101 (L._∷_ 100 L.[])))))))))))))))))))) (Syntax.tcons (Syntax.tyStruct (L._∷_ 114 (L._∷_ 117 (L._∷_ 108 (L._∷_ 101 (L._∷_ 115 (L._∷_ 58 (L._∷_ 58 (L._∷_ 102 (L._∷_ 111 (L._∷_ 117 (L._∷_ 110 (L._∷_ 100 (L._∷_ 58 (L._∷_ 58 (L._∷_ 70 (L._∷_ 111 (L._∷_ 117 (L._∷_ 110 (L._∷_ 100 L.[]))))))))))))))))))) (Syntax.tcons Syntax.tyBool (Syntax.tcons Syntax.tyBool (Syntax.tcons (Syntax.tyStruct (L._∷_ 115 (L._∷_ 116 (L._∷_ 101 (L._∷_ 112 (L._∷_ 58 (L._∷_ 58 (L._∷_ 83 (L._∷_ 116 (L._∷_ 101 (L._∷_ 112 L.[])))))))))) (Syntax.tcons (Syntax.tyInt Syntax.w64) (Syntax.tcons (Syntax.tyInt Syntax.w64) (Syntax.tcons (Syntax.tyStruct (L._∷_ 115 (L._∷_ 116 (L._∷_ 101 (L._∷_ 112 (L._∷_ 58 (L._∷_ 58 (L._∷_ 67 (L._∷_ 104 (L._∷_ 97 (L._∷_ 110 (L._∷_ 103 (L._∷_ 101 L.[])))))))))))) (Syntax.tcons (Syntax.tyStruct (L._∷_ 110 (L._∷_ 101 (L._∷_ 116 (L._∷_ 119 (L._∷_ 111 (L._∷_ 114 (L._∷_ 107 (L._∷_ 58 (L._∷_ 58 (L._∷_ 69 (L._∷_ 100 (L._∷_ 105 (L._∷_ 116 L.[]))))))))))))) (Syntax.tcons q7 (Syntax.tcons q7 (Syntax.tcons q7 (Syntax.tcons q7 (Syntax.tcons q2 (Syntax.tcons q2 (Syntax.tcons (Syntax.tyInt Syntax.w64) Syntax.tnil)))))))) (Syntax.tcons (Syntax.tyStruct (L._∷_ 115 (L._∷_ 116 (L._∷_ 101 (L._∷_ 112 (L._∷_ 58 (L._∷_ 58 (L._∷_ 79 (L._∷_ 108 (L._∷_ 100 L.[]))))))))) (Syntax.tcons (Syntax.tyInt Syntax.w64) (Syntax.tcons q6 (Syntax.tcons q7 (Syntax.tcons q7 (Syntax.tcons q7 (Syntax.tcons q7 (Syntax.tcons q4 Syntax.tnil)))))))) Syntax.tnil))) Syntax.tnil)))) Syntax.tnil)))) (Syntax.tcons q5 Syntax.tnil)))) (Row.setRow 8 q32 (Row.setRow 3 q17 (T24 .locals)))) (Row.set 9 (9, Rows.any-gone (Syntax.tyStruct (L._∷_ 114 (L._∷_ 117 (L._∷_ 108 (L._∷_ 101 (L._∷_ 115 (L._∷_ 58 (L._∷_ 58 (L._∷_ 116 (L._∷_ 114 (L._∷_ 105 (L._∷_ 101 (L._∷_ 100 (L._∷_ 58 (L._∷_ 58 (L._∷_ 76 (L._∷_ 111 (L._∷_ 111 (L._∷_ 107 (L._∷_ 101 (L._∷_ 100 L.[])))))))))))))))))))) (Syntax.tcons (Syntax.tyStruct (L._∷_ 114 (L._∷_ 117 (L._∷_ 108 (L._∷_ 101 (L._∷_ 115 (L._∷_ 58 (L._∷_ 58 (L._∷_ 102 (L._∷_ 111 (L._∷_ 117 (L._∷_ 110 (L._∷_ 100 (L._∷_ 58 (L._∷_ 58 (L._∷_ 70 (L._∷_ 111 (L._∷_ 117 (L._∷_ 110 (L._∷_ 100 L.[]))))))))))))))))))) (Syntax.tcons Syntax.tyBool (Syntax.tcons Syntax.tyBool (Syntax.tcons (Syntax.tyStruct (L._∷_ 115 (L._∷_ 116 (L._∷_ 101 (L._∷_ 112 (L._∷_ 58 (L._∷_ 58 (L._∷_ 83 (L._∷_ 116 (L._∷_ 101 (L._∷_ 112 L.[])))))))))) (Syntax.tcons (Syntax.tyInt Syntax.w64) (Syntax.tcons (Syntax.tyInt Syntax.w64) (Syntax.tcons (Syntax.tyStruct (L._∷_ 115 (L._∷_ 116 (L._∷_ 101 (L._∷_ 112 (L._∷_ 58 (L._∷_ 58 (L._∷_ 67 (L._∷_ 104 (L._∷_ 97 (L._∷_ 110 (L._∷_ 103 (L._∷_ 101 L.[])))))))))))) (Syntax.tcons (Syntax.tyStruct (L._∷_ 110 (L._∷_ 101 (L._∷_ 116 (L._∷_ 119 (L._∷_ 111 (L._∷_ 114 (L._∷_ 107 (L._∷_ 58 (L._∷_ 58 (L._∷_ 69 (L._∷_ 100 (L._∷_ 105 (L._∷_ 116 L.[]))))))))))))) (Syntax.tcons q7 (Syntax.tcons q7 (Syntax.tcons q7 (Syntax.tcons q7 (Syntax.tcons q2 (Syntax.tcons q2 (Syntax.tcons (Syntax.tyInt Syntax.w64) Syntax.tnil)))))))) (Syntax.tcons (Syntax.tyStruct (L._∷_ 115 (L._∷_ 116 (L._∷_ 101 (L._∷_ 112 (L._∷_ 58 (L._∷_ 58 (L._∷_ 79 (L._∷_ 108 (L._∷_ 100 L.[]))))))))) (Syntax.tcons (Syntax.tyInt Syntax.w64) (Syntax.tcons q6 (Syntax.tcons q7 (Syntax.tcons q7 (Syntax.tcons q7 (Syntax.tcons q7 (Syntax.tcons q4 Syntax.tnil)))))))) Syntax.tnil))) Syntax.tnil)))) Syntax.tnil)))) (Syntax.tcons q5 Syntax.tnil)))) tt (Row.setRow 8 q32 (Row.setRow 3 q17 (T24 .locals))) (Row.set 8 q32 tt (Row.setRow 3 q17 (T24 .locals)) (Row.set 3 q17 seen (T24 .locals) (m21 (before .before))))))))
+      m54 = λ before seen. Row.set 15 q31 tt (Row.setRow 14 q30 (Row.setRow 13 q29 (Row.setRow 10 (10, Rows.any-gone (Syntax.tyStruct (L._∷_ 114 (L._∷_ 117 (L._∷_ 108 (L._∷_ 101 (L._∷_ 115 (L._∷_ 58 (L._∷_ 58 (L._∷_ 102 (L._∷_ 111 (L._∷_ 117 (L._∷_ 110 (L._∷_ 100 (L._∷_ 58 (L._∷_ 58 (L._∷_ 70 (L._∷_ 111 (L._∷_ 117 (L._∷_ 110 (L._∷_ 100 L.[]))))))))))))))))))) (Syntax.tcons Syntax.tyBool (Syntax.tcons Syntax.tyBool (Syntax.tcons (Syntax.tyStruct (L._∷_ 115 (L._∷_ 116 (L._∷_ 101 (L._∷_ 112 (L._∷_ 58 (L._∷_ 58 (L._∷_ 83 (L._∷_ 116 (L._∷_ 101 (L._∷_ 112 L.[])))))))))) (Syntax.tcons (Syntax.tyInt Syntax.w64) (Syntax.tcons (Syntax.tyInt Syntax.w64) (Syntax.tcons (Syntax.tyStruct (L._∷_ 115 (L._∷_ 116 (L._∷_ 101 (L._∷_ 112 (L._∷_ 58 (L._∷_ 58 (L._∷_ 67 (L._∷_ 104 (L._∷_ 97 (L._∷_ 110 (L._∷_ 103 (L._∷_ 101 L.[])))))))))))) (Syntax.tcons (Syntax.tyStruct (L._∷_ 110 (L._∷_ 101 (L._∷_ 116 (L._∷_ 119 (L._∷_ 111 (L._∷_ 114 (L._∷_ 107 (L._∷_ 58 (L._∷_ 58 (L._∷_ 69 (L._∷_ 100 (L._∷_ 105 (L._∷_ 116 L.[]))))))))))))) (Syntax.tcons q7 (Syntax.tcons q7 (Syntax.tcons q7 (Syntax.tcons q7 (Syntax.tcons q2 (Syntax.tcons q2 (Syntax.tcons (Syntax.tyInt Syntax.w64) (Syntax.tcons q6 Syntax.tnil))))))))) (Syntax.tcons (Syntax.tyStruct (L._∷_ 115 (L._∷_ 116 (L._∷_ 101 (L._∷_ 112 (L._∷_ 58 (L._∷_ 58 (L._∷_ 79 (L._∷_ 108 (L._∷_ 100 L.[]))))))))) (Syntax.tcons (Syntax.tyInt Syntax.w64) (Syntax.tcons q6 (Syntax.tcons q7 (Syntax.tcons q7 (Syntax.tcons q7 (Syntax.tcons q7 (Syntax.tcons q4 Syntax.tnil)))))))) Syntax.tnil))) Syntax.tnil)))) Syntax.tnil))))) (Row.setRow 9 (9, Rows.any-gone (Syntax.tyStruct (L._∷_ 114 (L._∷_ 117 (L._∷_ 108 (L._∷_ 101 (L._∷_ 115 (L._∷_ 58 (L._∷_ 58 (L._∷_ 116 (L._∷_ 114 (L._∷_ 105 (L._∷_ 101 (L._∷_ 100 (L._∷_ 58 (L._∷_ 58 (L._∷_ 76 (L._∷_ 111 (L._∷_ 111 (L._∷_ 107 (L._∷_ 101 (L._∷_ 100 L.[])))))))))))))))))))) (Syntax.tcons (Syntax.tyStruct (L._∷_ 114 (L._∷_ 117 (L._∷_ 108 (L._∷_ 101 (L._∷_ 115 (L._∷_ 58 (L._∷_ 58 (L._∷_ 102 (L._∷_ 111 (L._∷_ 117 (L._∷_ 110 (L._∷_ 100 (L._∷_ 58 (L._∷_ 58 (L._∷_ 70 (L._∷_ 111 (L._∷_ 117 (L._∷_ 110 (L._∷_ 100 L.[]))))))))))))))))))) (Syntax.tcons Syntax.tyBool (Syntax.tcons Syntax.tyBool (Syntax.tcons (Syntax.tyStruct (L._∷_ 115 (L._∷_ 116 (L._∷_ 101 (L._∷_ 112 (L._∷_ 58 (L._∷_ 58 (L._∷_ 83 (L._∷_ 116 (L._∷_ 101 (L._∷_ 112 L.[])))))))))) (Syntax.tcons (Syntax.tyInt Syntax.w64) (Syntax.tcons (Syntax.tyInt Syntax.w64) (Syntax.tcons (Syntax.tyStruct (L._∷_ 115 (L._∷_ 116 (L._∷_ 101 (L._∷_ 112 (L._∷_ 58 (L._∷_ 58 (L._∷_ 67 (L._∷_ 104 (L._∷_ 97 (L._∷_ 110 (L._∷_ 103 (L._∷_ 101 L.[])))))))))))) (Syntax.tcons (Syntax.tyStruct (L._∷_ 110 (L._∷_ 101 (L._∷_ 116 (L._∷_ 119 (L._∷_ 111 (L._∷_ 114 (L._∷_ 107 (L._∷_ 58 (L._∷_ 58 (L._∷_ 69 (L._∷_ 100 (L._∷_ 105 (L._∷_ 116 L.[]))))))))))))) (Syntax.tcons q7 (Syntax.tcons q7 (Syntax.tcons q7 (Syntax.tcons q7 (Syntax.tcons q2 (Syntax.tcons q2 (Syntax.tcons (Syntax.tyInt Syntax.w64) (Syntax.tcons q6 Syntax.tnil))))))))) (Syntax.tcons (Syntax.tyStruct (L._∷_ 115 (L._∷_ 116 (L._∷_ 101 (L._∷_ 112 (L._∷_ 58 (L._∷_ 58 (L._∷_ 79 (L._∷_ 108 (L._∷_ 100 L.[]))))))))) (Syntax.tcons (Syntax.tyInt Syntax.w64) (Syntax.tcons q6 (Syntax.tcons q7 (Syntax.tcons q7 (Syntax.tcons q7 (Syntax.tcons q7 (Syntax.tcons q4 Syntax.tnil)))))))) Syntax.tnil))) Syntax.tnil)))) Syntax.tnil)))) (Syntax.tcons q5 Syntax.tnil)))) (Row.setRow 8 q32 (Row.setRow 3 q17 (T24 .locals))))))) (Row.set 14 q30 tt (Row.setRow 13 q29 (Row.setRow 10 (10, Rows.any-gone (Syntax.tyStruct (L._∷_ 114 (L._∷_ 117 (L._∷_ 108 (L._∷_ 101 (L._∷_ 115 (L._∷_ 58 (L._∷_ 58 (L._∷_ 102 (L._∷_ 111 (L._∷_ 117 (L._∷_ 110 (L._∷_ 100 (L._∷_ 58 (L._∷_ 58 (L._∷_ 70 (L._∷_ 111 (L._∷_ 117 (L._∷_ 110 (L._∷_ 100 L.[]))))))))))))))))))) (Syntax.tcons Syntax.tyBool (Syntax.tcons Syntax.tyBool (Syntax.tcons (Syntax.tyStruct (L._∷_ 115 (L._∷_ 116 (L._∷_ 101 (L._∷_ 112 (L._∷_ 58 (L._∷_ 58 (L._∷_ 83 (L._∷_ 116 (L._∷_ 101 (L._∷_ 112 L.[])))))))))) (Syntax.tcons (Syntax.tyInt Syntax.w64) (Syntax.tcons (Syntax.tyInt Syntax.w64) (Syntax.tcons (Syntax.tyStruct (L._∷_ 115 (L._∷_ 116 (L._∷_ 101 (L._∷_ 112 (L._∷_ 58 (L._∷_ 58 (L._∷_ 67 (L._∷_ 104 (L._∷_ 97 (L._∷_ 110 (L._∷_ 103 (L._∷_ 101 L.[])))))))))))) (Syntax.tcons (Syntax.tyStruct (L._∷_ 110 (L._∷_ 101 (L._∷_ 116 (L._∷_ 119 (L._∷_ 111 (L._∷_ 114 (L._∷_ 107 (L._∷_ 58 (L._∷_ 58 (L._∷_ 69 (L._∷_ 100 (L._∷_ 105 (L._∷_ 116 L.[]))))))))))))) (Syntax.tcons q7 (Syntax.tcons q7 (Syntax.tcons q7 (Syntax.tcons q7 (Syntax.tcons q2 (Syntax.tcons q2 (Syntax.tcons (Syntax.tyInt Syntax.w64) (Syntax.tcons q6 Syntax.tnil))))))))) (Syntax.tcons (Syntax.tyStruct (L._∷_ 115 (L._∷_ 116 (L._∷_ 101 (L._∷_ 112 (L._∷_ 58 (L._∷_ 58 (L._∷_ 79 (L._∷_ 108 (L._∷_ 100 L.[]))))))))) (Syntax.tcons (Syntax.tyInt Syntax.w64) (Syntax.tcons q6 (Syntax.tcons q7 (Syntax.tcons q7 (Syntax.tcons q7 (Syntax.tcons q7 (Syntax.tcons q4 Syntax.tnil)))))))) Syntax.tnil))) Syntax.tnil)))) Syntax.tnil))))) (Row.setRow 9 (9, Rows.any-gone (Syntax.tyStruct (L._∷_ 114 (L._∷_ 117 (L._∷_ 108 (L._∷_ 101 (L._∷_ 115 (L._∷_ 58 (L._∷_ 58 (L._∷_ 116 (L._∷_ 114 (L._∷_ 105 (L._∷_ 101 (L._∷_ 100 (L._∷_ 58 (L._∷_ 58 (L._∷_ 76 (L._∷_ 111 (L._∷_ 111 (L._∷_ 107 (L._∷_ 101 (L._∷_ 100 L.[])))))))))))))))))))) (Syntax.tcons (Syntax.tyStruct (L._∷_ 114 (L._∷_ 117 (L._∷_ 108 (L._∷_ 101 (L._∷_ 115 (L._∷_ 58 (L._∷_ 58 (L._∷_ 102 (L._∷_ 111 (L._∷_ 117 (L._∷_ 110 (L._∷_ 100 (L._∷_ 58 (L._∷_ 58 (L._∷_ 70 (L._∷_ 111 (L._∷_ 117 (L._∷_ 110 (L._∷_ 100 L.[]))))))))))))))))))) (Syntax.tcons Syntax.tyBool (Syntax.tcons Syntax.tyBool (Syntax.tcons (Syntax.tyStruct (L._∷_ 115 (L._∷_ 116 (L._∷_ 101 (L._∷_ 112 (L._∷_ 58 (L._∷_ 58 (L._∷_ 83 (L._∷_ 116 (L._∷_ 101 (L._∷_ 112 L.[])))))))))) (Syntax.tcons (Syntax.tyInt Syntax.w64) (Syntax.tcons (Syntax.tyInt Syntax.w64) (Syntax.tcons (Syntax.tyStruct (L._∷_ 115 (L._∷_ 116 (L._∷_ 101 (L._∷_ 112 (L._∷_ 58 (L._∷_ 58 (L._∷_ 67 (L._∷_ 104 (L._∷_ 97 (L._∷_ 110 (L._∷_ 103 (L._∷_ 101 L.[])))))))))))) (Syntax.tcons (Syntax.tyStruct (L._∷_ 110 (L._∷_ 101 (L._∷_ 116 (L._∷_ 119 (L._∷_ 111 (L._∷_ 114 (L._∷_ 107 (L._∷_ 58 (L._∷_ 58 (L._∷_ 69 (L._∷_ 100 (L._∷_ 105 (L._∷_ 116 L.[]))))))))))))) (Syntax.tcons q7 (Syntax.tcons q7 (Syntax.tcons q7 (Syntax.tcons q7 (Syntax.tcons q2 (Syntax.tcons q2 (Syntax.tcons (Syntax.tyInt Syntax.w64) (Syntax.tcons q6 Syntax.tnil))))))))) (Syntax.tcons (Syntax.tyStruct (L._∷_ 115 (L._∷_ 116 (L._∷_ 101 (L._∷_ 112 (L._∷_ 58 (L._∷_ 58 (L._∷_ 79 (L._∷_ 108 (L._∷_ 100 L.[]))))))))) (Syntax.tcons (Syntax.tyInt Syntax.w64) (Syntax.tcons q6 (Syntax.tcons q7 (Syntax.tcons q7 (Syntax.tcons q7 (Syntax.tcons q7 (Syntax.tcons q4 Syntax.tnil)))))))) Syntax.tnil))) Syntax.tnil)))) Syntax.tnil)))) (Syntax.tcons q5 Syntax.tnil)))) (Row.setRow 8 q32 (Row.setRow 3 q17 (T24 .locals)))))) (Row.set 13 q29 tt (Row.setRow 10 (10, Rows.any-gone (Syntax.tyStruct (L._∷_ 114 (L._∷_ 117 (L._∷_ 108 (L._∷_ 101 (L._∷_ 115 (L._∷_ 58 (L._∷_ 58 (L._∷_ 102 (L._∷_ 111 (L._∷_ 117 (L._∷_ 110 (L._∷_ 100 (L._∷_ 58 (L._∷_ 58 (L._∷_ 70 (L._∷_ 111 (L._∷_ 117 (L._∷_ 110 (L._∷_ 100 L.[]))))))))))))))))))) (Syntax.tcons Syntax.tyBool (Syntax.tcons Syntax.tyBool (Syntax.tcons (Syntax.tyStruct (L._∷_ 115 (L._∷_ 116 (L._∷_ 101 (L._∷_ 112 (L._∷_ 58 (L._∷_ 58 (L._∷_ 83 (L._∷_ 116 (L._∷_ 101 (L._∷_ 112 L.[])))))))))) (Syntax.tcons (Syntax.tyInt Syntax.w64) (Syntax.tcons (Syntax.tyInt Syntax.w64) (Syntax.tcons (Syntax.tyStruct (L._∷_ 115 (L._∷_ 116 (L._∷_ 101 (L._∷_ 112 (L._∷_ 58 (L._∷_ 58 (L._∷_ 67 (L._∷_ 104 (L._∷_ 97 (L._∷_ 110 (L._∷_ 103 (L._∷_ 101 L.[])))))))))))) (Syntax.tcons (Syntax.tyStruct (L._∷_ 110 (L._∷_ 101 (L._∷_ 116 (L._∷_ 119 (L._∷_ 111 (L._∷_ 114 (L._∷_ 107 (L._∷_ 58 (L._∷_ 58 (L._∷_ 69 (L._∷_ 100 (L._∷_ 105 (L._∷_ 116 L.[]))))))))))))) (Syntax.tcons q7 (Syntax.tcons q7 (Syntax.tcons q7 (Syntax.tcons q7 (Syntax.tcons q2 (Syntax.tcons q2 (Syntax.tcons (Syntax.tyInt Syntax.w64) (Syntax.tcons q6 Syntax.tnil))))))))) (Syntax.tcons (Syntax.tyStruct (L._∷_ 115 (L._∷_ 116 (L._∷_ 101 (L._∷_ 112 (L._∷_ 58 (L._∷_ 58 (L._∷_ 79 (L._∷_ 108 (L._∷_ 100 L.[]))))))))) (Syntax.tcons (Syntax.tyInt Syntax.w64) (Syntax.tcons q6 (Syntax.tcons q7 (Syntax.tcons q7 (Syntax.tcons q7 (Syntax.tcons q7 (Syntax.tcons q4 Syntax.tnil)))))))) Syntax.tnil))) Syntax.tnil)))) Syntax.tnil))))) (Row.setRow 9 (9, Rows.any-gone (Syntax.tyStruct (L._∷_ 114 (L._∷_ 117 (L._∷_ 108 (L._∷_ 101 (L._∷_ 115 (L._∷_ 58 (L._∷_ 58 (L._∷_ 116 (L._∷_ 114 (L._∷_ 105 (L._∷_ 101 (L._∷_ 100 (L._∷_ 58 (L._∷_ 58 (L._∷_ 76 (L._∷_ 111 (L._∷_ 111 (L._∷_ 107 (L._∷_ 101 (L._∷_ 100 L.[])))))))))))))))))))) (Syntax.tcons (Syntax.tyStruct (L._∷_ 114 (L._∷_ 117 (L._∷_ 108 (L._∷_ 101 (L._∷_ 115 (L._∷_ 58 (L._∷_ 58 (L._∷_ 102 (L._∷_ 111 (L._∷_ 117 (L._∷_ 110 (L._∷_ 100 (L._∷_ 58 (L._∷_ 58 (L._∷_ 70 (L._∷_ 111 (L._∷_ 117 (L._∷_ 110 (L._∷_ 100 L.[]))))))))))))))))))) (Syntax.tcons Syntax.tyBool (Syntax.tcons Syntax.tyBool (Syntax.tcons (Syntax.tyStruct (L._∷_ 115 (L._∷_ 116 (L._∷_ 101 (L._∷_ 112 (L._∷_ 58 (L._∷_ 58 (L._∷_ 83 (L._∷_ 116 (L._∷_ 101 (L._∷_ 112 L.[])))))))))) (Syntax.tcons (Syntax.tyInt Syntax.w64) (Syntax.tcons (Syntax.tyInt Syntax.w64) (Syntax.tcons (Syntax.tyStruct (L._∷_ 115 (L._∷_ 116 (L._∷_ 101 (L._∷_ 112 (L._∷_ 58 (L._∷_ 58 (L._∷_ 67 (L._∷_ 104 (L._∷_ 97 (L._∷_ 110 (L._∷_ 103 (L._∷_ 101 L.[])))))))))))) (Syntax.tcons (Syntax.tyStruct (L._∷_ 110 (L._∷_ 101 (L._∷_ 116 (L._∷_ 119 (L._∷_ 111 (L._∷_ 114 (L._∷_ 107 (L._∷_ 58 (L._∷_ 58 (L._∷_ 69 (L._∷_ 100 (L._∷_ 105 (L._∷_ 116 L.[]))))))))))))) (Syntax.tcons q7 (Syntax.tcons q7 (Syntax.tcons q7 (Syntax.tcons q7 (Syntax.tcons q2 (Syntax.tcons q2 (Syntax.tcons (Syntax.tyInt Syntax.w64) (Syntax.tcons q6 Syntax.tnil))))))))) (Syntax.tcons (Syntax.tyStruct (L._∷_ 115 (L._∷_ 116 (L._∷_ 101 (L._∷_ 112 (L._∷_ 58 (L._∷_ 58 (L._∷_ 79 (L._∷_ 108 (L._∷_ 100 L.[]))))))))) (Syntax.tcons (Syntax.tyInt Syntax.w64) (Syntax.tcons q6 (Syntax.tcons q7 (Syntax.tcons q7 (Syntax.tcons q7 (Syntax.tcons q7 (Syntax.tcons q4 Syntax.tnil)))))))) Syntax.tnil))) Syntax.tnil)))) Syntax.tnil)))) (Syntax.tcons q5 Syntax.tnil)))) (Row.setRow 8 q32 (Row.setRow 3 q17 (T24 .locals))))) (Row.set 10 (10, Rows.any-gone (Syntax.tyStruct (L._∷_ 114 (L._∷_ 117 (L._∷_ 108 (L._∷_ 101 (L._∷_ 115 (L._∷_ 58 (L._∷_ 58 (L._∷_ 102 (L._∷_ 111 (L._∷_ 117 (L._∷_ 110 (L._∷_ 100 (L._∷_ 58 (L._∷_ 58 (L._∷_ 70 (L._∷_ 111 (L._∷_ 117 (L._∷_ 110 (L._∷_ 100 L.[]))))))))))))))))))) (Syntax.tcons Syntax.tyBool (Syntax.tcons Syntax.tyBool (Syntax.tcons (Syntax.tyStruct (L._∷_ 115 (L._∷_ 116 (L._∷_ 101 (L._∷_ 112 (L._∷_ 58 (L._∷_ 58 (L._∷_ 83 (L._∷_ 116 (L._∷_ 101 (L._∷_ 112 L.[])))))))))) (Syntax.tcons (Syntax.tyInt Syntax.w64) (Syntax.tcons (Syntax.tyInt Syntax.w64) (Syntax.tcons (Syntax.tyStruct (L._∷_ 115 (L._∷_ 116 (L._∷_ 101 (L._∷_ 112 (L._∷_ 58 (L._∷_ 58 (L._∷_ 67 (L._∷_ 104 (L._∷_ 97 (L._∷_ 110 (L._∷_ 103 (L._∷_ 101 L.[])))))))))))) (Syntax.tcons (Syntax.tyStruct (L._∷_ 110 (L._∷_ 101 (L._∷_ 116 (L._∷_ 119 (L._∷_ 111 (L._∷_ 114 (L._∷_ 107 (L._∷_ 58 (L._∷_ 58 (L._∷_ 69 (L._∷_ 100 (L._∷_ 105 (L._∷_ 116 L.[]))))))))))))) (Syntax.tcons q7 (Syntax.tcons q7 (Syntax.tcons q7 (Syntax.tcons q7 (Syntax.tcons q2 (Syntax.tcons q2 (Syntax.tcons (Syntax.tyInt Syntax.w64) (Syntax.tcons q6 Syntax.tnil))))))))) (Syntax.tcons (Syntax.tyStruct (L._∷_ 115 (L._∷_ 116 (L._∷_ 101 (L._∷_ 112 (L._∷_ 58 (L._∷_ 58 (L._∷_ 79 (L._∷_ 108 (L._∷_ 100 L.[]))))))))) (Syntax.tcons (Syntax.tyInt Syntax.w64) (Syntax.tcons q6 (Syntax.tcons q7 (Syntax.tcons q7 (Syntax.tcons q7 (Syntax.tcons q7 (Syntax.tcons q4 Syntax.tnil)))))))) Syntax.tnil))) Syntax.tnil)))) Syntax.tnil))))) tt (Row.setRow 9 (9, Rows.any-gone (Syntax.tyStruct (L._∷_ 114 (L._∷_ 117 (L._∷_ 108 (L._∷_ 101 (L._∷_ 115 (L._∷_ 58 (L._∷_ 58 (L._∷_ 116 (L._∷_ 114 (L._∷_ 105 (L._∷_ 101 (L._∷_ 100 (L._∷_ 58 (L._∷_ 58 (L._∷_ 76 (L._∷_ 111 (L._∷_ 111 (L._∷_ 107 (L._∷_ 101 (L._∷_ 100 L.[])))))))))))))))))))) (Syntax.tcons (Syntax.tyStruct (L._∷_ 114 (L._∷_ 117 (L._∷_ 108 (L._∷_ 101 (L._∷_ 115 (L._∷_ 58 (L._∷_ 58 (L._∷_ 102 (L._∷_ 111 (L._∷_ 117 (L._∷_ 110 (L._∷_ 100 (L._∷_ 58 (L._∷_ 58 (L._∷_ 70 (L._∷_ 111 (L._∷_ 117 (L._∷_ 110 (L._∷_ 100 L.[]))))))))))))))))))) (Syntax.tcons Syntax.tyBool (Syntax.tcons Syntax.tyBool (Syntax.tcons (Syntax.tyStruct (L._∷_ 115 (L._∷_ 116 (L._∷_ 101 (L._∷_ 112 (L._∷_ 58 (L._∷_ 58 (L._∷_ 83 (L._∷_ 116 (L._∷_ 101 (L._∷_ 112 L.[])))))))))) (Syntax.tcons (Syntax.tyInt Syntax.w64) (Syntax.tcons (Syntax.tyInt Syntax.w64) (Syntax.tcons (Syntax.tyStruct (L._∷_ 115 (L._∷_ 116 (L._∷_ 101 (L._∷_ 112 (L._∷_ 58 (L._∷_ 58 (L._∷_ 67 (L._∷_ 104 (L._∷_ 97 (L._∷_ 110 (L._∷_ 103 (L._∷_ 101 L.[])))))))))))) (Syntax.tcons (Syntax.tyStruct (L._∷_ 110 (L._∷_ 101 (L._∷_ 116 (L._∷_ 119 (L._∷_ 111 (L._∷_ 114 (L._∷_ 107 (L._∷_ 58 (L._∷_ 58 (L._∷_ 69 (L._∷_ 100 (L._∷_ 105 (L._∷_ 116 L.[]))))))))))))) (Syntax.tcons q7 (Syntax.tcons q7 (Syntax.tcons q7 (Syntax.tcons q7 (Syntax.tcons q2 (Syntax.tcons q2 (Syntax.tcons (Syntax.tyInt Syntax.w64) (Syntax.tcons q6 Syntax.tnil))))))))) (Syntax.tcons (Syntax.tyStruct (L._∷_ 115 (L._∷_ 116 (L._∷_ 101 (L._∷_ 112 (L._∷_ 58 (L._∷_ 58 (L._∷_ 79 (L._∷_ 108 (L._∷_ 100 L.[]))))))))) (Syntax.tcons (Syntax.tyInt Syntax.w64) (Syntax.tcons q6 (Syntax.tcons q7 (Syntax.tcons q7 (Syntax.tcons q7 (Syntax.tcons q7 (Syntax.tcons q4 Syntax.tnil)))))))) Syntax.tnil))) Syntax.tnil)))) Syntax.tnil)))) (Syntax.tcons q5 Syntax.tnil)))) (Row.setRow 8 q32 (Row.setRow 3 q17 (T24 .locals)))) (Row.set 9 (9, Rows.any-gone (Syntax.tyStruct (L._∷_ 114 (L._∷_ 117 (L._∷_ 108 (L._∷_ 101 (L._∷_ 115 (L._∷_ 58 (L._∷_ 58 (L._∷_ 116 (L._∷_ 114 (L._∷_ 105 (L._∷_ 101 (L._∷_ 100 (L._∷_ 58 (L._∷_ 58 (L._∷_ 76 (L._∷_ 111 (L._∷_ 111 (L._∷_ 107 (L._∷_ 101 (L._∷_ 100 L.[])))))))))))))))))))) (Syntax.tcons (Syntax.tyStruct (L._∷_ 114 (L._∷_ 117 (L._∷_ 108 (L._∷_ 101 (L._∷_ 115 (L._∷_ 58 (L._∷_ 58 (L._∷_ 102 (L._∷_ 111 (L._∷_ 117 (L._∷_ 110 (L._∷_ 100 (L._∷_ 58 (L._∷_ 58 (L._∷_ 70 (L._∷_ 111 (L._∷_ 117 (L._∷_ 110 (L._∷_ 100 L.[]))))))))))))))))))) (Syntax.tcons Syntax.tyBool (Syntax.tcons Syntax.tyBool (Syntax.tcons (Syntax.tyStruct (L._∷_ 115 (L._∷_ 116 (L._∷_ 101 (L._∷_ 112 (L._∷_ 58 (L._∷_ 58 (L._∷_ 83 (L._∷_ 116 (L._∷_ 101 (L._∷_ 112 L.[])))))))))) (Syntax.tcons (Syntax.tyInt Syntax.w64) (Syntax.tcons (Syntax.tyInt Syntax.w64) (Syntax.tcons (Syntax.tyStruct (L._∷_ 115 (L._∷_ 116 (L._∷_ 101 (L._∷_ 112 (L._∷_ 58 (L._∷_ 58 (L._∷_ 67 (L._∷_ 104 (L._∷_ 97 (L._∷_ 110 (L._∷_ 103 (L._∷_ 101 L.[])))))))))))) (Syntax.tcons (Syntax.tyStruct (L._∷_ 110 (L._∷_ 101 (L._∷_ 116 (L._∷_ 119 (L._∷_ 111 (L._∷_ 114 (L._∷_ 107 (L._∷_ 58 (L._∷_ 58 (L._∷_ 69 (L._∷_ 100 (L._∷_ 105 (L._∷_ 116 L.[]))))))))))))) (Syntax.tcons q7 (Syntax.tcons q7 (Syntax.tcons q7 (Syntax.tcons q7 (Syntax.tcons q2 (Syntax.tcons q2 (Syntax.tcons (Syntax.tyInt Syntax.w64) (Syntax.tcons q6 Syntax.tnil))))))))) (Syntax.tcons (Syntax.tyStruct (L._∷_ 115 (L._∷_ 116 (L._∷_ 101 (L._∷_ 112 (L._∷_ 58 (L._∷_ 58 (L._∷_ 79 (L._∷_ 108 (L._∷_ 100 L.[]))))))))) (Syntax.tcons (Syntax.tyInt Syntax.w64) (Syntax.tcons q6 (Syntax.tcons q7 (Syntax.tcons q7 (Syntax.tcons q7 (Syntax.tcons q7 (Syntax.tcons q4 Syntax.tnil)))))))) Syntax.tnil))) Syntax.tnil)))) Syntax.tnil)))) (Syntax.tcons q5 Syntax.tnil)))) tt (Row.setRow 8 q32 (Row.setRow 3 q17 (T24 .locals))) (Row.set 8 q32 tt (Row.setRow 3 q17 (T24 .locals)) (Row.set 3 q17 seen (T24 .locals) (m21 (before .before))))))))
 
       module _ (before· : In-loop) where
         pub record Joined2·own : Type 0 where

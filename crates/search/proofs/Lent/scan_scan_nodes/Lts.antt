@@ -39,6 +39,7 @@ use borrow.Rule.Way as RuleWay
 use borrow.Rule.WayStmt
 use borrow.Rule.Yields
 use borrow.Struct.Behind
+use borrow.Struct.Inner
 use borrow.Struct.ItemWay
 use borrow.Struct.Items
 use borrow.Struct.Reads
@@ -75,131 +76,134 @@ use prog.Wp
 use types.Kit
 use Rattle.network.proofs.Lent.Rec
 
+abbrev pub q50 : Row.Entry
+q50 = (23, Rows.any-gone Syntax.tyPtr)
+
 abbrev pub q49 : Row.Entry
-q49 = (23, Rows.any-gone Syntax.tyPtr)
+q49 = (22, Rows.any-gone Syntax.tyPtr)
 
 abbrev pub q48 : Row.Entry
-q48 = (22, Rows.any-gone Syntax.tyPtr)
+q48 = (18, Rows.any-gone Syntax.tyPtr)
 
 abbrev pub q47 : Row.Entry
-q47 = (18, Rows.any-gone Syntax.tyPtr)
+q47 = (17, Rows.any-gone Syntax.tyPtr)
 
 abbrev pub q46 : Row.Entry
-q46 = (17, Rows.any-gone Syntax.tyPtr)
+q46 = (16, Rows.any-gone Syntax.tyPtr)
 
 abbrev pub q45 : Row.Entry
-q45 = (16, Rows.any-gone Syntax.tyPtr)
+q45 = (15, Rows.any-gone Syntax.tyPtr)
 
 abbrev pub q44 : Row.Entry
-q44 = (15, Rows.any-gone Syntax.tyPtr)
+q44 = (27, Rows.any-gone Syntax.tyBool)
 
 abbrev pub q43 : Row.Entry
-q43 = (26, Rows.any-gone Syntax.tyBool)
+q43 = (20, Rows.any-gone Syntax.tyBool)
 
 abbrev pub q42 : Row.Entry
-q42 = (20, Rows.any-gone Syntax.tyBool)
+q42 = (14, Rows.any-gone Syntax.tyBool)
 
 abbrev pub q41 : Row.Entry
-q41 = (14, Rows.any-gone Syntax.tyBool)
+q41 = (13, Rows.any-gone Syntax.tyBool)
 
-abbrev pub q40 : Row.Entry
-q40 = (13, Rows.any-gone Syntax.tyBool)
+abbrev pub q40 : Syntax.Ty
+q40 = Syntax.tyArray Syntax.tyBool 33
 
-abbrev pub q39 : Syntax.Ty
-q39 = Syntax.tyArray Syntax.tyBool 33
+abbrev pub q39 : Row.Row
+q39 = Rows.sc-here (Row.sInt Syntax.w64)
 
-abbrev pub q38 : Row.Row
-q38 = Rows.sc-here (Row.sInt Syntax.w64)
+abbrev pub q38 : Row.Entry
+q38 = (9, Rows.sc-here (Row.sInt Syntax.w64))
 
 abbrev pub q37 : Row.Entry
-q37 = (9, Rows.sc-here (Row.sInt Syntax.w64))
+q37 = (8, Rows.sc-here (Row.sInt Syntax.w64))
 
 abbrev pub q36 : Row.Entry
-q36 = (8, Rows.sc-here (Row.sInt Syntax.w64))
+q36 = (4, Rows.sc-here (Row.sInt Syntax.w64))
 
 abbrev pub q35 : Row.Entry
-q35 = (4, Rows.sc-here (Row.sInt Syntax.w64))
+q35 = (21, Rows.sc-here (Row.sInt Syntax.w64))
 
 abbrev pub q34 : Row.Entry
-q34 = (21, Rows.sc-here (Row.sInt Syntax.w64))
+q34 = (9, Rows.any-gone (Syntax.tyInt Syntax.w64))
 
 abbrev pub q33 : Row.Entry
-q33 = (9, Rows.any-gone (Syntax.tyInt Syntax.w64))
+q33 = (8, Rows.any-gone (Syntax.tyInt Syntax.w64))
 
 abbrev pub q32 : Row.Entry
-q32 = (8, Rows.any-gone (Syntax.tyInt Syntax.w64))
+q32 = (21, Rows.any-gone (Syntax.tyInt Syntax.w64))
 
 abbrev pub q31 : Row.Entry
-q31 = (21, Rows.any-gone (Syntax.tyInt Syntax.w64))
+q31 = (19, Rows.any-gone (Syntax.tyInt Syntax.w64))
 
 abbrev pub q30 : Row.Entry
-q30 = (19, Rows.any-gone (Syntax.tyInt Syntax.w64))
+q30 = (12, Rows.any-gone (Syntax.tyInt Syntax.w64))
 
-abbrev pub q29 : Row.Entry
-q29 = (12, Rows.any-gone (Syntax.tyInt Syntax.w64))
+abbrev pub q29 : Syntax.Ty
+q29 = Syntax.tyArray (Syntax.tyInt Syntax.w64) 33
 
 abbrev pub q28 : Syntax.Ty
-q28 = Syntax.tyArray (Syntax.tyInt Syntax.w64) 33
+q28 = Syntax.tyRef (Syntax.named 0) Syntax.imm Rec.named
 
-abbrev pub q27 : Syntax.Ty
-q27 = Syntax.tyRef (Syntax.named 0) Syntax.imm Rec.named
+abbrev pub q27 : Row.Row
+q27 = Rows.whole (Declared.row network-proofs-Nodes·.the-type)
 
 abbrev pub q26 : Row.Row
-q26 = Rows.whole (Declared.row network-proofs-Nodes·.the-type)
+q26 = Rows.whole (Declared.row network-proofs-Degrees·.the-type)
 
-abbrev pub q25 : Row.Row
-q25 = Rows.whole (Declared.row network-proofs-Degrees·.the-type)
+abbrev pub q25 : Row.Entry
+q25 = (5, Rows.whole (Declared.row network-proofs-Nodes·.the-type))
 
-abbrev pub q24 : Row.Entry
-q24 = (5, Rows.whole (Declared.row network-proofs-Nodes·.the-type))
+abbrev pub q24 : Row.Row
+q24 = Rows.whole (Declared.row rules-proofs-found-Found·.the-type)
 
 abbrev pub q23 : Row.Row
-q23 = Rows.whole (Declared.row rules-proofs-found-Found·.the-type)
+q23 = Rows.whole (Declared.row fraction-proofs-Fraction·.the-type)
 
-abbrev pub q22 : Row.Row
-q22 = Rows.whole (Declared.row fraction-proofs-Fraction·.the-type)
+abbrev pub q22 : Row.Entry
+q22 = (6, Rows.whole (Declared.row network-proofs-Degrees·.the-type))
 
 abbrev pub q21 : Row.Entry
-q21 = (6, Rows.whole (Declared.row network-proofs-Degrees·.the-type))
+q21 = (3, Rows.whole (Declared.row network-proofs-Degrees·.the-type))
 
 abbrev pub q20 : Row.Entry
-q20 = (3, Rows.whole (Declared.row network-proofs-Degrees·.the-type))
+q20 = (7, Rows.whole (Declared.row rules-proofs-tried-Asks·.the-type))
 
 abbrev pub q19 : Row.Entry
-q19 = (7, Rows.whole (Declared.row rules-proofs-tried-Asks·.the-type))
+q19 = (0, Rows.whole (Declared.row rules-proofs-found-Found·.the-type))
 
 abbrev pub q18 : Row.Entry
-q18 = (0, Rows.whole (Declared.row rules-proofs-found-Found·.the-type))
+q18 = (11, Rows.whole (Declared.row rules-proofs-found-Found·.the-type))
 
 abbrev pub q17 : Row.Entry
-q17 = (11, Rows.whole (Declared.row rules-proofs-found-Found·.the-type))
+q17 = (24, Rows.whole (Declared.row fraction-proofs-Fraction·.the-type))
 
 abbrev pub q16 : Row.Entry
-q16 = (24, Rows.whole (Declared.row fraction-proofs-Fraction·.the-type))
+q16 = (2, Rows.sslice Rec.row q28 0)
 
-abbrev pub q15 : Row.Entry
-q15 = (2, Rows.sslice Rec.row q27 0)
+abbrev pub q15 : Syntax.Ty
+q15 = Syntax.tyStruct (L._∷_ 110 (L._∷_ 101 (L._∷_ 116 (L._∷_ 119 (L._∷_ 111 (L._∷_ 114 (L._∷_ 107 (L._∷_ 58 (L._∷_ 58 (L._∷_ 68 (L._∷_ 101 (L._∷_ 103 (L._∷_ 114 (L._∷_ 101 (L._∷_ 101 (L._∷_ 115 L.[])))))))))))))))) (Syntax.tcons q29 Syntax.tnil)
 
-abbrev pub q14 : Syntax.Ty
-q14 = Syntax.tyStruct (L._∷_ 110 (L._∷_ 101 (L._∷_ 116 (L._∷_ 119 (L._∷_ 111 (L._∷_ 114 (L._∷_ 107 (L._∷_ 58 (L._∷_ 58 (L._∷_ 68 (L._∷_ 101 (L._∷_ 103 (L._∷_ 114 (L._∷_ 101 (L._∷_ 101 (L._∷_ 115 L.[])))))))))))))))) (Syntax.tcons q28 Syntax.tnil)
+abbrev pub q14 : Row.Entry
+q14 = (3, Rows.any-gone q15)
 
 abbrev pub q13 : Row.Entry
-q13 = (3, Rows.any-gone q14)
+q13 = (6, Rows.any-gone q15)
 
-abbrev pub q12 : Row.Entry
-q12 = (6, Rows.any-gone q14)
+abbrev pub q12 : Syntax.Ty
+q12 = Syntax.tyStruct (L._∷_ 110 (L._∷_ 101 (L._∷_ 116 (L._∷_ 119 (L._∷_ 111 (L._∷_ 114 (L._∷_ 107 (L._∷_ 58 (L._∷_ 58 (L._∷_ 65 (L._∷_ 114 (L._∷_ 99 (L._∷_ 85 (L._∷_ 112 (L._∷_ 100 (L._∷_ 97 (L._∷_ 116 (L._∷_ 101 L.[])))))))))))))))))) (Syntax.tcons (Syntax.tyInt Syntax.w64) (Syntax.tcons Rec.by-value Syntax.tnil))
 
 abbrev pub q11 : Syntax.Ty
-q11 = Syntax.tyStruct (L._∷_ 110 (L._∷_ 101 (L._∷_ 116 (L._∷_ 119 (L._∷_ 111 (L._∷_ 114 (L._∷_ 107 (L._∷_ 58 (L._∷_ 58 (L._∷_ 65 (L._∷_ 114 (L._∷_ 99 (L._∷_ 85 (L._∷_ 112 (L._∷_ 100 (L._∷_ 97 (L._∷_ 116 (L._∷_ 101 L.[])))))))))))))))))) (Syntax.tcons (Syntax.tyInt Syntax.w64) (Syntax.tcons Rec.by-value Syntax.tnil))
+q11 = Syntax.tyStruct (L._∷_ 102 (L._∷_ 114 (L._∷_ 97 (L._∷_ 99 (L._∷_ 116 (L._∷_ 105 (L._∷_ 111 (L._∷_ 110 (L._∷_ 58 (L._∷_ 58 (L._∷_ 70 (L._∷_ 114 (L._∷_ 97 (L._∷_ 99 (L._∷_ 116 (L._∷_ 105 (L._∷_ 111 (L._∷_ 110 L.[])))))))))))))))))) (Syntax.tcons (Syntax.tyInt Syntax.w32) (Syntax.tcons (Syntax.tyInt Syntax.w32) Syntax.tnil))
 
-abbrev pub q10 : Syntax.Ty
-q10 = Syntax.tyStruct (L._∷_ 102 (L._∷_ 114 (L._∷_ 97 (L._∷_ 99 (L._∷_ 116 (L._∷_ 105 (L._∷_ 111 (L._∷_ 110 (L._∷_ 58 (L._∷_ 58 (L._∷_ 70 (L._∷_ 114 (L._∷_ 97 (L._∷_ 99 (L._∷_ 116 (L._∷_ 105 (L._∷_ 111 (L._∷_ 110 L.[])))))))))))))))))) (Syntax.tcons (Syntax.tyInt Syntax.w32) (Syntax.tcons (Syntax.tyInt Syntax.w32) Syntax.tnil))
+abbrev pub q10 : Row.Entry
+q10 = (25, Rows.any-gone q11)
 
 abbrev pub q9 : Row.Entry
-q9 = (24, Rows.any-gone q10)
+q9 = (24, Rows.any-gone q11)
 
 abbrev pub q8 : Syntax.Ty
-q8 = Syntax.tyArray q10 33
+q8 = Syntax.tyArray q11 33
 
 abbrev pub q7 : Syntax.Ty
 q7 = Syntax.tyStruct (L._∷_ 115 (L._∷_ 116 (L._∷_ 101 (L._∷_ 112 (L._∷_ 58 (L._∷_ 58 (L._∷_ 78 (L._∷_ 117 (L._∷_ 109 (L._∷_ 98 (L._∷_ 101 (L._∷_ 114 (L._∷_ 115 L.[]))))))))))))) (Syntax.tcons (Syntax.tyInt Syntax.w64) (Syntax.tcons (Syntax.tyInt Syntax.w64) (Syntax.tcons (Syntax.tyInt Syntax.w64) (Syntax.tcons (Syntax.tyInt Syntax.w64) Syntax.tnil))))
@@ -208,16 +212,16 @@ abbrev pub q6 : Syntax.Ty
 q6 = Syntax.tyStruct (L._∷_ 114 (L._∷_ 117 (L._∷_ 108 (L._∷_ 101 (L._∷_ 115 (L._∷_ 58 (L._∷_ 58 (L._∷_ 116 (L._∷_ 114 (L._∷_ 105 (L._∷_ 101 (L._∷_ 100 (L._∷_ 58 (L._∷_ 58 (L._∷_ 65 (L._∷_ 115 (L._∷_ 107 (L._∷_ 115 L.[])))))))))))))))))) (Syntax.tcons (Syntax.tyInt Syntax.w64) (Syntax.tcons (Syntax.tyInt Syntax.w64) (Syntax.tcons Syntax.tyBool Syntax.tnil)))
 
 abbrev pub q5 : Row.Entry
-q5 = (25, Rows.any-gone q8)
+q5 = (26, Rows.any-gone q8)
 
 abbrev pub q4 : Row.Entry
 q4 = (7, Rows.any-gone q6)
 
 abbrev pub q3 : Syntax.Ty
-q3 = Syntax.tyStruct (L._∷_ 110 (L._∷_ 101 (L._∷_ 116 (L._∷_ 119 (L._∷_ 111 (L._∷_ 114 (L._∷_ 107 (L._∷_ 58 (L._∷_ 58 (L._∷_ 83 (L._∷_ 117 (L._∷_ 112 (L._∷_ 112 (L._∷_ 108 (L._∷_ 121 (L._∷_ 85 (L._∷_ 112 (L._∷_ 100 (L._∷_ 97 (L._∷_ 116 (L._∷_ 101 L.[]))))))))))))))))))))) (Syntax.tcons (Syntax.tyInt Syntax.w64) (Syntax.tcons q10 Syntax.tnil))
+q3 = Syntax.tyStruct (L._∷_ 110 (L._∷_ 101 (L._∷_ 116 (L._∷_ 119 (L._∷_ 111 (L._∷_ 114 (L._∷_ 107 (L._∷_ 58 (L._∷_ 58 (L._∷_ 83 (L._∷_ 117 (L._∷_ 112 (L._∷_ 112 (L._∷_ 108 (L._∷_ 121 (L._∷_ 85 (L._∷_ 112 (L._∷_ 100 (L._∷_ 97 (L._∷_ 116 (L._∷_ 101 L.[]))))))))))))))))))))) (Syntax.tcons (Syntax.tyInt Syntax.w64) (Syntax.tcons q11 Syntax.tnil))
 
 abbrev pub q2 : Syntax.Ty
-q2 = Syntax.tyStruct (L._∷_ 110 (L._∷_ 101 (L._∷_ 116 (L._∷_ 119 (L._∷_ 111 (L._∷_ 114 (L._∷_ 107 (L._∷_ 58 (L._∷_ 58 (L._∷_ 78 (L._∷_ 111 (L._∷_ 100 (L._∷_ 101 (L._∷_ 115 L.[])))))))))))))) (Syntax.tcons (Syntax.tyInt Syntax.w64) (Syntax.tcons (Syntax.tyInt Syntax.w64) (Syntax.tcons q39 (Syntax.tcons q8 Syntax.tnil))))
+q2 = Syntax.tyStruct (L._∷_ 110 (L._∷_ 101 (L._∷_ 116 (L._∷_ 119 (L._∷_ 111 (L._∷_ 114 (L._∷_ 107 (L._∷_ 58 (L._∷_ 58 (L._∷_ 78 (L._∷_ 111 (L._∷_ 100 (L._∷_ 101 (L._∷_ 115 L.[])))))))))))))) (Syntax.tcons (Syntax.tyInt Syntax.w64) (Syntax.tcons (Syntax.tyInt Syntax.w64) (Syntax.tcons q11 (Syntax.tcons q40 (Syntax.tcons q8 Syntax.tnil)))))
 
 abbrev pub q1 : Row.Entry
 q1 = (1, Rows.any-gone q2)
@@ -232,7 +236,7 @@ abbrev pub r : FnKinds.RK 1
 r = Value.rVal record { ty = Declared.row rules-proofs-found-Found·.the-type; one = Path.refl; val = StructLaws.val rules-proofs-found-Found·.the-type rules-proofs-found-Found-Laws·.the-laws; tells = StructLaws.tells rules-proofs-found-Found·.the-type rules-proofs-found-Found-Laws·.the-laws; still = StructLaws.still rules-proofs-found-Found·.the-type rules-proofs-found-Found-Laws·.the-copy Exit.yes; row = Rows.whole (Declared.row rules-proofs-found-Found·.the-type); rd = λ x. x; mk = λ x. x } λ M 𝓤 H A W. record { copies = StructLaws.copy rules-proofs-found-Found·.the-type rules-proofs-found-Found-Laws·.the-copy 𝓤 H A W; lawful = StructLaws.lawful rules-proofs-found-Found·.the-type rules-proofs-found-Found-Laws·.the-laws 𝓤 H A W; makes = StructLaws.makes rules-proofs-found-Found·.the-type rules-proofs-found-Found-Laws·.the-plain 𝓤 H A; in-mem = Local.mem-whole 𝓤 H A W (Declared.row rules-proofs-found-Found·.the-type); of-mem = Local.whole-mem 𝓤 H A W (Declared.row rules-proofs-found-Found·.the-type) }
 
 abbrev pub xs : L.List Syntax.Ty
-xs = L._∷_ q2 (L._∷_ q14 (L._∷_ q6 (L._∷_ (Syntax.tyInt Syntax.w64) (L._∷_ (Syntax.tyInt Syntax.w64) (L._∷_ (Syntax.tyStruct (L._∷_ 115 (L._∷_ 116 (L._∷_ 101 (L._∷_ 112 (L._∷_ 58 (L._∷_ 58 (L._∷_ 65 (L._∷_ 114 (L._∷_ 111 (L._∷_ 117 (L._∷_ 110 (L._∷_ 100 L.[])))))))))))) (Syntax.tcons q11 (Syntax.tcons q11 (Syntax.tcons q11 (Syntax.tcons q11 Syntax.tnil))))) (L._∷_ (Syntax.tyStruct (L._∷_ 114 (L._∷_ 117 (L._∷_ 108 (L._∷_ 101 (L._∷_ 115 (L._∷_ 58 (L._∷_ 58 (L._∷_ 102 (L._∷_ 111 (L._∷_ 117 (L._∷_ 110 (L._∷_ 100 (L._∷_ 58 (L._∷_ 58 (L._∷_ 70 (L._∷_ 111 (L._∷_ 117 (L._∷_ 110 (L._∷_ 100 L.[]))))))))))))))))))) (Syntax.tcons Syntax.tyBool (Syntax.tcons Syntax.tyBool (Syntax.tcons (Syntax.tyStruct (L._∷_ 115 (L._∷_ 116 (L._∷_ 101 (L._∷_ 112 (L._∷_ 58 (L._∷_ 58 (L._∷_ 83 (L._∷_ 116 (L._∷_ 101 (L._∷_ 112 L.[])))))))))) (Syntax.tcons (Syntax.tyInt Syntax.w64) (Syntax.tcons (Syntax.tyInt Syntax.w64) (Syntax.tcons (Syntax.tyStruct (L._∷_ 115 (L._∷_ 116 (L._∷_ 101 (L._∷_ 112 (L._∷_ 58 (L._∷_ 58 (L._∷_ 67 (L._∷_ 104 (L._∷_ 97 (L._∷_ 110 (L._∷_ 103 (L._∷_ 101 L.[])))))))))))) (Syntax.tcons (Syntax.tyStruct (L._∷_ 110 (L._∷_ 101 (L._∷_ 116 (L._∷_ 119 (L._∷_ 111 (L._∷_ 114 (L._∷_ 107 (L._∷_ 58 (L._∷_ 58 (L._∷_ 69 (L._∷_ 100 (L._∷_ 105 (L._∷_ 116 L.[]))))))))))))) (Syntax.tcons q11 (Syntax.tcons q11 (Syntax.tcons q11 (Syntax.tcons q11 (Syntax.tcons q3 (Syntax.tcons q3 (Syntax.tcons (Syntax.tyInt Syntax.w64) Syntax.tnil)))))))) (Syntax.tcons (Syntax.tyStruct (L._∷_ 115 (L._∷_ 116 (L._∷_ 101 (L._∷_ 112 (L._∷_ 58 (L._∷_ 58 (L._∷_ 79 (L._∷_ 108 (L._∷_ 100 L.[]))))))))) (Syntax.tcons (Syntax.tyInt Syntax.w64) (Syntax.tcons q10 (Syntax.tcons q11 (Syntax.tcons q11 (Syntax.tcons q11 (Syntax.tcons q11 (Syntax.tcons q7 Syntax.tnil)))))))) Syntax.tnil))) Syntax.tnil)))) Syntax.tnil)))) (L._∷_ (Syntax.tyInt Syntax.w64) (L._∷_ Syntax.tyBool (L._∷_ Syntax.tyBool (L._∷_ Syntax.tyPtr (L._∷_ Syntax.tyPtr (L._∷_ Syntax.tyPtr (L._∷_ Syntax.tyPtr (L._∷_ (Syntax.tyInt Syntax.w64) (L._∷_ Syntax.tyBool (L._∷_ (Syntax.tyInt Syntax.w64) (L._∷_ Syntax.tyPtr (L._∷_ Syntax.tyPtr (L._∷_ q10 (L._∷_ q8 (L._∷_ Syntax.tyBool L.[])))))))))))))))))))))
+xs = L._∷_ q2 (L._∷_ q15 (L._∷_ q6 (L._∷_ (Syntax.tyInt Syntax.w64) (L._∷_ (Syntax.tyInt Syntax.w64) (L._∷_ (Syntax.tyStruct (L._∷_ 115 (L._∷_ 116 (L._∷_ 101 (L._∷_ 112 (L._∷_ 58 (L._∷_ 58 (L._∷_ 65 (L._∷_ 114 (L._∷_ 111 (L._∷_ 117 (L._∷_ 110 (L._∷_ 100 L.[])))))))))))) (Syntax.tcons q12 (Syntax.tcons q12 (Syntax.tcons q12 (Syntax.tcons q12 Syntax.tnil))))) (L._∷_ (Syntax.tyStruct (L._∷_ 114 (L._∷_ 117 (L._∷_ 108 (L._∷_ 101 (L._∷_ 115 (L._∷_ 58 (L._∷_ 58 (L._∷_ 102 (L._∷_ 111 (L._∷_ 117 (L._∷_ 110 (L._∷_ 100 (L._∷_ 58 (L._∷_ 58 (L._∷_ 70 (L._∷_ 111 (L._∷_ 117 (L._∷_ 110 (L._∷_ 100 L.[]))))))))))))))))))) (Syntax.tcons Syntax.tyBool (Syntax.tcons Syntax.tyBool (Syntax.tcons (Syntax.tyStruct (L._∷_ 115 (L._∷_ 116 (L._∷_ 101 (L._∷_ 112 (L._∷_ 58 (L._∷_ 58 (L._∷_ 83 (L._∷_ 116 (L._∷_ 101 (L._∷_ 112 L.[])))))))))) (Syntax.tcons (Syntax.tyInt Syntax.w64) (Syntax.tcons (Syntax.tyInt Syntax.w64) (Syntax.tcons (Syntax.tyStruct (L._∷_ 115 (L._∷_ 116 (L._∷_ 101 (L._∷_ 112 (L._∷_ 58 (L._∷_ 58 (L._∷_ 67 (L._∷_ 104 (L._∷_ 97 (L._∷_ 110 (L._∷_ 103 (L._∷_ 101 L.[])))))))))))) (Syntax.tcons (Syntax.tyStruct (L._∷_ 110 (L._∷_ 101 (L._∷_ 116 (L._∷_ 119 (L._∷_ 111 (L._∷_ 114 (L._∷_ 107 (L._∷_ 58 (L._∷_ 58 (L._∷_ 69 (L._∷_ 100 (L._∷_ 105 (L._∷_ 116 L.[]))))))))))))) (Syntax.tcons q12 (Syntax.tcons q12 (Syntax.tcons q12 (Syntax.tcons q12 (Syntax.tcons q3 (Syntax.tcons q3 (Syntax.tcons (Syntax.tyInt Syntax.w64) (Syntax.tcons q11 Syntax.tnil))))))))) (Syntax.tcons (Syntax.tyStruct (L._∷_ 115 (L._∷_ 116 (L._∷_ 101 (L._∷_ 112 (L._∷_ 58 (L._∷_ 58 (L._∷_ 79 (L._∷_ 108 (L._∷_ 100 L.[]))))))))) (Syntax.tcons (Syntax.tyInt Syntax.w64) (Syntax.tcons q11 (Syntax.tcons q12 (Syntax.tcons q12 (Syntax.tcons q12 (Syntax.tcons q12 (Syntax.tcons q7 Syntax.tnil)))))))) Syntax.tnil))) Syntax.tnil)))) Syntax.tnil)))) (L._∷_ (Syntax.tyInt Syntax.w64) (L._∷_ Syntax.tyBool (L._∷_ Syntax.tyBool (L._∷_ Syntax.tyPtr (L._∷_ Syntax.tyPtr (L._∷_ Syntax.tyPtr (L._∷_ Syntax.tyPtr (L._∷_ (Syntax.tyInt Syntax.w64) (L._∷_ Syntax.tyBool (L._∷_ (Syntax.tyInt Syntax.w64) (L._∷_ Syntax.tyPtr (L._∷_ Syntax.tyPtr (L._∷_ q11 (L._∷_ q11 (L._∷_ q8 (L._∷_ Syntax.tyBool L.[]))))))))))))))))))))))
 
 abbrev pub m : Nat.ℕ
 m = 0
@@ -262,7 +266,7 @@ abbrev pub r·3 : FnKinds.RK 1
 r·3 = Value.rVal record { ty = Declared.row step-proofs-Around·.the-type; one = Path.refl; val = StructLaws.val step-proofs-Around·.the-type step-proofs-Around-Laws·.the-laws; tells = StructLaws.tells step-proofs-Around·.the-type step-proofs-Around-Laws·.the-laws; still = StructLaws.still step-proofs-Around·.the-type step-proofs-Around-Laws·.the-copy Exit.yes; row = Rows.whole (Declared.row step-proofs-Around·.the-type); rd = λ x. x; mk = λ x. x } λ M 𝓤 H A W. record { copies = StructLaws.copy step-proofs-Around·.the-type step-proofs-Around-Laws·.the-copy 𝓤 H A W; lawful = StructLaws.lawful step-proofs-Around·.the-type step-proofs-Around-Laws·.the-laws 𝓤 H A W; makes = StructLaws.makes step-proofs-Around·.the-type step-proofs-Around-Laws·.the-plain 𝓤 H A; in-mem = Local.mem-whole 𝓤 H A W (Declared.row step-proofs-Around·.the-type); of-mem = Local.whole-mem 𝓤 H A W (Declared.row step-proofs-Around·.the-type) }
 
 abbrev pub ps·4 : L.List (FnKinds.PK 0)
-ps·4 = L._∷_ (KArray.pArr (KArray.eStruct fraction-proofs-Fraction·.the-type fraction-proofs-Fraction-Laws·.the-laws fraction-proofs-Fraction-Laws·.the-copy) (KArray.eStruct-laws fraction-proofs-Fraction·.the-type fraction-proofs-Fraction-Laws·.the-laws fraction-proofs-Fraction-Laws·.the-copy fraction-proofs-Fraction-Laws·.the-plain) 33) (L._∷_ (Num.pNum Syntax.w64) (L._∷_ (Num.pNum Syntax.w64) (L._∷_ (Num.pNum Syntax.w64) (L._∷_ (Value.pVal record { ty = Declared.row step-proofs-Around·.the-type; one = Path.refl; val = StructLaws.val step-proofs-Around·.the-type step-proofs-Around-Laws·.the-laws; tells = StructLaws.tells step-proofs-Around·.the-type step-proofs-Around-Laws·.the-laws; still = StructLaws.still step-proofs-Around·.the-type step-proofs-Around-Laws·.the-copy Exit.yes; row = Rows.whole (Declared.row step-proofs-Around·.the-type); rd = λ x. x; mk = λ x. x } λ M 𝓤 H A W. record { copies = StructLaws.copy step-proofs-Around·.the-type step-proofs-Around-Laws·.the-copy 𝓤 H A W; lawful = StructLaws.lawful step-proofs-Around·.the-type step-proofs-Around-Laws·.the-laws 𝓤 H A W; makes = StructLaws.makes step-proofs-Around·.the-type step-proofs-Around-Laws·.the-plain 𝓤 H A; in-mem = Local.mem-whole 𝓤 H A W (Declared.row step-proofs-Around·.the-type); of-mem = Local.whole-mem 𝓤 H A W (Declared.row step-proofs-Around·.the-type) }) L.[]))))
+ps·4 = L._∷_ (Value.pVal record { ty = Declared.row fraction-proofs-Fraction·.the-type; one = Path.refl; val = StructLaws.val fraction-proofs-Fraction·.the-type fraction-proofs-Fraction-Laws·.the-laws; tells = StructLaws.tells fraction-proofs-Fraction·.the-type fraction-proofs-Fraction-Laws·.the-laws; still = StructLaws.still fraction-proofs-Fraction·.the-type fraction-proofs-Fraction-Laws·.the-copy Exit.yes; row = Rows.whole (Declared.row fraction-proofs-Fraction·.the-type); rd = λ x. x; mk = λ x. x } λ M 𝓤 H A W. record { copies = StructLaws.copy fraction-proofs-Fraction·.the-type fraction-proofs-Fraction-Laws·.the-copy 𝓤 H A W; lawful = StructLaws.lawful fraction-proofs-Fraction·.the-type fraction-proofs-Fraction-Laws·.the-laws 𝓤 H A W; makes = StructLaws.makes fraction-proofs-Fraction·.the-type fraction-proofs-Fraction-Laws·.the-plain 𝓤 H A; in-mem = Local.mem-whole 𝓤 H A W (Declared.row fraction-proofs-Fraction·.the-type); of-mem = Local.whole-mem 𝓤 H A W (Declared.row fraction-proofs-Fraction·.the-type) }) (L._∷_ (KArray.pArr (KArray.eStruct fraction-proofs-Fraction·.the-type fraction-proofs-Fraction-Laws·.the-laws fraction-proofs-Fraction-Laws·.the-copy) (KArray.eStruct-laws fraction-proofs-Fraction·.the-type fraction-proofs-Fraction-Laws·.the-laws fraction-proofs-Fraction-Laws·.the-copy fraction-proofs-Fraction-Laws·.the-plain) 33) (L._∷_ (Num.pNum Syntax.w64) (L._∷_ (Num.pNum Syntax.w64) (L._∷_ (Num.pNum Syntax.w64) (L._∷_ (Value.pVal record { ty = Declared.row step-proofs-Around·.the-type; one = Path.refl; val = StructLaws.val step-proofs-Around·.the-type step-proofs-Around-Laws·.the-laws; tells = StructLaws.tells step-proofs-Around·.the-type step-proofs-Around-Laws·.the-laws; still = StructLaws.still step-proofs-Around·.the-type step-proofs-Around-Laws·.the-copy Exit.yes; row = Rows.whole (Declared.row step-proofs-Around·.the-type); rd = λ x. x; mk = λ x. x } λ M 𝓤 H A W. record { copies = StructLaws.copy step-proofs-Around·.the-type step-proofs-Around-Laws·.the-copy 𝓤 H A W; lawful = StructLaws.lawful step-proofs-Around·.the-type step-proofs-Around-Laws·.the-laws 𝓤 H A W; makes = StructLaws.makes step-proofs-Around·.the-type step-proofs-Around-Laws·.the-plain 𝓤 H A; in-mem = Local.mem-whole 𝓤 H A W (Declared.row step-proofs-Around·.the-type); of-mem = Local.whole-mem 𝓤 H A W (Declared.row step-proofs-Around·.the-type) }) L.[])))))
 
 abbrev pub r·4 : FnKinds.RK 0
 r·4 = Value.rVal record { ty = Declared.row rules-proofs-found-Found·.the-type; one = Path.refl; val = StructLaws.val rules-proofs-found-Found·.the-type rules-proofs-found-Found-Laws·.the-laws; tells = StructLaws.tells rules-proofs-found-Found·.the-type rules-proofs-found-Found-Laws·.the-laws; still = StructLaws.still rules-proofs-found-Found·.the-type rules-proofs-found-Found-Laws·.the-copy Exit.yes; row = Rows.whole (Declared.row rules-proofs-found-Found·.the-type); rd = λ x. x; mk = λ x. x } λ M 𝓤 H A W. record { copies = StructLaws.copy rules-proofs-found-Found·.the-type rules-proofs-found-Found-Laws·.the-copy 𝓤 H A W; lawful = StructLaws.lawful rules-proofs-found-Found·.the-type rules-proofs-found-Found-Laws·.the-laws 𝓤 H A W; makes = StructLaws.makes rules-proofs-found-Found·.the-type rules-proofs-found-Found-Laws·.the-plain 𝓤 H A; in-mem = Local.mem-whole 𝓤 H A W (Declared.row rules-proofs-found-Found·.the-type); of-mem = Local.whole-mem 𝓤 H A W (Declared.row rules-proofs-found-Found·.the-type) }
@@ -274,7 +278,7 @@ abbrev pub r·5 : FnKinds.RK 0
 r·5 = Value.rVal record { ty = Declared.row rules-proofs-found-Found·.the-type; one = Path.refl; val = StructLaws.val rules-proofs-found-Found·.the-type rules-proofs-found-Found-Laws·.the-laws; tells = StructLaws.tells rules-proofs-found-Found·.the-type rules-proofs-found-Found-Laws·.the-laws; still = StructLaws.still rules-proofs-found-Found·.the-type rules-proofs-found-Found-Laws·.the-copy Exit.yes; row = Rows.whole (Declared.row rules-proofs-found-Found·.the-type); rd = λ x. x; mk = λ x. x } λ M 𝓤 H A W. record { copies = StructLaws.copy rules-proofs-found-Found·.the-type rules-proofs-found-Found-Laws·.the-copy 𝓤 H A W; lawful = StructLaws.lawful rules-proofs-found-Found·.the-type rules-proofs-found-Found-Laws·.the-laws 𝓤 H A W; makes = StructLaws.makes rules-proofs-found-Found·.the-type rules-proofs-found-Found-Laws·.the-plain 𝓤 H A; in-mem = Local.mem-whole 𝓤 H A W (Declared.row rules-proofs-found-Found·.the-type); of-mem = Local.whole-mem 𝓤 H A W (Declared.row rules-proofs-found-Found·.the-type) }
 
 abbrev pub hs : L.List Syntax.Home
-hs = L._∷_ Syntax.valueLocal (L._∷_ Syntax.valueLocal (L._∷_ Syntax.valueLocal (L._∷_ Syntax.valueLocal (L._∷_ Syntax.valueLocal (L._∷_ Syntax.memorySlot (L._∷_ Syntax.memorySlot (L._∷_ Syntax.valueLocal (L._∷_ Syntax.valueLocal (L._∷_ Syntax.valueLocal (L._∷_ Syntax.valueLocal (L._∷_ Syntax.valueLocal (L._∷_ Syntax.valueLocal (L._∷_ Syntax.valueLocal (L._∷_ Syntax.valueLocal (L._∷_ Syntax.valueLocal (L._∷_ Syntax.valueLocal (L._∷_ Syntax.valueLocal (L._∷_ Syntax.valueLocal (L._∷_ Syntax.valueLocal (L._∷_ Syntax.valueLocal (L._∷_ Syntax.valueLocal (L._∷_ Syntax.valueLocal (L._∷_ Syntax.valueLocal (L._∷_ Syntax.valueLocal (L._∷_ Syntax.valueLocal (L._∷_ Syntax.valueLocal L.[]))))))))))))))))))))))))))
+hs = L._∷_ Syntax.valueLocal (L._∷_ Syntax.valueLocal (L._∷_ Syntax.valueLocal (L._∷_ Syntax.valueLocal (L._∷_ Syntax.valueLocal (L._∷_ Syntax.memorySlot (L._∷_ Syntax.memorySlot (L._∷_ Syntax.valueLocal (L._∷_ Syntax.valueLocal (L._∷_ Syntax.valueLocal (L._∷_ Syntax.valueLocal (L._∷_ Syntax.valueLocal (L._∷_ Syntax.valueLocal (L._∷_ Syntax.valueLocal (L._∷_ Syntax.valueLocal (L._∷_ Syntax.valueLocal (L._∷_ Syntax.valueLocal (L._∷_ Syntax.valueLocal (L._∷_ Syntax.valueLocal (L._∷_ Syntax.valueLocal (L._∷_ Syntax.valueLocal (L._∷_ Syntax.valueLocal (L._∷_ Syntax.valueLocal (L._∷_ Syntax.valueLocal (L._∷_ Syntax.valueLocal (L._∷_ Syntax.valueLocal (L._∷_ Syntax.valueLocal (L._∷_ Syntax.valueLocal L.[])))))))))))))))))))))))))))
 
 abbrev b0 : Syntax.Body
 b0 = Syntax.assign (Syntax.place 5 L.[]) (Syntax.rvOpd (Syntax.copy (Syntax.place 1 L.[])))
@@ -307,7 +311,7 @@ abbrev b9 : Syntax.Body
 b9 = Syntax.cond (Syntax.copy (Syntax.place 13 L.[])) b7 b8
 
 abbrev b10 : Syntax.Body
-b10 = Syntax.assign (Syntax.place 15 L.[]) (Syntax.addrOf (Syntax.place 5 (L._∷_ (Syntax.field 2) L.[])))
+b10 = Syntax.assign (Syntax.place 15 L.[]) (Syntax.addrOf (Syntax.place 5 (L._∷_ (Syntax.field 3) L.[])))
 
 abbrev b11 : Syntax.Body
 b11 = Syntax.assign (Syntax.place 16 L.[]) (Syntax.op2 Syntax.offset (Syntax.copy (Syntax.place 15 L.[])) (Syntax.copy (Syntax.place 9 L.[])))
@@ -334,13 +338,13 @@ abbrev b18 : Syntax.Body
 b18 = Syntax.assign (Syntax.place 21 L.[]) (Syntax.op2 (Syntax.mul Syntax.unsigned) (Syntax.copy (Syntax.place 9 L.[])) (Syntax.int Syntax.w64 8))
 
 abbrev b19 : Syntax.Body
-b19 = Syntax.assign (Syntax.place 22 L.[]) (Syntax.addrOf (Syntax.place 5 (L._∷_ (Syntax.field 3) L.[])))
+b19 = Syntax.assign (Syntax.place 22 L.[]) (Syntax.addrOf (Syntax.place 5 (L._∷_ (Syntax.field 4) L.[])))
 
 abbrev b20 : Syntax.Body
 b20 = Syntax.assign (Syntax.place 23 L.[]) (Syntax.op2 Syntax.offset (Syntax.copy (Syntax.place 22 L.[])) (Syntax.copy (Syntax.place 21 L.[])))
 
 abbrev b21 : Syntax.Body
-b21 = Syntax.assign (Syntax.place 24 L.[]) (Syntax.rvOpd (Syntax.copy (Syntax.place 23 (L._∷_ (Syntax.deref q10) L.[]))))
+b21 = Syntax.assign (Syntax.place 24 L.[]) (Syntax.rvOpd (Syntax.copy (Syntax.place 23 (L._∷_ (Syntax.deref q11) L.[]))))
 
 abbrev b22 : Syntax.Body
 b22 = Syntax.call "rules::tried::may_apply" (L._∷_ (Syntax.copy (Syntax.place 7 L.[])) (L._∷_ (Syntax.copy (Syntax.place 24 L.[])) L.[])) (Syntax.place 20 L.[])
@@ -349,292 +353,304 @@ abbrev b23 : Syntax.Body
 b23 = Syntax.call "search::scan::gather" (L._∷_ (Syntax.copy (Syntax.place 2 L.[])) (L._∷_ (Syntax.copy (Syntax.place 9 L.[])) (L._∷_ (Syntax.copy (Syntax.place 8 L.[])) L.[]))) (Syntax.place 10 L.[])
 
 abbrev b24 : Syntax.Body
-b24 = Syntax.assign (Syntax.place 25 L.[]) (Syntax.rvOpd (Syntax.copy (Syntax.place 5 (L._∷_ (Syntax.field 3) L.[]))))
+b24 = Syntax.assign (Syntax.place 25 L.[]) (Syntax.rvOpd (Syntax.copy (Syntax.place 5 (L._∷_ (Syntax.field 2) L.[]))))
 
 abbrev b25 : Syntax.Body
-b25 = Syntax.call "rules::tried::at_node" (L._∷_ (Syntax.copy (Syntax.place 25 L.[])) (L._∷_ (Syntax.copy (Syntax.place 4 L.[])) (L._∷_ (Syntax.copy (Syntax.place 9 L.[])) (L._∷_ (Syntax.copy (Syntax.place 8 L.[])) (L._∷_ (Syntax.copy (Syntax.place 10 L.[])) L.[]))))) (Syntax.place 11 L.[])
+b25 = Syntax.assign (Syntax.place 26 L.[]) (Syntax.rvOpd (Syntax.copy (Syntax.place 5 (L._∷_ (Syntax.field 4) L.[]))))
 
 abbrev b26 : Syntax.Body
-b26 = Syntax.assign (Syntax.place 26 L.[]) (Syntax.rvOpd (Syntax.copy (Syntax.place 11 (L._∷_ (Syntax.field 0) L.[]))))
+b26 = Syntax.call "rules::tried::at_node" (L._∷_ (Syntax.copy (Syntax.place 25 L.[])) (L._∷_ (Syntax.copy (Syntax.place 26 L.[])) (L._∷_ (Syntax.copy (Syntax.place 4 L.[])) (L._∷_ (Syntax.copy (Syntax.place 9 L.[])) (L._∷_ (Syntax.copy (Syntax.place 8 L.[])) (L._∷_ (Syntax.copy (Syntax.place 10 L.[])) L.[])))))) (Syntax.place 11 L.[])
 
 abbrev b27 : Syntax.Body
-b27 = Syntax.assign (Syntax.place 0 L.[]) (Syntax.rvOpd (Syntax.copy (Syntax.place 11 L.[])))
+b27 = Syntax.assign (Syntax.place 27 L.[]) (Syntax.rvOpd (Syntax.copy (Syntax.place 11 (L._∷_ (Syntax.field 0) L.[]))))
 
 abbrev b28 : Syntax.Body
-b28 = Syntax.return
+b28 = Syntax.assign (Syntax.place 0 L.[]) (Syntax.rvOpd (Syntax.copy (Syntax.place 11 L.[])))
 
 abbrev b29 : Syntax.Body
-b29 = Syntax.seq b27 b28
+b29 = Syntax.return
 
 abbrev b30 : Syntax.Body
-b30 = Syntax.skip
+b30 = Syntax.seq b28 b29
 
 abbrev b31 : Syntax.Body
-b31 = Syntax.cond (Syntax.copy (Syntax.place 26 L.[])) b29 b30
+b31 = Syntax.skip
 
 abbrev b32 : Syntax.Body
-b32 = Syntax.seq b26 b31
+b32 = Syntax.cond (Syntax.copy (Syntax.place 27 L.[])) b30 b31
 
 abbrev b33 : Syntax.Body
-b33 = Syntax.seq b25 b32
+b33 = Syntax.seq b27 b32
 
 abbrev b34 : Syntax.Body
-b34 = Syntax.seq b24 b33
+b34 = Syntax.seq b26 b33
 
 abbrev b35 : Syntax.Body
-b35 = Syntax.seq b23 b34
+b35 = Syntax.seq b25 b34
 
 abbrev b36 : Syntax.Body
-b36 = Syntax.skip
+b36 = Syntax.seq b24 b35
 
 abbrev b37 : Syntax.Body
-b37 = Syntax.cond (Syntax.copy (Syntax.place 20 L.[])) b35 b36
+b37 = Syntax.seq b23 b36
 
 abbrev b38 : Syntax.Body
-b38 = Syntax.seq b22 b37
+b38 = Syntax.skip
 
 abbrev b39 : Syntax.Body
-b39 = Syntax.seq b21 b38
+b39 = Syntax.cond (Syntax.copy (Syntax.place 20 L.[])) b37 b38
 
 abbrev b40 : Syntax.Body
-b40 = Syntax.seq b20 b39
+b40 = Syntax.seq b22 b39
 
 abbrev b41 : Syntax.Body
-b41 = Syntax.seq b19 b40
+b41 = Syntax.seq b21 b40
 
 abbrev b42 : Syntax.Body
-b42 = Syntax.seq b18 b41
+b42 = Syntax.seq b20 b41
 
 abbrev b43 : Syntax.Body
-b43 = Syntax.skip
+b43 = Syntax.seq b19 b42
 
 abbrev b44 : Syntax.Body
-b44 = Syntax.cond (Syntax.copy (Syntax.place 14 L.[])) b42 b43
+b44 = Syntax.seq b18 b43
 
 abbrev b45 : Syntax.Body
-b45 = Syntax.assign (Syntax.place 9 L.[]) (Syntax.op2 (Syntax.add Syntax.unsigned) (Syntax.copy (Syntax.place 9 L.[])) (Syntax.int Syntax.w64 1))
+b45 = Syntax.skip
 
 abbrev b46 : Syntax.Body
-b46 = Syntax.seq b44 b45
+b46 = Syntax.cond (Syntax.copy (Syntax.place 14 L.[])) b44 b45
 
 abbrev b47 : Syntax.Body
-b47 = Syntax.seq b17 b46
+b47 = Syntax.assign (Syntax.place 9 L.[]) (Syntax.op2 (Syntax.add Syntax.unsigned) (Syntax.copy (Syntax.place 9 L.[])) (Syntax.int Syntax.w64 1))
 
 abbrev b48 : Syntax.Body
-b48 = Syntax.seq b16 b47
+b48 = Syntax.seq b46 b47
 
 abbrev b49 : Syntax.Body
-b49 = Syntax.seq b15 b48
+b49 = Syntax.seq b17 b48
 
 abbrev b50 : Syntax.Body
-b50 = Syntax.seq b14 b49
+b50 = Syntax.seq b16 b49
 
 abbrev b51 : Syntax.Body
-b51 = Syntax.seq b13 b50
+b51 = Syntax.seq b15 b50
 
 abbrev b52 : Syntax.Body
-b52 = Syntax.seq b12 b51
+b52 = Syntax.seq b14 b51
 
 abbrev b53 : Syntax.Body
-b53 = Syntax.seq b11 b52
+b53 = Syntax.seq b13 b52
 
 abbrev b54 : Syntax.Body
-b54 = Syntax.seq b10 b53
+b54 = Syntax.seq b12 b53
 
 abbrev b55 : Syntax.Body
-b55 = Syntax.seq b9 b54
+b55 = Syntax.seq b11 b54
 
 abbrev b56 : Syntax.Body
-b56 = Syntax.seq b6 b55
+b56 = Syntax.seq b10 b55
 
 abbrev b57 : Syntax.Body
-b57 = Syntax.seq b5 b56
+b57 = Syntax.seq b9 b56
 
 abbrev b58 : Syntax.Body
-b58 = Syntax.loop b57
+b58 = Syntax.seq b6 b57
 
 abbrev b59 : Syntax.Body
-b59 = Syntax.block b58
+b59 = Syntax.seq b5 b58
 
 abbrev b60 : Syntax.Body
-b60 = Syntax.call "rules::found::nothing" L.[] (Syntax.place 0 L.[])
+b60 = Syntax.loop b59
 
 abbrev b61 : Syntax.Body
-b61 = Syntax.return
+b61 = Syntax.block b60
 
 abbrev b62 : Syntax.Body
-b62 = Syntax.seq b60 b61
+b62 = Syntax.call "rules::found::nothing" L.[] (Syntax.place 0 L.[])
 
 abbrev b63 : Syntax.Body
-b63 = Syntax.seq b59 b62
+b63 = Syntax.return
 
 abbrev b64 : Syntax.Body
-b64 = Syntax.seq b4 b63
+b64 = Syntax.seq b62 b63
 
 abbrev b65 : Syntax.Body
-b65 = Syntax.seq b3 b64
+b65 = Syntax.seq b61 b64
 
 abbrev b66 : Syntax.Body
-b66 = Syntax.seq b2 b65
+b66 = Syntax.seq b4 b65
 
 abbrev b67 : Syntax.Body
-b67 = Syntax.seq b1 b66
+b67 = Syntax.seq b3 b66
 
 abbrev b68 : Syntax.Body
-b68 = Syntax.seq b0 b67
+b68 = Syntax.seq b2 b67
+
+abbrev b69 : Syntax.Body
+b69 = Syntax.seq b1 b68
+
+abbrev b70 : Syntax.Body
+b70 = Syntax.seq b0 b69
 
 abbrev pub body : Syntax.Body
-body = b68
+body = b70
 
 abbrev pub Claims : Type 1
 Claims = FnKinds.In 0 ps·0 × FnKinds.Out 0 ps·0 r·0 × FnKinds.In 0 ps·1 × FnKinds.Out 0 ps·1 r·1 × FnKinds.In 0 ps·2 × FnKinds.Out 0 ps·2 r·2 × FnKinds.In 1 ps·3 × FnKinds.Out 1 ps·3 r·3 × FnKinds.In 0 ps·4 × FnKinds.Out 0 ps·4 r·4 × FnKinds.In 0 ps·5 × FnKinds.Out 0 ps·5 r·5
 
 abbrev pub t0 : L.List Row.Entry
-t0 = L._∷_ (0, Rows.any-gone (Syntax.tyStruct (L._∷_ 114 (L._∷_ 117 (L._∷_ 108 (L._∷_ 101 (L._∷_ 115 (L._∷_ 58 (L._∷_ 58 (L._∷_ 102 (L._∷_ 111 (L._∷_ 117 (L._∷_ 110 (L._∷_ 100 (L._∷_ 58 (L._∷_ 58 (L._∷_ 70 (L._∷_ 111 (L._∷_ 117 (L._∷_ 110 (L._∷_ 100 L.[]))))))))))))))))))) (Syntax.tcons Syntax.tyBool (Syntax.tcons Syntax.tyBool (Syntax.tcons (Syntax.tyStruct (L._∷_ 115 (L._∷_ 116 (L._∷_ 101 (L._∷_ 112 (L._∷_ 58 (L._∷_ 58 (L._∷_ 83 (L._∷_ 116 (L._∷_ 101 (L._∷_ 112 L.[])))))))))) (Syntax.tcons (Syntax.tyInt Syntax.w64) (Syntax.tcons (Syntax.tyInt Syntax.w64) (Syntax.tcons (Syntax.tyStruct (L._∷_ 115 (L._∷_ 116 (L._∷_ 101 (L._∷_ 112 (L._∷_ 58 (L._∷_ 58 (L._∷_ 67 (L._∷_ 104 (L._∷_ 97 (L._∷_ 110 (L._∷_ 103 (L._∷_ 101 L.[])))))))))))) (Syntax.tcons (Syntax.tyStruct (L._∷_ 110 (L._∷_ 101 (L._∷_ 116 (L._∷_ 119 (L._∷_ 111 (L._∷_ 114 (L._∷_ 107 (L._∷_ 58 (L._∷_ 58 (L._∷_ 69 (L._∷_ 100 (L._∷_ 105 (L._∷_ 116 L.[]))))))))))))) (Syntax.tcons q11 (Syntax.tcons q11 (Syntax.tcons q11 (Syntax.tcons q11 (Syntax.tcons q3 (Syntax.tcons q3 (Syntax.tcons (Syntax.tyInt Syntax.w64) Syntax.tnil)))))))) (Syntax.tcons (Syntax.tyStruct (L._∷_ 115 (L._∷_ 116 (L._∷_ 101 (L._∷_ 112 (L._∷_ 58 (L._∷_ 58 (L._∷_ 79 (L._∷_ 108 (L._∷_ 100 L.[]))))))))) (Syntax.tcons (Syntax.tyInt Syntax.w64) (Syntax.tcons q10 (Syntax.tcons q11 (Syntax.tcons q11 (Syntax.tcons q11 (Syntax.tcons q11 (Syntax.tcons q7 Syntax.tnil)))))))) Syntax.tnil))) Syntax.tnil)))) Syntax.tnil))))) (L._∷_ (1, Rows.whole (Declared.row network-proofs-Nodes·.the-type)) (L._∷_ q15 (L._∷_ q20 (L._∷_ q35 (L._∷_ q0 (L._∷_ q12 (L._∷_ q4 (L._∷_ q32 (L._∷_ q33 (L._∷_ (10, Rows.any-gone (Syntax.tyStruct (L._∷_ 115 (L._∷_ 116 (L._∷_ 101 (L._∷_ 112 (L._∷_ 58 (L._∷_ 58 (L._∷_ 65 (L._∷_ 114 (L._∷_ 111 (L._∷_ 117 (L._∷_ 110 (L._∷_ 100 L.[])))))))))))) (Syntax.tcons q11 (Syntax.tcons q11 (Syntax.tcons q11 (Syntax.tcons q11 Syntax.tnil)))))) (L._∷_ (11, Rows.any-gone (Syntax.tyStruct (L._∷_ 114 (L._∷_ 117 (L._∷_ 108 (L._∷_ 101 (L._∷_ 115 (L._∷_ 58 (L._∷_ 58 (L._∷_ 102 (L._∷_ 111 (L._∷_ 117 (L._∷_ 110 (L._∷_ 100 (L._∷_ 58 (L._∷_ 58 (L._∷_ 70 (L._∷_ 111 (L._∷_ 117 (L._∷_ 110 (L._∷_ 100 L.[]))))))))))))))))))) (Syntax.tcons Syntax.tyBool (Syntax.tcons Syntax.tyBool (Syntax.tcons (Syntax.tyStruct (L._∷_ 115 (L._∷_ 116 (L._∷_ 101 (L._∷_ 112 (L._∷_ 58 (L._∷_ 58 (L._∷_ 83 (L._∷_ 116 (L._∷_ 101 (L._∷_ 112 L.[])))))))))) (Syntax.tcons (Syntax.tyInt Syntax.w64) (Syntax.tcons (Syntax.tyInt Syntax.w64) (Syntax.tcons (Syntax.tyStruct (L._∷_ 115 (L._∷_ 116 (L._∷_ 101 (L._∷_ 112 (L._∷_ 58 (L._∷_ 58 (L._∷_ 67 (L._∷_ 104 (L._∷_ 97 (L._∷_ 110 (L._∷_ 103 (L._∷_ 101 L.[])))))))))))) (Syntax.tcons (Syntax.tyStruct (L._∷_ 110 (L._∷_ 101 (L._∷_ 116 (L._∷_ 119 (L._∷_ 111 (L._∷_ 114 (L._∷_ 107 (L._∷_ 58 (L._∷_ 58 (L._∷_ 69 (L._∷_ 100 (L._∷_ 105 (L._∷_ 116 L.[]))))))))))))) (Syntax.tcons q11 (Syntax.tcons q11 (Syntax.tcons q11 (Syntax.tcons q11 (Syntax.tcons q3 (Syntax.tcons q3 (Syntax.tcons (Syntax.tyInt Syntax.w64) Syntax.tnil)))))))) (Syntax.tcons (Syntax.tyStruct (L._∷_ 115 (L._∷_ 116 (L._∷_ 101 (L._∷_ 112 (L._∷_ 58 (L._∷_ 58 (L._∷_ 79 (L._∷_ 108 (L._∷_ 100 L.[]))))))))) (Syntax.tcons (Syntax.tyInt Syntax.w64) (Syntax.tcons q10 (Syntax.tcons q11 (Syntax.tcons q11 (Syntax.tcons q11 (Syntax.tcons q11 (Syntax.tcons q7 Syntax.tnil)))))))) Syntax.tnil))) Syntax.tnil)))) Syntax.tnil))))) (L._∷_ q29 (L._∷_ q40 (L._∷_ q41 (L._∷_ q44 L.[])))))))))))))))
+t0 = L._∷_ (0, Rows.any-gone (Syntax.tyStruct (L._∷_ 114 (L._∷_ 117 (L._∷_ 108 (L._∷_ 101 (L._∷_ 115 (L._∷_ 58 (L._∷_ 58 (L._∷_ 102 (L._∷_ 111 (L._∷_ 117 (L._∷_ 110 (L._∷_ 100 (L._∷_ 58 (L._∷_ 58 (L._∷_ 70 (L._∷_ 111 (L._∷_ 117 (L._∷_ 110 (L._∷_ 100 L.[]))))))))))))))))))) (Syntax.tcons Syntax.tyBool (Syntax.tcons Syntax.tyBool (Syntax.tcons (Syntax.tyStruct (L._∷_ 115 (L._∷_ 116 (L._∷_ 101 (L._∷_ 112 (L._∷_ 58 (L._∷_ 58 (L._∷_ 83 (L._∷_ 116 (L._∷_ 101 (L._∷_ 112 L.[])))))))))) (Syntax.tcons (Syntax.tyInt Syntax.w64) (Syntax.tcons (Syntax.tyInt Syntax.w64) (Syntax.tcons (Syntax.tyStruct (L._∷_ 115 (L._∷_ 116 (L._∷_ 101 (L._∷_ 112 (L._∷_ 58 (L._∷_ 58 (L._∷_ 67 (L._∷_ 104 (L._∷_ 97 (L._∷_ 110 (L._∷_ 103 (L._∷_ 101 L.[])))))))))))) (Syntax.tcons (Syntax.tyStruct (L._∷_ 110 (L._∷_ 101 (L._∷_ 116 (L._∷_ 119 (L._∷_ 111 (L._∷_ 114 (L._∷_ 107 (L._∷_ 58 (L._∷_ 58 (L._∷_ 69 (L._∷_ 100 (L._∷_ 105 (L._∷_ 116 L.[]))))))))))))) (Syntax.tcons q12 (Syntax.tcons q12 (Syntax.tcons q12 (Syntax.tcons q12 (Syntax.tcons q3 (Syntax.tcons q3 (Syntax.tcons (Syntax.tyInt Syntax.w64) (Syntax.tcons q11 Syntax.tnil))))))))) (Syntax.tcons (Syntax.tyStruct (L._∷_ 115 (L._∷_ 116 (L._∷_ 101 (L._∷_ 112 (L._∷_ 58 (L._∷_ 58 (L._∷_ 79 (L._∷_ 108 (L._∷_ 100 L.[]))))))))) (Syntax.tcons (Syntax.tyInt Syntax.w64) (Syntax.tcons q11 (Syntax.tcons q12 (Syntax.tcons q12 (Syntax.tcons q12 (Syntax.tcons q12 (Syntax.tcons q7 Syntax.tnil)))))))) Syntax.tnil))) Syntax.tnil)))) Syntax.tnil))))) (L._∷_ (1, Rows.whole (Declared.row network-proofs-Nodes·.the-type)) (L._∷_ q16 (L._∷_ q21 (L._∷_ q36 (L._∷_ q0 (L._∷_ q13 (L._∷_ q4 (L._∷_ q33 (L._∷_ q34 (L._∷_ (10, Rows.any-gone (Syntax.tyStruct (L._∷_ 115 (L._∷_ 116 (L._∷_ 101 (L._∷_ 112 (L._∷_ 58 (L._∷_ 58 (L._∷_ 65 (L._∷_ 114 (L._∷_ 111 (L._∷_ 117 (L._∷_ 110 (L._∷_ 100 L.[])))))))))))) (Syntax.tcons q12 (Syntax.tcons q12 (Syntax.tcons q12 (Syntax.tcons q12 Syntax.tnil)))))) (L._∷_ (11, Rows.any-gone (Syntax.tyStruct (L._∷_ 114 (L._∷_ 117 (L._∷_ 108 (L._∷_ 101 (L._∷_ 115 (L._∷_ 58 (L._∷_ 58 (L._∷_ 102 (L._∷_ 111 (L._∷_ 117 (L._∷_ 110 (L._∷_ 100 (L._∷_ 58 (L._∷_ 58 (L._∷_ 70 (L._∷_ 111 (L._∷_ 117 (L._∷_ 110 (L._∷_ 100 L.[]))))))))))))))))))) (Syntax.tcons Syntax.tyBool (Syntax.tcons Syntax.tyBool (Syntax.tcons (Syntax.tyStruct (L._∷_ 115 (L._∷_ 116 (L._∷_ 101 (L._∷_ 112 (L._∷_ 58 (L._∷_ 58 (L._∷_ 83 (L._∷_ 116 (L._∷_ 101 (L._∷_ 112 L.[])))))))))) (Syntax.tcons (Syntax.tyInt Syntax.w64) (Syntax.tcons (Syntax.tyInt Syntax.w64) (Syntax.tcons (Syntax.tyStruct (L._∷_ 115 (L._∷_ 116 (L._∷_ 101 (L._∷_ 112 (L._∷_ 58 (L._∷_ 58 (L._∷_ 67 (L._∷_ 104 (L._∷_ 97 (L._∷_ 110 (L._∷_ 103 (L._∷_ 101 L.[])))))))))))) (Syntax.tcons (Syntax.tyStruct (L._∷_ 110 (L._∷_ 101 (L._∷_ 116 (L._∷_ 119 (L._∷_ 111 (L._∷_ 114 (L._∷_ 107 (L._∷_ 58 (L._∷_ 58 (L._∷_ 69 (L._∷_ 100 (L._∷_ 105 (L._∷_ 116 L.[]))))))))))))) (Syntax.tcons q12 (Syntax.tcons q12 (Syntax.tcons q12 (Syntax.tcons q12 (Syntax.tcons q3 (Syntax.tcons q3 (Syntax.tcons (Syntax.tyInt Syntax.w64) (Syntax.tcons q11 Syntax.tnil))))))))) (Syntax.tcons (Syntax.tyStruct (L._∷_ 115 (L._∷_ 116 (L._∷_ 101 (L._∷_ 112 (L._∷_ 58 (L._∷_ 58 (L._∷_ 79 (L._∷_ 108 (L._∷_ 100 L.[]))))))))) (Syntax.tcons (Syntax.tyInt Syntax.w64) (Syntax.tcons q11 (Syntax.tcons q12 (Syntax.tcons q12 (Syntax.tcons q12 (Syntax.tcons q12 (Syntax.tcons q7 Syntax.tnil)))))))) Syntax.tnil))) Syntax.tnil)))) Syntax.tnil))))) (L._∷_ q30 (L._∷_ q41 (L._∷_ q42 (L._∷_ q45 L.[])))))))))))))))
 
 abbrev pub t1 : L.List Row.Entry
-t1 = L._∷_ q45 (L._∷_ q46 (L._∷_ q47 (L._∷_ q30 (L._∷_ q42 (L._∷_ q31 (L._∷_ q48 (L._∷_ q49 (L._∷_ q9 (L._∷_ q5 (L._∷_ q43 L.[]))))))))))
+t1 = L._∷_ q46 (L._∷_ q47 (L._∷_ q48 (L._∷_ q31 (L._∷_ q43 (L._∷_ q32 (L._∷_ q49 (L._∷_ q50 (L._∷_ q9 (L._∷_ q10 (L._∷_ q5 (L._∷_ q44 L.[])))))))))))
 
 abbrev pub t2 : L.List Row.Entry
-t2 = L._∷_ q18 (L._∷_ q1 (L._∷_ q15 (L._∷_ q13 (L._∷_ (4, Rows.any-gone (Syntax.tyInt Syntax.w64)) (L._∷_ q0 (L._∷_ q12 (L._∷_ q4 (L._∷_ q32 (L._∷_ q33 (L._∷_ (10, Rows.any-gone (Syntax.tyStruct (L._∷_ 115 (L._∷_ 116 (L._∷_ 101 (L._∷_ 112 (L._∷_ 58 (L._∷_ 58 (L._∷_ 65 (L._∷_ 114 (L._∷_ 111 (L._∷_ 117 (L._∷_ 110 (L._∷_ 100 L.[])))))))))))) (Syntax.tcons q11 (Syntax.tcons q11 (Syntax.tcons q11 (Syntax.tcons q11 Syntax.tnil)))))) (L._∷_ (11, Rows.any-gone (Syntax.tyStruct (L._∷_ 114 (L._∷_ 117 (L._∷_ 108 (L._∷_ 101 (L._∷_ 115 (L._∷_ 58 (L._∷_ 58 (L._∷_ 102 (L._∷_ 111 (L._∷_ 117 (L._∷_ 110 (L._∷_ 100 (L._∷_ 58 (L._∷_ 58 (L._∷_ 70 (L._∷_ 111 (L._∷_ 117 (L._∷_ 110 (L._∷_ 100 L.[]))))))))))))))))))) (Syntax.tcons Syntax.tyBool (Syntax.tcons Syntax.tyBool (Syntax.tcons (Syntax.tyStruct (L._∷_ 115 (L._∷_ 116 (L._∷_ 101 (L._∷_ 112 (L._∷_ 58 (L._∷_ 58 (L._∷_ 83 (L._∷_ 116 (L._∷_ 101 (L._∷_ 112 L.[])))))))))) (Syntax.tcons (Syntax.tyInt Syntax.w64) (Syntax.tcons (Syntax.tyInt Syntax.w64) (Syntax.tcons (Syntax.tyStruct (L._∷_ 115 (L._∷_ 116 (L._∷_ 101 (L._∷_ 112 (L._∷_ 58 (L._∷_ 58 (L._∷_ 67 (L._∷_ 104 (L._∷_ 97 (L._∷_ 110 (L._∷_ 103 (L._∷_ 101 L.[])))))))))))) (Syntax.tcons (Syntax.tyStruct (L._∷_ 110 (L._∷_ 101 (L._∷_ 116 (L._∷_ 119 (L._∷_ 111 (L._∷_ 114 (L._∷_ 107 (L._∷_ 58 (L._∷_ 58 (L._∷_ 69 (L._∷_ 100 (L._∷_ 105 (L._∷_ 116 L.[]))))))))))))) (Syntax.tcons q11 (Syntax.tcons q11 (Syntax.tcons q11 (Syntax.tcons q11 (Syntax.tcons q3 (Syntax.tcons q3 (Syntax.tcons (Syntax.tyInt Syntax.w64) Syntax.tnil)))))))) (Syntax.tcons (Syntax.tyStruct (L._∷_ 115 (L._∷_ 116 (L._∷_ 101 (L._∷_ 112 (L._∷_ 58 (L._∷_ 58 (L._∷_ 79 (L._∷_ 108 (L._∷_ 100 L.[]))))))))) (Syntax.tcons (Syntax.tyInt Syntax.w64) (Syntax.tcons q10 (Syntax.tcons q11 (Syntax.tcons q11 (Syntax.tcons q11 (Syntax.tcons q11 (Syntax.tcons q7 Syntax.tnil)))))))) Syntax.tnil))) Syntax.tnil)))) Syntax.tnil))))) (L._∷_ q29 (L._∷_ q40 (L._∷_ q41 (L._∷_ q44 L.[])))))))))))))))
+t2 = L._∷_ q19 (L._∷_ q1 (L._∷_ q16 (L._∷_ q14 (L._∷_ (4, Rows.any-gone (Syntax.tyInt Syntax.w64)) (L._∷_ q0 (L._∷_ q13 (L._∷_ q4 (L._∷_ q33 (L._∷_ q34 (L._∷_ (10, Rows.any-gone (Syntax.tyStruct (L._∷_ 115 (L._∷_ 116 (L._∷_ 101 (L._∷_ 112 (L._∷_ 58 (L._∷_ 58 (L._∷_ 65 (L._∷_ 114 (L._∷_ 111 (L._∷_ 117 (L._∷_ 110 (L._∷_ 100 L.[])))))))))))) (Syntax.tcons q12 (Syntax.tcons q12 (Syntax.tcons q12 (Syntax.tcons q12 Syntax.tnil)))))) (L._∷_ (11, Rows.any-gone (Syntax.tyStruct (L._∷_ 114 (L._∷_ 117 (L._∷_ 108 (L._∷_ 101 (L._∷_ 115 (L._∷_ 58 (L._∷_ 58 (L._∷_ 102 (L._∷_ 111 (L._∷_ 117 (L._∷_ 110 (L._∷_ 100 (L._∷_ 58 (L._∷_ 58 (L._∷_ 70 (L._∷_ 111 (L._∷_ 117 (L._∷_ 110 (L._∷_ 100 L.[]))))))))))))))))))) (Syntax.tcons Syntax.tyBool (Syntax.tcons Syntax.tyBool (Syntax.tcons (Syntax.tyStruct (L._∷_ 115 (L._∷_ 116 (L._∷_ 101 (L._∷_ 112 (L._∷_ 58 (L._∷_ 58 (L._∷_ 83 (L._∷_ 116 (L._∷_ 101 (L._∷_ 112 L.[])))))))))) (Syntax.tcons (Syntax.tyInt Syntax.w64) (Syntax.tcons (Syntax.tyInt Syntax.w64) (Syntax.tcons (Syntax.tyStruct (L._∷_ 115 (L._∷_ 116 (L._∷_ 101 (L._∷_ 112 (L._∷_ 58 (L._∷_ 58 (L._∷_ 67 (L._∷_ 104 (L._∷_ 97 (L._∷_ 110 (L._∷_ 103 (L._∷_ 101 L.[])))))))))))) (Syntax.tcons (Syntax.tyStruct (L._∷_ 110 (L._∷_ 101 (L._∷_ 116 (L._∷_ 119 (L._∷_ 111 (L._∷_ 114 (L._∷_ 107 (L._∷_ 58 (L._∷_ 58 (L._∷_ 69 (L._∷_ 100 (L._∷_ 105 (L._∷_ 116 L.[]))))))))))))) (Syntax.tcons q12 (Syntax.tcons q12 (Syntax.tcons q12 (Syntax.tcons q12 (Syntax.tcons q3 (Syntax.tcons q3 (Syntax.tcons (Syntax.tyInt Syntax.w64) (Syntax.tcons q11 Syntax.tnil))))))))) (Syntax.tcons (Syntax.tyStruct (L._∷_ 115 (L._∷_ 116 (L._∷_ 101 (L._∷_ 112 (L._∷_ 58 (L._∷_ 58 (L._∷_ 79 (L._∷_ 108 (L._∷_ 100 L.[]))))))))) (Syntax.tcons (Syntax.tyInt Syntax.w64) (Syntax.tcons q11 (Syntax.tcons q12 (Syntax.tcons q12 (Syntax.tcons q12 (Syntax.tcons q12 (Syntax.tcons q7 Syntax.tnil)))))))) Syntax.tnil))) Syntax.tnil)))) Syntax.tnil))))) (L._∷_ q30 (L._∷_ q41 (L._∷_ q42 (L._∷_ q45 L.[])))))))))))))))
 
 abbrev pub t3 : L.List Row.Entry
-t3 = L._∷_ (0, Rows.any-gone (Syntax.tyStruct (L._∷_ 114 (L._∷_ 117 (L._∷_ 108 (L._∷_ 101 (L._∷_ 115 (L._∷_ 58 (L._∷_ 58 (L._∷_ 102 (L._∷_ 111 (L._∷_ 117 (L._∷_ 110 (L._∷_ 100 (L._∷_ 58 (L._∷_ 58 (L._∷_ 70 (L._∷_ 111 (L._∷_ 117 (L._∷_ 110 (L._∷_ 100 L.[]))))))))))))))))))) (Syntax.tcons Syntax.tyBool (Syntax.tcons Syntax.tyBool (Syntax.tcons (Syntax.tyStruct (L._∷_ 115 (L._∷_ 116 (L._∷_ 101 (L._∷_ 112 (L._∷_ 58 (L._∷_ 58 (L._∷_ 83 (L._∷_ 116 (L._∷_ 101 (L._∷_ 112 L.[])))))))))) (Syntax.tcons (Syntax.tyInt Syntax.w64) (Syntax.tcons (Syntax.tyInt Syntax.w64) (Syntax.tcons (Syntax.tyStruct (L._∷_ 115 (L._∷_ 116 (L._∷_ 101 (L._∷_ 112 (L._∷_ 58 (L._∷_ 58 (L._∷_ 67 (L._∷_ 104 (L._∷_ 97 (L._∷_ 110 (L._∷_ 103 (L._∷_ 101 L.[])))))))))))) (Syntax.tcons (Syntax.tyStruct (L._∷_ 110 (L._∷_ 101 (L._∷_ 116 (L._∷_ 119 (L._∷_ 111 (L._∷_ 114 (L._∷_ 107 (L._∷_ 58 (L._∷_ 58 (L._∷_ 69 (L._∷_ 100 (L._∷_ 105 (L._∷_ 116 L.[]))))))))))))) (Syntax.tcons q11 (Syntax.tcons q11 (Syntax.tcons q11 (Syntax.tcons q11 (Syntax.tcons q3 (Syntax.tcons q3 (Syntax.tcons (Syntax.tyInt Syntax.w64) Syntax.tnil)))))))) (Syntax.tcons (Syntax.tyStruct (L._∷_ 115 (L._∷_ 116 (L._∷_ 101 (L._∷_ 112 (L._∷_ 58 (L._∷_ 58 (L._∷_ 79 (L._∷_ 108 (L._∷_ 100 L.[]))))))))) (Syntax.tcons (Syntax.tyInt Syntax.w64) (Syntax.tcons q10 (Syntax.tcons q11 (Syntax.tcons q11 (Syntax.tcons q11 (Syntax.tcons q11 (Syntax.tcons q7 Syntax.tnil)))))))) Syntax.tnil))) Syntax.tnil)))) Syntax.tnil))))) (L._∷_ (1, Rows.whole (Declared.row network-proofs-Nodes·.the-type)) (L._∷_ q15 (L._∷_ q20 (L._∷_ q35 (L._∷_ q24 (L._∷_ q12 (L._∷_ q4 (L._∷_ q32 (L._∷_ q33 (L._∷_ (10, Rows.any-gone (Syntax.tyStruct (L._∷_ 115 (L._∷_ 116 (L._∷_ 101 (L._∷_ 112 (L._∷_ 58 (L._∷_ 58 (L._∷_ 65 (L._∷_ 114 (L._∷_ 111 (L._∷_ 117 (L._∷_ 110 (L._∷_ 100 L.[])))))))))))) (Syntax.tcons q11 (Syntax.tcons q11 (Syntax.tcons q11 (Syntax.tcons q11 Syntax.tnil)))))) (L._∷_ (11, Rows.any-gone (Syntax.tyStruct (L._∷_ 114 (L._∷_ 117 (L._∷_ 108 (L._∷_ 101 (L._∷_ 115 (L._∷_ 58 (L._∷_ 58 (L._∷_ 102 (L._∷_ 111 (L._∷_ 117 (L._∷_ 110 (L._∷_ 100 (L._∷_ 58 (L._∷_ 58 (L._∷_ 70 (L._∷_ 111 (L._∷_ 117 (L._∷_ 110 (L._∷_ 100 L.[]))))))))))))))))))) (Syntax.tcons Syntax.tyBool (Syntax.tcons Syntax.tyBool (Syntax.tcons (Syntax.tyStruct (L._∷_ 115 (L._∷_ 116 (L._∷_ 101 (L._∷_ 112 (L._∷_ 58 (L._∷_ 58 (L._∷_ 83 (L._∷_ 116 (L._∷_ 101 (L._∷_ 112 L.[])))))))))) (Syntax.tcons (Syntax.tyInt Syntax.w64) (Syntax.tcons (Syntax.tyInt Syntax.w64) (Syntax.tcons (Syntax.tyStruct (L._∷_ 115 (L._∷_ 116 (L._∷_ 101 (L._∷_ 112 (L._∷_ 58 (L._∷_ 58 (L._∷_ 67 (L._∷_ 104 (L._∷_ 97 (L._∷_ 110 (L._∷_ 103 (L._∷_ 101 L.[])))))))))))) (Syntax.tcons (Syntax.tyStruct (L._∷_ 110 (L._∷_ 101 (L._∷_ 116 (L._∷_ 119 (L._∷_ 111 (L._∷_ 114 (L._∷_ 107 (L._∷_ 58 (L._∷_ 58 (L._∷_ 69 (L._∷_ 100 (L._∷_ 105 (L._∷_ 116 L.[]))))))))))))) (Syntax.tcons q11 (Syntax.tcons q11 (Syntax.tcons q11 (Syntax.tcons q11 (Syntax.tcons q3 (Syntax.tcons q3 (Syntax.tcons (Syntax.tyInt Syntax.w64) Syntax.tnil)))))))) (Syntax.tcons (Syntax.tyStruct (L._∷_ 115 (L._∷_ 116 (L._∷_ 101 (L._∷_ 112 (L._∷_ 58 (L._∷_ 58 (L._∷_ 79 (L._∷_ 108 (L._∷_ 100 L.[]))))))))) (Syntax.tcons (Syntax.tyInt Syntax.w64) (Syntax.tcons q10 (Syntax.tcons q11 (Syntax.tcons q11 (Syntax.tcons q11 (Syntax.tcons q11 (Syntax.tcons q7 Syntax.tnil)))))))) Syntax.tnil))) Syntax.tnil)))) Syntax.tnil))))) (L._∷_ q29 (L._∷_ q40 (L._∷_ q41 (L._∷_ q44 L.[])))))))))))))))
+t3 = L._∷_ (0, Rows.any-gone (Syntax.tyStruct (L._∷_ 114 (L._∷_ 117 (L._∷_ 108 (L._∷_ 101 (L._∷_ 115 (L._∷_ 58 (L._∷_ 58 (L._∷_ 102 (L._∷_ 111 (L._∷_ 117 (L._∷_ 110 (L._∷_ 100 (L._∷_ 58 (L._∷_ 58 (L._∷_ 70 (L._∷_ 111 (L._∷_ 117 (L._∷_ 110 (L._∷_ 100 L.[]))))))))))))))))))) (Syntax.tcons Syntax.tyBool (Syntax.tcons Syntax.tyBool (Syntax.tcons (Syntax.tyStruct (L._∷_ 115 (L._∷_ 116 (L._∷_ 101 (L._∷_ 112 (L._∷_ 58 (L._∷_ 58 (L._∷_ 83 (L._∷_ 116 (L._∷_ 101 (L._∷_ 112 L.[])))))))))) (Syntax.tcons (Syntax.tyInt Syntax.w64) (Syntax.tcons (Syntax.tyInt Syntax.w64) (Syntax.tcons (Syntax.tyStruct (L._∷_ 115 (L._∷_ 116 (L._∷_ 101 (L._∷_ 112 (L._∷_ 58 (L._∷_ 58 (L._∷_ 67 (L._∷_ 104 (L._∷_ 97 (L._∷_ 110 (L._∷_ 103 (L._∷_ 101 L.[])))))))))))) (Syntax.tcons (Syntax.tyStruct (L._∷_ 110 (L._∷_ 101 (L._∷_ 116 (L._∷_ 119 (L._∷_ 111 (L._∷_ 114 (L._∷_ 107 (L._∷_ 58 (L._∷_ 58 (L._∷_ 69 (L._∷_ 100 (L._∷_ 105 (L._∷_ 116 L.[]))))))))))))) (Syntax.tcons q12 (Syntax.tcons q12 (Syntax.tcons q12 (Syntax.tcons q12 (Syntax.tcons q3 (Syntax.tcons q3 (Syntax.tcons (Syntax.tyInt Syntax.w64) (Syntax.tcons q11 Syntax.tnil))))))))) (Syntax.tcons (Syntax.tyStruct (L._∷_ 115 (L._∷_ 116 (L._∷_ 101 (L._∷_ 112 (L._∷_ 58 (L._∷_ 58 (L._∷_ 79 (L._∷_ 108 (L._∷_ 100 L.[]))))))))) (Syntax.tcons (Syntax.tyInt Syntax.w64) (Syntax.tcons q11 (Syntax.tcons q12 (Syntax.tcons q12 (Syntax.tcons q12 (Syntax.tcons q12 (Syntax.tcons q7 Syntax.tnil)))))))) Syntax.tnil))) Syntax.tnil)))) Syntax.tnil))))) (L._∷_ (1, Rows.whole (Declared.row network-proofs-Nodes·.the-type)) (L._∷_ q16 (L._∷_ q21 (L._∷_ q36 (L._∷_ q25 (L._∷_ q13 (L._∷_ q4 (L._∷_ q33 (L._∷_ q34 (L._∷_ (10, Rows.any-gone (Syntax.tyStruct (L._∷_ 115 (L._∷_ 116 (L._∷_ 101 (L._∷_ 112 (L._∷_ 58 (L._∷_ 58 (L._∷_ 65 (L._∷_ 114 (L._∷_ 111 (L._∷_ 117 (L._∷_ 110 (L._∷_ 100 L.[])))))))))))) (Syntax.tcons q12 (Syntax.tcons q12 (Syntax.tcons q12 (Syntax.tcons q12 Syntax.tnil)))))) (L._∷_ (11, Rows.any-gone (Syntax.tyStruct (L._∷_ 114 (L._∷_ 117 (L._∷_ 108 (L._∷_ 101 (L._∷_ 115 (L._∷_ 58 (L._∷_ 58 (L._∷_ 102 (L._∷_ 111 (L._∷_ 117 (L._∷_ 110 (L._∷_ 100 (L._∷_ 58 (L._∷_ 58 (L._∷_ 70 (L._∷_ 111 (L._∷_ 117 (L._∷_ 110 (L._∷_ 100 L.[]))))))))))))))))))) (Syntax.tcons Syntax.tyBool (Syntax.tcons Syntax.tyBool (Syntax.tcons (Syntax.tyStruct (L._∷_ 115 (L._∷_ 116 (L._∷_ 101 (L._∷_ 112 (L._∷_ 58 (L._∷_ 58 (L._∷_ 83 (L._∷_ 116 (L._∷_ 101 (L._∷_ 112 L.[])))))))))) (Syntax.tcons (Syntax.tyInt Syntax.w64) (Syntax.tcons (Syntax.tyInt Syntax.w64) (Syntax.tcons (Syntax.tyStruct (L._∷_ 115 (L._∷_ 116 (L._∷_ 101 (L._∷_ 112 (L._∷_ 58 (L._∷_ 58 (L._∷_ 67 (L._∷_ 104 (L._∷_ 97 (L._∷_ 110 (L._∷_ 103 (L._∷_ 101 L.[])))))))))))) (Syntax.tcons (Syntax.tyStruct (L._∷_ 110 (L._∷_ 101 (L._∷_ 116 (L._∷_ 119 (L._∷_ 111 (L._∷_ 114 (L._∷_ 107 (L._∷_ 58 (L._∷_ 58 (L._∷_ 69 (L._∷_ 100 (L._∷_ 105 (L._∷_ 116 L.[]))))))))))))) (Syntax.tcons q12 (Syntax.tcons q12 (Syntax.tcons q12 (Syntax.tcons q12 (Syntax.tcons q3 (Syntax.tcons q3 (Syntax.tcons (Syntax.tyInt Syntax.w64) (Syntax.tcons q11 Syntax.tnil))))))))) (Syntax.tcons (Syntax.tyStruct (L._∷_ 115 (L._∷_ 116 (L._∷_ 101 (L._∷_ 112 (L._∷_ 58 (L._∷_ 58 (L._∷_ 79 (L._∷_ 108 (L._∷_ 100 L.[]))))))))) (Syntax.tcons (Syntax.tyInt Syntax.w64) (Syntax.tcons q11 (Syntax.tcons q12 (Syntax.tcons q12 (Syntax.tcons q12 (Syntax.tcons q12 (Syntax.tcons q7 Syntax.tnil)))))))) Syntax.tnil))) Syntax.tnil)))) Syntax.tnil))))) (L._∷_ q30 (L._∷_ q41 (L._∷_ q42 (L._∷_ q45 L.[])))))))))))))))
 
 abbrev pub t4 : L.List Row.Entry
-t4 = L._∷_ (0, Rows.any-gone (Syntax.tyStruct (L._∷_ 114 (L._∷_ 117 (L._∷_ 108 (L._∷_ 101 (L._∷_ 115 (L._∷_ 58 (L._∷_ 58 (L._∷_ 102 (L._∷_ 111 (L._∷_ 117 (L._∷_ 110 (L._∷_ 100 (L._∷_ 58 (L._∷_ 58 (L._∷_ 70 (L._∷_ 111 (L._∷_ 117 (L._∷_ 110 (L._∷_ 100 L.[]))))))))))))))))))) (Syntax.tcons Syntax.tyBool (Syntax.tcons Syntax.tyBool (Syntax.tcons (Syntax.tyStruct (L._∷_ 115 (L._∷_ 116 (L._∷_ 101 (L._∷_ 112 (L._∷_ 58 (L._∷_ 58 (L._∷_ 83 (L._∷_ 116 (L._∷_ 101 (L._∷_ 112 L.[])))))))))) (Syntax.tcons (Syntax.tyInt Syntax.w64) (Syntax.tcons (Syntax.tyInt Syntax.w64) (Syntax.tcons (Syntax.tyStruct (L._∷_ 115 (L._∷_ 116 (L._∷_ 101 (L._∷_ 112 (L._∷_ 58 (L._∷_ 58 (L._∷_ 67 (L._∷_ 104 (L._∷_ 97 (L._∷_ 110 (L._∷_ 103 (L._∷_ 101 L.[])))))))))))) (Syntax.tcons (Syntax.tyStruct (L._∷_ 110 (L._∷_ 101 (L._∷_ 116 (L._∷_ 119 (L._∷_ 111 (L._∷_ 114 (L._∷_ 107 (L._∷_ 58 (L._∷_ 58 (L._∷_ 69 (L._∷_ 100 (L._∷_ 105 (L._∷_ 116 L.[]))))))))))))) (Syntax.tcons q11 (Syntax.tcons q11 (Syntax.tcons q11 (Syntax.tcons q11 (Syntax.tcons q3 (Syntax.tcons q3 (Syntax.tcons (Syntax.tyInt Syntax.w64) Syntax.tnil)))))))) (Syntax.tcons (Syntax.tyStruct (L._∷_ 115 (L._∷_ 116 (L._∷_ 101 (L._∷_ 112 (L._∷_ 58 (L._∷_ 58 (L._∷_ 79 (L._∷_ 108 (L._∷_ 100 L.[]))))))))) (Syntax.tcons (Syntax.tyInt Syntax.w64) (Syntax.tcons q10 (Syntax.tcons q11 (Syntax.tcons q11 (Syntax.tcons q11 (Syntax.tcons q11 (Syntax.tcons q7 Syntax.tnil)))))))) Syntax.tnil))) Syntax.tnil)))) Syntax.tnil))))) (L._∷_ q1 (L._∷_ q15 (L._∷_ q20 (L._∷_ q35 (L._∷_ q24 (L._∷_ q12 (L._∷_ q4 (L._∷_ q32 (L._∷_ q33 (L._∷_ (10, Rows.any-gone (Syntax.tyStruct (L._∷_ 115 (L._∷_ 116 (L._∷_ 101 (L._∷_ 112 (L._∷_ 58 (L._∷_ 58 (L._∷_ 65 (L._∷_ 114 (L._∷_ 111 (L._∷_ 117 (L._∷_ 110 (L._∷_ 100 L.[])))))))))))) (Syntax.tcons q11 (Syntax.tcons q11 (Syntax.tcons q11 (Syntax.tcons q11 Syntax.tnil)))))) (L._∷_ (11, Rows.any-gone (Syntax.tyStruct (L._∷_ 114 (L._∷_ 117 (L._∷_ 108 (L._∷_ 101 (L._∷_ 115 (L._∷_ 58 (L._∷_ 58 (L._∷_ 102 (L._∷_ 111 (L._∷_ 117 (L._∷_ 110 (L._∷_ 100 (L._∷_ 58 (L._∷_ 58 (L._∷_ 70 (L._∷_ 111 (L._∷_ 117 (L._∷_ 110 (L._∷_ 100 L.[]))))))))))))))))))) (Syntax.tcons Syntax.tyBool (Syntax.tcons Syntax.tyBool (Syntax.tcons (Syntax.tyStruct (L._∷_ 115 (L._∷_ 116 (L._∷_ 101 (L._∷_ 112 (L._∷_ 58 (L._∷_ 58 (L._∷_ 83 (L._∷_ 116 (L._∷_ 101 (L._∷_ 112 L.[])))))))))) (Syntax.tcons (Syntax.tyInt Syntax.w64) (Syntax.tcons (Syntax.tyInt Syntax.w64) (Syntax.tcons (Syntax.tyStruct (L._∷_ 115 (L._∷_ 116 (L._∷_ 101 (L._∷_ 112 (L._∷_ 58 (L._∷_ 58 (L._∷_ 67 (L._∷_ 104 (L._∷_ 97 (L._∷_ 110 (L._∷_ 103 (L._∷_ 101 L.[])))))))))))) (Syntax.tcons (Syntax.tyStruct (L._∷_ 110 (L._∷_ 101 (L._∷_ 116 (L._∷_ 119 (L._∷_ 111 (L._∷_ 114 (L._∷_ 107 (L._∷_ 58 (L._∷_ 58 (L._∷_ 69 (L._∷_ 100 (L._∷_ 105 (L._∷_ 116 L.[]))))))))))))) (Syntax.tcons q11 (Syntax.tcons q11 (Syntax.tcons q11 (Syntax.tcons q11 (Syntax.tcons q3 (Syntax.tcons q3 (Syntax.tcons (Syntax.tyInt Syntax.w64) Syntax.tnil)))))))) (Syntax.tcons (Syntax.tyStruct (L._∷_ 115 (L._∷_ 116 (L._∷_ 101 (L._∷_ 112 (L._∷_ 58 (L._∷_ 58 (L._∷_ 79 (L._∷_ 108 (L._∷_ 100 L.[]))))))))) (Syntax.tcons (Syntax.tyInt Syntax.w64) (Syntax.tcons q10 (Syntax.tcons q11 (Syntax.tcons q11 (Syntax.tcons q11 (Syntax.tcons q11 (Syntax.tcons q7 Syntax.tnil)))))))) Syntax.tnil))) Syntax.tnil)))) Syntax.tnil))))) (L._∷_ q29 (L._∷_ q40 (L._∷_ q41 (L._∷_ q44 L.[])))))))))))))))
+t4 = L._∷_ (0, Rows.any-gone (Syntax.tyStruct (L._∷_ 114 (L._∷_ 117 (L._∷_ 108 (L._∷_ 101 (L._∷_ 115 (L._∷_ 58 (L._∷_ 58 (L._∷_ 102 (L._∷_ 111 (L._∷_ 117 (L._∷_ 110 (L._∷_ 100 (L._∷_ 58 (L._∷_ 58 (L._∷_ 70 (L._∷_ 111 (L._∷_ 117 (L._∷_ 110 (L._∷_ 100 L.[]))))))))))))))))))) (Syntax.tcons Syntax.tyBool (Syntax.tcons Syntax.tyBool (Syntax.tcons (Syntax.tyStruct (L._∷_ 115 (L._∷_ 116 (L._∷_ 101 (L._∷_ 112 (L._∷_ 58 (L._∷_ 58 (L._∷_ 83 (L._∷_ 116 (L._∷_ 101 (L._∷_ 112 L.[])))))))))) (Syntax.tcons (Syntax.tyInt Syntax.w64) (Syntax.tcons (Syntax.tyInt Syntax.w64) (Syntax.tcons (Syntax.tyStruct (L._∷_ 115 (L._∷_ 116 (L._∷_ 101 (L._∷_ 112 (L._∷_ 58 (L._∷_ 58 (L._∷_ 67 (L._∷_ 104 (L._∷_ 97 (L._∷_ 110 (L._∷_ 103 (L._∷_ 101 L.[])))))))))))) (Syntax.tcons (Syntax.tyStruct (L._∷_ 110 (L._∷_ 101 (L._∷_ 116 (L._∷_ 119 (L._∷_ 111 (L._∷_ 114 (L._∷_ 107 (L._∷_ 58 (L._∷_ 58 (L._∷_ 69 (L._∷_ 100 (L._∷_ 105 (L._∷_ 116 L.[]))))))))))))) (Syntax.tcons q12 (Syntax.tcons q12 (Syntax.tcons q12 (Syntax.tcons q12 (Syntax.tcons q3 (Syntax.tcons q3 (Syntax.tcons (Syntax.tyInt Syntax.w64) (Syntax.tcons q11 Syntax.tnil))))))))) (Syntax.tcons (Syntax.tyStruct (L._∷_ 115 (L._∷_ 116 (L._∷_ 101 (L._∷_ 112 (L._∷_ 58 (L._∷_ 58 (L._∷_ 79 (L._∷_ 108 (L._∷_ 100 L.[]))))))))) (Syntax.tcons (Syntax.tyInt Syntax.w64) (Syntax.tcons q11 (Syntax.tcons q12 (Syntax.tcons q12 (Syntax.tcons q12 (Syntax.tcons q12 (Syntax.tcons q7 Syntax.tnil)))))))) Syntax.tnil))) Syntax.tnil)))) Syntax.tnil))))) (L._∷_ q1 (L._∷_ q16 (L._∷_ q21 (L._∷_ q36 (L._∷_ q25 (L._∷_ q13 (L._∷_ q4 (L._∷_ q33 (L._∷_ q34 (L._∷_ (10, Rows.any-gone (Syntax.tyStruct (L._∷_ 115 (L._∷_ 116 (L._∷_ 101 (L._∷_ 112 (L._∷_ 58 (L._∷_ 58 (L._∷_ 65 (L._∷_ 114 (L._∷_ 111 (L._∷_ 117 (L._∷_ 110 (L._∷_ 100 L.[])))))))))))) (Syntax.tcons q12 (Syntax.tcons q12 (Syntax.tcons q12 (Syntax.tcons q12 Syntax.tnil)))))) (L._∷_ (11, Rows.any-gone (Syntax.tyStruct (L._∷_ 114 (L._∷_ 117 (L._∷_ 108 (L._∷_ 101 (L._∷_ 115 (L._∷_ 58 (L._∷_ 58 (L._∷_ 102 (L._∷_ 111 (L._∷_ 117 (L._∷_ 110 (L._∷_ 100 (L._∷_ 58 (L._∷_ 58 (L._∷_ 70 (L._∷_ 111 (L._∷_ 117 (L._∷_ 110 (L._∷_ 100 L.[]))))))))))))))))))) (Syntax.tcons Syntax.tyBool (Syntax.tcons Syntax.tyBool (Syntax.tcons (Syntax.tyStruct (L._∷_ 115 (L._∷_ 116 (L._∷_ 101 (L._∷_ 112 (L._∷_ 58 (L._∷_ 58 (L._∷_ 83 (L._∷_ 116 (L._∷_ 101 (L._∷_ 112 L.[])))))))))) (Syntax.tcons (Syntax.tyInt Syntax.w64) (Syntax.tcons (Syntax.tyInt Syntax.w64) (Syntax.tcons (Syntax.tyStruct (L._∷_ 115 (L._∷_ 116 (L._∷_ 101 (L._∷_ 112 (L._∷_ 58 (L._∷_ 58 (L._∷_ 67 (L._∷_ 104 (L._∷_ 97 (L._∷_ 110 (L._∷_ 103 (L._∷_ 101 L.[])))))))))))) (Syntax.tcons (Syntax.tyStruct (L._∷_ 110 (L._∷_ 101 (L._∷_ 116 (L._∷_ 119 (L._∷_ 111 (L._∷_ 114 (L._∷_ 107 (L._∷_ 58 (L._∷_ 58 (L._∷_ 69 (L._∷_ 100 (L._∷_ 105 (L._∷_ 116 L.[]))))))))))))) (Syntax.tcons q12 (Syntax.tcons q12 (Syntax.tcons q12 (Syntax.tcons q12 (Syntax.tcons q3 (Syntax.tcons q3 (Syntax.tcons (Syntax.tyInt Syntax.w64) (Syntax.tcons q11 Syntax.tnil))))))))) (Syntax.tcons (Syntax.tyStruct (L._∷_ 115 (L._∷_ 116 (L._∷_ 101 (L._∷_ 112 (L._∷_ 58 (L._∷_ 58 (L._∷_ 79 (L._∷_ 108 (L._∷_ 100 L.[]))))))))) (Syntax.tcons (Syntax.tyInt Syntax.w64) (Syntax.tcons q11 (Syntax.tcons q12 (Syntax.tcons q12 (Syntax.tcons q12 (Syntax.tcons q12 (Syntax.tcons q7 Syntax.tnil)))))))) Syntax.tnil))) Syntax.tnil)))) Syntax.tnil))))) (L._∷_ q30 (L._∷_ q41 (L._∷_ q42 (L._∷_ q45 L.[])))))))))))))))
 
 abbrev pub t5 : L.List Row.Entry
-t5 = L._∷_ (0, Rows.any-gone (Syntax.tyStruct (L._∷_ 114 (L._∷_ 117 (L._∷_ 108 (L._∷_ 101 (L._∷_ 115 (L._∷_ 58 (L._∷_ 58 (L._∷_ 102 (L._∷_ 111 (L._∷_ 117 (L._∷_ 110 (L._∷_ 100 (L._∷_ 58 (L._∷_ 58 (L._∷_ 70 (L._∷_ 111 (L._∷_ 117 (L._∷_ 110 (L._∷_ 100 L.[]))))))))))))))))))) (Syntax.tcons Syntax.tyBool (Syntax.tcons Syntax.tyBool (Syntax.tcons (Syntax.tyStruct (L._∷_ 115 (L._∷_ 116 (L._∷_ 101 (L._∷_ 112 (L._∷_ 58 (L._∷_ 58 (L._∷_ 83 (L._∷_ 116 (L._∷_ 101 (L._∷_ 112 L.[])))))))))) (Syntax.tcons (Syntax.tyInt Syntax.w64) (Syntax.tcons (Syntax.tyInt Syntax.w64) (Syntax.tcons (Syntax.tyStruct (L._∷_ 115 (L._∷_ 116 (L._∷_ 101 (L._∷_ 112 (L._∷_ 58 (L._∷_ 58 (L._∷_ 67 (L._∷_ 104 (L._∷_ 97 (L._∷_ 110 (L._∷_ 103 (L._∷_ 101 L.[])))))))))))) (Syntax.tcons (Syntax.tyStruct (L._∷_ 110 (L._∷_ 101 (L._∷_ 116 (L._∷_ 119 (L._∷_ 111 (L._∷_ 114 (L._∷_ 107 (L._∷_ 58 (L._∷_ 58 (L._∷_ 69 (L._∷_ 100 (L._∷_ 105 (L._∷_ 116 L.[]))))))))))))) (Syntax.tcons q11 (Syntax.tcons q11 (Syntax.tcons q11 (Syntax.tcons q11 (Syntax.tcons q3 (Syntax.tcons q3 (Syntax.tcons (Syntax.tyInt Syntax.w64) Syntax.tnil)))))))) (Syntax.tcons (Syntax.tyStruct (L._∷_ 115 (L._∷_ 116 (L._∷_ 101 (L._∷_ 112 (L._∷_ 58 (L._∷_ 58 (L._∷_ 79 (L._∷_ 108 (L._∷_ 100 L.[]))))))))) (Syntax.tcons (Syntax.tyInt Syntax.w64) (Syntax.tcons q10 (Syntax.tcons q11 (Syntax.tcons q11 (Syntax.tcons q11 (Syntax.tcons q11 (Syntax.tcons q7 Syntax.tnil)))))))) Syntax.tnil))) Syntax.tnil)))) Syntax.tnil))))) (L._∷_ q1 (L._∷_ q15 (L._∷_ q20 (L._∷_ q35 (L._∷_ q24 (L._∷_ q21 (L._∷_ q4 (L._∷_ q32 (L._∷_ q33 (L._∷_ (10, Rows.any-gone (Syntax.tyStruct (L._∷_ 115 (L._∷_ 116 (L._∷_ 101 (L._∷_ 112 (L._∷_ 58 (L._∷_ 58 (L._∷_ 65 (L._∷_ 114 (L._∷_ 111 (L._∷_ 117 (L._∷_ 110 (L._∷_ 100 L.[])))))))))))) (Syntax.tcons q11 (Syntax.tcons q11 (Syntax.tcons q11 (Syntax.tcons q11 Syntax.tnil)))))) (L._∷_ (11, Rows.any-gone (Syntax.tyStruct (L._∷_ 114 (L._∷_ 117 (L._∷_ 108 (L._∷_ 101 (L._∷_ 115 (L._∷_ 58 (L._∷_ 58 (L._∷_ 102 (L._∷_ 111 (L._∷_ 117 (L._∷_ 110 (L._∷_ 100 (L._∷_ 58 (L._∷_ 58 (L._∷_ 70 (L._∷_ 111 (L._∷_ 117 (L._∷_ 110 (L._∷_ 100 L.[]))))))))))))))))))) (Syntax.tcons Syntax.tyBool (Syntax.tcons Syntax.tyBool (Syntax.tcons (Syntax.tyStruct (L._∷_ 115 (L._∷_ 116 (L._∷_ 101 (L._∷_ 112 (L._∷_ 58 (L._∷_ 58 (L._∷_ 83 (L._∷_ 116 (L._∷_ 101 (L._∷_ 112 L.[])))))))))) (Syntax.tcons (Syntax.tyInt Syntax.w64) (Syntax.tcons (Syntax.tyInt Syntax.w64) (Syntax.tcons (Syntax.tyStruct (L._∷_ 115 (L._∷_ 116 (L._∷_ 101 (L._∷_ 112 (L._∷_ 58 (L._∷_ 58 (L._∷_ 67 (L._∷_ 104 (L._∷_ 97 (L._∷_ 110 (L._∷_ 103 (L._∷_ 101 L.[])))))))))))) (Syntax.tcons (Syntax.tyStruct (L._∷_ 110 (L._∷_ 101 (L._∷_ 116 (L._∷_ 119 (L._∷_ 111 (L._∷_ 114 (L._∷_ 107 (L._∷_ 58 (L._∷_ 58 (L._∷_ 69 (L._∷_ 100 (L._∷_ 105 (L._∷_ 116 L.[]))))))))))))) (Syntax.tcons q11 (Syntax.tcons q11 (Syntax.tcons q11 (Syntax.tcons q11 (Syntax.tcons q3 (Syntax.tcons q3 (Syntax.tcons (Syntax.tyInt Syntax.w64) Syntax.tnil)))))))) (Syntax.tcons (Syntax.tyStruct (L._∷_ 115 (L._∷_ 116 (L._∷_ 101 (L._∷_ 112 (L._∷_ 58 (L._∷_ 58 (L._∷_ 79 (L._∷_ 108 (L._∷_ 100 L.[]))))))))) (Syntax.tcons (Syntax.tyInt Syntax.w64) (Syntax.tcons q10 (Syntax.tcons q11 (Syntax.tcons q11 (Syntax.tcons q11 (Syntax.tcons q11 (Syntax.tcons q7 Syntax.tnil)))))))) Syntax.tnil))) Syntax.tnil)))) Syntax.tnil))))) (L._∷_ q29 (L._∷_ q40 (L._∷_ q41 (L._∷_ q44 L.[])))))))))))))))
+t5 = L._∷_ (0, Rows.any-gone (Syntax.tyStruct (L._∷_ 114 (L._∷_ 117 (L._∷_ 108 (L._∷_ 101 (L._∷_ 115 (L._∷_ 58 (L._∷_ 58 (L._∷_ 102 (L._∷_ 111 (L._∷_ 117 (L._∷_ 110 (L._∷_ 100 (L._∷_ 58 (L._∷_ 58 (L._∷_ 70 (L._∷_ 111 (L._∷_ 117 (L._∷_ 110 (L._∷_ 100 L.[]))))))))))))))))))) (Syntax.tcons Syntax.tyBool (Syntax.tcons Syntax.tyBool (Syntax.tcons (Syntax.tyStruct (L._∷_ 115 (L._∷_ 116 (L._∷_ 101 (L._∷_ 112 (L._∷_ 58 (L._∷_ 58 (L._∷_ 83 (L._∷_ 116 (L._∷_ 101 (L._∷_ 112 L.[])))))))))) (Syntax.tcons (Syntax.tyInt Syntax.w64) (Syntax.tcons (Syntax.tyInt Syntax.w64) (Syntax.tcons (Syntax.tyStruct (L._∷_ 115 (L._∷_ 116 (L._∷_ 101 (L._∷_ 112 (L._∷_ 58 (L._∷_ 58 (L._∷_ 67 (L._∷_ 104 (L._∷_ 97 (L._∷_ 110 (L._∷_ 103 (L._∷_ 101 L.[])))))))))))) (Syntax.tcons (Syntax.tyStruct (L._∷_ 110 (L._∷_ 101 (L._∷_ 116 (L._∷_ 119 (L._∷_ 111 (L._∷_ 114 (L._∷_ 107 (L._∷_ 58 (L._∷_ 58 (L._∷_ 69 (L._∷_ 100 (L._∷_ 105 (L._∷_ 116 L.[]))))))))))))) (Syntax.tcons q12 (Syntax.tcons q12 (Syntax.tcons q12 (Syntax.tcons q12 (Syntax.tcons q3 (Syntax.tcons q3 (Syntax.tcons (Syntax.tyInt Syntax.w64) (Syntax.tcons q11 Syntax.tnil))))))))) (Syntax.tcons (Syntax.tyStruct (L._∷_ 115 (L._∷_ 116 (L._∷_ 101 (L._∷_ 112 (L._∷_ 58 (L._∷_ 58 (L._∷_ 79 (L._∷_ 108 (L._∷_ 100 L.[]))))))))) (Syntax.tcons (Syntax.tyInt Syntax.w64) (Syntax.tcons q11 (Syntax.tcons q12 (Syntax.tcons q12 (Syntax.tcons q12 (Syntax.tcons q12 (Syntax.tcons q7 Syntax.tnil)))))))) Syntax.tnil))) Syntax.tnil)))) Syntax.tnil))))) (L._∷_ q1 (L._∷_ q16 (L._∷_ q21 (L._∷_ q36 (L._∷_ q25 (L._∷_ q22 (L._∷_ q4 (L._∷_ q33 (L._∷_ q34 (L._∷_ (10, Rows.any-gone (Syntax.tyStruct (L._∷_ 115 (L._∷_ 116 (L._∷_ 101 (L._∷_ 112 (L._∷_ 58 (L._∷_ 58 (L._∷_ 65 (L._∷_ 114 (L._∷_ 111 (L._∷_ 117 (L._∷_ 110 (L._∷_ 100 L.[])))))))))))) (Syntax.tcons q12 (Syntax.tcons q12 (Syntax.tcons q12 (Syntax.tcons q12 Syntax.tnil)))))) (L._∷_ (11, Rows.any-gone (Syntax.tyStruct (L._∷_ 114 (L._∷_ 117 (L._∷_ 108 (L._∷_ 101 (L._∷_ 115 (L._∷_ 58 (L._∷_ 58 (L._∷_ 102 (L._∷_ 111 (L._∷_ 117 (L._∷_ 110 (L._∷_ 100 (L._∷_ 58 (L._∷_ 58 (L._∷_ 70 (L._∷_ 111 (L._∷_ 117 (L._∷_ 110 (L._∷_ 100 L.[]))))))))))))))))))) (Syntax.tcons Syntax.tyBool (Syntax.tcons Syntax.tyBool (Syntax.tcons (Syntax.tyStruct (L._∷_ 115 (L._∷_ 116 (L._∷_ 101 (L._∷_ 112 (L._∷_ 58 (L._∷_ 58 (L._∷_ 83 (L._∷_ 116 (L._∷_ 101 (L._∷_ 112 L.[])))))))))) (Syntax.tcons (Syntax.tyInt Syntax.w64) (Syntax.tcons (Syntax.tyInt Syntax.w64) (Syntax.tcons (Syntax.tyStruct (L._∷_ 115 (L._∷_ 116 (L._∷_ 101 (L._∷_ 112 (L._∷_ 58 (L._∷_ 58 (L._∷_ 67 (L._∷_ 104 (L._∷_ 97 (L._∷_ 110 (L._∷_ 103 (L._∷_ 101 L.[])))))))))))) (Syntax.tcons (Syntax.tyStruct (L._∷_ 110 (L._∷_ 101 (L._∷_ 116 (L._∷_ 119 (L._∷_ 111 (L._∷_ 114 (L._∷_ 107 (L._∷_ 58 (L._∷_ 58 (L._∷_ 69 (L._∷_ 100 (L._∷_ 105 (L._∷_ 116 L.[]))))))))))))) (Syntax.tcons q12 (Syntax.tcons q12 (Syntax.tcons q12 (Syntax.tcons q12 (Syntax.tcons q3 (Syntax.tcons q3 (Syntax.tcons (Syntax.tyInt Syntax.w64) (Syntax.tcons q11 Syntax.tnil))))))))) (Syntax.tcons (Syntax.tyStruct (L._∷_ 115 (L._∷_ 116 (L._∷_ 101 (L._∷_ 112 (L._∷_ 58 (L._∷_ 58 (L._∷_ 79 (L._∷_ 108 (L._∷_ 100 L.[]))))))))) (Syntax.tcons (Syntax.tyInt Syntax.w64) (Syntax.tcons q11 (Syntax.tcons q12 (Syntax.tcons q12 (Syntax.tcons q12 (Syntax.tcons q12 (Syntax.tcons q7 Syntax.tnil)))))))) Syntax.tnil))) Syntax.tnil)))) Syntax.tnil))))) (L._∷_ q30 (L._∷_ q41 (L._∷_ q42 (L._∷_ q45 L.[])))))))))))))))
 
 abbrev pub t6 : L.List Row.Entry
-t6 = L._∷_ (0, Rows.any-gone (Syntax.tyStruct (L._∷_ 114 (L._∷_ 117 (L._∷_ 108 (L._∷_ 101 (L._∷_ 115 (L._∷_ 58 (L._∷_ 58 (L._∷_ 102 (L._∷_ 111 (L._∷_ 117 (L._∷_ 110 (L._∷_ 100 (L._∷_ 58 (L._∷_ 58 (L._∷_ 70 (L._∷_ 111 (L._∷_ 117 (L._∷_ 110 (L._∷_ 100 L.[]))))))))))))))))))) (Syntax.tcons Syntax.tyBool (Syntax.tcons Syntax.tyBool (Syntax.tcons (Syntax.tyStruct (L._∷_ 115 (L._∷_ 116 (L._∷_ 101 (L._∷_ 112 (L._∷_ 58 (L._∷_ 58 (L._∷_ 83 (L._∷_ 116 (L._∷_ 101 (L._∷_ 112 L.[])))))))))) (Syntax.tcons (Syntax.tyInt Syntax.w64) (Syntax.tcons (Syntax.tyInt Syntax.w64) (Syntax.tcons (Syntax.tyStruct (L._∷_ 115 (L._∷_ 116 (L._∷_ 101 (L._∷_ 112 (L._∷_ 58 (L._∷_ 58 (L._∷_ 67 (L._∷_ 104 (L._∷_ 97 (L._∷_ 110 (L._∷_ 103 (L._∷_ 101 L.[])))))))))))) (Syntax.tcons (Syntax.tyStruct (L._∷_ 110 (L._∷_ 101 (L._∷_ 116 (L._∷_ 119 (L._∷_ 111 (L._∷_ 114 (L._∷_ 107 (L._∷_ 58 (L._∷_ 58 (L._∷_ 69 (L._∷_ 100 (L._∷_ 105 (L._∷_ 116 L.[]))))))))))))) (Syntax.tcons q11 (Syntax.tcons q11 (Syntax.tcons q11 (Syntax.tcons q11 (Syntax.tcons q3 (Syntax.tcons q3 (Syntax.tcons (Syntax.tyInt Syntax.w64) Syntax.tnil)))))))) (Syntax.tcons (Syntax.tyStruct (L._∷_ 115 (L._∷_ 116 (L._∷_ 101 (L._∷_ 112 (L._∷_ 58 (L._∷_ 58 (L._∷_ 79 (L._∷_ 108 (L._∷_ 100 L.[]))))))))) (Syntax.tcons (Syntax.tyInt Syntax.w64) (Syntax.tcons q10 (Syntax.tcons q11 (Syntax.tcons q11 (Syntax.tcons q11 (Syntax.tcons q11 (Syntax.tcons q7 Syntax.tnil)))))))) Syntax.tnil))) Syntax.tnil)))) Syntax.tnil))))) (L._∷_ q1 (L._∷_ q15 (L._∷_ q13 (L._∷_ q35 (L._∷_ q24 (L._∷_ q21 (L._∷_ q4 (L._∷_ q32 (L._∷_ q33 (L._∷_ (10, Rows.any-gone (Syntax.tyStruct (L._∷_ 115 (L._∷_ 116 (L._∷_ 101 (L._∷_ 112 (L._∷_ 58 (L._∷_ 58 (L._∷_ 65 (L._∷_ 114 (L._∷_ 111 (L._∷_ 117 (L._∷_ 110 (L._∷_ 100 L.[])))))))))))) (Syntax.tcons q11 (Syntax.tcons q11 (Syntax.tcons q11 (Syntax.tcons q11 Syntax.tnil)))))) (L._∷_ (11, Rows.any-gone (Syntax.tyStruct (L._∷_ 114 (L._∷_ 117 (L._∷_ 108 (L._∷_ 101 (L._∷_ 115 (L._∷_ 58 (L._∷_ 58 (L._∷_ 102 (L._∷_ 111 (L._∷_ 117 (L._∷_ 110 (L._∷_ 100 (L._∷_ 58 (L._∷_ 58 (L._∷_ 70 (L._∷_ 111 (L._∷_ 117 (L._∷_ 110 (L._∷_ 100 L.[]))))))))))))))))))) (Syntax.tcons Syntax.tyBool (Syntax.tcons Syntax.tyBool (Syntax.tcons (Syntax.tyStruct (L._∷_ 115 (L._∷_ 116 (L._∷_ 101 (L._∷_ 112 (L._∷_ 58 (L._∷_ 58 (L._∷_ 83 (L._∷_ 116 (L._∷_ 101 (L._∷_ 112 L.[])))))))))) (Syntax.tcons (Syntax.tyInt Syntax.w64) (Syntax.tcons (Syntax.tyInt Syntax.w64) (Syntax.tcons (Syntax.tyStruct (L._∷_ 115 (L._∷_ 116 (L._∷_ 101 (L._∷_ 112 (L._∷_ 58 (L._∷_ 58 (L._∷_ 67 (L._∷_ 104 (L._∷_ 97 (L._∷_ 110 (L._∷_ 103 (L._∷_ 101 L.[])))))))))))) (Syntax.tcons (Syntax.tyStruct (L._∷_ 110 (L._∷_ 101 (L._∷_ 116 (L._∷_ 119 (L._∷_ 111 (L._∷_ 114 (L._∷_ 107 (L._∷_ 58 (L._∷_ 58 (L._∷_ 69 (L._∷_ 100 (L._∷_ 105 (L._∷_ 116 L.[]))))))))))))) (Syntax.tcons q11 (Syntax.tcons q11 (Syntax.tcons q11 (Syntax.tcons q11 (Syntax.tcons q3 (Syntax.tcons q3 (Syntax.tcons (Syntax.tyInt Syntax.w64) Syntax.tnil)))))))) (Syntax.tcons (Syntax.tyStruct (L._∷_ 115 (L._∷_ 116 (L._∷_ 101 (L._∷_ 112 (L._∷_ 58 (L._∷_ 58 (L._∷_ 79 (L._∷_ 108 (L._∷_ 100 L.[]))))))))) (Syntax.tcons (Syntax.tyInt Syntax.w64) (Syntax.tcons q10 (Syntax.tcons q11 (Syntax.tcons q11 (Syntax.tcons q11 (Syntax.tcons q11 (Syntax.tcons q7 Syntax.tnil)))))))) Syntax.tnil))) Syntax.tnil)))) Syntax.tnil))))) (L._∷_ q29 (L._∷_ q40 (L._∷_ q41 (L._∷_ q44 L.[])))))))))))))))
+t6 = L._∷_ (0, Rows.any-gone (Syntax.tyStruct (L._∷_ 114 (L._∷_ 117 (L._∷_ 108 (L._∷_ 101 (L._∷_ 115 (L._∷_ 58 (L._∷_ 58 (L._∷_ 102 (L._∷_ 111 (L._∷_ 117 (L._∷_ 110 (L._∷_ 100 (L._∷_ 58 (L._∷_ 58 (L._∷_ 70 (L._∷_ 111 (L._∷_ 117 (L._∷_ 110 (L._∷_ 100 L.[]))))))))))))))))))) (Syntax.tcons Syntax.tyBool (Syntax.tcons Syntax.tyBool (Syntax.tcons (Syntax.tyStruct (L._∷_ 115 (L._∷_ 116 (L._∷_ 101 (L._∷_ 112 (L._∷_ 58 (L._∷_ 58 (L._∷_ 83 (L._∷_ 116 (L._∷_ 101 (L._∷_ 112 L.[])))))))))) (Syntax.tcons (Syntax.tyInt Syntax.w64) (Syntax.tcons (Syntax.tyInt Syntax.w64) (Syntax.tcons (Syntax.tyStruct (L._∷_ 115 (L._∷_ 116 (L._∷_ 101 (L._∷_ 112 (L._∷_ 58 (L._∷_ 58 (L._∷_ 67 (L._∷_ 104 (L._∷_ 97 (L._∷_ 110 (L._∷_ 103 (L._∷_ 101 L.[])))))))))))) (Syntax.tcons (Syntax.tyStruct (L._∷_ 110 (L._∷_ 101 (L._∷_ 116 (L._∷_ 119 (L._∷_ 111 (L._∷_ 114 (L._∷_ 107 (L._∷_ 58 (L._∷_ 58 (L._∷_ 69 (L._∷_ 100 (L._∷_ 105 (L._∷_ 116 L.[]))))))))))))) (Syntax.tcons q12 (Syntax.tcons q12 (Syntax.tcons q12 (Syntax.tcons q12 (Syntax.tcons q3 (Syntax.tcons q3 (Syntax.tcons (Syntax.tyInt Syntax.w64) (Syntax.tcons q11 Syntax.tnil))))))))) (Syntax.tcons (Syntax.tyStruct (L._∷_ 115 (L._∷_ 116 (L._∷_ 101 (L._∷_ 112 (L._∷_ 58 (L._∷_ 58 (L._∷_ 79 (L._∷_ 108 (L._∷_ 100 L.[]))))))))) (Syntax.tcons (Syntax.tyInt Syntax.w64) (Syntax.tcons q11 (Syntax.tcons q12 (Syntax.tcons q12 (Syntax.tcons q12 (Syntax.tcons q12 (Syntax.tcons q7 Syntax.tnil)))))))) Syntax.tnil))) Syntax.tnil)))) Syntax.tnil))))) (L._∷_ q1 (L._∷_ q16 (L._∷_ q14 (L._∷_ q36 (L._∷_ q25 (L._∷_ q22 (L._∷_ q4 (L._∷_ q33 (L._∷_ q34 (L._∷_ (10, Rows.any-gone (Syntax.tyStruct (L._∷_ 115 (L._∷_ 116 (L._∷_ 101 (L._∷_ 112 (L._∷_ 58 (L._∷_ 58 (L._∷_ 65 (L._∷_ 114 (L._∷_ 111 (L._∷_ 117 (L._∷_ 110 (L._∷_ 100 L.[])))))))))))) (Syntax.tcons q12 (Syntax.tcons q12 (Syntax.tcons q12 (Syntax.tcons q12 Syntax.tnil)))))) (L._∷_ (11, Rows.any-gone (Syntax.tyStruct (L._∷_ 114 (L._∷_ 117 (L._∷_ 108 (L._∷_ 101 (L._∷_ 115 (L._∷_ 58 (L._∷_ 58 (L._∷_ 102 (L._∷_ 111 (L._∷_ 117 (L._∷_ 110 (L._∷_ 100 (L._∷_ 58 (L._∷_ 58 (L._∷_ 70 (L._∷_ 111 (L._∷_ 117 (L._∷_ 110 (L._∷_ 100 L.[]))))))))))))))))))) (Syntax.tcons Syntax.tyBool (Syntax.tcons Syntax.tyBool (Syntax.tcons (Syntax.tyStruct (L._∷_ 115 (L._∷_ 116 (L._∷_ 101 (L._∷_ 112 (L._∷_ 58 (L._∷_ 58 (L._∷_ 83 (L._∷_ 116 (L._∷_ 101 (L._∷_ 112 L.[])))))))))) (Syntax.tcons (Syntax.tyInt Syntax.w64) (Syntax.tcons (Syntax.tyInt Syntax.w64) (Syntax.tcons (Syntax.tyStruct (L._∷_ 115 (L._∷_ 116 (L._∷_ 101 (L._∷_ 112 (L._∷_ 58 (L._∷_ 58 (L._∷_ 67 (L._∷_ 104 (L._∷_ 97 (L._∷_ 110 (L._∷_ 103 (L._∷_ 101 L.[])))))))))))) (Syntax.tcons (Syntax.tyStruct (L._∷_ 110 (L._∷_ 101 (L._∷_ 116 (L._∷_ 119 (L._∷_ 111 (L._∷_ 114 (L._∷_ 107 (L._∷_ 58 (L._∷_ 58 (L._∷_ 69 (L._∷_ 100 (L._∷_ 105 (L._∷_ 116 L.[]))))))))))))) (Syntax.tcons q12 (Syntax.tcons q12 (Syntax.tcons q12 (Syntax.tcons q12 (Syntax.tcons q3 (Syntax.tcons q3 (Syntax.tcons (Syntax.tyInt Syntax.w64) (Syntax.tcons q11 Syntax.tnil))))))))) (Syntax.tcons (Syntax.tyStruct (L._∷_ 115 (L._∷_ 116 (L._∷_ 101 (L._∷_ 112 (L._∷_ 58 (L._∷_ 58 (L._∷_ 79 (L._∷_ 108 (L._∷_ 100 L.[]))))))))) (Syntax.tcons (Syntax.tyInt Syntax.w64) (Syntax.tcons q11 (Syntax.tcons q12 (Syntax.tcons q12 (Syntax.tcons q12 (Syntax.tcons q12 (Syntax.tcons q7 Syntax.tnil)))))))) Syntax.tnil))) Syntax.tnil)))) Syntax.tnil))))) (L._∷_ q30 (L._∷_ q41 (L._∷_ q42 (L._∷_ q45 L.[])))))))))))))))
 
 abbrev pub t7 : L.List Row.Entry
-t7 = L._∷_ (0, Rows.any-gone (Syntax.tyStruct (L._∷_ 114 (L._∷_ 117 (L._∷_ 108 (L._∷_ 101 (L._∷_ 115 (L._∷_ 58 (L._∷_ 58 (L._∷_ 102 (L._∷_ 111 (L._∷_ 117 (L._∷_ 110 (L._∷_ 100 (L._∷_ 58 (L._∷_ 58 (L._∷_ 70 (L._∷_ 111 (L._∷_ 117 (L._∷_ 110 (L._∷_ 100 L.[]))))))))))))))))))) (Syntax.tcons Syntax.tyBool (Syntax.tcons Syntax.tyBool (Syntax.tcons (Syntax.tyStruct (L._∷_ 115 (L._∷_ 116 (L._∷_ 101 (L._∷_ 112 (L._∷_ 58 (L._∷_ 58 (L._∷_ 83 (L._∷_ 116 (L._∷_ 101 (L._∷_ 112 L.[])))))))))) (Syntax.tcons (Syntax.tyInt Syntax.w64) (Syntax.tcons (Syntax.tyInt Syntax.w64) (Syntax.tcons (Syntax.tyStruct (L._∷_ 115 (L._∷_ 116 (L._∷_ 101 (L._∷_ 112 (L._∷_ 58 (L._∷_ 58 (L._∷_ 67 (L._∷_ 104 (L._∷_ 97 (L._∷_ 110 (L._∷_ 103 (L._∷_ 101 L.[])))))))))))) (Syntax.tcons (Syntax.tyStruct (L._∷_ 110 (L._∷_ 101 (L._∷_ 116 (L._∷_ 119 (L._∷_ 111 (L._∷_ 114 (L._∷_ 107 (L._∷_ 58 (L._∷_ 58 (L._∷_ 69 (L._∷_ 100 (L._∷_ 105 (L._∷_ 116 L.[]))))))))))))) (Syntax.tcons q11 (Syntax.tcons q11 (Syntax.tcons q11 (Syntax.tcons q11 (Syntax.tcons q3 (Syntax.tcons q3 (Syntax.tcons (Syntax.tyInt Syntax.w64) Syntax.tnil)))))))) (Syntax.tcons (Syntax.tyStruct (L._∷_ 115 (L._∷_ 116 (L._∷_ 101 (L._∷_ 112 (L._∷_ 58 (L._∷_ 58 (L._∷_ 79 (L._∷_ 108 (L._∷_ 100 L.[]))))))))) (Syntax.tcons (Syntax.tyInt Syntax.w64) (Syntax.tcons q10 (Syntax.tcons q11 (Syntax.tcons q11 (Syntax.tcons q11 (Syntax.tcons q11 (Syntax.tcons q7 Syntax.tnil)))))))) Syntax.tnil))) Syntax.tnil)))) Syntax.tnil))))) (L._∷_ q1 (L._∷_ q15 (L._∷_ q13 (L._∷_ q35 (L._∷_ q24 (L._∷_ q21 (L._∷_ q19 (L._∷_ q32 (L._∷_ q33 (L._∷_ (10, Rows.any-gone (Syntax.tyStruct (L._∷_ 115 (L._∷_ 116 (L._∷_ 101 (L._∷_ 112 (L._∷_ 58 (L._∷_ 58 (L._∷_ 65 (L._∷_ 114 (L._∷_ 111 (L._∷_ 117 (L._∷_ 110 (L._∷_ 100 L.[])))))))))))) (Syntax.tcons q11 (Syntax.tcons q11 (Syntax.tcons q11 (Syntax.tcons q11 Syntax.tnil)))))) (L._∷_ (11, Rows.any-gone (Syntax.tyStruct (L._∷_ 114 (L._∷_ 117 (L._∷_ 108 (L._∷_ 101 (L._∷_ 115 (L._∷_ 58 (L._∷_ 58 (L._∷_ 102 (L._∷_ 111 (L._∷_ 117 (L._∷_ 110 (L._∷_ 100 (L._∷_ 58 (L._∷_ 58 (L._∷_ 70 (L._∷_ 111 (L._∷_ 117 (L._∷_ 110 (L._∷_ 100 L.[]))))))))))))))))))) (Syntax.tcons Syntax.tyBool (Syntax.tcons Syntax.tyBool (Syntax.tcons (Syntax.tyStruct (L._∷_ 115 (L._∷_ 116 (L._∷_ 101 (L._∷_ 112 (L._∷_ 58 (L._∷_ 58 (L._∷_ 83 (L._∷_ 116 (L._∷_ 101 (L._∷_ 112 L.[])))))))))) (Syntax.tcons (Syntax.tyInt Syntax.w64) (Syntax.tcons (Syntax.tyInt Syntax.w64) (Syntax.tcons (Syntax.tyStruct (L._∷_ 115 (L._∷_ 116 (L._∷_ 101 (L._∷_ 112 (L._∷_ 58 (L._∷_ 58 (L._∷_ 67 (L._∷_ 104 (L._∷_ 97 (L._∷_ 110 (L._∷_ 103 (L._∷_ 101 L.[])))))))))))) (Syntax.tcons (Syntax.tyStruct (L._∷_ 110 (L._∷_ 101 (L._∷_ 116 (L._∷_ 119 (L._∷_ 111 (L._∷_ 114 (L._∷_ 107 (L._∷_ 58 (L._∷_ 58 (L._∷_ 69 (L._∷_ 100 (L._∷_ 105 (L._∷_ 116 L.[]))))))))))))) (Syntax.tcons q11 (Syntax.tcons q11 (Syntax.tcons q11 (Syntax.tcons q11 (Syntax.tcons q3 (Syntax.tcons q3 (Syntax.tcons (Syntax.tyInt Syntax.w64) Syntax.tnil)))))))) (Syntax.tcons (Syntax.tyStruct (L._∷_ 115 (L._∷_ 116 (L._∷_ 101 (L._∷_ 112 (L._∷_ 58 (L._∷_ 58 (L._∷_ 79 (L._∷_ 108 (L._∷_ 100 L.[]))))))))) (Syntax.tcons (Syntax.tyInt Syntax.w64) (Syntax.tcons q10 (Syntax.tcons q11 (Syntax.tcons q11 (Syntax.tcons q11 (Syntax.tcons q11 (Syntax.tcons q7 Syntax.tnil)))))))) Syntax.tnil))) Syntax.tnil)))) Syntax.tnil))))) (L._∷_ q29 (L._∷_ q40 (L._∷_ q41 (L._∷_ q44 L.[])))))))))))))))
+t7 = L._∷_ (0, Rows.any-gone (Syntax.tyStruct (L._∷_ 114 (L._∷_ 117 (L._∷_ 108 (L._∷_ 101 (L._∷_ 115 (L._∷_ 58 (L._∷_ 58 (L._∷_ 102 (L._∷_ 111 (L._∷_ 117 (L._∷_ 110 (L._∷_ 100 (L._∷_ 58 (L._∷_ 58 (L._∷_ 70 (L._∷_ 111 (L._∷_ 117 (L._∷_ 110 (L._∷_ 100 L.[]))))))))))))))))))) (Syntax.tcons Syntax.tyBool (Syntax.tcons Syntax.tyBool (Syntax.tcons (Syntax.tyStruct (L._∷_ 115 (L._∷_ 116 (L._∷_ 101 (L._∷_ 112 (L._∷_ 58 (L._∷_ 58 (L._∷_ 83 (L._∷_ 116 (L._∷_ 101 (L._∷_ 112 L.[])))))))))) (Syntax.tcons (Syntax.tyInt Syntax.w64) (Syntax.tcons (Syntax.tyInt Syntax.w64) (Syntax.tcons (Syntax.tyStruct (L._∷_ 115 (L._∷_ 116 (L._∷_ 101 (L._∷_ 112 (L._∷_ 58 (L._∷_ 58 (L._∷_ 67 (L._∷_ 104 (L._∷_ 97 (L._∷_ 110 (L._∷_ 103 (L._∷_ 101 L.[])))))))))))) (Syntax.tcons (Syntax.tyStruct (L._∷_ 110 (L._∷_ 101 (L._∷_ 116 (L._∷_ 119 (L._∷_ 111 (L._∷_ 114 (L._∷_ 107 (L._∷_ 58 (L._∷_ 58 (L._∷_ 69 (L._∷_ 100 (L._∷_ 105 (L._∷_ 116 L.[]))))))))))))) (Syntax.tcons q12 (Syntax.tcons q12 (Syntax.tcons q12 (Syntax.tcons q12 (Syntax.tcons q3 (Syntax.tcons q3 (Syntax.tcons (Syntax.tyInt Syntax.w64) (Syntax.tcons q11 Syntax.tnil))))))))) (Syntax.tcons (Syntax.tyStruct (L._∷_ 115 (L._∷_ 116 (L._∷_ 101 (L._∷_ 112 (L._∷_ 58 (L._∷_ 58 (L._∷_ 79 (L._∷_ 108 (L._∷_ 100 L.[]))))))))) (Syntax.tcons (Syntax.tyInt Syntax.w64) (Syntax.tcons q11 (Syntax.tcons q12 (Syntax.tcons q12 (Syntax.tcons q12 (Syntax.tcons q12 (Syntax.tcons q7 Syntax.tnil)))))))) Syntax.tnil))) Syntax.tnil)))) Syntax.tnil))))) (L._∷_ q1 (L._∷_ q16 (L._∷_ q14 (L._∷_ q36 (L._∷_ q25 (L._∷_ q22 (L._∷_ q20 (L._∷_ q33 (L._∷_ q34 (L._∷_ (10, Rows.any-gone (Syntax.tyStruct (L._∷_ 115 (L._∷_ 116 (L._∷_ 101 (L._∷_ 112 (L._∷_ 58 (L._∷_ 58 (L._∷_ 65 (L._∷_ 114 (L._∷_ 111 (L._∷_ 117 (L._∷_ 110 (L._∷_ 100 L.[])))))))))))) (Syntax.tcons q12 (Syntax.tcons q12 (Syntax.tcons q12 (Syntax.tcons q12 Syntax.tnil)))))) (L._∷_ (11, Rows.any-gone (Syntax.tyStruct (L._∷_ 114 (L._∷_ 117 (L._∷_ 108 (L._∷_ 101 (L._∷_ 115 (L._∷_ 58 (L._∷_ 58 (L._∷_ 102 (L._∷_ 111 (L._∷_ 117 (L._∷_ 110 (L._∷_ 100 (L._∷_ 58 (L._∷_ 58 (L._∷_ 70 (L._∷_ 111 (L._∷_ 117 (L._∷_ 110 (L._∷_ 100 L.[]))))))))))))))))))) (Syntax.tcons Syntax.tyBool (Syntax.tcons Syntax.tyBool (Syntax.tcons (Syntax.tyStruct (L._∷_ 115 (L._∷_ 116 (L._∷_ 101 (L._∷_ 112 (L._∷_ 58 (L._∷_ 58 (L._∷_ 83 (L._∷_ 116 (L._∷_ 101 (L._∷_ 112 L.[])))))))))) (Syntax.tcons (Syntax.tyInt Syntax.w64) (Syntax.tcons (Syntax.tyInt Syntax.w64) (Syntax.tcons (Syntax.tyStruct (L._∷_ 115 (L._∷_ 116 (L._∷_ 101 (L._∷_ 112 (L._∷_ 58 (L._∷_ 58 (L._∷_ 67 (L._∷_ 104 (L._∷_ 97 (L._∷_ 110 (L._∷_ 103 (L._∷_ 101 L.[])))))))))))) (Syntax.tcons (Syntax.tyStruct (L._∷_ 110 (L._∷_ 101 (L._∷_ 116 (L._∷_ 119 (L._∷_ 111 (L._∷_ 114 (L._∷_ 107 (L._∷_ 58 (L._∷_ 58 (L._∷_ 69 (L._∷_ 100 (L._∷_ 105 (L._∷_ 116 L.[]))))))))))))) (Syntax.tcons q12 (Syntax.tcons q12 (Syntax.tcons q12 (Syntax.tcons q12 (Syntax.tcons q3 (Syntax.tcons q3 (Syntax.tcons (Syntax.tyInt Syntax.w64) (Syntax.tcons q11 Syntax.tnil))))))))) (Syntax.tcons (Syntax.tyStruct (L._∷_ 115 (L._∷_ 116 (L._∷_ 101 (L._∷_ 112 (L._∷_ 58 (L._∷_ 58 (L._∷_ 79 (L._∷_ 108 (L._∷_ 100 L.[]))))))))) (Syntax.tcons (Syntax.tyInt Syntax.w64) (Syntax.tcons q11 (Syntax.tcons q12 (Syntax.tcons q12 (Syntax.tcons q12 (Syntax.tcons q12 (Syntax.tcons q7 Syntax.tnil)))))))) Syntax.tnil))) Syntax.tnil)))) Syntax.tnil))))) (L._∷_ q30 (L._∷_ q41 (L._∷_ q42 (L._∷_ q45 L.[])))))))))))))))
 
 abbrev pub t8 : L.List Row.Entry
-t8 = L._∷_ (0, Rows.any-gone (Syntax.tyStruct (L._∷_ 114 (L._∷_ 117 (L._∷_ 108 (L._∷_ 101 (L._∷_ 115 (L._∷_ 58 (L._∷_ 58 (L._∷_ 102 (L._∷_ 111 (L._∷_ 117 (L._∷_ 110 (L._∷_ 100 (L._∷_ 58 (L._∷_ 58 (L._∷_ 70 (L._∷_ 111 (L._∷_ 117 (L._∷_ 110 (L._∷_ 100 L.[]))))))))))))))))))) (Syntax.tcons Syntax.tyBool (Syntax.tcons Syntax.tyBool (Syntax.tcons (Syntax.tyStruct (L._∷_ 115 (L._∷_ 116 (L._∷_ 101 (L._∷_ 112 (L._∷_ 58 (L._∷_ 58 (L._∷_ 83 (L._∷_ 116 (L._∷_ 101 (L._∷_ 112 L.[])))))))))) (Syntax.tcons (Syntax.tyInt Syntax.w64) (Syntax.tcons (Syntax.tyInt Syntax.w64) (Syntax.tcons (Syntax.tyStruct (L._∷_ 115 (L._∷_ 116 (L._∷_ 101 (L._∷_ 112 (L._∷_ 58 (L._∷_ 58 (L._∷_ 67 (L._∷_ 104 (L._∷_ 97 (L._∷_ 110 (L._∷_ 103 (L._∷_ 101 L.[])))))))))))) (Syntax.tcons (Syntax.tyStruct (L._∷_ 110 (L._∷_ 101 (L._∷_ 116 (L._∷_ 119 (L._∷_ 111 (L._∷_ 114 (L._∷_ 107 (L._∷_ 58 (L._∷_ 58 (L._∷_ 69 (L._∷_ 100 (L._∷_ 105 (L._∷_ 116 L.[]))))))))))))) (Syntax.tcons q11 (Syntax.tcons q11 (Syntax.tcons q11 (Syntax.tcons q11 (Syntax.tcons q3 (Syntax.tcons q3 (Syntax.tcons (Syntax.tyInt Syntax.w64) Syntax.tnil)))))))) (Syntax.tcons (Syntax.tyStruct (L._∷_ 115 (L._∷_ 116 (L._∷_ 101 (L._∷_ 112 (L._∷_ 58 (L._∷_ 58 (L._∷_ 79 (L._∷_ 108 (L._∷_ 100 L.[]))))))))) (Syntax.tcons (Syntax.tyInt Syntax.w64) (Syntax.tcons q10 (Syntax.tcons q11 (Syntax.tcons q11 (Syntax.tcons q11 (Syntax.tcons q11 (Syntax.tcons q7 Syntax.tnil)))))))) Syntax.tnil))) Syntax.tnil)))) Syntax.tnil))))) (L._∷_ q1 (L._∷_ q15 (L._∷_ q13 (L._∷_ q35 (L._∷_ q24 (L._∷_ q21 (L._∷_ q19 (L._∷_ q36 (L._∷_ q33 (L._∷_ (10, Rows.any-gone (Syntax.tyStruct (L._∷_ 115 (L._∷_ 116 (L._∷_ 101 (L._∷_ 112 (L._∷_ 58 (L._∷_ 58 (L._∷_ 65 (L._∷_ 114 (L._∷_ 111 (L._∷_ 117 (L._∷_ 110 (L._∷_ 100 L.[])))))))))))) (Syntax.tcons q11 (Syntax.tcons q11 (Syntax.tcons q11 (Syntax.tcons q11 Syntax.tnil)))))) (L._∷_ (11, Rows.any-gone (Syntax.tyStruct (L._∷_ 114 (L._∷_ 117 (L._∷_ 108 (L._∷_ 101 (L._∷_ 115 (L._∷_ 58 (L._∷_ 58 (L._∷_ 102 (L._∷_ 111 (L._∷_ 117 (L._∷_ 110 (L._∷_ 100 (L._∷_ 58 (L._∷_ 58 (L._∷_ 70 (L._∷_ 111 (L._∷_ 117 (L._∷_ 110 (L._∷_ 100 L.[]))))))))))))))))))) (Syntax.tcons Syntax.tyBool (Syntax.tcons Syntax.tyBool (Syntax.tcons (Syntax.tyStruct (L._∷_ 115 (L._∷_ 116 (L._∷_ 101 (L._∷_ 112 (L._∷_ 58 (L._∷_ 58 (L._∷_ 83 (L._∷_ 116 (L._∷_ 101 (L._∷_ 112 L.[])))))))))) (Syntax.tcons (Syntax.tyInt Syntax.w64) (Syntax.tcons (Syntax.tyInt Syntax.w64) (Syntax.tcons (Syntax.tyStruct (L._∷_ 115 (L._∷_ 116 (L._∷_ 101 (L._∷_ 112 (L._∷_ 58 (L._∷_ 58 (L._∷_ 67 (L._∷_ 104 (L._∷_ 97 (L._∷_ 110 (L._∷_ 103 (L._∷_ 101 L.[])))))))))))) (Syntax.tcons (Syntax.tyStruct (L._∷_ 110 (L._∷_ 101 (L._∷_ 116 (L._∷_ 119 (L._∷_ 111 (L._∷_ 114 (L._∷_ 107 (L._∷_ 58 (L._∷_ 58 (L._∷_ 69 (L._∷_ 100 (L._∷_ 105 (L._∷_ 116 L.[]))))))))))))) (Syntax.tcons q11 (Syntax.tcons q11 (Syntax.tcons q11 (Syntax.tcons q11 (Syntax.tcons q3 (Syntax.tcons q3 (Syntax.tcons (Syntax.tyInt Syntax.w64) Syntax.tnil)))))))) (Syntax.tcons (Syntax.tyStruct (L._∷_ 115 (L._∷_ 116 (L._∷_ 101 (L._∷_ 112 (L._∷_ 58 (L._∷_ 58 (L._∷_ 79 (L._∷_ 108 (L._∷_ 100 L.[]))))))))) (Syntax.tcons (Syntax.tyInt Syntax.w64) (Syntax.tcons q10 (Syntax.tcons q11 (Syntax.tcons q11 (Syntax.tcons q11 (Syntax.tcons q11 (Syntax.tcons q7 Syntax.tnil)))))))) Syntax.tnil))) Syntax.tnil)))) Syntax.tnil))))) (L._∷_ q29 (L._∷_ q40 (L._∷_ q41 (L._∷_ q44 L.[])))))))))))))))
+t8 = L._∷_ (0, Rows.any-gone (Syntax.tyStruct (L._∷_ 114 (L._∷_ 117 (L._∷_ 108 (L._∷_ 101 (L._∷_ 115 (L._∷_ 58 (L._∷_ 58 (L._∷_ 102 (L._∷_ 111 (L._∷_ 117 (L._∷_ 110 (L._∷_ 100 (L._∷_ 58 (L._∷_ 58 (L._∷_ 70 (L._∷_ 111 (L._∷_ 117 (L._∷_ 110 (L._∷_ 100 L.[]))))))))))))))))))) (Syntax.tcons Syntax.tyBool (Syntax.tcons Syntax.tyBool (Syntax.tcons (Syntax.tyStruct (L._∷_ 115 (L._∷_ 116 (L._∷_ 101 (L._∷_ 112 (L._∷_ 58 (L._∷_ 58 (L._∷_ 83 (L._∷_ 116 (L._∷_ 101 (L._∷_ 112 L.[])))))))))) (Syntax.tcons (Syntax.tyInt Syntax.w64) (Syntax.tcons (Syntax.tyInt Syntax.w64) (Syntax.tcons (Syntax.tyStruct (L._∷_ 115 (L._∷_ 116 (L._∷_ 101 (L._∷_ 112 (L._∷_ 58 (L._∷_ 58 (L._∷_ 67 (L._∷_ 104 (L._∷_ 97 (L._∷_ 110 (L._∷_ 103 (L._∷_ 101 L.[])))))))))))) (Syntax.tcons (Syntax.tyStruct (L._∷_ 110 (L._∷_ 101 (L._∷_ 116 (L._∷_ 119 (L._∷_ 111 (L._∷_ 114 (L._∷_ 107 (L._∷_ 58 (L._∷_ 58 (L._∷_ 69 (L._∷_ 100 (L._∷_ 105 (L._∷_ 116 L.[]))))))))))))) (Syntax.tcons q12 (Syntax.tcons q12 (Syntax.tcons q12 (Syntax.tcons q12 (Syntax.tcons q3 (Syntax.tcons q3 (Syntax.tcons (Syntax.tyInt Syntax.w64) (Syntax.tcons q11 Syntax.tnil))))))))) (Syntax.tcons (Syntax.tyStruct (L._∷_ 115 (L._∷_ 116 (L._∷_ 101 (L._∷_ 112 (L._∷_ 58 (L._∷_ 58 (L._∷_ 79 (L._∷_ 108 (L._∷_ 100 L.[]))))))))) (Syntax.tcons (Syntax.tyInt Syntax.w64) (Syntax.tcons q11 (Syntax.tcons q12 (Syntax.tcons q12 (Syntax.tcons q12 (Syntax.tcons q12 (Syntax.tcons q7 Syntax.tnil)))))))) Syntax.tnil))) Syntax.tnil)))) Syntax.tnil))))) (L._∷_ q1 (L._∷_ q16 (L._∷_ q14 (L._∷_ q36 (L._∷_ q25 (L._∷_ q22 (L._∷_ q20 (L._∷_ q37 (L._∷_ q34 (L._∷_ (10, Rows.any-gone (Syntax.tyStruct (L._∷_ 115 (L._∷_ 116 (L._∷_ 101 (L._∷_ 112 (L._∷_ 58 (L._∷_ 58 (L._∷_ 65 (L._∷_ 114 (L._∷_ 111 (L._∷_ 117 (L._∷_ 110 (L._∷_ 100 L.[])))))))))))) (Syntax.tcons q12 (Syntax.tcons q12 (Syntax.tcons q12 (Syntax.tcons q12 Syntax.tnil)))))) (L._∷_ (11, Rows.any-gone (Syntax.tyStruct (L._∷_ 114 (L._∷_ 117 (L._∷_ 108 (L._∷_ 101 (L._∷_ 115 (L._∷_ 58 (L._∷_ 58 (L._∷_ 102 (L._∷_ 111 (L._∷_ 117 (L._∷_ 110 (L._∷_ 100 (L._∷_ 58 (L._∷_ 58 (L._∷_ 70 (L._∷_ 111 (L._∷_ 117 (L._∷_ 110 (L._∷_ 100 L.[]))))))))))))))))))) (Syntax.tcons Syntax.tyBool (Syntax.tcons Syntax.tyBool (Syntax.tcons (Syntax.tyStruct (L._∷_ 115 (L._∷_ 116 (L._∷_ 101 (L._∷_ 112 (L._∷_ 58 (L._∷_ 58 (L._∷_ 83 (L._∷_ 116 (L._∷_ 101 (L._∷_ 112 L.[])))))))))) (Syntax.tcons (Syntax.tyInt Syntax.w64) (Syntax.tcons (Syntax.tyInt Syntax.w64) (Syntax.tcons (Syntax.tyStruct (L._∷_ 115 (L._∷_ 116 (L._∷_ 101 (L._∷_ 112 (L._∷_ 58 (L._∷_ 58 (L._∷_ 67 (L._∷_ 104 (L._∷_ 97 (L._∷_ 110 (L._∷_ 103 (L._∷_ 101 L.[])))))))))))) (Syntax.tcons (Syntax.tyStruct (L._∷_ 110 (L._∷_ 101 (L._∷_ 116 (L._∷_ 119 (L._∷_ 111 (L._∷_ 114 (L._∷_ 107 (L._∷_ 58 (L._∷_ 58 (L._∷_ 69 (L._∷_ 100 (L._∷_ 105 (L._∷_ 116 L.[]))))))))))))) (Syntax.tcons q12 (Syntax.tcons q12 (Syntax.tcons q12 (Syntax.tcons q12 (Syntax.tcons q3 (Syntax.tcons q3 (Syntax.tcons (Syntax.tyInt Syntax.w64) (Syntax.tcons q11 Syntax.tnil))))))))) (Syntax.tcons (Syntax.tyStruct (L._∷_ 115 (L._∷_ 116 (L._∷_ 101 (L._∷_ 112 (L._∷_ 58 (L._∷_ 58 (L._∷_ 79 (L._∷_ 108 (L._∷_ 100 L.[]))))))))) (Syntax.tcons (Syntax.tyInt Syntax.w64) (Syntax.tcons q11 (Syntax.tcons q12 (Syntax.tcons q12 (Syntax.tcons q12 (Syntax.tcons q12 (Syntax.tcons q7 Syntax.tnil)))))))) Syntax.tnil))) Syntax.tnil)))) Syntax.tnil))))) (L._∷_ q30 (L._∷_ q41 (L._∷_ q42 (L._∷_ q45 L.[])))))))))))))))
 
 abbrev pub t9 : L.List Row.Entry
-t9 = L._∷_ (0, Rows.any-gone (Syntax.tyStruct (L._∷_ 114 (L._∷_ 117 (L._∷_ 108 (L._∷_ 101 (L._∷_ 115 (L._∷_ 58 (L._∷_ 58 (L._∷_ 102 (L._∷_ 111 (L._∷_ 117 (L._∷_ 110 (L._∷_ 100 (L._∷_ 58 (L._∷_ 58 (L._∷_ 70 (L._∷_ 111 (L._∷_ 117 (L._∷_ 110 (L._∷_ 100 L.[]))))))))))))))))))) (Syntax.tcons Syntax.tyBool (Syntax.tcons Syntax.tyBool (Syntax.tcons (Syntax.tyStruct (L._∷_ 115 (L._∷_ 116 (L._∷_ 101 (L._∷_ 112 (L._∷_ 58 (L._∷_ 58 (L._∷_ 83 (L._∷_ 116 (L._∷_ 101 (L._∷_ 112 L.[])))))))))) (Syntax.tcons (Syntax.tyInt Syntax.w64) (Syntax.tcons (Syntax.tyInt Syntax.w64) (Syntax.tcons (Syntax.tyStruct (L._∷_ 115 (L._∷_ 116 (L._∷_ 101 (L._∷_ 112 (L._∷_ 58 (L._∷_ 58 (L._∷_ 67 (L._∷_ 104 (L._∷_ 97 (L._∷_ 110 (L._∷_ 103 (L._∷_ 101 L.[])))))))))))) (Syntax.tcons (Syntax.tyStruct (L._∷_ 110 (L._∷_ 101 (L._∷_ 116 (L._∷_ 119 (L._∷_ 111 (L._∷_ 114 (L._∷_ 107 (L._∷_ 58 (L._∷_ 58 (L._∷_ 69 (L._∷_ 100 (L._∷_ 105 (L._∷_ 116 L.[]))))))))))))) (Syntax.tcons q11 (Syntax.tcons q11 (Syntax.tcons q11 (Syntax.tcons q11 (Syntax.tcons q3 (Syntax.tcons q3 (Syntax.tcons (Syntax.tyInt Syntax.w64) Syntax.tnil)))))))) (Syntax.tcons (Syntax.tyStruct (L._∷_ 115 (L._∷_ 116 (L._∷_ 101 (L._∷_ 112 (L._∷_ 58 (L._∷_ 58 (L._∷_ 79 (L._∷_ 108 (L._∷_ 100 L.[]))))))))) (Syntax.tcons (Syntax.tyInt Syntax.w64) (Syntax.tcons q10 (Syntax.tcons q11 (Syntax.tcons q11 (Syntax.tcons q11 (Syntax.tcons q11 (Syntax.tcons q7 Syntax.tnil)))))))) Syntax.tnil))) Syntax.tnil)))) Syntax.tnil))))) (L._∷_ q1 (L._∷_ q15 (L._∷_ q13 (L._∷_ q35 (L._∷_ q24 (L._∷_ q21 (L._∷_ q19 (L._∷_ q36 (L._∷_ q37 (L._∷_ (10, Rows.any-gone (Syntax.tyStruct (L._∷_ 115 (L._∷_ 116 (L._∷_ 101 (L._∷_ 112 (L._∷_ 58 (L._∷_ 58 (L._∷_ 65 (L._∷_ 114 (L._∷_ 111 (L._∷_ 117 (L._∷_ 110 (L._∷_ 100 L.[])))))))))))) (Syntax.tcons q11 (Syntax.tcons q11 (Syntax.tcons q11 (Syntax.tcons q11 Syntax.tnil)))))) (L._∷_ (11, Rows.any-gone (Syntax.tyStruct (L._∷_ 114 (L._∷_ 117 (L._∷_ 108 (L._∷_ 101 (L._∷_ 115 (L._∷_ 58 (L._∷_ 58 (L._∷_ 102 (L._∷_ 111 (L._∷_ 117 (L._∷_ 110 (L._∷_ 100 (L._∷_ 58 (L._∷_ 58 (L._∷_ 70 (L._∷_ 111 (L._∷_ 117 (L._∷_ 110 (L._∷_ 100 L.[]))))))))))))))))))) (Syntax.tcons Syntax.tyBool (Syntax.tcons Syntax.tyBool (Syntax.tcons (Syntax.tyStruct (L._∷_ 115 (L._∷_ 116 (L._∷_ 101 (L._∷_ 112 (L._∷_ 58 (L._∷_ 58 (L._∷_ 83 (L._∷_ 116 (L._∷_ 101 (L._∷_ 112 L.[])))))))))) (Syntax.tcons (Syntax.tyInt Syntax.w64) (Syntax.tcons (Syntax.tyInt Syntax.w64) (Syntax.tcons (Syntax.tyStruct (L._∷_ 115 (L._∷_ 116 (L._∷_ 101 (L._∷_ 112 (L._∷_ 58 (L._∷_ 58 (L._∷_ 67 (L._∷_ 104 (L._∷_ 97 (L._∷_ 110 (L._∷_ 103 (L._∷_ 101 L.[])))))))))))) (Syntax.tcons (Syntax.tyStruct (L._∷_ 110 (L._∷_ 101 (L._∷_ 116 (L._∷_ 119 (L._∷_ 111 (L._∷_ 114 (L._∷_ 107 (L._∷_ 58 (L._∷_ 58 (L._∷_ 69 (L._∷_ 100 (L._∷_ 105 (L._∷_ 116 L.[]))))))))))))) (Syntax.tcons q11 (Syntax.tcons q11 (Syntax.tcons q11 (Syntax.tcons q11 (Syntax.tcons q3 (Syntax.tcons q3 (Syntax.tcons (Syntax.tyInt Syntax.w64) Syntax.tnil)))))))) (Syntax.tcons (Syntax.tyStruct (L._∷_ 115 (L._∷_ 116 (L._∷_ 101 (L._∷_ 112 (L._∷_ 58 (L._∷_ 58 (L._∷_ 79 (L._∷_ 108 (L._∷_ 100 L.[]))))))))) (Syntax.tcons (Syntax.tyInt Syntax.w64) (Syntax.tcons q10 (Syntax.tcons q11 (Syntax.tcons q11 (Syntax.tcons q11 (Syntax.tcons q11 (Syntax.tcons q7 Syntax.tnil)))))))) Syntax.tnil))) Syntax.tnil)))) Syntax.tnil))))) (L._∷_ q29 (L._∷_ q40 (L._∷_ q41 (L._∷_ q44 L.[])))))))))))))))
+t9 = L._∷_ (0, Rows.any-gone (Syntax.tyStruct (L._∷_ 114 (L._∷_ 117 (L._∷_ 108 (L._∷_ 101 (L._∷_ 115 (L._∷_ 58 (L._∷_ 58 (L._∷_ 102 (L._∷_ 111 (L._∷_ 117 (L._∷_ 110 (L._∷_ 100 (L._∷_ 58 (L._∷_ 58 (L._∷_ 70 (L._∷_ 111 (L._∷_ 117 (L._∷_ 110 (L._∷_ 100 L.[]))))))))))))))))))) (Syntax.tcons Syntax.tyBool (Syntax.tcons Syntax.tyBool (Syntax.tcons (Syntax.tyStruct (L._∷_ 115 (L._∷_ 116 (L._∷_ 101 (L._∷_ 112 (L._∷_ 58 (L._∷_ 58 (L._∷_ 83 (L._∷_ 116 (L._∷_ 101 (L._∷_ 112 L.[])))))))))) (Syntax.tcons (Syntax.tyInt Syntax.w64) (Syntax.tcons (Syntax.tyInt Syntax.w64) (Syntax.tcons (Syntax.tyStruct (L._∷_ 115 (L._∷_ 116 (L._∷_ 101 (L._∷_ 112 (L._∷_ 58 (L._∷_ 58 (L._∷_ 67 (L._∷_ 104 (L._∷_ 97 (L._∷_ 110 (L._∷_ 103 (L._∷_ 101 L.[])))))))))))) (Syntax.tcons (Syntax.tyStruct (L._∷_ 110 (L._∷_ 101 (L._∷_ 116 (L._∷_ 119 (L._∷_ 111 (L._∷_ 114 (L._∷_ 107 (L._∷_ 58 (L._∷_ 58 (L._∷_ 69 (L._∷_ 100 (L._∷_ 105 (L._∷_ 116 L.[]))))))))))))) (Syntax.tcons q12 (Syntax.tcons q12 (Syntax.tcons q12 (Syntax.tcons q12 (Syntax.tcons q3 (Syntax.tcons q3 (Syntax.tcons (Syntax.tyInt Syntax.w64) (Syntax.tcons q11 Syntax.tnil))))))))) (Syntax.tcons (Syntax.tyStruct (L._∷_ 115 (L._∷_ 116 (L._∷_ 101 (L._∷_ 112 (L._∷_ 58 (L._∷_ 58 (L._∷_ 79 (L._∷_ 108 (L._∷_ 100 L.[]))))))))) (Syntax.tcons (Syntax.tyInt Syntax.w64) (Syntax.tcons q11 (Syntax.tcons q12 (Syntax.tcons q12 (Syntax.tcons q12 (Syntax.tcons q12 (Syntax.tcons q7 Syntax.tnil)))))))) Syntax.tnil))) Syntax.tnil)))) Syntax.tnil))))) (L._∷_ q1 (L._∷_ q16 (L._∷_ q14 (L._∷_ q36 (L._∷_ q25 (L._∷_ q22 (L._∷_ q20 (L._∷_ q37 (L._∷_ q38 (L._∷_ (10, Rows.any-gone (Syntax.tyStruct (L._∷_ 115 (L._∷_ 116 (L._∷_ 101 (L._∷_ 112 (L._∷_ 58 (L._∷_ 58 (L._∷_ 65 (L._∷_ 114 (L._∷_ 111 (L._∷_ 117 (L._∷_ 110 (L._∷_ 100 L.[])))))))))))) (Syntax.tcons q12 (Syntax.tcons q12 (Syntax.tcons q12 (Syntax.tcons q12 Syntax.tnil)))))) (L._∷_ (11, Rows.any-gone (Syntax.tyStruct (L._∷_ 114 (L._∷_ 117 (L._∷_ 108 (L._∷_ 101 (L._∷_ 115 (L._∷_ 58 (L._∷_ 58 (L._∷_ 102 (L._∷_ 111 (L._∷_ 117 (L._∷_ 110 (L._∷_ 100 (L._∷_ 58 (L._∷_ 58 (L._∷_ 70 (L._∷_ 111 (L._∷_ 117 (L._∷_ 110 (L._∷_ 100 L.[]))))))))))))))))))) (Syntax.tcons Syntax.tyBool (Syntax.tcons Syntax.tyBool (Syntax.tcons (Syntax.tyStruct (L._∷_ 115 (L._∷_ 116 (L._∷_ 101 (L._∷_ 112 (L._∷_ 58 (L._∷_ 58 (L._∷_ 83 (L._∷_ 116 (L._∷_ 101 (L._∷_ 112 L.[])))))))))) (Syntax.tcons (Syntax.tyInt Syntax.w64) (Syntax.tcons (Syntax.tyInt Syntax.w64) (Syntax.tcons (Syntax.tyStruct (L._∷_ 115 (L._∷_ 116 (L._∷_ 101 (L._∷_ 112 (L._∷_ 58 (L._∷_ 58 (L._∷_ 67 (L._∷_ 104 (L._∷_ 97 (L._∷_ 110 (L._∷_ 103 (L._∷_ 101 L.[])))))))))))) (Syntax.tcons (Syntax.tyStruct (L._∷_ 110 (L._∷_ 101 (L._∷_ 116 (L._∷_ 119 (L._∷_ 111 (L._∷_ 114 (L._∷_ 107 (L._∷_ 58 (L._∷_ 58 (L._∷_ 69 (L._∷_ 100 (L._∷_ 105 (L._∷_ 116 L.[]))))))))))))) (Syntax.tcons q12 (Syntax.tcons q12 (Syntax.tcons q12 (Syntax.tcons q12 (Syntax.tcons q3 (Syntax.tcons q3 (Syntax.tcons (Syntax.tyInt Syntax.w64) (Syntax.tcons q11 Syntax.tnil))))))))) (Syntax.tcons (Syntax.tyStruct (L._∷_ 115 (L._∷_ 116 (L._∷_ 101 (L._∷_ 112 (L._∷_ 58 (L._∷_ 58 (L._∷_ 79 (L._∷_ 108 (L._∷_ 100 L.[]))))))))) (Syntax.tcons (Syntax.tyInt Syntax.w64) (Syntax.tcons q11 (Syntax.tcons q12 (Syntax.tcons q12 (Syntax.tcons q12 (Syntax.tcons q12 (Syntax.tcons q7 Syntax.tnil)))))))) Syntax.tnil))) Syntax.tnil)))) Syntax.tnil))))) (L._∷_ q30 (L._∷_ q41 (L._∷_ q42 (L._∷_ q45 L.[])))))))))))))))
 
 abbrev pub t10 : L.List Row.Entry
-t10 = L._∷_ (0, Rows.any-gone (Syntax.tyStruct (L._∷_ 114 (L._∷_ 117 (L._∷_ 108 (L._∷_ 101 (L._∷_ 115 (L._∷_ 58 (L._∷_ 58 (L._∷_ 102 (L._∷_ 111 (L._∷_ 117 (L._∷_ 110 (L._∷_ 100 (L._∷_ 58 (L._∷_ 58 (L._∷_ 70 (L._∷_ 111 (L._∷_ 117 (L._∷_ 110 (L._∷_ 100 L.[]))))))))))))))))))) (Syntax.tcons Syntax.tyBool (Syntax.tcons Syntax.tyBool (Syntax.tcons (Syntax.tyStruct (L._∷_ 115 (L._∷_ 116 (L._∷_ 101 (L._∷_ 112 (L._∷_ 58 (L._∷_ 58 (L._∷_ 83 (L._∷_ 116 (L._∷_ 101 (L._∷_ 112 L.[])))))))))) (Syntax.tcons (Syntax.tyInt Syntax.w64) (Syntax.tcons (Syntax.tyInt Syntax.w64) (Syntax.tcons (Syntax.tyStruct (L._∷_ 115 (L._∷_ 116 (L._∷_ 101 (L._∷_ 112 (L._∷_ 58 (L._∷_ 58 (L._∷_ 67 (L._∷_ 104 (L._∷_ 97 (L._∷_ 110 (L._∷_ 103 (L._∷_ 101 L.[])))))))))))) (Syntax.tcons (Syntax.tyStruct (L._∷_ 110 (L._∷_ 101 (L._∷_ 116 (L._∷_ 119 (L._∷_ 111 (L._∷_ 114 (L._∷_ 107 (L._∷_ 58 (L._∷_ 58 (L._∷_ 69 (L._∷_ 100 (L._∷_ 105 (L._∷_ 116 L.[]))))))))))))) (Syntax.tcons q11 (Syntax.tcons q11 (Syntax.tcons q11 (Syntax.tcons q11 (Syntax.tcons q3 (Syntax.tcons q3 (Syntax.tcons (Syntax.tyInt Syntax.w64) Syntax.tnil)))))))) (Syntax.tcons (Syntax.tyStruct (L._∷_ 115 (L._∷_ 116 (L._∷_ 101 (L._∷_ 112 (L._∷_ 58 (L._∷_ 58 (L._∷_ 79 (L._∷_ 108 (L._∷_ 100 L.[]))))))))) (Syntax.tcons (Syntax.tyInt Syntax.w64) (Syntax.tcons q10 (Syntax.tcons q11 (Syntax.tcons q11 (Syntax.tcons q11 (Syntax.tcons q11 (Syntax.tcons q7 Syntax.tnil)))))))) Syntax.tnil))) Syntax.tnil)))) Syntax.tnil))))) (L._∷_ q1 (L._∷_ q15 (L._∷_ q13 (L._∷_ q35 (L._∷_ q0 (L._∷_ q12 (L._∷_ q4 (L._∷_ q36 (L._∷_ q37 (L._∷_ (10, Rows.any-gone (Syntax.tyStruct (L._∷_ 115 (L._∷_ 116 (L._∷_ 101 (L._∷_ 112 (L._∷_ 58 (L._∷_ 58 (L._∷_ 65 (L._∷_ 114 (L._∷_ 111 (L._∷_ 117 (L._∷_ 110 (L._∷_ 100 L.[])))))))))))) (Syntax.tcons q11 (Syntax.tcons q11 (Syntax.tcons q11 (Syntax.tcons q11 Syntax.tnil)))))) (L._∷_ (11, Rows.any-gone (Syntax.tyStruct (L._∷_ 114 (L._∷_ 117 (L._∷_ 108 (L._∷_ 101 (L._∷_ 115 (L._∷_ 58 (L._∷_ 58 (L._∷_ 102 (L._∷_ 111 (L._∷_ 117 (L._∷_ 110 (L._∷_ 100 (L._∷_ 58 (L._∷_ 58 (L._∷_ 70 (L._∷_ 111 (L._∷_ 117 (L._∷_ 110 (L._∷_ 100 L.[]))))))))))))))))))) (Syntax.tcons Syntax.tyBool (Syntax.tcons Syntax.tyBool (Syntax.tcons (Syntax.tyStruct (L._∷_ 115 (L._∷_ 116 (L._∷_ 101 (L._∷_ 112 (L._∷_ 58 (L._∷_ 58 (L._∷_ 83 (L._∷_ 116 (L._∷_ 101 (L._∷_ 112 L.[])))))))))) (Syntax.tcons (Syntax.tyInt Syntax.w64) (Syntax.tcons (Syntax.tyInt Syntax.w64) (Syntax.tcons (Syntax.tyStruct (L._∷_ 115 (L._∷_ 116 (L._∷_ 101 (L._∷_ 112 (L._∷_ 58 (L._∷_ 58 (L._∷_ 67 (L._∷_ 104 (L._∷_ 97 (L._∷_ 110 (L._∷_ 103 (L._∷_ 101 L.[])))))))))))) (Syntax.tcons (Syntax.tyStruct (L._∷_ 110 (L._∷_ 101 (L._∷_ 116 (L._∷_ 119 (L._∷_ 111 (L._∷_ 114 (L._∷_ 107 (L._∷_ 58 (L._∷_ 58 (L._∷_ 69 (L._∷_ 100 (L._∷_ 105 (L._∷_ 116 L.[]))))))))))))) (Syntax.tcons q11 (Syntax.tcons q11 (Syntax.tcons q11 (Syntax.tcons q11 (Syntax.tcons q3 (Syntax.tcons q3 (Syntax.tcons (Syntax.tyInt Syntax.w64) Syntax.tnil)))))))) (Syntax.tcons (Syntax.tyStruct (L._∷_ 115 (L._∷_ 116 (L._∷_ 101 (L._∷_ 112 (L._∷_ 58 (L._∷_ 58 (L._∷_ 79 (L._∷_ 108 (L._∷_ 100 L.[]))))))))) (Syntax.tcons (Syntax.tyInt Syntax.w64) (Syntax.tcons q10 (Syntax.tcons q11 (Syntax.tcons q11 (Syntax.tcons q11 (Syntax.tcons q11 (Syntax.tcons q7 Syntax.tnil)))))))) Syntax.tnil))) Syntax.tnil)))) Syntax.tnil))))) (L._∷_ q29 (L._∷_ q40 (L._∷_ q41 (L._∷_ q44 L.[])))))))))))))))
+t10 = L._∷_ (0, Rows.any-gone (Syntax.tyStruct (L._∷_ 114 (L._∷_ 117 (L._∷_ 108 (L._∷_ 101 (L._∷_ 115 (L._∷_ 58 (L._∷_ 58 (L._∷_ 102 (L._∷_ 111 (L._∷_ 117 (L._∷_ 110 (L._∷_ 100 (L._∷_ 58 (L._∷_ 58 (L._∷_ 70 (L._∷_ 111 (L._∷_ 117 (L._∷_ 110 (L._∷_ 100 L.[]))))))))))))))))))) (Syntax.tcons Syntax.tyBool (Syntax.tcons Syntax.tyBool (Syntax.tcons (Syntax.tyStruct (L._∷_ 115 (L._∷_ 116 (L._∷_ 101 (L._∷_ 112 (L._∷_ 58 (L._∷_ 58 (L._∷_ 83 (L._∷_ 116 (L._∷_ 101 (L._∷_ 112 L.[])))))))))) (Syntax.tcons (Syntax.tyInt Syntax.w64) (Syntax.tcons (Syntax.tyInt Syntax.w64) (Syntax.tcons (Syntax.tyStruct (L._∷_ 115 (L._∷_ 116 (L._∷_ 101 (L._∷_ 112 (L._∷_ 58 (L._∷_ 58 (L._∷_ 67 (L._∷_ 104 (L._∷_ 97 (L._∷_ 110 (L._∷_ 103 (L._∷_ 101 L.[])))))))))))) (Syntax.tcons (Syntax.tyStruct (L._∷_ 110 (L._∷_ 101 (L._∷_ 116 (L._∷_ 119 (L._∷_ 111 (L._∷_ 114 (L._∷_ 107 (L._∷_ 58 (L._∷_ 58 (L._∷_ 69 (L._∷_ 100 (L._∷_ 105 (L._∷_ 116 L.[]))))))))))))) (Syntax.tcons q12 (Syntax.tcons q12 (Syntax.tcons q12 (Syntax.tcons q12 (Syntax.tcons q3 (Syntax.tcons q3 (Syntax.tcons (Syntax.tyInt Syntax.w64) (Syntax.tcons q11 Syntax.tnil))))))))) (Syntax.tcons (Syntax.tyStruct (L._∷_ 115 (L._∷_ 116 (L._∷_ 101 (L._∷_ 112 (L._∷_ 58 (L._∷_ 58 (L._∷_ 79 (L._∷_ 108 (L._∷_ 100 L.[]))))))))) (Syntax.tcons (Syntax.tyInt Syntax.w64) (Syntax.tcons q11 (Syntax.tcons q12 (Syntax.tcons q12 (Syntax.tcons q12 (Syntax.tcons q12 (Syntax.tcons q7 Syntax.tnil)))))))) Syntax.tnil))) Syntax.tnil)))) Syntax.tnil))))) (L._∷_ q1 (L._∷_ q16 (L._∷_ q14 (L._∷_ q36 (L._∷_ q0 (L._∷_ q13 (L._∷_ q4 (L._∷_ q37 (L._∷_ q38 (L._∷_ (10, Rows.any-gone (Syntax.tyStruct (L._∷_ 115 (L._∷_ 116 (L._∷_ 101 (L._∷_ 112 (L._∷_ 58 (L._∷_ 58 (L._∷_ 65 (L._∷_ 114 (L._∷_ 111 (L._∷_ 117 (L._∷_ 110 (L._∷_ 100 L.[])))))))))))) (Syntax.tcons q12 (Syntax.tcons q12 (Syntax.tcons q12 (Syntax.tcons q12 Syntax.tnil)))))) (L._∷_ (11, Rows.any-gone (Syntax.tyStruct (L._∷_ 114 (L._∷_ 117 (L._∷_ 108 (L._∷_ 101 (L._∷_ 115 (L._∷_ 58 (L._∷_ 58 (L._∷_ 102 (L._∷_ 111 (L._∷_ 117 (L._∷_ 110 (L._∷_ 100 (L._∷_ 58 (L._∷_ 58 (L._∷_ 70 (L._∷_ 111 (L._∷_ 117 (L._∷_ 110 (L._∷_ 100 L.[]))))))))))))))))))) (Syntax.tcons Syntax.tyBool (Syntax.tcons Syntax.tyBool (Syntax.tcons (Syntax.tyStruct (L._∷_ 115 (L._∷_ 116 (L._∷_ 101 (L._∷_ 112 (L._∷_ 58 (L._∷_ 58 (L._∷_ 83 (L._∷_ 116 (L._∷_ 101 (L._∷_ 112 L.[])))))))))) (Syntax.tcons (Syntax.tyInt Syntax.w64) (Syntax.tcons (Syntax.tyInt Syntax.w64) (Syntax.tcons (Syntax.tyStruct (L._∷_ 115 (L._∷_ 116 (L._∷_ 101 (L._∷_ 112 (L._∷_ 58 (L._∷_ 58 (L._∷_ 67 (L._∷_ 104 (L._∷_ 97 (L._∷_ 110 (L._∷_ 103 (L._∷_ 101 L.[])))))))))))) (Syntax.tcons (Syntax.tyStruct (L._∷_ 110 (L._∷_ 101 (L._∷_ 116 (L._∷_ 119 (L._∷_ 111 (L._∷_ 114 (L._∷_ 107 (L._∷_ 58 (L._∷_ 58 (L._∷_ 69 (L._∷_ 100 (L._∷_ 105 (L._∷_ 116 L.[]))))))))))))) (Syntax.tcons q12 (Syntax.tcons q12 (Syntax.tcons q12 (Syntax.tcons q12 (Syntax.tcons q3 (Syntax.tcons q3 (Syntax.tcons (Syntax.tyInt Syntax.w64) (Syntax.tcons q11 Syntax.tnil))))))))) (Syntax.tcons (Syntax.tyStruct (L._∷_ 115 (L._∷_ 116 (L._∷_ 101 (L._∷_ 112 (L._∷_ 58 (L._∷_ 58 (L._∷_ 79 (L._∷_ 108 (L._∷_ 100 L.[]))))))))) (Syntax.tcons (Syntax.tyInt Syntax.w64) (Syntax.tcons q11 (Syntax.tcons q12 (Syntax.tcons q12 (Syntax.tcons q12 (Syntax.tcons q12 (Syntax.tcons q7 Syntax.tnil)))))))) Syntax.tnil))) Syntax.tnil)))) Syntax.tnil))))) (L._∷_ q30 (L._∷_ q41 (L._∷_ q42 (L._∷_ q45 L.[])))))))))))))))
 
 abbrev pub t11 : L.List Row.Entry
-t11 = L._∷_ (0, Rows.any-gone (Syntax.tyStruct (L._∷_ 114 (L._∷_ 117 (L._∷_ 108 (L._∷_ 101 (L._∷_ 115 (L._∷_ 58 (L._∷_ 58 (L._∷_ 102 (L._∷_ 111 (L._∷_ 117 (L._∷_ 110 (L._∷_ 100 (L._∷_ 58 (L._∷_ 58 (L._∷_ 70 (L._∷_ 111 (L._∷_ 117 (L._∷_ 110 (L._∷_ 100 L.[]))))))))))))))))))) (Syntax.tcons Syntax.tyBool (Syntax.tcons Syntax.tyBool (Syntax.tcons (Syntax.tyStruct (L._∷_ 115 (L._∷_ 116 (L._∷_ 101 (L._∷_ 112 (L._∷_ 58 (L._∷_ 58 (L._∷_ 83 (L._∷_ 116 (L._∷_ 101 (L._∷_ 112 L.[])))))))))) (Syntax.tcons (Syntax.tyInt Syntax.w64) (Syntax.tcons (Syntax.tyInt Syntax.w64) (Syntax.tcons (Syntax.tyStruct (L._∷_ 115 (L._∷_ 116 (L._∷_ 101 (L._∷_ 112 (L._∷_ 58 (L._∷_ 58 (L._∷_ 67 (L._∷_ 104 (L._∷_ 97 (L._∷_ 110 (L._∷_ 103 (L._∷_ 101 L.[])))))))))))) (Syntax.tcons (Syntax.tyStruct (L._∷_ 110 (L._∷_ 101 (L._∷_ 116 (L._∷_ 119 (L._∷_ 111 (L._∷_ 114 (L._∷_ 107 (L._∷_ 58 (L._∷_ 58 (L._∷_ 69 (L._∷_ 100 (L._∷_ 105 (L._∷_ 116 L.[]))))))))))))) (Syntax.tcons q11 (Syntax.tcons q11 (Syntax.tcons q11 (Syntax.tcons q11 (Syntax.tcons q3 (Syntax.tcons q3 (Syntax.tcons (Syntax.tyInt Syntax.w64) Syntax.tnil)))))))) (Syntax.tcons (Syntax.tyStruct (L._∷_ 115 (L._∷_ 116 (L._∷_ 101 (L._∷_ 112 (L._∷_ 58 (L._∷_ 58 (L._∷_ 79 (L._∷_ 108 (L._∷_ 100 L.[]))))))))) (Syntax.tcons (Syntax.tyInt Syntax.w64) (Syntax.tcons q10 (Syntax.tcons q11 (Syntax.tcons q11 (Syntax.tcons q11 (Syntax.tcons q11 (Syntax.tcons q7 Syntax.tnil)))))))) Syntax.tnil))) Syntax.tnil)))) Syntax.tnil))))) (L._∷_ q1 (L._∷_ q15 (L._∷_ q13 (L._∷_ q35 (L._∷_ q24 (L._∷_ q21 (L._∷_ q19 (L._∷_ q36 (L._∷_ q37 (L._∷_ (10, Rows.any-gone (Syntax.tyStruct (L._∷_ 115 (L._∷_ 116 (L._∷_ 101 (L._∷_ 112 (L._∷_ 58 (L._∷_ 58 (L._∷_ 65 (L._∷_ 114 (L._∷_ 111 (L._∷_ 117 (L._∷_ 110 (L._∷_ 100 L.[])))))))))))) (Syntax.tcons q11 (Syntax.tcons q11 (Syntax.tcons q11 (Syntax.tcons q11 Syntax.tnil)))))) (L._∷_ (11, Rows.any-gone (Syntax.tyStruct (L._∷_ 114 (L._∷_ 117 (L._∷_ 108 (L._∷_ 101 (L._∷_ 115 (L._∷_ 58 (L._∷_ 58 (L._∷_ 102 (L._∷_ 111 (L._∷_ 117 (L._∷_ 110 (L._∷_ 100 (L._∷_ 58 (L._∷_ 58 (L._∷_ 70 (L._∷_ 111 (L._∷_ 117 (L._∷_ 110 (L._∷_ 100 L.[]))))))))))))))))))) (Syntax.tcons Syntax.tyBool (Syntax.tcons Syntax.tyBool (Syntax.tcons (Syntax.tyStruct (L._∷_ 115 (L._∷_ 116 (L._∷_ 101 (L._∷_ 112 (L._∷_ 58 (L._∷_ 58 (L._∷_ 83 (L._∷_ 116 (L._∷_ 101 (L._∷_ 112 L.[])))))))))) (Syntax.tcons (Syntax.tyInt Syntax.w64) (Syntax.tcons (Syntax.tyInt Syntax.w64) (Syntax.tcons (Syntax.tyStruct (L._∷_ 115 (L._∷_ 116 (L._∷_ 101 (L._∷_ 112 (L._∷_ 58 (L._∷_ 58 (L._∷_ 67 (L._∷_ 104 (L._∷_ 97 (L._∷_ 110 (L._∷_ 103 (L._∷_ 101 L.[])))))))))))) (Syntax.tcons (Syntax.tyStruct (L._∷_ 110 (L._∷_ 101 (L._∷_ 116 (L._∷_ 119 (L._∷_ 111 (L._∷_ 114 (L._∷_ 107 (L._∷_ 58 (L._∷_ 58 (L._∷_ 69 (L._∷_ 100 (L._∷_ 105 (L._∷_ 116 L.[]))))))))))))) (Syntax.tcons q11 (Syntax.tcons q11 (Syntax.tcons q11 (Syntax.tcons q11 (Syntax.tcons q3 (Syntax.tcons q3 (Syntax.tcons (Syntax.tyInt Syntax.w64) Syntax.tnil)))))))) (Syntax.tcons (Syntax.tyStruct (L._∷_ 115 (L._∷_ 116 (L._∷_ 101 (L._∷_ 112 (L._∷_ 58 (L._∷_ 58 (L._∷_ 79 (L._∷_ 108 (L._∷_ 100 L.[]))))))))) (Syntax.tcons (Syntax.tyInt Syntax.w64) (Syntax.tcons q10 (Syntax.tcons q11 (Syntax.tcons q11 (Syntax.tcons q11 (Syntax.tcons q11 (Syntax.tcons q7 Syntax.tnil)))))))) Syntax.tnil))) Syntax.tnil)))) Syntax.tnil))))) (L._∷_ (12, Rows.sc-here (Row.sInt Syntax.w64)) (L._∷_ q40 (L._∷_ q41 (L._∷_ q44 L.[])))))))))))))))
+t11 = L._∷_ (0, Rows.any-gone (Syntax.tyStruct (L._∷_ 114 (L._∷_ 117 (L._∷_ 108 (L._∷_ 101 (L._∷_ 115 (L._∷_ 58 (L._∷_ 58 (L._∷_ 102 (L._∷_ 111 (L._∷_ 117 (L._∷_ 110 (L._∷_ 100 (L._∷_ 58 (L._∷_ 58 (L._∷_ 70 (L._∷_ 111 (L._∷_ 117 (L._∷_ 110 (L._∷_ 100 L.[]))))))))))))))))))) (Syntax.tcons Syntax.tyBool (Syntax.tcons Syntax.tyBool (Syntax.tcons (Syntax.tyStruct (L._∷_ 115 (L._∷_ 116 (L._∷_ 101 (L._∷_ 112 (L._∷_ 58 (L._∷_ 58 (L._∷_ 83 (L._∷_ 116 (L._∷_ 101 (L._∷_ 112 L.[])))))))))) (Syntax.tcons (Syntax.tyInt Syntax.w64) (Syntax.tcons (Syntax.tyInt Syntax.w64) (Syntax.tcons (Syntax.tyStruct (L._∷_ 115 (L._∷_ 116 (L._∷_ 101 (L._∷_ 112 (L._∷_ 58 (L._∷_ 58 (L._∷_ 67 (L._∷_ 104 (L._∷_ 97 (L._∷_ 110 (L._∷_ 103 (L._∷_ 101 L.[])))))))))))) (Syntax.tcons (Syntax.tyStruct (L._∷_ 110 (L._∷_ 101 (L._∷_ 116 (L._∷_ 119 (L._∷_ 111 (L._∷_ 114 (L._∷_ 107 (L._∷_ 58 (L._∷_ 58 (L._∷_ 69 (L._∷_ 100 (L._∷_ 105 (L._∷_ 116 L.[]))))))))))))) (Syntax.tcons q12 (Syntax.tcons q12 (Syntax.tcons q12 (Syntax.tcons q12 (Syntax.tcons q3 (Syntax.tcons q3 (Syntax.tcons (Syntax.tyInt Syntax.w64) (Syntax.tcons q11 Syntax.tnil))))))))) (Syntax.tcons (Syntax.tyStruct (L._∷_ 115 (L._∷_ 116 (L._∷_ 101 (L._∷_ 112 (L._∷_ 58 (L._∷_ 58 (L._∷_ 79 (L._∷_ 108 (L._∷_ 100 L.[]))))))))) (Syntax.tcons (Syntax.tyInt Syntax.w64) (Syntax.tcons q11 (Syntax.tcons q12 (Syntax.tcons q12 (Syntax.tcons q12 (Syntax.tcons q12 (Syntax.tcons q7 Syntax.tnil)))))))) Syntax.tnil))) Syntax.tnil)))) Syntax.tnil))))) (L._∷_ q1 (L._∷_ q16 (L._∷_ q14 (L._∷_ q36 (L._∷_ q25 (L._∷_ q22 (L._∷_ q20 (L._∷_ q37 (L._∷_ q38 (L._∷_ (10, Rows.any-gone (Syntax.tyStruct (L._∷_ 115 (L._∷_ 116 (L._∷_ 101 (L._∷_ 112 (L._∷_ 58 (L._∷_ 58 (L._∷_ 65 (L._∷_ 114 (L._∷_ 111 (L._∷_ 117 (L._∷_ 110 (L._∷_ 100 L.[])))))))))))) (Syntax.tcons q12 (Syntax.tcons q12 (Syntax.tcons q12 (Syntax.tcons q12 Syntax.tnil)))))) (L._∷_ (11, Rows.any-gone (Syntax.tyStruct (L._∷_ 114 (L._∷_ 117 (L._∷_ 108 (L._∷_ 101 (L._∷_ 115 (L._∷_ 58 (L._∷_ 58 (L._∷_ 102 (L._∷_ 111 (L._∷_ 117 (L._∷_ 110 (L._∷_ 100 (L._∷_ 58 (L._∷_ 58 (L._∷_ 70 (L._∷_ 111 (L._∷_ 117 (L._∷_ 110 (L._∷_ 100 L.[]))))))))))))))))))) (Syntax.tcons Syntax.tyBool (Syntax.tcons Syntax.tyBool (Syntax.tcons (Syntax.tyStruct (L._∷_ 115 (L._∷_ 116 (L._∷_ 101 (L._∷_ 112 (L._∷_ 58 (L._∷_ 58 (L._∷_ 83 (L._∷_ 116 (L._∷_ 101 (L._∷_ 112 L.[])))))))))) (Syntax.tcons (Syntax.tyInt Syntax.w64) (Syntax.tcons (Syntax.tyInt Syntax.w64) (Syntax.tcons (Syntax.tyStruct (L._∷_ 115 (L._∷_ 116 (L._∷_ 101 (L._∷_ 112 (L._∷_ 58 (L._∷_ 58 (L._∷_ 67 (L._∷_ 104 (L._∷_ 97 (L._∷_ 110 (L._∷_ 103 (L._∷_ 101 L.[])))))))))))) (Syntax.tcons (Syntax.tyStruct (L._∷_ 110 (L._∷_ 101 (L._∷_ 116 (L._∷_ 119 (L._∷_ 111 (L._∷_ 114 (L._∷_ 107 (L._∷_ 58 (L._∷_ 58 (L._∷_ 69 (L._∷_ 100 (L._∷_ 105 (L._∷_ 116 L.[]))))))))))))) (Syntax.tcons q12 (Syntax.tcons q12 (Syntax.tcons q12 (Syntax.tcons q12 (Syntax.tcons q3 (Syntax.tcons q3 (Syntax.tcons (Syntax.tyInt Syntax.w64) (Syntax.tcons q11 Syntax.tnil))))))))) (Syntax.tcons (Syntax.tyStruct (L._∷_ 115 (L._∷_ 116 (L._∷_ 101 (L._∷_ 112 (L._∷_ 58 (L._∷_ 58 (L._∷_ 79 (L._∷_ 108 (L._∷_ 100 L.[]))))))))) (Syntax.tcons (Syntax.tyInt Syntax.w64) (Syntax.tcons q11 (Syntax.tcons q12 (Syntax.tcons q12 (Syntax.tcons q12 (Syntax.tcons q12 (Syntax.tcons q7 Syntax.tnil)))))))) Syntax.tnil))) Syntax.tnil)))) Syntax.tnil))))) (L._∷_ (12, Rows.sc-here (Row.sInt Syntax.w64)) (L._∷_ q41 (L._∷_ q42 (L._∷_ q45 L.[])))))))))))))))
 
 abbrev pub t12 : L.List Row.Entry
-t12 = L._∷_ (0, Rows.any-gone (Syntax.tyStruct (L._∷_ 114 (L._∷_ 117 (L._∷_ 108 (L._∷_ 101 (L._∷_ 115 (L._∷_ 58 (L._∷_ 58 (L._∷_ 102 (L._∷_ 111 (L._∷_ 117 (L._∷_ 110 (L._∷_ 100 (L._∷_ 58 (L._∷_ 58 (L._∷_ 70 (L._∷_ 111 (L._∷_ 117 (L._∷_ 110 (L._∷_ 100 L.[]))))))))))))))))))) (Syntax.tcons Syntax.tyBool (Syntax.tcons Syntax.tyBool (Syntax.tcons (Syntax.tyStruct (L._∷_ 115 (L._∷_ 116 (L._∷_ 101 (L._∷_ 112 (L._∷_ 58 (L._∷_ 58 (L._∷_ 83 (L._∷_ 116 (L._∷_ 101 (L._∷_ 112 L.[])))))))))) (Syntax.tcons (Syntax.tyInt Syntax.w64) (Syntax.tcons (Syntax.tyInt Syntax.w64) (Syntax.tcons (Syntax.tyStruct (L._∷_ 115 (L._∷_ 116 (L._∷_ 101 (L._∷_ 112 (L._∷_ 58 (L._∷_ 58 (L._∷_ 67 (L._∷_ 104 (L._∷_ 97 (L._∷_ 110 (L._∷_ 103 (L._∷_ 101 L.[])))))))))))) (Syntax.tcons (Syntax.tyStruct (L._∷_ 110 (L._∷_ 101 (L._∷_ 116 (L._∷_ 119 (L._∷_ 111 (L._∷_ 114 (L._∷_ 107 (L._∷_ 58 (L._∷_ 58 (L._∷_ 69 (L._∷_ 100 (L._∷_ 105 (L._∷_ 116 L.[]))))))))))))) (Syntax.tcons q11 (Syntax.tcons q11 (Syntax.tcons q11 (Syntax.tcons q11 (Syntax.tcons q3 (Syntax.tcons q3 (Syntax.tcons (Syntax.tyInt Syntax.w64) Syntax.tnil)))))))) (Syntax.tcons (Syntax.tyStruct (L._∷_ 115 (L._∷_ 116 (L._∷_ 101 (L._∷_ 112 (L._∷_ 58 (L._∷_ 58 (L._∷_ 79 (L._∷_ 108 (L._∷_ 100 L.[]))))))))) (Syntax.tcons (Syntax.tyInt Syntax.w64) (Syntax.tcons q10 (Syntax.tcons q11 (Syntax.tcons q11 (Syntax.tcons q11 (Syntax.tcons q11 (Syntax.tcons q7 Syntax.tnil)))))))) Syntax.tnil))) Syntax.tnil)))) Syntax.tnil))))) (L._∷_ q1 (L._∷_ q15 (L._∷_ q13 (L._∷_ q35 (L._∷_ q24 (L._∷_ q21 (L._∷_ q19 (L._∷_ q36 (L._∷_ q37 (L._∷_ (10, Rows.any-gone (Syntax.tyStruct (L._∷_ 115 (L._∷_ 116 (L._∷_ 101 (L._∷_ 112 (L._∷_ 58 (L._∷_ 58 (L._∷_ 65 (L._∷_ 114 (L._∷_ 111 (L._∷_ 117 (L._∷_ 110 (L._∷_ 100 L.[])))))))))))) (Syntax.tcons q11 (Syntax.tcons q11 (Syntax.tcons q11 (Syntax.tcons q11 Syntax.tnil)))))) (L._∷_ (11, Rows.any-gone (Syntax.tyStruct (L._∷_ 114 (L._∷_ 117 (L._∷_ 108 (L._∷_ 101 (L._∷_ 115 (L._∷_ 58 (L._∷_ 58 (L._∷_ 102 (L._∷_ 111 (L._∷_ 117 (L._∷_ 110 (L._∷_ 100 (L._∷_ 58 (L._∷_ 58 (L._∷_ 70 (L._∷_ 111 (L._∷_ 117 (L._∷_ 110 (L._∷_ 100 L.[]))))))))))))))))))) (Syntax.tcons Syntax.tyBool (Syntax.tcons Syntax.tyBool (Syntax.tcons (Syntax.tyStruct (L._∷_ 115 (L._∷_ 116 (L._∷_ 101 (L._∷_ 112 (L._∷_ 58 (L._∷_ 58 (L._∷_ 83 (L._∷_ 116 (L._∷_ 101 (L._∷_ 112 L.[])))))))))) (Syntax.tcons (Syntax.tyInt Syntax.w64) (Syntax.tcons (Syntax.tyInt Syntax.w64) (Syntax.tcons (Syntax.tyStruct (L._∷_ 115 (L._∷_ 116 (L._∷_ 101 (L._∷_ 112 (L._∷_ 58 (L._∷_ 58 (L._∷_ 67 (L._∷_ 104 (L._∷_ 97 (L._∷_ 110 (L._∷_ 103 (L._∷_ 101 L.[])))))))))))) (Syntax.tcons (Syntax.tyStruct (L._∷_ 110 (L._∷_ 101 (L._∷_ 116 (L._∷_ 119 (L._∷_ 111 (L._∷_ 114 (L._∷_ 107 (L._∷_ 58 (L._∷_ 58 (L._∷_ 69 (L._∷_ 100 (L._∷_ 105 (L._∷_ 116 L.[]))))))))))))) (Syntax.tcons q11 (Syntax.tcons q11 (Syntax.tcons q11 (Syntax.tcons q11 (Syntax.tcons q3 (Syntax.tcons q3 (Syntax.tcons (Syntax.tyInt Syntax.w64) Syntax.tnil)))))))) (Syntax.tcons (Syntax.tyStruct (L._∷_ 115 (L._∷_ 116 (L._∷_ 101 (L._∷_ 112 (L._∷_ 58 (L._∷_ 58 (L._∷_ 79 (L._∷_ 108 (L._∷_ 100 L.[]))))))))) (Syntax.tcons (Syntax.tyInt Syntax.w64) (Syntax.tcons q10 (Syntax.tcons q11 (Syntax.tcons q11 (Syntax.tcons q11 (Syntax.tcons q11 (Syntax.tcons q7 Syntax.tnil)))))))) Syntax.tnil))) Syntax.tnil)))) Syntax.tnil))))) (L._∷_ (12, Rows.sc-here (Row.sInt Syntax.w64)) (L._∷_ (13, Rows.sc-here Row.sBool) (L._∷_ q41 (L._∷_ q44 L.[])))))))))))))))
+t12 = L._∷_ (0, Rows.any-gone (Syntax.tyStruct (L._∷_ 114 (L._∷_ 117 (L._∷_ 108 (L._∷_ 101 (L._∷_ 115 (L._∷_ 58 (L._∷_ 58 (L._∷_ 102 (L._∷_ 111 (L._∷_ 117 (L._∷_ 110 (L._∷_ 100 (L._∷_ 58 (L._∷_ 58 (L._∷_ 70 (L._∷_ 111 (L._∷_ 117 (L._∷_ 110 (L._∷_ 100 L.[]))))))))))))))))))) (Syntax.tcons Syntax.tyBool (Syntax.tcons Syntax.tyBool (Syntax.tcons (Syntax.tyStruct (L._∷_ 115 (L._∷_ 116 (L._∷_ 101 (L._∷_ 112 (L._∷_ 58 (L._∷_ 58 (L._∷_ 83 (L._∷_ 116 (L._∷_ 101 (L._∷_ 112 L.[])))))))))) (Syntax.tcons (Syntax.tyInt Syntax.w64) (Syntax.tcons (Syntax.tyInt Syntax.w64) (Syntax.tcons (Syntax.tyStruct (L._∷_ 115 (L._∷_ 116 (L._∷_ 101 (L._∷_ 112 (L._∷_ 58 (L._∷_ 58 (L._∷_ 67 (L._∷_ 104 (L._∷_ 97 (L._∷_ 110 (L._∷_ 103 (L._∷_ 101 L.[])))))))))))) (Syntax.tcons (Syntax.tyStruct (L._∷_ 110 (L._∷_ 101 (L._∷_ 116 (L._∷_ 119 (L._∷_ 111 (L._∷_ 114 (L._∷_ 107 (L._∷_ 58 (L._∷_ 58 (L._∷_ 69 (L._∷_ 100 (L._∷_ 105 (L._∷_ 116 L.[]))))))))))))) (Syntax.tcons q12 (Syntax.tcons q12 (Syntax.tcons q12 (Syntax.tcons q12 (Syntax.tcons q3 (Syntax.tcons q3 (Syntax.tcons (Syntax.tyInt Syntax.w64) (Syntax.tcons q11 Syntax.tnil))))))))) (Syntax.tcons (Syntax.tyStruct (L._∷_ 115 (L._∷_ 116 (L._∷_ 101 (L._∷_ 112 (L._∷_ 58 (L._∷_ 58 (L._∷_ 79 (L._∷_ 108 (L._∷_ 100 L.[]))))))))) (Syntax.tcons (Syntax.tyInt Syntax.w64) (Syntax.tcons q11 (Syntax.tcons q12 (Syntax.tcons q12 (Syntax.tcons q12 (Syntax.tcons q12 (Syntax.tcons q7 Syntax.tnil)))))))) Syntax.tnil))) Syntax.tnil)))) Syntax.tnil))))) (L._∷_ q1 (L._∷_ q16 (L._∷_ q14 (L._∷_ q36 (L._∷_ q25 (L._∷_ q22 (L._∷_ q20 (L._∷_ q37 (L._∷_ q38 (L._∷_ (10, Rows.any-gone (Syntax.tyStruct (L._∷_ 115 (L._∷_ 116 (L._∷_ 101 (L._∷_ 112 (L._∷_ 58 (L._∷_ 58 (L._∷_ 65 (L._∷_ 114 (L._∷_ 111 (L._∷_ 117 (L._∷_ 110 (L._∷_ 100 L.[])))))))))))) (Syntax.tcons q12 (Syntax.tcons q12 (Syntax.tcons q12 (Syntax.tcons q12 Syntax.tnil)))))) (L._∷_ (11, Rows.any-gone (Syntax.tyStruct (L._∷_ 114 (L._∷_ 117 (L._∷_ 108 (L._∷_ 101 (L._∷_ 115 (L._∷_ 58 (L._∷_ 58 (L._∷_ 102 (L._∷_ 111 (L._∷_ 117 (L._∷_ 110 (L._∷_ 100 (L._∷_ 58 (L._∷_ 58 (L._∷_ 70 (L._∷_ 111 (L._∷_ 117 (L._∷_ 110 (L._∷_ 100 L.[]))))))))))))))))))) (Syntax.tcons Syntax.tyBool (Syntax.tcons Syntax.tyBool (Syntax.tcons (Syntax.tyStruct (L._∷_ 115 (L._∷_ 116 (L._∷_ 101 (L._∷_ 112 (L._∷_ 58 (L._∷_ 58 (L._∷_ 83 (L._∷_ 116 (L._∷_ 101 (L._∷_ 112 L.[])))))))))) (Syntax.tcons (Syntax.tyInt Syntax.w64) (Syntax.tcons (Syntax.tyInt Syntax.w64) (Syntax.tcons (Syntax.tyStruct (L._∷_ 115 (L._∷_ 116 (L._∷_ 101 (L._∷_ 112 (L._∷_ 58 (L._∷_ 58 (L._∷_ 67 (L._∷_ 104 (L._∷_ 97 (L._∷_ 110 (L._∷_ 103 (L._∷_ 101 L.[])))))))))))) (Syntax.tcons (Syntax.tyStruct (L._∷_ 110 (L._∷_ 101 (L._∷_ 116 (L._∷_ 119 (L._∷_ 111 (L._∷_ 114 (L._∷_ 107 (L._∷_ 58 (L._∷_ 58 (L._∷_ 69 (L._∷_ 100 (L._∷_ 105 (L._∷_ 116 L.[]))))))))))))) (Syntax.tcons q12 (Syntax.tcons q12 (Syntax.tcons q12 (Syntax.tcons q12 (Syntax.tcons q3 (Syntax.tcons q3 (Syntax.tcons (Syntax.tyInt Syntax.w64) (Syntax.tcons q11 Syntax.tnil))))))))) (Syntax.tcons (Syntax.tyStruct (L._∷_ 115 (L._∷_ 116 (L._∷_ 101 (L._∷_ 112 (L._∷_ 58 (L._∷_ 58 (L._∷_ 79 (L._∷_ 108 (L._∷_ 100 L.[]))))))))) (Syntax.tcons (Syntax.tyInt Syntax.w64) (Syntax.tcons q11 (Syntax.tcons q12 (Syntax.tcons q12 (Syntax.tcons q12 (Syntax.tcons q12 (Syntax.tcons q7 Syntax.tnil)))))))) Syntax.tnil))) Syntax.tnil)))) Syntax.tnil))))) (L._∷_ (12, Rows.sc-here (Row.sInt Syntax.w64)) (L._∷_ (13, Rows.sc-here Row.sBool) (L._∷_ q42 (L._∷_ q45 L.[])))))))))))))))
 
 abbrev pub t13 : L.List Row.Entry
-t13 = L._∷_ (0, Rows.any-gone (Syntax.tyStruct (L._∷_ 114 (L._∷_ 117 (L._∷_ 108 (L._∷_ 101 (L._∷_ 115 (L._∷_ 58 (L._∷_ 58 (L._∷_ 102 (L._∷_ 111 (L._∷_ 117 (L._∷_ 110 (L._∷_ 100 (L._∷_ 58 (L._∷_ 58 (L._∷_ 70 (L._∷_ 111 (L._∷_ 117 (L._∷_ 110 (L._∷_ 100 L.[]))))))))))))))))))) (Syntax.tcons Syntax.tyBool (Syntax.tcons Syntax.tyBool (Syntax.tcons (Syntax.tyStruct (L._∷_ 115 (L._∷_ 116 (L._∷_ 101 (L._∷_ 112 (L._∷_ 58 (L._∷_ 58 (L._∷_ 83 (L._∷_ 116 (L._∷_ 101 (L._∷_ 112 L.[])))))))))) (Syntax.tcons (Syntax.tyInt Syntax.w64) (Syntax.tcons (Syntax.tyInt Syntax.w64) (Syntax.tcons (Syntax.tyStruct (L._∷_ 115 (L._∷_ 116 (L._∷_ 101 (L._∷_ 112 (L._∷_ 58 (L._∷_ 58 (L._∷_ 67 (L._∷_ 104 (L._∷_ 97 (L._∷_ 110 (L._∷_ 103 (L._∷_ 101 L.[])))))))))))) (Syntax.tcons (Syntax.tyStruct (L._∷_ 110 (L._∷_ 101 (L._∷_ 116 (L._∷_ 119 (L._∷_ 111 (L._∷_ 114 (L._∷_ 107 (L._∷_ 58 (L._∷_ 58 (L._∷_ 69 (L._∷_ 100 (L._∷_ 105 (L._∷_ 116 L.[]))))))))))))) (Syntax.tcons q11 (Syntax.tcons q11 (Syntax.tcons q11 (Syntax.tcons q11 (Syntax.tcons q3 (Syntax.tcons q3 (Syntax.tcons (Syntax.tyInt Syntax.w64) Syntax.tnil)))))))) (Syntax.tcons (Syntax.tyStruct (L._∷_ 115 (L._∷_ 116 (L._∷_ 101 (L._∷_ 112 (L._∷_ 58 (L._∷_ 58 (L._∷_ 79 (L._∷_ 108 (L._∷_ 100 L.[]))))))))) (Syntax.tcons (Syntax.tyInt Syntax.w64) (Syntax.tcons q10 (Syntax.tcons q11 (Syntax.tcons q11 (Syntax.tcons q11 (Syntax.tcons q11 (Syntax.tcons q7 Syntax.tnil)))))))) Syntax.tnil))) Syntax.tnil)))) Syntax.tnil))))) (L._∷_ q1 (L._∷_ q15 (L._∷_ q13 (L._∷_ q35 (L._∷_ q24 (L._∷_ q21 (L._∷_ q19 (L._∷_ q36 (L._∷_ q37 (L._∷_ (10, Rows.any-gone (Syntax.tyStruct (L._∷_ 115 (L._∷_ 116 (L._∷_ 101 (L._∷_ 112 (L._∷_ 58 (L._∷_ 58 (L._∷_ 65 (L._∷_ 114 (L._∷_ 111 (L._∷_ 117 (L._∷_ 110 (L._∷_ 100 L.[])))))))))))) (Syntax.tcons q11 (Syntax.tcons q11 (Syntax.tcons q11 (Syntax.tcons q11 Syntax.tnil)))))) (L._∷_ (11, Rows.any-gone (Syntax.tyStruct (L._∷_ 114 (L._∷_ 117 (L._∷_ 108 (L._∷_ 101 (L._∷_ 115 (L._∷_ 58 (L._∷_ 58 (L._∷_ 102 (L._∷_ 111 (L._∷_ 117 (L._∷_ 110 (L._∷_ 100 (L._∷_ 58 (L._∷_ 58 (L._∷_ 70 (L._∷_ 111 (L._∷_ 117 (L._∷_ 110 (L._∷_ 100 L.[]))))))))))))))))))) (Syntax.tcons Syntax.tyBool (Syntax.tcons Syntax.tyBool (Syntax.tcons (Syntax.tyStruct (L._∷_ 115 (L._∷_ 116 (L._∷_ 101 (L._∷_ 112 (L._∷_ 58 (L._∷_ 58 (L._∷_ 83 (L._∷_ 116 (L._∷_ 101 (L._∷_ 112 L.[])))))))))) (Syntax.tcons (Syntax.tyInt Syntax.w64) (Syntax.tcons (Syntax.tyInt Syntax.w64) (Syntax.tcons (Syntax.tyStruct (L._∷_ 115 (L._∷_ 116 (L._∷_ 101 (L._∷_ 112 (L._∷_ 58 (L._∷_ 58 (L._∷_ 67 (L._∷_ 104 (L._∷_ 97 (L._∷_ 110 (L._∷_ 103 (L._∷_ 101 L.[])))))))))))) (Syntax.tcons (Syntax.tyStruct (L._∷_ 110 (L._∷_ 101 (L._∷_ 116 (L._∷_ 119 (L._∷_ 111 (L._∷_ 114 (L._∷_ 107 (L._∷_ 58 (L._∷_ 58 (L._∷_ 69 (L._∷_ 100 (L._∷_ 105 (L._∷_ 116 L.[]))))))))))))) (Syntax.tcons q11 (Syntax.tcons q11 (Syntax.tcons q11 (Syntax.tcons q11 (Syntax.tcons q3 (Syntax.tcons q3 (Syntax.tcons (Syntax.tyInt Syntax.w64) Syntax.tnil)))))))) (Syntax.tcons (Syntax.tyStruct (L._∷_ 115 (L._∷_ 116 (L._∷_ 101 (L._∷_ 112 (L._∷_ 58 (L._∷_ 58 (L._∷_ 79 (L._∷_ 108 (L._∷_ 100 L.[]))))))))) (Syntax.tcons (Syntax.tyInt Syntax.w64) (Syntax.tcons q10 (Syntax.tcons q11 (Syntax.tcons q11 (Syntax.tcons q11 (Syntax.tcons q11 (Syntax.tcons q7 Syntax.tnil)))))))) Syntax.tnil))) Syntax.tnil)))) Syntax.tnil))))) (L._∷_ q29 (L._∷_ (13, Rows.sc-here Row.sBool) (L._∷_ q41 (L._∷_ q44 L.[])))))))))))))))
+t13 = L._∷_ (0, Rows.any-gone (Syntax.tyStruct (L._∷_ 114 (L._∷_ 117 (L._∷_ 108 (L._∷_ 101 (L._∷_ 115 (L._∷_ 58 (L._∷_ 58 (L._∷_ 102 (L._∷_ 111 (L._∷_ 117 (L._∷_ 110 (L._∷_ 100 (L._∷_ 58 (L._∷_ 58 (L._∷_ 70 (L._∷_ 111 (L._∷_ 117 (L._∷_ 110 (L._∷_ 100 L.[]))))))))))))))))))) (Syntax.tcons Syntax.tyBool (Syntax.tcons Syntax.tyBool (Syntax.tcons (Syntax.tyStruct (L._∷_ 115 (L._∷_ 116 (L._∷_ 101 (L._∷_ 112 (L._∷_ 58 (L._∷_ 58 (L._∷_ 83 (L._∷_ 116 (L._∷_ 101 (L._∷_ 112 L.[])))))))))) (Syntax.tcons (Syntax.tyInt Syntax.w64) (Syntax.tcons (Syntax.tyInt Syntax.w64) (Syntax.tcons (Syntax.tyStruct (L._∷_ 115 (L._∷_ 116 (L._∷_ 101 (L._∷_ 112 (L._∷_ 58 (L._∷_ 58 (L._∷_ 67 (L._∷_ 104 (L._∷_ 97 (L._∷_ 110 (L._∷_ 103 (L._∷_ 101 L.[])))))))))))) (Syntax.tcons (Syntax.tyStruct (L._∷_ 110 (L._∷_ 101 (L._∷_ 116 (L._∷_ 119 (L._∷_ 111 (L._∷_ 114 (L._∷_ 107 (L._∷_ 58 (L._∷_ 58 (L._∷_ 69 (L._∷_ 100 (L._∷_ 105 (L._∷_ 116 L.[]))))))))))))) (Syntax.tcons q12 (Syntax.tcons q12 (Syntax.tcons q12 (Syntax.tcons q12 (Syntax.tcons q3 (Syntax.tcons q3 (Syntax.tcons (Syntax.tyInt Syntax.w64) (Syntax.tcons q11 Syntax.tnil))))))))) (Syntax.tcons (Syntax.tyStruct (L._∷_ 115 (L._∷_ 116 (L._∷_ 101 (L._∷_ 112 (L._∷_ 58 (L._∷_ 58 (L._∷_ 79 (L._∷_ 108 (L._∷_ 100 L.[]))))))))) (Syntax.tcons (Syntax.tyInt Syntax.w64) (Syntax.tcons q11 (Syntax.tcons q12 (Syntax.tcons q12 (Syntax.tcons q12 (Syntax.tcons q12 (Syntax.tcons q7 Syntax.tnil)))))))) Syntax.tnil))) Syntax.tnil)))) Syntax.tnil))))) (L._∷_ q1 (L._∷_ q16 (L._∷_ q14 (L._∷_ q36 (L._∷_ q25 (L._∷_ q22 (L._∷_ q20 (L._∷_ q37 (L._∷_ q38 (L._∷_ (10, Rows.any-gone (Syntax.tyStruct (L._∷_ 115 (L._∷_ 116 (L._∷_ 101 (L._∷_ 112 (L._∷_ 58 (L._∷_ 58 (L._∷_ 65 (L._∷_ 114 (L._∷_ 111 (L._∷_ 117 (L._∷_ 110 (L._∷_ 100 L.[])))))))))))) (Syntax.tcons q12 (Syntax.tcons q12 (Syntax.tcons q12 (Syntax.tcons q12 Syntax.tnil)))))) (L._∷_ (11, Rows.any-gone (Syntax.tyStruct (L._∷_ 114 (L._∷_ 117 (L._∷_ 108 (L._∷_ 101 (L._∷_ 115 (L._∷_ 58 (L._∷_ 58 (L._∷_ 102 (L._∷_ 111 (L._∷_ 117 (L._∷_ 110 (L._∷_ 100 (L._∷_ 58 (L._∷_ 58 (L._∷_ 70 (L._∷_ 111 (L._∷_ 117 (L._∷_ 110 (L._∷_ 100 L.[]))))))))))))))))))) (Syntax.tcons Syntax.tyBool (Syntax.tcons Syntax.tyBool (Syntax.tcons (Syntax.tyStruct (L._∷_ 115 (L._∷_ 116 (L._∷_ 101 (L._∷_ 112 (L._∷_ 58 (L._∷_ 58 (L._∷_ 83 (L._∷_ 116 (L._∷_ 101 (L._∷_ 112 L.[])))))))))) (Syntax.tcons (Syntax.tyInt Syntax.w64) (Syntax.tcons (Syntax.tyInt Syntax.w64) (Syntax.tcons (Syntax.tyStruct (L._∷_ 115 (L._∷_ 116 (L._∷_ 101 (L._∷_ 112 (L._∷_ 58 (L._∷_ 58 (L._∷_ 67 (L._∷_ 104 (L._∷_ 97 (L._∷_ 110 (L._∷_ 103 (L._∷_ 101 L.[])))))))))))) (Syntax.tcons (Syntax.tyStruct (L._∷_ 110 (L._∷_ 101 (L._∷_ 116 (L._∷_ 119 (L._∷_ 111 (L._∷_ 114 (L._∷_ 107 (L._∷_ 58 (L._∷_ 58 (L._∷_ 69 (L._∷_ 100 (L._∷_ 105 (L._∷_ 116 L.[]))))))))))))) (Syntax.tcons q12 (Syntax.tcons q12 (Syntax.tcons q12 (Syntax.tcons q12 (Syntax.tcons q3 (Syntax.tcons q3 (Syntax.tcons (Syntax.tyInt Syntax.w64) (Syntax.tcons q11 Syntax.tnil))))))))) (Syntax.tcons (Syntax.tyStruct (L._∷_ 115 (L._∷_ 116 (L._∷_ 101 (L._∷_ 112 (L._∷_ 58 (L._∷_ 58 (L._∷_ 79 (L._∷_ 108 (L._∷_ 100 L.[]))))))))) (Syntax.tcons (Syntax.tyInt Syntax.w64) (Syntax.tcons q11 (Syntax.tcons q12 (Syntax.tcons q12 (Syntax.tcons q12 (Syntax.tcons q12 (Syntax.tcons q7 Syntax.tnil)))))))) Syntax.tnil))) Syntax.tnil)))) Syntax.tnil))))) (L._∷_ q30 (L._∷_ (13, Rows.sc-here Row.sBool) (L._∷_ q42 (L._∷_ q45 L.[])))))))))))))))
 
 abbrev pub t14 : L.List Row.Entry
-t14 = L._∷_ (0, Rows.any-gone (Syntax.tyStruct (L._∷_ 114 (L._∷_ 117 (L._∷_ 108 (L._∷_ 101 (L._∷_ 115 (L._∷_ 58 (L._∷_ 58 (L._∷_ 102 (L._∷_ 111 (L._∷_ 117 (L._∷_ 110 (L._∷_ 100 (L._∷_ 58 (L._∷_ 58 (L._∷_ 70 (L._∷_ 111 (L._∷_ 117 (L._∷_ 110 (L._∷_ 100 L.[]))))))))))))))))))) (Syntax.tcons Syntax.tyBool (Syntax.tcons Syntax.tyBool (Syntax.tcons (Syntax.tyStruct (L._∷_ 115 (L._∷_ 116 (L._∷_ 101 (L._∷_ 112 (L._∷_ 58 (L._∷_ 58 (L._∷_ 83 (L._∷_ 116 (L._∷_ 101 (L._∷_ 112 L.[])))))))))) (Syntax.tcons (Syntax.tyInt Syntax.w64) (Syntax.tcons (Syntax.tyInt Syntax.w64) (Syntax.tcons (Syntax.tyStruct (L._∷_ 115 (L._∷_ 116 (L._∷_ 101 (L._∷_ 112 (L._∷_ 58 (L._∷_ 58 (L._∷_ 67 (L._∷_ 104 (L._∷_ 97 (L._∷_ 110 (L._∷_ 103 (L._∷_ 101 L.[])))))))))))) (Syntax.tcons (Syntax.tyStruct (L._∷_ 110 (L._∷_ 101 (L._∷_ 116 (L._∷_ 119 (L._∷_ 111 (L._∷_ 114 (L._∷_ 107 (L._∷_ 58 (L._∷_ 58 (L._∷_ 69 (L._∷_ 100 (L._∷_ 105 (L._∷_ 116 L.[]))))))))))))) (Syntax.tcons q11 (Syntax.tcons q11 (Syntax.tcons q11 (Syntax.tcons q11 (Syntax.tcons q3 (Syntax.tcons q3 (Syntax.tcons (Syntax.tyInt Syntax.w64) Syntax.tnil)))))))) (Syntax.tcons (Syntax.tyStruct (L._∷_ 115 (L._∷_ 116 (L._∷_ 101 (L._∷_ 112 (L._∷_ 58 (L._∷_ 58 (L._∷_ 79 (L._∷_ 108 (L._∷_ 100 L.[]))))))))) (Syntax.tcons (Syntax.tyInt Syntax.w64) (Syntax.tcons q10 (Syntax.tcons q11 (Syntax.tcons q11 (Syntax.tcons q11 (Syntax.tcons q11 (Syntax.tcons q7 Syntax.tnil)))))))) Syntax.tnil))) Syntax.tnil)))) Syntax.tnil))))) (L._∷_ q1 (L._∷_ q15 (L._∷_ q13 (L._∷_ q35 (L._∷_ q0 (L._∷_ q21 (L._∷_ q19 (L._∷_ q36 (L._∷_ q37 (L._∷_ (10, Rows.any-gone (Syntax.tyStruct (L._∷_ 115 (L._∷_ 116 (L._∷_ 101 (L._∷_ 112 (L._∷_ 58 (L._∷_ 58 (L._∷_ 65 (L._∷_ 114 (L._∷_ 111 (L._∷_ 117 (L._∷_ 110 (L._∷_ 100 L.[])))))))))))) (Syntax.tcons q11 (Syntax.tcons q11 (Syntax.tcons q11 (Syntax.tcons q11 Syntax.tnil)))))) (L._∷_ (11, Rows.any-gone (Syntax.tyStruct (L._∷_ 114 (L._∷_ 117 (L._∷_ 108 (L._∷_ 101 (L._∷_ 115 (L._∷_ 58 (L._∷_ 58 (L._∷_ 102 (L._∷_ 111 (L._∷_ 117 (L._∷_ 110 (L._∷_ 100 (L._∷_ 58 (L._∷_ 58 (L._∷_ 70 (L._∷_ 111 (L._∷_ 117 (L._∷_ 110 (L._∷_ 100 L.[]))))))))))))))))))) (Syntax.tcons Syntax.tyBool (Syntax.tcons Syntax.tyBool (Syntax.tcons (Syntax.tyStruct (L._∷_ 115 (L._∷_ 116 (L._∷_ 101 (L._∷_ 112 (L._∷_ 58 (L._∷_ 58 (L._∷_ 83 (L._∷_ 116 (L._∷_ 101 (L._∷_ 112 L.[])))))))))) (Syntax.tcons (Syntax.tyInt Syntax.w64) (Syntax.tcons (Syntax.tyInt Syntax.w64) (Syntax.tcons (Syntax.tyStruct (L._∷_ 115 (L._∷_ 116 (L._∷_ 101 (L._∷_ 112 (L._∷_ 58 (L._∷_ 58 (L._∷_ 67 (L._∷_ 104 (L._∷_ 97 (L._∷_ 110 (L._∷_ 103 (L._∷_ 101 L.[])))))))))))) (Syntax.tcons (Syntax.tyStruct (L._∷_ 110 (L._∷_ 101 (L._∷_ 116 (L._∷_ 119 (L._∷_ 111 (L._∷_ 114 (L._∷_ 107 (L._∷_ 58 (L._∷_ 58 (L._∷_ 69 (L._∷_ 100 (L._∷_ 105 (L._∷_ 116 L.[]))))))))))))) (Syntax.tcons q11 (Syntax.tcons q11 (Syntax.tcons q11 (Syntax.tcons q11 (Syntax.tcons q3 (Syntax.tcons q3 (Syntax.tcons (Syntax.tyInt Syntax.w64) Syntax.tnil)))))))) (Syntax.tcons (Syntax.tyStruct (L._∷_ 115 (L._∷_ 116 (L._∷_ 101 (L._∷_ 112 (L._∷_ 58 (L._∷_ 58 (L._∷_ 79 (L._∷_ 108 (L._∷_ 100 L.[]))))))))) (Syntax.tcons (Syntax.tyInt Syntax.w64) (Syntax.tcons q10 (Syntax.tcons q11 (Syntax.tcons q11 (Syntax.tcons q11 (Syntax.tcons q11 (Syntax.tcons q7 Syntax.tnil)))))))) Syntax.tnil))) Syntax.tnil)))) Syntax.tnil))))) (L._∷_ q29 (L._∷_ (13, Rows.sc-here Row.sBool) (L._∷_ q41 (L._∷_ q44 L.[])))))))))))))))
+t14 = L._∷_ (0, Rows.any-gone (Syntax.tyStruct (L._∷_ 114 (L._∷_ 117 (L._∷_ 108 (L._∷_ 101 (L._∷_ 115 (L._∷_ 58 (L._∷_ 58 (L._∷_ 102 (L._∷_ 111 (L._∷_ 117 (L._∷_ 110 (L._∷_ 100 (L._∷_ 58 (L._∷_ 58 (L._∷_ 70 (L._∷_ 111 (L._∷_ 117 (L._∷_ 110 (L._∷_ 100 L.[]))))))))))))))))))) (Syntax.tcons Syntax.tyBool (Syntax.tcons Syntax.tyBool (Syntax.tcons (Syntax.tyStruct (L._∷_ 115 (L._∷_ 116 (L._∷_ 101 (L._∷_ 112 (L._∷_ 58 (L._∷_ 58 (L._∷_ 83 (L._∷_ 116 (L._∷_ 101 (L._∷_ 112 L.[])))))))))) (Syntax.tcons (Syntax.tyInt Syntax.w64) (Syntax.tcons (Syntax.tyInt Syntax.w64) (Syntax.tcons (Syntax.tyStruct (L._∷_ 115 (L._∷_ 116 (L._∷_ 101 (L._∷_ 112 (L._∷_ 58 (L._∷_ 58 (L._∷_ 67 (L._∷_ 104 (L._∷_ 97 (L._∷_ 110 (L._∷_ 103 (L._∷_ 101 L.[])))))))))))) (Syntax.tcons (Syntax.tyStruct (L._∷_ 110 (L._∷_ 101 (L._∷_ 116 (L._∷_ 119 (L._∷_ 111 (L._∷_ 114 (L._∷_ 107 (L._∷_ 58 (L._∷_ 58 (L._∷_ 69 (L._∷_ 100 (L._∷_ 105 (L._∷_ 116 L.[]))))))))))))) (Syntax.tcons q12 (Syntax.tcons q12 (Syntax.tcons q12 (Syntax.tcons q12 (Syntax.tcons q3 (Syntax.tcons q3 (Syntax.tcons (Syntax.tyInt Syntax.w64) (Syntax.tcons q11 Syntax.tnil))))))))) (Syntax.tcons (Syntax.tyStruct (L._∷_ 115 (L._∷_ 116 (L._∷_ 101 (L._∷_ 112 (L._∷_ 58 (L._∷_ 58 (L._∷_ 79 (L._∷_ 108 (L._∷_ 100 L.[]))))))))) (Syntax.tcons (Syntax.tyInt Syntax.w64) (Syntax.tcons q11 (Syntax.tcons q12 (Syntax.tcons q12 (Syntax.tcons q12 (Syntax.tcons q12 (Syntax.tcons q7 Syntax.tnil)))))))) Syntax.tnil))) Syntax.tnil)))) Syntax.tnil))))) (L._∷_ q1 (L._∷_ q16 (L._∷_ q14 (L._∷_ q36 (L._∷_ q0 (L._∷_ q22 (L._∷_ q20 (L._∷_ q37 (L._∷_ q38 (L._∷_ (10, Rows.any-gone (Syntax.tyStruct (L._∷_ 115 (L._∷_ 116 (L._∷_ 101 (L._∷_ 112 (L._∷_ 58 (L._∷_ 58 (L._∷_ 65 (L._∷_ 114 (L._∷_ 111 (L._∷_ 117 (L._∷_ 110 (L._∷_ 100 L.[])))))))))))) (Syntax.tcons q12 (Syntax.tcons q12 (Syntax.tcons q12 (Syntax.tcons q12 Syntax.tnil)))))) (L._∷_ (11, Rows.any-gone (Syntax.tyStruct (L._∷_ 114 (L._∷_ 117 (L._∷_ 108 (L._∷_ 101 (L._∷_ 115 (L._∷_ 58 (L._∷_ 58 (L._∷_ 102 (L._∷_ 111 (L._∷_ 117 (L._∷_ 110 (L._∷_ 100 (L._∷_ 58 (L._∷_ 58 (L._∷_ 70 (L._∷_ 111 (L._∷_ 117 (L._∷_ 110 (L._∷_ 100 L.[]))))))))))))))))))) (Syntax.tcons Syntax.tyBool (Syntax.tcons Syntax.tyBool (Syntax.tcons (Syntax.tyStruct (L._∷_ 115 (L._∷_ 116 (L._∷_ 101 (L._∷_ 112 (L._∷_ 58 (L._∷_ 58 (L._∷_ 83 (L._∷_ 116 (L._∷_ 101 (L._∷_ 112 L.[])))))))))) (Syntax.tcons (Syntax.tyInt Syntax.w64) (Syntax.tcons (Syntax.tyInt Syntax.w64) (Syntax.tcons (Syntax.tyStruct (L._∷_ 115 (L._∷_ 116 (L._∷_ 101 (L._∷_ 112 (L._∷_ 58 (L._∷_ 58 (L._∷_ 67 (L._∷_ 104 (L._∷_ 97 (L._∷_ 110 (L._∷_ 103 (L._∷_ 101 L.[])))))))))))) (Syntax.tcons (Syntax.tyStruct (L._∷_ 110 (L._∷_ 101 (L._∷_ 116 (L._∷_ 119 (L._∷_ 111 (L._∷_ 114 (L._∷_ 107 (L._∷_ 58 (L._∷_ 58 (L._∷_ 69 (L._∷_ 100 (L._∷_ 105 (L._∷_ 116 L.[]))))))))))))) (Syntax.tcons q12 (Syntax.tcons q12 (Syntax.tcons q12 (Syntax.tcons q12 (Syntax.tcons q3 (Syntax.tcons q3 (Syntax.tcons (Syntax.tyInt Syntax.w64) (Syntax.tcons q11 Syntax.tnil))))))))) (Syntax.tcons (Syntax.tyStruct (L._∷_ 115 (L._∷_ 116 (L._∷_ 101 (L._∷_ 112 (L._∷_ 58 (L._∷_ 58 (L._∷_ 79 (L._∷_ 108 (L._∷_ 100 L.[]))))))))) (Syntax.tcons (Syntax.tyInt Syntax.w64) (Syntax.tcons q11 (Syntax.tcons q12 (Syntax.tcons q12 (Syntax.tcons q12 (Syntax.tcons q12 (Syntax.tcons q7 Syntax.tnil)))))))) Syntax.tnil))) Syntax.tnil)))) Syntax.tnil))))) (L._∷_ q30 (L._∷_ (13, Rows.sc-here Row.sBool) (L._∷_ q42 (L._∷_ q45 L.[])))))))))))))))
 
 abbrev pub t15 : L.List Row.Entry
-t15 = L._∷_ (0, Rows.any-gone (Syntax.tyStruct (L._∷_ 114 (L._∷_ 117 (L._∷_ 108 (L._∷_ 101 (L._∷_ 115 (L._∷_ 58 (L._∷_ 58 (L._∷_ 102 (L._∷_ 111 (L._∷_ 117 (L._∷_ 110 (L._∷_ 100 (L._∷_ 58 (L._∷_ 58 (L._∷_ 70 (L._∷_ 111 (L._∷_ 117 (L._∷_ 110 (L._∷_ 100 L.[]))))))))))))))))))) (Syntax.tcons Syntax.tyBool (Syntax.tcons Syntax.tyBool (Syntax.tcons (Syntax.tyStruct (L._∷_ 115 (L._∷_ 116 (L._∷_ 101 (L._∷_ 112 (L._∷_ 58 (L._∷_ 58 (L._∷_ 83 (L._∷_ 116 (L._∷_ 101 (L._∷_ 112 L.[])))))))))) (Syntax.tcons (Syntax.tyInt Syntax.w64) (Syntax.tcons (Syntax.tyInt Syntax.w64) (Syntax.tcons (Syntax.tyStruct (L._∷_ 115 (L._∷_ 116 (L._∷_ 101 (L._∷_ 112 (L._∷_ 58 (L._∷_ 58 (L._∷_ 67 (L._∷_ 104 (L._∷_ 97 (L._∷_ 110 (L._∷_ 103 (L._∷_ 101 L.[])))))))))))) (Syntax.tcons (Syntax.tyStruct (L._∷_ 110 (L._∷_ 101 (L._∷_ 116 (L._∷_ 119 (L._∷_ 111 (L._∷_ 114 (L._∷_ 107 (L._∷_ 58 (L._∷_ 58 (L._∷_ 69 (L._∷_ 100 (L._∷_ 105 (L._∷_ 116 L.[]))))))))))))) (Syntax.tcons q11 (Syntax.tcons q11 (Syntax.tcons q11 (Syntax.tcons q11 (Syntax.tcons q3 (Syntax.tcons q3 (Syntax.tcons (Syntax.tyInt Syntax.w64) Syntax.tnil)))))))) (Syntax.tcons (Syntax.tyStruct (L._∷_ 115 (L._∷_ 116 (L._∷_ 101 (L._∷_ 112 (L._∷_ 58 (L._∷_ 58 (L._∷_ 79 (L._∷_ 108 (L._∷_ 100 L.[]))))))))) (Syntax.tcons (Syntax.tyInt Syntax.w64) (Syntax.tcons q10 (Syntax.tcons q11 (Syntax.tcons q11 (Syntax.tcons q11 (Syntax.tcons q11 (Syntax.tcons q7 Syntax.tnil)))))))) Syntax.tnil))) Syntax.tnil)))) Syntax.tnil))))) (L._∷_ q1 (L._∷_ q15 (L._∷_ q13 (L._∷_ q35 (L._∷_ q0 (L._∷_ q12 (L._∷_ q19 (L._∷_ q36 (L._∷_ q37 (L._∷_ (10, Rows.any-gone (Syntax.tyStruct (L._∷_ 115 (L._∷_ 116 (L._∷_ 101 (L._∷_ 112 (L._∷_ 58 (L._∷_ 58 (L._∷_ 65 (L._∷_ 114 (L._∷_ 111 (L._∷_ 117 (L._∷_ 110 (L._∷_ 100 L.[])))))))))))) (Syntax.tcons q11 (Syntax.tcons q11 (Syntax.tcons q11 (Syntax.tcons q11 Syntax.tnil)))))) (L._∷_ (11, Rows.any-gone (Syntax.tyStruct (L._∷_ 114 (L._∷_ 117 (L._∷_ 108 (L._∷_ 101 (L._∷_ 115 (L._∷_ 58 (L._∷_ 58 (L._∷_ 102 (L._∷_ 111 (L._∷_ 117 (L._∷_ 110 (L._∷_ 100 (L._∷_ 58 (L._∷_ 58 (L._∷_ 70 (L._∷_ 111 (L._∷_ 117 (L._∷_ 110 (L._∷_ 100 L.[]))))))))))))))))))) (Syntax.tcons Syntax.tyBool (Syntax.tcons Syntax.tyBool (Syntax.tcons (Syntax.tyStruct (L._∷_ 115 (L._∷_ 116 (L._∷_ 101 (L._∷_ 112 (L._∷_ 58 (L._∷_ 58 (L._∷_ 83 (L._∷_ 116 (L._∷_ 101 (L._∷_ 112 L.[])))))))))) (Syntax.tcons (Syntax.tyInt Syntax.w64) (Syntax.tcons (Syntax.tyInt Syntax.w64) (Syntax.tcons (Syntax.tyStruct (L._∷_ 115 (L._∷_ 116 (L._∷_ 101 (L._∷_ 112 (L._∷_ 58 (L._∷_ 58 (L._∷_ 67 (L._∷_ 104 (L._∷_ 97 (L._∷_ 110 (L._∷_ 103 (L._∷_ 101 L.[])))))))))))) (Syntax.tcons (Syntax.tyStruct (L._∷_ 110 (L._∷_ 101 (L._∷_ 116 (L._∷_ 119 (L._∷_ 111 (L._∷_ 114 (L._∷_ 107 (L._∷_ 58 (L._∷_ 58 (L._∷_ 69 (L._∷_ 100 (L._∷_ 105 (L._∷_ 116 L.[]))))))))))))) (Syntax.tcons q11 (Syntax.tcons q11 (Syntax.tcons q11 (Syntax.tcons q11 (Syntax.tcons q3 (Syntax.tcons q3 (Syntax.tcons (Syntax.tyInt Syntax.w64) Syntax.tnil)))))))) (Syntax.tcons (Syntax.tyStruct (L._∷_ 115 (L._∷_ 116 (L._∷_ 101 (L._∷_ 112 (L._∷_ 58 (L._∷_ 58 (L._∷_ 79 (L._∷_ 108 (L._∷_ 100 L.[]))))))))) (Syntax.tcons (Syntax.tyInt Syntax.w64) (Syntax.tcons q10 (Syntax.tcons q11 (Syntax.tcons q11 (Syntax.tcons q11 (Syntax.tcons q11 (Syntax.tcons q7 Syntax.tnil)))))))) Syntax.tnil))) Syntax.tnil)))) Syntax.tnil))))) (L._∷_ q29 (L._∷_ (13, Rows.sc-here Row.sBool) (L._∷_ q41 (L._∷_ q44 L.[])))))))))))))))
+t15 = L._∷_ (0, Rows.any-gone (Syntax.tyStruct (L._∷_ 114 (L._∷_ 117 (L._∷_ 108 (L._∷_ 101 (L._∷_ 115 (L._∷_ 58 (L._∷_ 58 (L._∷_ 102 (L._∷_ 111 (L._∷_ 117 (L._∷_ 110 (L._∷_ 100 (L._∷_ 58 (L._∷_ 58 (L._∷_ 70 (L._∷_ 111 (L._∷_ 117 (L._∷_ 110 (L._∷_ 100 L.[]))))))))))))))))))) (Syntax.tcons Syntax.tyBool (Syntax.tcons Syntax.tyBool (Syntax.tcons (Syntax.tyStruct (L._∷_ 115 (L._∷_ 116 (L._∷_ 101 (L._∷_ 112 (L._∷_ 58 (L._∷_ 58 (L._∷_ 83 (L._∷_ 116 (L._∷_ 101 (L._∷_ 112 L.[])))))))))) (Syntax.tcons (Syntax.tyInt Syntax.w64) (Syntax.tcons (Syntax.tyInt Syntax.w64) (Syntax.tcons (Syntax.tyStruct (L._∷_ 115 (L._∷_ 116 (L._∷_ 101 (L._∷_ 112 (L._∷_ 58 (L._∷_ 58 (L._∷_ 67 (L._∷_ 104 (L._∷_ 97 (L._∷_ 110 (L._∷_ 103 (L._∷_ 101 L.[])))))))))))) (Syntax.tcons (Syntax.tyStruct (L._∷_ 110 (L._∷_ 101 (L._∷_ 116 (L._∷_ 119 (L._∷_ 111 (L._∷_ 114 (L._∷_ 107 (L._∷_ 58 (L._∷_ 58 (L._∷_ 69 (L._∷_ 100 (L._∷_ 105 (L._∷_ 116 L.[]))))))))))))) (Syntax.tcons q12 (Syntax.tcons q12 (Syntax.tcons q12 (Syntax.tcons q12 (Syntax.tcons q3 (Syntax.tcons q3 (Syntax.tcons (Syntax.tyInt Syntax.w64) (Syntax.tcons q11 Syntax.tnil))))))))) (Syntax.tcons (Syntax.tyStruct (L._∷_ 115 (L._∷_ 116 (L._∷_ 101 (L._∷_ 112 (L._∷_ 58 (L._∷_ 58 (L._∷_ 79 (L._∷_ 108 (L._∷_ 100 L.[]))))))))) (Syntax.tcons (Syntax.tyInt Syntax.w64) (Syntax.tcons q11 (Syntax.tcons q12 (Syntax.tcons q12 (Syntax.tcons q12 (Syntax.tcons q12 (Syntax.tcons q7 Syntax.tnil)))))))) Syntax.tnil))) Syntax.tnil)))) Syntax.tnil))))) (L._∷_ q1 (L._∷_ q16 (L._∷_ q14 (L._∷_ q36 (L._∷_ q0 (L._∷_ q13 (L._∷_ q20 (L._∷_ q37 (L._∷_ q38 (L._∷_ (10, Rows.any-gone (Syntax.tyStruct (L._∷_ 115 (L._∷_ 116 (L._∷_ 101 (L._∷_ 112 (L._∷_ 58 (L._∷_ 58 (L._∷_ 65 (L._∷_ 114 (L._∷_ 111 (L._∷_ 117 (L._∷_ 110 (L._∷_ 100 L.[])))))))))))) (Syntax.tcons q12 (Syntax.tcons q12 (Syntax.tcons q12 (Syntax.tcons q12 Syntax.tnil)))))) (L._∷_ (11, Rows.any-gone (Syntax.tyStruct (L._∷_ 114 (L._∷_ 117 (L._∷_ 108 (L._∷_ 101 (L._∷_ 115 (L._∷_ 58 (L._∷_ 58 (L._∷_ 102 (L._∷_ 111 (L._∷_ 117 (L._∷_ 110 (L._∷_ 100 (L._∷_ 58 (L._∷_ 58 (L._∷_ 70 (L._∷_ 111 (L._∷_ 117 (L._∷_ 110 (L._∷_ 100 L.[]))))))))))))))))))) (Syntax.tcons Syntax.tyBool (Syntax.tcons Syntax.tyBool (Syntax.tcons (Syntax.tyStruct (L._∷_ 115 (L._∷_ 116 (L._∷_ 101 (L._∷_ 112 (L._∷_ 58 (L._∷_ 58 (L._∷_ 83 (L._∷_ 116 (L._∷_ 101 (L._∷_ 112 L.[])))))))))) (Syntax.tcons (Syntax.tyInt Syntax.w64) (Syntax.tcons (Syntax.tyInt Syntax.w64) (Syntax.tcons (Syntax.tyStruct (L._∷_ 115 (L._∷_ 116 (L._∷_ 101 (L._∷_ 112 (L._∷_ 58 (L._∷_ 58 (L._∷_ 67 (L._∷_ 104 (L._∷_ 97 (L._∷_ 110 (L._∷_ 103 (L._∷_ 101 L.[])))))))))))) (Syntax.tcons (Syntax.tyStruct (L._∷_ 110 (L._∷_ 101 (L._∷_ 116 (L._∷_ 119 (L._∷_ 111 (L._∷_ 114 (L._∷_ 107 (L._∷_ 58 (L._∷_ 58 (L._∷_ 69 (L._∷_ 100 (L._∷_ 105 (L._∷_ 116 L.[]))))))))))))) (Syntax.tcons q12 (Syntax.tcons q12 (Syntax.tcons q12 (Syntax.tcons q12 (Syntax.tcons q3 (Syntax.tcons q3 (Syntax.tcons (Syntax.tyInt Syntax.w64) (Syntax.tcons q11 Syntax.tnil))))))))) (Syntax.tcons (Syntax.tyStruct (L._∷_ 115 (L._∷_ 116 (L._∷_ 101 (L._∷_ 112 (L._∷_ 58 (L._∷_ 58 (L._∷_ 79 (L._∷_ 108 (L._∷_ 100 L.[]))))))))) (Syntax.tcons (Syntax.tyInt Syntax.w64) (Syntax.tcons q11 (Syntax.tcons q12 (Syntax.tcons q12 (Syntax.tcons q12 (Syntax.tcons q12 (Syntax.tcons q7 Syntax.tnil)))))))) Syntax.tnil))) Syntax.tnil)))) Syntax.tnil))))) (L._∷_ q30 (L._∷_ (13, Rows.sc-here Row.sBool) (L._∷_ q42 (L._∷_ q45 L.[])))))))))))))))
 
 abbrev pub t16 : L.List Row.Entry
-t16 = L._∷_ (0, Rows.any-gone (Syntax.tyStruct (L._∷_ 114 (L._∷_ 117 (L._∷_ 108 (L._∷_ 101 (L._∷_ 115 (L._∷_ 58 (L._∷_ 58 (L._∷_ 102 (L._∷_ 111 (L._∷_ 117 (L._∷_ 110 (L._∷_ 100 (L._∷_ 58 (L._∷_ 58 (L._∷_ 70 (L._∷_ 111 (L._∷_ 117 (L._∷_ 110 (L._∷_ 100 L.[]))))))))))))))))))) (Syntax.tcons Syntax.tyBool (Syntax.tcons Syntax.tyBool (Syntax.tcons (Syntax.tyStruct (L._∷_ 115 (L._∷_ 116 (L._∷_ 101 (L._∷_ 112 (L._∷_ 58 (L._∷_ 58 (L._∷_ 83 (L._∷_ 116 (L._∷_ 101 (L._∷_ 112 L.[])))))))))) (Syntax.tcons (Syntax.tyInt Syntax.w64) (Syntax.tcons (Syntax.tyInt Syntax.w64) (Syntax.tcons (Syntax.tyStruct (L._∷_ 115 (L._∷_ 116 (L._∷_ 101 (L._∷_ 112 (L._∷_ 58 (L._∷_ 58 (L._∷_ 67 (L._∷_ 104 (L._∷_ 97 (L._∷_ 110 (L._∷_ 103 (L._∷_ 101 L.[])))))))))))) (Syntax.tcons (Syntax.tyStruct (L._∷_ 110 (L._∷_ 101 (L._∷_ 116 (L._∷_ 119 (L._∷_ 111 (L._∷_ 114 (L._∷_ 107 (L._∷_ 58 (L._∷_ 58 (L._∷_ 69 (L._∷_ 100 (L._∷_ 105 (L._∷_ 116 L.[]))))))))))))) (Syntax.tcons q11 (Syntax.tcons q11 (Syntax.tcons q11 (Syntax.tcons q11 (Syntax.tcons q3 (Syntax.tcons q3 (Syntax.tcons (Syntax.tyInt Syntax.w64) Syntax.tnil)))))))) (Syntax.tcons (Syntax.tyStruct (L._∷_ 115 (L._∷_ 116 (L._∷_ 101 (L._∷_ 112 (L._∷_ 58 (L._∷_ 58 (L._∷_ 79 (L._∷_ 108 (L._∷_ 100 L.[]))))))))) (Syntax.tcons (Syntax.tyInt Syntax.w64) (Syntax.tcons q10 (Syntax.tcons q11 (Syntax.tcons q11 (Syntax.tcons q11 (Syntax.tcons q11 (Syntax.tcons q7 Syntax.tnil)))))))) Syntax.tnil))) Syntax.tnil)))) Syntax.tnil))))) (L._∷_ q1 (L._∷_ q15 (L._∷_ q13 (L._∷_ q35 (L._∷_ q0 (L._∷_ q12 (L._∷_ q4 (L._∷_ q36 (L._∷_ q37 (L._∷_ (10, Rows.any-gone (Syntax.tyStruct (L._∷_ 115 (L._∷_ 116 (L._∷_ 101 (L._∷_ 112 (L._∷_ 58 (L._∷_ 58 (L._∷_ 65 (L._∷_ 114 (L._∷_ 111 (L._∷_ 117 (L._∷_ 110 (L._∷_ 100 L.[])))))))))))) (Syntax.tcons q11 (Syntax.tcons q11 (Syntax.tcons q11 (Syntax.tcons q11 Syntax.tnil)))))) (L._∷_ (11, Rows.any-gone (Syntax.tyStruct (L._∷_ 114 (L._∷_ 117 (L._∷_ 108 (L._∷_ 101 (L._∷_ 115 (L._∷_ 58 (L._∷_ 58 (L._∷_ 102 (L._∷_ 111 (L._∷_ 117 (L._∷_ 110 (L._∷_ 100 (L._∷_ 58 (L._∷_ 58 (L._∷_ 70 (L._∷_ 111 (L._∷_ 117 (L._∷_ 110 (L._∷_ 100 L.[]))))))))))))))))))) (Syntax.tcons Syntax.tyBool (Syntax.tcons Syntax.tyBool (Syntax.tcons (Syntax.tyStruct (L._∷_ 115 (L._∷_ 116 (L._∷_ 101 (L._∷_ 112 (L._∷_ 58 (L._∷_ 58 (L._∷_ 83 (L._∷_ 116 (L._∷_ 101 (L._∷_ 112 L.[])))))))))) (Syntax.tcons (Syntax.tyInt Syntax.w64) (Syntax.tcons (Syntax.tyInt Syntax.w64) (Syntax.tcons (Syntax.tyStruct (L._∷_ 115 (L._∷_ 116 (L._∷_ 101 (L._∷_ 112 (L._∷_ 58 (L._∷_ 58 (L._∷_ 67 (L._∷_ 104 (L._∷_ 97 (L._∷_ 110 (L._∷_ 103 (L._∷_ 101 L.[])))))))))))) (Syntax.tcons (Syntax.tyStruct (L._∷_ 110 (L._∷_ 101 (L._∷_ 116 (L._∷_ 119 (L._∷_ 111 (L._∷_ 114 (L._∷_ 107 (L._∷_ 58 (L._∷_ 58 (L._∷_ 69 (L._∷_ 100 (L._∷_ 105 (L._∷_ 116 L.[]))))))))))))) (Syntax.tcons q11 (Syntax.tcons q11 (Syntax.tcons q11 (Syntax.tcons q11 (Syntax.tcons q3 (Syntax.tcons q3 (Syntax.tcons (Syntax.tyInt Syntax.w64) Syntax.tnil)))))))) (Syntax.tcons (Syntax.tyStruct (L._∷_ 115 (L._∷_ 116 (L._∷_ 101 (L._∷_ 112 (L._∷_ 58 (L._∷_ 58 (L._∷_ 79 (L._∷_ 108 (L._∷_ 100 L.[]))))))))) (Syntax.tcons (Syntax.tyInt Syntax.w64) (Syntax.tcons q10 (Syntax.tcons q11 (Syntax.tcons q11 (Syntax.tcons q11 (Syntax.tcons q11 (Syntax.tcons q7 Syntax.tnil)))))))) Syntax.tnil))) Syntax.tnil)))) Syntax.tnil))))) (L._∷_ q29 (L._∷_ (13, Rows.sc-here Row.sBool) (L._∷_ q41 (L._∷_ q44 L.[])))))))))))))))
+t16 = L._∷_ (0, Rows.any-gone (Syntax.tyStruct (L._∷_ 114 (L._∷_ 117 (L._∷_ 108 (L._∷_ 101 (L._∷_ 115 (L._∷_ 58 (L._∷_ 58 (L._∷_ 102 (L._∷_ 111 (L._∷_ 117 (L._∷_ 110 (L._∷_ 100 (L._∷_ 58 (L._∷_ 58 (L._∷_ 70 (L._∷_ 111 (L._∷_ 117 (L._∷_ 110 (L._∷_ 100 L.[]))))))))))))))))))) (Syntax.tcons Syntax.tyBool (Syntax.tcons Syntax.tyBool (Syntax.tcons (Syntax.tyStruct (L._∷_ 115 (L._∷_ 116 (L._∷_ 101 (L._∷_ 112 (L._∷_ 58 (L._∷_ 58 (L._∷_ 83 (L._∷_ 116 (L._∷_ 101 (L._∷_ 112 L.[])))))))))) (Syntax.tcons (Syntax.tyInt Syntax.w64) (Syntax.tcons (Syntax.tyInt Syntax.w64) (Syntax.tcons (Syntax.tyStruct (L._∷_ 115 (L._∷_ 116 (L._∷_ 101 (L._∷_ 112 (L._∷_ 58 (L._∷_ 58 (L._∷_ 67 (L._∷_ 104 (L._∷_ 97 (L._∷_ 110 (L._∷_ 103 (L._∷_ 101 L.[])))))))))))) (Syntax.tcons (Syntax.tyStruct (L._∷_ 110 (L._∷_ 101 (L._∷_ 116 (L._∷_ 119 (L._∷_ 111 (L._∷_ 114 (L._∷_ 107 (L._∷_ 58 (L._∷_ 58 (L._∷_ 69 (L._∷_ 100 (L._∷_ 105 (L._∷_ 116 L.[]))))))))))))) (Syntax.tcons q12 (Syntax.tcons q12 (Syntax.tcons q12 (Syntax.tcons q12 (Syntax.tcons q3 (Syntax.tcons q3 (Syntax.tcons (Syntax.tyInt Syntax.w64) (Syntax.tcons q11 Syntax.tnil))))))))) (Syntax.tcons (Syntax.tyStruct (L._∷_ 115 (L._∷_ 116 (L._∷_ 101 (L._∷_ 112 (L._∷_ 58 (L._∷_ 58 (L._∷_ 79 (L._∷_ 108 (L._∷_ 100 L.[]))))))))) (Syntax.tcons (Syntax.tyInt Syntax.w64) (Syntax.tcons q11 (Syntax.tcons q12 (Syntax.tcons q12 (Syntax.tcons q12 (Syntax.tcons q12 (Syntax.tcons q7 Syntax.tnil)))))))) Syntax.tnil))) Syntax.tnil)))) Syntax.tnil))))) (L._∷_ q1 (L._∷_ q16 (L._∷_ q14 (L._∷_ q36 (L._∷_ q0 (L._∷_ q13 (L._∷_ q4 (L._∷_ q37 (L._∷_ q38 (L._∷_ (10, Rows.any-gone (Syntax.tyStruct (L._∷_ 115 (L._∷_ 116 (L._∷_ 101 (L._∷_ 112 (L._∷_ 58 (L._∷_ 58 (L._∷_ 65 (L._∷_ 114 (L._∷_ 111 (L._∷_ 117 (L._∷_ 110 (L._∷_ 100 L.[])))))))))))) (Syntax.tcons q12 (Syntax.tcons q12 (Syntax.tcons q12 (Syntax.tcons q12 Syntax.tnil)))))) (L._∷_ (11, Rows.any-gone (Syntax.tyStruct (L._∷_ 114 (L._∷_ 117 (L._∷_ 108 (L._∷_ 101 (L._∷_ 115 (L._∷_ 58 (L._∷_ 58 (L._∷_ 102 (L._∷_ 111 (L._∷_ 117 (L._∷_ 110 (L._∷_ 100 (L._∷_ 58 (L._∷_ 58 (L._∷_ 70 (L._∷_ 111 (L._∷_ 117 (L._∷_ 110 (L._∷_ 100 L.[]))))))))))))))))))) (Syntax.tcons Syntax.tyBool (Syntax.tcons Syntax.tyBool (Syntax.tcons (Syntax.tyStruct (L._∷_ 115 (L._∷_ 116 (L._∷_ 101 (L._∷_ 112 (L._∷_ 58 (L._∷_ 58 (L._∷_ 83 (L._∷_ 116 (L._∷_ 101 (L._∷_ 112 L.[])))))))))) (Syntax.tcons (Syntax.tyInt Syntax.w64) (Syntax.tcons (Syntax.tyInt Syntax.w64) (Syntax.tcons (Syntax.tyStruct (L._∷_ 115 (L._∷_ 116 (L._∷_ 101 (L._∷_ 112 (L._∷_ 58 (L._∷_ 58 (L._∷_ 67 (L._∷_ 104 (L._∷_ 97 (L._∷_ 110 (L._∷_ 103 (L._∷_ 101 L.[])))))))))))) (Syntax.tcons (Syntax.tyStruct (L._∷_ 110 (L._∷_ 101 (L._∷_ 116 (L._∷_ 119 (L._∷_ 111 (L._∷_ 114 (L._∷_ 107 (L._∷_ 58 (L._∷_ 58 (L._∷_ 69 (L._∷_ 100 (L._∷_ 105 (L._∷_ 116 L.[]))))))))))))) (Syntax.tcons q12 (Syntax.tcons q12 (Syntax.tcons q12 (Syntax.tcons q12 (Syntax.tcons q3 (Syntax.tcons q3 (Syntax.tcons (Syntax.tyInt Syntax.w64) (Syntax.tcons q11 Syntax.tnil))))))))) (Syntax.tcons (Syntax.tyStruct (L._∷_ 115 (L._∷_ 116 (L._∷_ 101 (L._∷_ 112 (L._∷_ 58 (L._∷_ 58 (L._∷_ 79 (L._∷_ 108 (L._∷_ 100 L.[]))))))))) (Syntax.tcons (Syntax.tyInt Syntax.w64) (Syntax.tcons q11 (Syntax.tcons q12 (Syntax.tcons q12 (Syntax.tcons q12 (Syntax.tcons q12 (Syntax.tcons q7 Syntax.tnil)))))))) Syntax.tnil))) Syntax.tnil)))) Syntax.tnil))))) (L._∷_ q30 (L._∷_ (13, Rows.sc-here Row.sBool) (L._∷_ q42 (L._∷_ q45 L.[])))))))))))))))
 
 abbrev pub t17 : L.List Row.Entry
-t17 = L._∷_ (0, Rows.any-gone (Syntax.tyStruct (L._∷_ 114 (L._∷_ 117 (L._∷_ 108 (L._∷_ 101 (L._∷_ 115 (L._∷_ 58 (L._∷_ 58 (L._∷_ 102 (L._∷_ 111 (L._∷_ 117 (L._∷_ 110 (L._∷_ 100 (L._∷_ 58 (L._∷_ 58 (L._∷_ 70 (L._∷_ 111 (L._∷_ 117 (L._∷_ 110 (L._∷_ 100 L.[]))))))))))))))))))) (Syntax.tcons Syntax.tyBool (Syntax.tcons Syntax.tyBool (Syntax.tcons (Syntax.tyStruct (L._∷_ 115 (L._∷_ 116 (L._∷_ 101 (L._∷_ 112 (L._∷_ 58 (L._∷_ 58 (L._∷_ 83 (L._∷_ 116 (L._∷_ 101 (L._∷_ 112 L.[])))))))))) (Syntax.tcons (Syntax.tyInt Syntax.w64) (Syntax.tcons (Syntax.tyInt Syntax.w64) (Syntax.tcons (Syntax.tyStruct (L._∷_ 115 (L._∷_ 116 (L._∷_ 101 (L._∷_ 112 (L._∷_ 58 (L._∷_ 58 (L._∷_ 67 (L._∷_ 104 (L._∷_ 97 (L._∷_ 110 (L._∷_ 103 (L._∷_ 101 L.[])))))))))))) (Syntax.tcons (Syntax.tyStruct (L._∷_ 110 (L._∷_ 101 (L._∷_ 116 (L._∷_ 119 (L._∷_ 111 (L._∷_ 114 (L._∷_ 107 (L._∷_ 58 (L._∷_ 58 (L._∷_ 69 (L._∷_ 100 (L._∷_ 105 (L._∷_ 116 L.[]))))))))))))) (Syntax.tcons q11 (Syntax.tcons q11 (Syntax.tcons q11 (Syntax.tcons q11 (Syntax.tcons q3 (Syntax.tcons q3 (Syntax.tcons (Syntax.tyInt Syntax.w64) Syntax.tnil)))))))) (Syntax.tcons (Syntax.tyStruct (L._∷_ 115 (L._∷_ 116 (L._∷_ 101 (L._∷_ 112 (L._∷_ 58 (L._∷_ 58 (L._∷_ 79 (L._∷_ 108 (L._∷_ 100 L.[]))))))))) (Syntax.tcons (Syntax.tyInt Syntax.w64) (Syntax.tcons q10 (Syntax.tcons q11 (Syntax.tcons q11 (Syntax.tcons q11 (Syntax.tcons q11 (Syntax.tcons q7 Syntax.tnil)))))))) Syntax.tnil))) Syntax.tnil)))) Syntax.tnil))))) (L._∷_ q1 (L._∷_ q15 (L._∷_ q13 (L._∷_ q35 (L._∷_ q24 (L._∷_ q21 (L._∷_ q19 (L._∷_ q36 (L._∷_ q37 (L._∷_ (10, Rows.any-gone (Syntax.tyStruct (L._∷_ 115 (L._∷_ 116 (L._∷_ 101 (L._∷_ 112 (L._∷_ 58 (L._∷_ 58 (L._∷_ 65 (L._∷_ 114 (L._∷_ 111 (L._∷_ 117 (L._∷_ 110 (L._∷_ 100 L.[])))))))))))) (Syntax.tcons q11 (Syntax.tcons q11 (Syntax.tcons q11 (Syntax.tcons q11 Syntax.tnil)))))) (L._∷_ (11, Rows.any-gone (Syntax.tyStruct (L._∷_ 114 (L._∷_ 117 (L._∷_ 108 (L._∷_ 101 (L._∷_ 115 (L._∷_ 58 (L._∷_ 58 (L._∷_ 102 (L._∷_ 111 (L._∷_ 117 (L._∷_ 110 (L._∷_ 100 (L._∷_ 58 (L._∷_ 58 (L._∷_ 70 (L._∷_ 111 (L._∷_ 117 (L._∷_ 110 (L._∷_ 100 L.[]))))))))))))))))))) (Syntax.tcons Syntax.tyBool (Syntax.tcons Syntax.tyBool (Syntax.tcons (Syntax.tyStruct (L._∷_ 115 (L._∷_ 116 (L._∷_ 101 (L._∷_ 112 (L._∷_ 58 (L._∷_ 58 (L._∷_ 83 (L._∷_ 116 (L._∷_ 101 (L._∷_ 112 L.[])))))))))) (Syntax.tcons (Syntax.tyInt Syntax.w64) (Syntax.tcons (Syntax.tyInt Syntax.w64) (Syntax.tcons (Syntax.tyStruct (L._∷_ 115 (L._∷_ 116 (L._∷_ 101 (L._∷_ 112 (L._∷_ 58 (L._∷_ 58 (L._∷_ 67 (L._∷_ 104 (L._∷_ 97 (L._∷_ 110 (L._∷_ 103 (L._∷_ 101 L.[])))))))))))) (Syntax.tcons (Syntax.tyStruct (L._∷_ 110 (L._∷_ 101 (L._∷_ 116 (L._∷_ 119 (L._∷_ 111 (L._∷_ 114 (L._∷_ 107 (L._∷_ 58 (L._∷_ 58 (L._∷_ 69 (L._∷_ 100 (L._∷_ 105 (L._∷_ 116 L.[]))))))))))))) (Syntax.tcons q11 (Syntax.tcons q11 (Syntax.tcons q11 (Syntax.tcons q11 (Syntax.tcons q3 (Syntax.tcons q3 (Syntax.tcons (Syntax.tyInt Syntax.w64) Syntax.tnil)))))))) (Syntax.tcons (Syntax.tyStruct (L._∷_ 115 (L._∷_ 116 (L._∷_ 101 (L._∷_ 112 (L._∷_ 58 (L._∷_ 58 (L._∷_ 79 (L._∷_ 108 (L._∷_ 100 L.[]))))))))) (Syntax.tcons (Syntax.tyInt Syntax.w64) (Syntax.tcons q10 (Syntax.tcons q11 (Syntax.tcons q11 (Syntax.tcons q11 (Syntax.tcons q11 (Syntax.tcons q7 Syntax.tnil)))))))) Syntax.tnil))) Syntax.tnil)))) Syntax.tnil))))) (L._∷_ q29 (L._∷_ q40 (L._∷_ q41 (L._∷_ (15, Rows.sc-here Row.sPtr) L.[])))))))))))))))
+t17 = L._∷_ (0, Rows.any-gone (Syntax.tyStruct (L._∷_ 114 (L._∷_ 117 (L._∷_ 108 (L._∷_ 101 (L._∷_ 115 (L._∷_ 58 (L._∷_ 58 (L._∷_ 102 (L._∷_ 111 (L._∷_ 117 (L._∷_ 110 (L._∷_ 100 (L._∷_ 58 (L._∷_ 58 (L._∷_ 70 (L._∷_ 111 (L._∷_ 117 (L._∷_ 110 (L._∷_ 100 L.[]))))))))))))))))))) (Syntax.tcons Syntax.tyBool (Syntax.tcons Syntax.tyBool (Syntax.tcons (Syntax.tyStruct (L._∷_ 115 (L._∷_ 116 (L._∷_ 101 (L._∷_ 112 (L._∷_ 58 (L._∷_ 58 (L._∷_ 83 (L._∷_ 116 (L._∷_ 101 (L._∷_ 112 L.[])))))))))) (Syntax.tcons (Syntax.tyInt Syntax.w64) (Syntax.tcons (Syntax.tyInt Syntax.w64) (Syntax.tcons (Syntax.tyStruct (L._∷_ 115 (L._∷_ 116 (L._∷_ 101 (L._∷_ 112 (L._∷_ 58 (L._∷_ 58 (L._∷_ 67 (L._∷_ 104 (L._∷_ 97 (L._∷_ 110 (L._∷_ 103 (L._∷_ 101 L.[])))))))))))) (Syntax.tcons (Syntax.tyStruct (L._∷_ 110 (L._∷_ 101 (L._∷_ 116 (L._∷_ 119 (L._∷_ 111 (L._∷_ 114 (L._∷_ 107 (L._∷_ 58 (L._∷_ 58 (L._∷_ 69 (L._∷_ 100 (L._∷_ 105 (L._∷_ 116 L.[]))))))))))))) (Syntax.tcons q12 (Syntax.tcons q12 (Syntax.tcons q12 (Syntax.tcons q12 (Syntax.tcons q3 (Syntax.tcons q3 (Syntax.tcons (Syntax.tyInt Syntax.w64) (Syntax.tcons q11 Syntax.tnil))))))))) (Syntax.tcons (Syntax.tyStruct (L._∷_ 115 (L._∷_ 116 (L._∷_ 101 (L._∷_ 112 (L._∷_ 58 (L._∷_ 58 (L._∷_ 79 (L._∷_ 108 (L._∷_ 100 L.[]))))))))) (Syntax.tcons (Syntax.tyInt Syntax.w64) (Syntax.tcons q11 (Syntax.tcons q12 (Syntax.tcons q12 (Syntax.tcons q12 (Syntax.tcons q12 (Syntax.tcons q7 Syntax.tnil)))))))) Syntax.tnil))) Syntax.tnil)))) Syntax.tnil))))) (L._∷_ q1 (L._∷_ q16 (L._∷_ q14 (L._∷_ q36 (L._∷_ q25 (L._∷_ q22 (L._∷_ q20 (L._∷_ q37 (L._∷_ q38 (L._∷_ (10, Rows.any-gone (Syntax.tyStruct (L._∷_ 115 (L._∷_ 116 (L._∷_ 101 (L._∷_ 112 (L._∷_ 58 (L._∷_ 58 (L._∷_ 65 (L._∷_ 114 (L._∷_ 111 (L._∷_ 117 (L._∷_ 110 (L._∷_ 100 L.[])))))))))))) (Syntax.tcons q12 (Syntax.tcons q12 (Syntax.tcons q12 (Syntax.tcons q12 Syntax.tnil)))))) (L._∷_ (11, Rows.any-gone (Syntax.tyStruct (L._∷_ 114 (L._∷_ 117 (L._∷_ 108 (L._∷_ 101 (L._∷_ 115 (L._∷_ 58 (L._∷_ 58 (L._∷_ 102 (L._∷_ 111 (L._∷_ 117 (L._∷_ 110 (L._∷_ 100 (L._∷_ 58 (L._∷_ 58 (L._∷_ 70 (L._∷_ 111 (L._∷_ 117 (L._∷_ 110 (L._∷_ 100 L.[]))))))))))))))))))) (Syntax.tcons Syntax.tyBool (Syntax.tcons Syntax.tyBool (Syntax.tcons (Syntax.tyStruct (L._∷_ 115 (L._∷_ 116 (L._∷_ 101 (L._∷_ 112 (L._∷_ 58 (L._∷_ 58 (L._∷_ 83 (L._∷_ 116 (L._∷_ 101 (L._∷_ 112 L.[])))))))))) (Syntax.tcons (Syntax.tyInt Syntax.w64) (Syntax.tcons (Syntax.tyInt Syntax.w64) (Syntax.tcons (Syntax.tyStruct (L._∷_ 115 (L._∷_ 116 (L._∷_ 101 (L._∷_ 112 (L._∷_ 58 (L._∷_ 58 (L._∷_ 67 (L._∷_ 104 (L._∷_ 97 (L._∷_ 110 (L._∷_ 103 (L._∷_ 101 L.[])))))))))))) (Syntax.tcons (Syntax.tyStruct (L._∷_ 110 (L._∷_ 101 (L._∷_ 116 (L._∷_ 119 (L._∷_ 111 (L._∷_ 114 (L._∷_ 107 (L._∷_ 58 (L._∷_ 58 (L._∷_ 69 (L._∷_ 100 (L._∷_ 105 (L._∷_ 116 L.[]))))))))))))) (Syntax.tcons q12 (Syntax.tcons q12 (Syntax.tcons q12 (Syntax.tcons q12 (Syntax.tcons q3 (Syntax.tcons q3 (Syntax.tcons (Syntax.tyInt Syntax.w64) (Syntax.tcons q11 Syntax.tnil))))))))) (Syntax.tcons (Syntax.tyStruct (L._∷_ 115 (L._∷_ 116 (L._∷_ 101 (L._∷_ 112 (L._∷_ 58 (L._∷_ 58 (L._∷_ 79 (L._∷_ 108 (L._∷_ 100 L.[]))))))))) (Syntax.tcons (Syntax.tyInt Syntax.w64) (Syntax.tcons q11 (Syntax.tcons q12 (Syntax.tcons q12 (Syntax.tcons q12 (Syntax.tcons q12 (Syntax.tcons q7 Syntax.tnil)))))))) Syntax.tnil))) Syntax.tnil)))) Syntax.tnil))))) (L._∷_ q30 (L._∷_ q41 (L._∷_ q42 (L._∷_ (15, Rows.sc-here Row.sPtr) L.[])))))))))))))))
 
 abbrev pub t18 : L.List Row.Entry
-t18 = L._∷_ (16, Rows.sc-here Row.sPtr) (L._∷_ q46 (L._∷_ q47 (L._∷_ q30 (L._∷_ q42 (L._∷_ q31 (L._∷_ q48 (L._∷_ q49 (L._∷_ q9 (L._∷_ q5 (L._∷_ q43 L.[]))))))))))
+t18 = L._∷_ (16, Rows.sc-here Row.sPtr) (L._∷_ q47 (L._∷_ q48 (L._∷_ q31 (L._∷_ q43 (L._∷_ q32 (L._∷_ q49 (L._∷_ q50 (L._∷_ q9 (L._∷_ q10 (L._∷_ q5 (L._∷_ q44 L.[])))))))))))
 
 abbrev pub t19 : L.List Row.Entry
-t19 = L._∷_ q45 (L._∷_ (17, Rows.sc-here Row.sPtr) (L._∷_ q47 (L._∷_ q30 (L._∷_ q42 (L._∷_ q31 (L._∷_ q48 (L._∷_ q49 (L._∷_ q9 (L._∷_ q5 (L._∷_ q43 L.[]))))))))))
+t19 = L._∷_ q46 (L._∷_ (17, Rows.sc-here Row.sPtr) (L._∷_ q48 (L._∷_ q31 (L._∷_ q43 (L._∷_ q32 (L._∷_ q49 (L._∷_ q50 (L._∷_ q9 (L._∷_ q10 (L._∷_ q5 (L._∷_ q44 L.[])))))))))))
 
 abbrev pub t20 : L.List Row.Entry
-t20 = L._∷_ q45 (L._∷_ (17, Rows.sc-here Row.sPtr) (L._∷_ (18, Rows.sc-here Row.sPtr) (L._∷_ q30 (L._∷_ q42 (L._∷_ q31 (L._∷_ q48 (L._∷_ q49 (L._∷_ q9 (L._∷_ q5 (L._∷_ q43 L.[]))))))))))
+t20 = L._∷_ q46 (L._∷_ (17, Rows.sc-here Row.sPtr) (L._∷_ (18, Rows.sc-here Row.sPtr) (L._∷_ q31 (L._∷_ q43 (L._∷_ q32 (L._∷_ q49 (L._∷_ q50 (L._∷_ q9 (L._∷_ q10 (L._∷_ q5 (L._∷_ q44 L.[])))))))))))
 
 abbrev pub t21 : L.List Row.Entry
-t21 = L._∷_ q45 (L._∷_ q46 (L._∷_ (18, Rows.sc-here Row.sPtr) (L._∷_ q30 (L._∷_ q42 (L._∷_ q31 (L._∷_ q48 (L._∷_ q49 (L._∷_ q9 (L._∷_ q5 (L._∷_ q43 L.[]))))))))))
+t21 = L._∷_ q46 (L._∷_ q47 (L._∷_ (18, Rows.sc-here Row.sPtr) (L._∷_ q31 (L._∷_ q43 (L._∷_ q32 (L._∷_ q49 (L._∷_ q50 (L._∷_ q9 (L._∷_ q10 (L._∷_ q5 (L._∷_ q44 L.[])))))))))))
 
 abbrev pub t22 : L.List Row.Entry
-t22 = L._∷_ q45 (L._∷_ q46 (L._∷_ (18, Rows.sc-here Row.sPtr) (L._∷_ (19, Rows.sc-here (Row.sInt Syntax.w64)) (L._∷_ q42 (L._∷_ q31 (L._∷_ q48 (L._∷_ q49 (L._∷_ q9 (L._∷_ q5 (L._∷_ q43 L.[]))))))))))
+t22 = L._∷_ q46 (L._∷_ q47 (L._∷_ (18, Rows.sc-here Row.sPtr) (L._∷_ (19, Rows.sc-here (Row.sInt Syntax.w64)) (L._∷_ q43 (L._∷_ q32 (L._∷_ q49 (L._∷_ q50 (L._∷_ q9 (L._∷_ q10 (L._∷_ q5 (L._∷_ q44 L.[])))))))))))
 
 abbrev pub t23 : L.List Row.Entry
-t23 = L._∷_ q45 (L._∷_ q46 (L._∷_ q47 (L._∷_ (19, Rows.sc-here (Row.sInt Syntax.w64)) (L._∷_ q42 (L._∷_ q31 (L._∷_ q48 (L._∷_ q49 (L._∷_ q9 (L._∷_ q5 (L._∷_ q43 L.[]))))))))))
+t23 = L._∷_ q46 (L._∷_ q47 (L._∷_ q48 (L._∷_ (19, Rows.sc-here (Row.sInt Syntax.w64)) (L._∷_ q43 (L._∷_ q32 (L._∷_ q49 (L._∷_ q50 (L._∷_ q9 (L._∷_ q10 (L._∷_ q5 (L._∷_ q44 L.[])))))))))))
 
 abbrev pub t24 : L.List Row.Entry
-t24 = L._∷_ (0, Rows.any-gone (Syntax.tyStruct (L._∷_ 114 (L._∷_ 117 (L._∷_ 108 (L._∷_ 101 (L._∷_ 115 (L._∷_ 58 (L._∷_ 58 (L._∷_ 102 (L._∷_ 111 (L._∷_ 117 (L._∷_ 110 (L._∷_ 100 (L._∷_ 58 (L._∷_ 58 (L._∷_ 70 (L._∷_ 111 (L._∷_ 117 (L._∷_ 110 (L._∷_ 100 L.[]))))))))))))))))))) (Syntax.tcons Syntax.tyBool (Syntax.tcons Syntax.tyBool (Syntax.tcons (Syntax.tyStruct (L._∷_ 115 (L._∷_ 116 (L._∷_ 101 (L._∷_ 112 (L._∷_ 58 (L._∷_ 58 (L._∷_ 83 (L._∷_ 116 (L._∷_ 101 (L._∷_ 112 L.[])))))))))) (Syntax.tcons (Syntax.tyInt Syntax.w64) (Syntax.tcons (Syntax.tyInt Syntax.w64) (Syntax.tcons (Syntax.tyStruct (L._∷_ 115 (L._∷_ 116 (L._∷_ 101 (L._∷_ 112 (L._∷_ 58 (L._∷_ 58 (L._∷_ 67 (L._∷_ 104 (L._∷_ 97 (L._∷_ 110 (L._∷_ 103 (L._∷_ 101 L.[])))))))))))) (Syntax.tcons (Syntax.tyStruct (L._∷_ 110 (L._∷_ 101 (L._∷_ 116 (L._∷_ 119 (L._∷_ 111 (L._∷_ 114 (L._∷_ 107 (L._∷_ 58 (L._∷_ 58 (L._∷_ 69 (L._∷_ 100 (L._∷_ 105 (L._∷_ 116 L.[]))))))))))))) (Syntax.tcons q11 (Syntax.tcons q11 (Syntax.tcons q11 (Syntax.tcons q11 (Syntax.tcons q3 (Syntax.tcons q3 (Syntax.tcons (Syntax.tyInt Syntax.w64) Syntax.tnil)))))))) (Syntax.tcons (Syntax.tyStruct (L._∷_ 115 (L._∷_ 116 (L._∷_ 101 (L._∷_ 112 (L._∷_ 58 (L._∷_ 58 (L._∷_ 79 (L._∷_ 108 (L._∷_ 100 L.[]))))))))) (Syntax.tcons (Syntax.tyInt Syntax.w64) (Syntax.tcons q10 (Syntax.tcons q11 (Syntax.tcons q11 (Syntax.tcons q11 (Syntax.tcons q11 (Syntax.tcons q7 Syntax.tnil)))))))) Syntax.tnil))) Syntax.tnil)))) Syntax.tnil))))) (L._∷_ q1 (L._∷_ q15 (L._∷_ q13 (L._∷_ q35 (L._∷_ q24 (L._∷_ q21 (L._∷_ q19 (L._∷_ q36 (L._∷_ q37 (L._∷_ (10, Rows.any-gone (Syntax.tyStruct (L._∷_ 115 (L._∷_ 116 (L._∷_ 101 (L._∷_ 112 (L._∷_ 58 (L._∷_ 58 (L._∷_ 65 (L._∷_ 114 (L._∷_ 111 (L._∷_ 117 (L._∷_ 110 (L._∷_ 100 L.[])))))))))))) (Syntax.tcons q11 (Syntax.tcons q11 (Syntax.tcons q11 (Syntax.tcons q11 Syntax.tnil)))))) (L._∷_ (11, Rows.any-gone (Syntax.tyStruct (L._∷_ 114 (L._∷_ 117 (L._∷_ 108 (L._∷_ 101 (L._∷_ 115 (L._∷_ 58 (L._∷_ 58 (L._∷_ 102 (L._∷_ 111 (L._∷_ 117 (L._∷_ 110 (L._∷_ 100 (L._∷_ 58 (L._∷_ 58 (L._∷_ 70 (L._∷_ 111 (L._∷_ 117 (L._∷_ 110 (L._∷_ 100 L.[]))))))))))))))))))) (Syntax.tcons Syntax.tyBool (Syntax.tcons Syntax.tyBool (Syntax.tcons (Syntax.tyStruct (L._∷_ 115 (L._∷_ 116 (L._∷_ 101 (L._∷_ 112 (L._∷_ 58 (L._∷_ 58 (L._∷_ 83 (L._∷_ 116 (L._∷_ 101 (L._∷_ 112 L.[])))))))))) (Syntax.tcons (Syntax.tyInt Syntax.w64) (Syntax.tcons (Syntax.tyInt Syntax.w64) (Syntax.tcons (Syntax.tyStruct (L._∷_ 115 (L._∷_ 116 (L._∷_ 101 (L._∷_ 112 (L._∷_ 58 (L._∷_ 58 (L._∷_ 67 (L._∷_ 104 (L._∷_ 97 (L._∷_ 110 (L._∷_ 103 (L._∷_ 101 L.[])))))))))))) (Syntax.tcons (Syntax.tyStruct (L._∷_ 110 (L._∷_ 101 (L._∷_ 116 (L._∷_ 119 (L._∷_ 111 (L._∷_ 114 (L._∷_ 107 (L._∷_ 58 (L._∷_ 58 (L._∷_ 69 (L._∷_ 100 (L._∷_ 105 (L._∷_ 116 L.[]))))))))))))) (Syntax.tcons q11 (Syntax.tcons q11 (Syntax.tcons q11 (Syntax.tcons q11 (Syntax.tcons q3 (Syntax.tcons q3 (Syntax.tcons (Syntax.tyInt Syntax.w64) Syntax.tnil)))))))) (Syntax.tcons (Syntax.tyStruct (L._∷_ 115 (L._∷_ 116 (L._∷_ 101 (L._∷_ 112 (L._∷_ 58 (L._∷_ 58 (L._∷_ 79 (L._∷_ 108 (L._∷_ 100 L.[]))))))))) (Syntax.tcons (Syntax.tyInt Syntax.w64) (Syntax.tcons q10 (Syntax.tcons q11 (Syntax.tcons q11 (Syntax.tcons q11 (Syntax.tcons q11 (Syntax.tcons q7 Syntax.tnil)))))))) Syntax.tnil))) Syntax.tnil)))) Syntax.tnil))))) (L._∷_ q29 (L._∷_ (13, Rows.sc-here Row.sBool) (L._∷_ (14, Rows.sc-here Row.sBool) (L._∷_ q44 L.[])))))))))))))))
+t24 = L._∷_ (0, Rows.any-gone (Syntax.tyStruct (L._∷_ 114 (L._∷_ 117 (L._∷_ 108 (L._∷_ 101 (L._∷_ 115 (L._∷_ 58 (L._∷_ 58 (L._∷_ 102 (L._∷_ 111 (L._∷_ 117 (L._∷_ 110 (L._∷_ 100 (L._∷_ 58 (L._∷_ 58 (L._∷_ 70 (L._∷_ 111 (L._∷_ 117 (L._∷_ 110 (L._∷_ 100 L.[]))))))))))))))))))) (Syntax.tcons Syntax.tyBool (Syntax.tcons Syntax.tyBool (Syntax.tcons (Syntax.tyStruct (L._∷_ 115 (L._∷_ 116 (L._∷_ 101 (L._∷_ 112 (L._∷_ 58 (L._∷_ 58 (L._∷_ 83 (L._∷_ 116 (L._∷_ 101 (L._∷_ 112 L.[])))))))))) (Syntax.tcons (Syntax.tyInt Syntax.w64) (Syntax.tcons (Syntax.tyInt Syntax.w64) (Syntax.tcons (Syntax.tyStruct (L._∷_ 115 (L._∷_ 116 (L._∷_ 101 (L._∷_ 112 (L._∷_ 58 (L._∷_ 58 (L._∷_ 67 (L._∷_ 104 (L._∷_ 97 (L._∷_ 110 (L._∷_ 103 (L._∷_ 101 L.[])))))))))))) (Syntax.tcons (Syntax.tyStruct (L._∷_ 110 (L._∷_ 101 (L._∷_ 116 (L._∷_ 119 (L._∷_ 111 (L._∷_ 114 (L._∷_ 107 (L._∷_ 58 (L._∷_ 58 (L._∷_ 69 (L._∷_ 100 (L._∷_ 105 (L._∷_ 116 L.[]))))))))))))) (Syntax.tcons q12 (Syntax.tcons q12 (Syntax.tcons q12 (Syntax.tcons q12 (Syntax.tcons q3 (Syntax.tcons q3 (Syntax.tcons (Syntax.tyInt Syntax.w64) (Syntax.tcons q11 Syntax.tnil))))))))) (Syntax.tcons (Syntax.tyStruct (L._∷_ 115 (L._∷_ 116 (L._∷_ 101 (L._∷_ 112 (L._∷_ 58 (L._∷_ 58 (L._∷_ 79 (L._∷_ 108 (L._∷_ 100 L.[]))))))))) (Syntax.tcons (Syntax.tyInt Syntax.w64) (Syntax.tcons q11 (Syntax.tcons q12 (Syntax.tcons q12 (Syntax.tcons q12 (Syntax.tcons q12 (Syntax.tcons q7 Syntax.tnil)))))))) Syntax.tnil))) Syntax.tnil)))) Syntax.tnil))))) (L._∷_ q1 (L._∷_ q16 (L._∷_ q14 (L._∷_ q36 (L._∷_ q25 (L._∷_ q22 (L._∷_ q20 (L._∷_ q37 (L._∷_ q38 (L._∷_ (10, Rows.any-gone (Syntax.tyStruct (L._∷_ 115 (L._∷_ 116 (L._∷_ 101 (L._∷_ 112 (L._∷_ 58 (L._∷_ 58 (L._∷_ 65 (L._∷_ 114 (L._∷_ 111 (L._∷_ 117 (L._∷_ 110 (L._∷_ 100 L.[])))))))))))) (Syntax.tcons q12 (Syntax.tcons q12 (Syntax.tcons q12 (Syntax.tcons q12 Syntax.tnil)))))) (L._∷_ (11, Rows.any-gone (Syntax.tyStruct (L._∷_ 114 (L._∷_ 117 (L._∷_ 108 (L._∷_ 101 (L._∷_ 115 (L._∷_ 58 (L._∷_ 58 (L._∷_ 102 (L._∷_ 111 (L._∷_ 117 (L._∷_ 110 (L._∷_ 100 (L._∷_ 58 (L._∷_ 58 (L._∷_ 70 (L._∷_ 111 (L._∷_ 117 (L._∷_ 110 (L._∷_ 100 L.[]))))))))))))))))))) (Syntax.tcons Syntax.tyBool (Syntax.tcons Syntax.tyBool (Syntax.tcons (Syntax.tyStruct (L._∷_ 115 (L._∷_ 116 (L._∷_ 101 (L._∷_ 112 (L._∷_ 58 (L._∷_ 58 (L._∷_ 83 (L._∷_ 116 (L._∷_ 101 (L._∷_ 112 L.[])))))))))) (Syntax.tcons (Syntax.tyInt Syntax.w64) (Syntax.tcons (Syntax.tyInt Syntax.w64) (Syntax.tcons (Syntax.tyStruct (L._∷_ 115 (L._∷_ 116 (L._∷_ 101 (L._∷_ 112 (L._∷_ 58 (L._∷_ 58 (L._∷_ 67 (L._∷_ 104 (L._∷_ 97 (L._∷_ 110 (L._∷_ 103 (L._∷_ 101 L.[])))))))))))) (Syntax.tcons (Syntax.tyStruct (L._∷_ 110 (L._∷_ 101 (L._∷_ 116 (L._∷_ 119 (L._∷_ 111 (L._∷_ 114 (L._∷_ 107 (L._∷_ 58 (L._∷_ 58 (L._∷_ 69 (L._∷_ 100 (L._∷_ 105 (L._∷_ 116 L.[]))))))))))))) (Syntax.tcons q12 (Syntax.tcons q12 (Syntax.tcons q12 (Syntax.tcons q12 (Syntax.tcons q3 (Syntax.tcons q3 (Syntax.tcons (Syntax.tyInt Syntax.w64) (Syntax.tcons q11 Syntax.tnil))))))))) (Syntax.tcons (Syntax.tyStruct (L._∷_ 115 (L._∷_ 116 (L._∷_ 101 (L._∷_ 112 (L._∷_ 58 (L._∷_ 58 (L._∷_ 79 (L._∷_ 108 (L._∷_ 100 L.[]))))))))) (Syntax.tcons (Syntax.tyInt Syntax.w64) (Syntax.tcons q11 (Syntax.tcons q12 (Syntax.tcons q12 (Syntax.tcons q12 (Syntax.tcons q12 (Syntax.tcons q7 Syntax.tnil)))))))) Syntax.tnil))) Syntax.tnil)))) Syntax.tnil))))) (L._∷_ q30 (L._∷_ (13, Rows.sc-here Row.sBool) (L._∷_ (14, Rows.sc-here Row.sBool) (L._∷_ q45 L.[])))))))))))))))
 
 abbrev pub t25 : L.List Row.Entry
-t25 = L._∷_ (0, Rows.any-gone (Syntax.tyStruct (L._∷_ 114 (L._∷_ 117 (L._∷_ 108 (L._∷_ 101 (L._∷_ 115 (L._∷_ 58 (L._∷_ 58 (L._∷_ 102 (L._∷_ 111 (L._∷_ 117 (L._∷_ 110 (L._∷_ 100 (L._∷_ 58 (L._∷_ 58 (L._∷_ 70 (L._∷_ 111 (L._∷_ 117 (L._∷_ 110 (L._∷_ 100 L.[]))))))))))))))))))) (Syntax.tcons Syntax.tyBool (Syntax.tcons Syntax.tyBool (Syntax.tcons (Syntax.tyStruct (L._∷_ 115 (L._∷_ 116 (L._∷_ 101 (L._∷_ 112 (L._∷_ 58 (L._∷_ 58 (L._∷_ 83 (L._∷_ 116 (L._∷_ 101 (L._∷_ 112 L.[])))))))))) (Syntax.tcons (Syntax.tyInt Syntax.w64) (Syntax.tcons (Syntax.tyInt Syntax.w64) (Syntax.tcons (Syntax.tyStruct (L._∷_ 115 (L._∷_ 116 (L._∷_ 101 (L._∷_ 112 (L._∷_ 58 (L._∷_ 58 (L._∷_ 67 (L._∷_ 104 (L._∷_ 97 (L._∷_ 110 (L._∷_ 103 (L._∷_ 101 L.[])))))))))))) (Syntax.tcons (Syntax.tyStruct (L._∷_ 110 (L._∷_ 101 (L._∷_ 116 (L._∷_ 119 (L._∷_ 111 (L._∷_ 114 (L._∷_ 107 (L._∷_ 58 (L._∷_ 58 (L._∷_ 69 (L._∷_ 100 (L._∷_ 105 (L._∷_ 116 L.[]))))))))))))) (Syntax.tcons q11 (Syntax.tcons q11 (Syntax.tcons q11 (Syntax.tcons q11 (Syntax.tcons q3 (Syntax.tcons q3 (Syntax.tcons (Syntax.tyInt Syntax.w64) Syntax.tnil)))))))) (Syntax.tcons (Syntax.tyStruct (L._∷_ 115 (L._∷_ 116 (L._∷_ 101 (L._∷_ 112 (L._∷_ 58 (L._∷_ 58 (L._∷_ 79 (L._∷_ 108 (L._∷_ 100 L.[]))))))))) (Syntax.tcons (Syntax.tyInt Syntax.w64) (Syntax.tcons q10 (Syntax.tcons q11 (Syntax.tcons q11 (Syntax.tcons q11 (Syntax.tcons q11 (Syntax.tcons q7 Syntax.tnil)))))))) Syntax.tnil))) Syntax.tnil)))) Syntax.tnil))))) (L._∷_ q1 (L._∷_ q15 (L._∷_ q13 (L._∷_ q35 (L._∷_ q24 (L._∷_ q21 (L._∷_ q19 (L._∷_ q36 (L._∷_ q37 (L._∷_ (10, Rows.any-gone (Syntax.tyStruct (L._∷_ 115 (L._∷_ 116 (L._∷_ 101 (L._∷_ 112 (L._∷_ 58 (L._∷_ 58 (L._∷_ 65 (L._∷_ 114 (L._∷_ 111 (L._∷_ 117 (L._∷_ 110 (L._∷_ 100 L.[])))))))))))) (Syntax.tcons q11 (Syntax.tcons q11 (Syntax.tcons q11 (Syntax.tcons q11 Syntax.tnil)))))) (L._∷_ (11, Rows.any-gone (Syntax.tyStruct (L._∷_ 114 (L._∷_ 117 (L._∷_ 108 (L._∷_ 101 (L._∷_ 115 (L._∷_ 58 (L._∷_ 58 (L._∷_ 102 (L._∷_ 111 (L._∷_ 117 (L._∷_ 110 (L._∷_ 100 (L._∷_ 58 (L._∷_ 58 (L._∷_ 70 (L._∷_ 111 (L._∷_ 117 (L._∷_ 110 (L._∷_ 100 L.[]))))))))))))))))))) (Syntax.tcons Syntax.tyBool (Syntax.tcons Syntax.tyBool (Syntax.tcons (Syntax.tyStruct (L._∷_ 115 (L._∷_ 116 (L._∷_ 101 (L._∷_ 112 (L._∷_ 58 (L._∷_ 58 (L._∷_ 83 (L._∷_ 116 (L._∷_ 101 (L._∷_ 112 L.[])))))))))) (Syntax.tcons (Syntax.tyInt Syntax.w64) (Syntax.tcons (Syntax.tyInt Syntax.w64) (Syntax.tcons (Syntax.tyStruct (L._∷_ 115 (L._∷_ 116 (L._∷_ 101 (L._∷_ 112 (L._∷_ 58 (L._∷_ 58 (L._∷_ 67 (L._∷_ 104 (L._∷_ 97 (L._∷_ 110 (L._∷_ 103 (L._∷_ 101 L.[])))))))))))) (Syntax.tcons (Syntax.tyStruct (L._∷_ 110 (L._∷_ 101 (L._∷_ 116 (L._∷_ 119 (L._∷_ 111 (L._∷_ 114 (L._∷_ 107 (L._∷_ 58 (L._∷_ 58 (L._∷_ 69 (L._∷_ 100 (L._∷_ 105 (L._∷_ 116 L.[]))))))))))))) (Syntax.tcons q11 (Syntax.tcons q11 (Syntax.tcons q11 (Syntax.tcons q11 (Syntax.tcons q3 (Syntax.tcons q3 (Syntax.tcons (Syntax.tyInt Syntax.w64) Syntax.tnil)))))))) (Syntax.tcons (Syntax.tyStruct (L._∷_ 115 (L._∷_ 116 (L._∷_ 101 (L._∷_ 112 (L._∷_ 58 (L._∷_ 58 (L._∷_ 79 (L._∷_ 108 (L._∷_ 100 L.[]))))))))) (Syntax.tcons (Syntax.tyInt Syntax.w64) (Syntax.tcons q10 (Syntax.tcons q11 (Syntax.tcons q11 (Syntax.tcons q11 (Syntax.tcons q11 (Syntax.tcons q7 Syntax.tnil)))))))) Syntax.tnil))) Syntax.tnil)))) Syntax.tnil))))) (L._∷_ q29 (L._∷_ q40 (L._∷_ (14, Rows.sc-here Row.sBool) (L._∷_ q44 L.[])))))))))))))))
+t25 = L._∷_ (0, Rows.any-gone (Syntax.tyStruct (L._∷_ 114 (L._∷_ 117 (L._∷_ 108 (L._∷_ 101 (L._∷_ 115 (L._∷_ 58 (L._∷_ 58 (L._∷_ 102 (L._∷_ 111 (L._∷_ 117 (L._∷_ 110 (L._∷_ 100 (L._∷_ 58 (L._∷_ 58 (L._∷_ 70 (L._∷_ 111 (L._∷_ 117 (L._∷_ 110 (L._∷_ 100 L.[]))))))))))))))))))) (Syntax.tcons Syntax.tyBool (Syntax.tcons Syntax.tyBool (Syntax.tcons (Syntax.tyStruct (L._∷_ 115 (L._∷_ 116 (L._∷_ 101 (L._∷_ 112 (L._∷_ 58 (L._∷_ 58 (L._∷_ 83 (L._∷_ 116 (L._∷_ 101 (L._∷_ 112 L.[])))))))))) (Syntax.tcons (Syntax.tyInt Syntax.w64) (Syntax.tcons (Syntax.tyInt Syntax.w64) (Syntax.tcons (Syntax.tyStruct (L._∷_ 115 (L._∷_ 116 (L._∷_ 101 (L._∷_ 112 (L._∷_ 58 (L._∷_ 58 (L._∷_ 67 (L._∷_ 104 (L._∷_ 97 (L._∷_ 110 (L._∷_ 103 (L._∷_ 101 L.[])))))))))))) (Syntax.tcons (Syntax.tyStruct (L._∷_ 110 (L._∷_ 101 (L._∷_ 116 (L._∷_ 119 (L._∷_ 111 (L._∷_ 114 (L._∷_ 107 (L._∷_ 58 (L._∷_ 58 (L._∷_ 69 (L._∷_ 100 (L._∷_ 105 (L._∷_ 116 L.[]))))))))))))) (Syntax.tcons q12 (Syntax.tcons q12 (Syntax.tcons q12 (Syntax.tcons q12 (Syntax.tcons q3 (Syntax.tcons q3 (Syntax.tcons (Syntax.tyInt Syntax.w64) (Syntax.tcons q11 Syntax.tnil))))))))) (Syntax.tcons (Syntax.tyStruct (L._∷_ 115 (L._∷_ 116 (L._∷_ 101 (L._∷_ 112 (L._∷_ 58 (L._∷_ 58 (L._∷_ 79 (L._∷_ 108 (L._∷_ 100 L.[]))))))))) (Syntax.tcons (Syntax.tyInt Syntax.w64) (Syntax.tcons q11 (Syntax.tcons q12 (Syntax.tcons q12 (Syntax.tcons q12 (Syntax.tcons q12 (Syntax.tcons q7 Syntax.tnil)))))))) Syntax.tnil))) Syntax.tnil)))) Syntax.tnil))))) (L._∷_ q1 (L._∷_ q16 (L._∷_ q14 (L._∷_ q36 (L._∷_ q25 (L._∷_ q22 (L._∷_ q20 (L._∷_ q37 (L._∷_ q38 (L._∷_ (10, Rows.any-gone (Syntax.tyStruct (L._∷_ 115 (L._∷_ 116 (L._∷_ 101 (L._∷_ 112 (L._∷_ 58 (L._∷_ 58 (L._∷_ 65 (L._∷_ 114 (L._∷_ 111 (L._∷_ 117 (L._∷_ 110 (L._∷_ 100 L.[])))))))))))) (Syntax.tcons q12 (Syntax.tcons q12 (Syntax.tcons q12 (Syntax.tcons q12 Syntax.tnil)))))) (L._∷_ (11, Rows.any-gone (Syntax.tyStruct (L._∷_ 114 (L._∷_ 117 (L._∷_ 108 (L._∷_ 101 (L._∷_ 115 (L._∷_ 58 (L._∷_ 58 (L._∷_ 102 (L._∷_ 111 (L._∷_ 117 (L._∷_ 110 (L._∷_ 100 (L._∷_ 58 (L._∷_ 58 (L._∷_ 70 (L._∷_ 111 (L._∷_ 117 (L._∷_ 110 (L._∷_ 100 L.[]))))))))))))))))))) (Syntax.tcons Syntax.tyBool (Syntax.tcons Syntax.tyBool (Syntax.tcons (Syntax.tyStruct (L._∷_ 115 (L._∷_ 116 (L._∷_ 101 (L._∷_ 112 (L._∷_ 58 (L._∷_ 58 (L._∷_ 83 (L._∷_ 116 (L._∷_ 101 (L._∷_ 112 L.[])))))))))) (Syntax.tcons (Syntax.tyInt Syntax.w64) (Syntax.tcons (Syntax.tyInt Syntax.w64) (Syntax.tcons (Syntax.tyStruct (L._∷_ 115 (L._∷_ 116 (L._∷_ 101 (L._∷_ 112 (L._∷_ 58 (L._∷_ 58 (L._∷_ 67 (L._∷_ 104 (L._∷_ 97 (L._∷_ 110 (L._∷_ 103 (L._∷_ 101 L.[])))))))))))) (Syntax.tcons (Syntax.tyStruct (L._∷_ 110 (L._∷_ 101 (L._∷_ 116 (L._∷_ 119 (L._∷_ 111 (L._∷_ 114 (L._∷_ 107 (L._∷_ 58 (L._∷_ 58 (L._∷_ 69 (L._∷_ 100 (L._∷_ 105 (L._∷_ 116 L.[]))))))))))))) (Syntax.tcons q12 (Syntax.tcons q12 (Syntax.tcons q12 (Syntax.tcons q12 (Syntax.tcons q3 (Syntax.tcons q3 (Syntax.tcons (Syntax.tyInt Syntax.w64) (Syntax.tcons q11 Syntax.tnil))))))))) (Syntax.tcons (Syntax.tyStruct (L._∷_ 115 (L._∷_ 116 (L._∷_ 101 (L._∷_ 112 (L._∷_ 58 (L._∷_ 58 (L._∷_ 79 (L._∷_ 108 (L._∷_ 100 L.[]))))))))) (Syntax.tcons (Syntax.tyInt Syntax.w64) (Syntax.tcons q11 (Syntax.tcons q12 (Syntax.tcons q12 (Syntax.tcons q12 (Syntax.tcons q12 (Syntax.tcons q7 Syntax.tnil)))))))) Syntax.tnil))) Syntax.tnil)))) Syntax.tnil))))) (L._∷_ q30 (L._∷_ q41 (L._∷_ (14, Rows.sc-here Row.sBool) (L._∷_ q45 L.[])))))))))))))))
 
 abbrev pub t26 : L.List Row.Entry
-t26 = L._∷_ q45 (L._∷_ q46 (L._∷_ q47 (L._∷_ q30 (L._∷_ q42 (L._∷_ q34 (L._∷_ q48 (L._∷_ q49 (L._∷_ q9 (L._∷_ q5 (L._∷_ q43 L.[]))))))))))
+t26 = L._∷_ q46 (L._∷_ q47 (L._∷_ q48 (L._∷_ q31 (L._∷_ q43 (L._∷_ q35 (L._∷_ q49 (L._∷_ q50 (L._∷_ q9 (L._∷_ q10 (L._∷_ q5 (L._∷_ q44 L.[])))))))))))
 
 abbrev pub t27 : L.List Row.Entry
-t27 = L._∷_ q45 (L._∷_ q46 (L._∷_ q47 (L._∷_ q30 (L._∷_ q42 (L._∷_ q34 (L._∷_ (22, Rows.sc-here Row.sPtr) (L._∷_ q49 (L._∷_ q9 (L._∷_ q5 (L._∷_ q43 L.[]))))))))))
+t27 = L._∷_ q46 (L._∷_ q47 (L._∷_ q48 (L._∷_ q31 (L._∷_ q43 (L._∷_ q35 (L._∷_ (22, Rows.sc-here Row.sPtr) (L._∷_ q50 (L._∷_ q9 (L._∷_ q10 (L._∷_ q5 (L._∷_ q44 L.[])))))))))))
 
 abbrev pub t28 : L.List Row.Entry
-t28 = L._∷_ q45 (L._∷_ q46 (L._∷_ q47 (L._∷_ q30 (L._∷_ q42 (L._∷_ q34 (L._∷_ (22, Rows.sc-here Row.sPtr) (L._∷_ (23, Rows.sc-here Row.sPtr) (L._∷_ q9 (L._∷_ q5 (L._∷_ q43 L.[]))))))))))
+t28 = L._∷_ q46 (L._∷_ q47 (L._∷_ q48 (L._∷_ q31 (L._∷_ q43 (L._∷_ q35 (L._∷_ (22, Rows.sc-here Row.sPtr) (L._∷_ (23, Rows.sc-here Row.sPtr) (L._∷_ q9 (L._∷_ q10 (L._∷_ q5 (L._∷_ q44 L.[])))))))))))
 
 abbrev pub t29 : L.List Row.Entry
-t29 = L._∷_ q45 (L._∷_ q46 (L._∷_ q47 (L._∷_ q30 (L._∷_ q42 (L._∷_ q34 (L._∷_ q48 (L._∷_ (23, Rows.sc-here Row.sPtr) (L._∷_ q9 (L._∷_ q5 (L._∷_ q43 L.[]))))))))))
+t29 = L._∷_ q46 (L._∷_ q47 (L._∷_ q48 (L._∷_ q31 (L._∷_ q43 (L._∷_ q35 (L._∷_ q49 (L._∷_ (23, Rows.sc-here Row.sPtr) (L._∷_ q9 (L._∷_ q10 (L._∷_ q5 (L._∷_ q44 L.[])))))))))))
 
 abbrev pub t30 : L.List Row.Entry
-t30 = L._∷_ q45 (L._∷_ q46 (L._∷_ q47 (L._∷_ q30 (L._∷_ q42 (L._∷_ q34 (L._∷_ q48 (L._∷_ (23, Rows.sc-here Row.sPtr) (L._∷_ q16 (L._∷_ q5 (L._∷_ q43 L.[]))))))))))
+t30 = L._∷_ q46 (L._∷_ q47 (L._∷_ q48 (L._∷_ q31 (L._∷_ q43 (L._∷_ q35 (L._∷_ q49 (L._∷_ (23, Rows.sc-here Row.sPtr) (L._∷_ q17 (L._∷_ q10 (L._∷_ q5 (L._∷_ q44 L.[])))))))))))
 
 abbrev pub t31 : L.List Row.Entry
-t31 = L._∷_ q45 (L._∷_ q46 (L._∷_ q47 (L._∷_ q30 (L._∷_ q42 (L._∷_ q31 (L._∷_ q48 (L._∷_ (23, Rows.sc-here Row.sPtr) (L._∷_ q16 (L._∷_ q5 (L._∷_ q43 L.[]))))))))))
+t31 = L._∷_ q46 (L._∷_ q47 (L._∷_ q48 (L._∷_ q31 (L._∷_ q43 (L._∷_ q32 (L._∷_ q49 (L._∷_ (23, Rows.sc-here Row.sPtr) (L._∷_ q17 (L._∷_ q10 (L._∷_ q5 (L._∷_ q44 L.[])))))))))))
 
 abbrev pub t32 : L.List Row.Entry
-t32 = L._∷_ q45 (L._∷_ q46 (L._∷_ q47 (L._∷_ q30 (L._∷_ q42 (L._∷_ q31 (L._∷_ q48 (L._∷_ q49 (L._∷_ q16 (L._∷_ q5 (L._∷_ q43 L.[]))))))))))
+t32 = L._∷_ q46 (L._∷_ q47 (L._∷_ q48 (L._∷_ q31 (L._∷_ q43 (L._∷_ q32 (L._∷_ q49 (L._∷_ q50 (L._∷_ q17 (L._∷_ q10 (L._∷_ q5 (L._∷_ q44 L.[])))))))))))
 
 abbrev pub t33 : L.List Row.Entry
-t33 = L._∷_ q45 (L._∷_ q46 (L._∷_ q47 (L._∷_ q30 (L._∷_ (20, Rows.sc-here Row.sBool) (L._∷_ q31 (L._∷_ q48 (L._∷_ q49 (L._∷_ q16 (L._∷_ q5 (L._∷_ q43 L.[]))))))))))
+t33 = L._∷_ q46 (L._∷_ q47 (L._∷_ q48 (L._∷_ q31 (L._∷_ (20, Rows.sc-here Row.sBool) (L._∷_ q32 (L._∷_ q49 (L._∷_ q50 (L._∷_ q17 (L._∷_ q10 (L._∷_ q5 (L._∷_ q44 L.[])))))))))))
 
 abbrev pub t34 : L.List Row.Entry
-t34 = L._∷_ q45 (L._∷_ q46 (L._∷_ q47 (L._∷_ q30 (L._∷_ (20, Rows.sc-here Row.sBool) (L._∷_ q31 (L._∷_ q48 (L._∷_ q49 (L._∷_ q9 (L._∷_ q5 (L._∷_ q43 L.[]))))))))))
+t34 = L._∷_ q46 (L._∷_ q47 (L._∷_ q48 (L._∷_ q31 (L._∷_ (20, Rows.sc-here Row.sBool) (L._∷_ q32 (L._∷_ q49 (L._∷_ q50 (L._∷_ q9 (L._∷_ q10 (L._∷_ q5 (L._∷_ q44 L.[])))))))))))
 
 abbrev pub t35 : L.List Row.Entry
-t35 = L._∷_ (0, Rows.any-gone (Syntax.tyStruct (L._∷_ 114 (L._∷_ 117 (L._∷_ 108 (L._∷_ 101 (L._∷_ 115 (L._∷_ 58 (L._∷_ 58 (L._∷_ 102 (L._∷_ 111 (L._∷_ 117 (L._∷_ 110 (L._∷_ 100 (L._∷_ 58 (L._∷_ 58 (L._∷_ 70 (L._∷_ 111 (L._∷_ 117 (L._∷_ 110 (L._∷_ 100 L.[]))))))))))))))))))) (Syntax.tcons Syntax.tyBool (Syntax.tcons Syntax.tyBool (Syntax.tcons (Syntax.tyStruct (L._∷_ 115 (L._∷_ 116 (L._∷_ 101 (L._∷_ 112 (L._∷_ 58 (L._∷_ 58 (L._∷_ 83 (L._∷_ 116 (L._∷_ 101 (L._∷_ 112 L.[])))))))))) (Syntax.tcons (Syntax.tyInt Syntax.w64) (Syntax.tcons (Syntax.tyInt Syntax.w64) (Syntax.tcons (Syntax.tyStruct (L._∷_ 115 (L._∷_ 116 (L._∷_ 101 (L._∷_ 112 (L._∷_ 58 (L._∷_ 58 (L._∷_ 67 (L._∷_ 104 (L._∷_ 97 (L._∷_ 110 (L._∷_ 103 (L._∷_ 101 L.[])))))))))))) (Syntax.tcons (Syntax.tyStruct (L._∷_ 110 (L._∷_ 101 (L._∷_ 116 (L._∷_ 119 (L._∷_ 111 (L._∷_ 114 (L._∷_ 107 (L._∷_ 58 (L._∷_ 58 (L._∷_ 69 (L._∷_ 100 (L._∷_ 105 (L._∷_ 116 L.[]))))))))))))) (Syntax.tcons q11 (Syntax.tcons q11 (Syntax.tcons q11 (Syntax.tcons q11 (Syntax.tcons q3 (Syntax.tcons q3 (Syntax.tcons (Syntax.tyInt Syntax.w64) Syntax.tnil)))))))) (Syntax.tcons (Syntax.tyStruct (L._∷_ 115 (L._∷_ 116 (L._∷_ 101 (L._∷_ 112 (L._∷_ 58 (L._∷_ 58 (L._∷_ 79 (L._∷_ 108 (L._∷_ 100 L.[]))))))))) (Syntax.tcons (Syntax.tyInt Syntax.w64) (Syntax.tcons q10 (Syntax.tcons q11 (Syntax.tcons q11 (Syntax.tcons q11 (Syntax.tcons q11 (Syntax.tcons q7 Syntax.tnil)))))))) Syntax.tnil))) Syntax.tnil)))) Syntax.tnil))))) (L._∷_ q1 (L._∷_ q15 (L._∷_ q13 (L._∷_ q35 (L._∷_ q24 (L._∷_ q21 (L._∷_ q19 (L._∷_ q36 (L._∷_ q37 (L._∷_ (10, Rows.whole (Declared.row step-proofs-Around·.the-type)) (L._∷_ (11, Rows.any-gone (Syntax.tyStruct (L._∷_ 114 (L._∷_ 117 (L._∷_ 108 (L._∷_ 101 (L._∷_ 115 (L._∷_ 58 (L._∷_ 58 (L._∷_ 102 (L._∷_ 111 (L._∷_ 117 (L._∷_ 110 (L._∷_ 100 (L._∷_ 58 (L._∷_ 58 (L._∷_ 70 (L._∷_ 111 (L._∷_ 117 (L._∷_ 110 (L._∷_ 100 L.[]))))))))))))))))))) (Syntax.tcons Syntax.tyBool (Syntax.tcons Syntax.tyBool (Syntax.tcons (Syntax.tyStruct (L._∷_ 115 (L._∷_ 116 (L._∷_ 101 (L._∷_ 112 (L._∷_ 58 (L._∷_ 58 (L._∷_ 83 (L._∷_ 116 (L._∷_ 101 (L._∷_ 112 L.[])))))))))) (Syntax.tcons (Syntax.tyInt Syntax.w64) (Syntax.tcons (Syntax.tyInt Syntax.w64) (Syntax.tcons (Syntax.tyStruct (L._∷_ 115 (L._∷_ 116 (L._∷_ 101 (L._∷_ 112 (L._∷_ 58 (L._∷_ 58 (L._∷_ 67 (L._∷_ 104 (L._∷_ 97 (L._∷_ 110 (L._∷_ 103 (L._∷_ 101 L.[])))))))))))) (Syntax.tcons (Syntax.tyStruct (L._∷_ 110 (L._∷_ 101 (L._∷_ 116 (L._∷_ 119 (L._∷_ 111 (L._∷_ 114 (L._∷_ 107 (L._∷_ 58 (L._∷_ 58 (L._∷_ 69 (L._∷_ 100 (L._∷_ 105 (L._∷_ 116 L.[]))))))))))))) (Syntax.tcons q11 (Syntax.tcons q11 (Syntax.tcons q11 (Syntax.tcons q11 (Syntax.tcons q3 (Syntax.tcons q3 (Syntax.tcons (Syntax.tyInt Syntax.w64) Syntax.tnil)))))))) (Syntax.tcons (Syntax.tyStruct (L._∷_ 115 (L._∷_ 116 (L._∷_ 101 (L._∷_ 112 (L._∷_ 58 (L._∷_ 58 (L._∷_ 79 (L._∷_ 108 (L._∷_ 100 L.[]))))))))) (Syntax.tcons (Syntax.tyInt Syntax.w64) (Syntax.tcons q10 (Syntax.tcons q11 (Syntax.tcons q11 (Syntax.tcons q11 (Syntax.tcons q11 (Syntax.tcons q7 Syntax.tnil)))))))) Syntax.tnil))) Syntax.tnil)))) Syntax.tnil))))) (L._∷_ q29 (L._∷_ q40 (L._∷_ q41 (L._∷_ q44 L.[])))))))))))))))
+t35 = L._∷_ (0, Rows.any-gone (Syntax.tyStruct (L._∷_ 114 (L._∷_ 117 (L._∷_ 108 (L._∷_ 101 (L._∷_ 115 (L._∷_ 58 (L._∷_ 58 (L._∷_ 102 (L._∷_ 111 (L._∷_ 117 (L._∷_ 110 (L._∷_ 100 (L._∷_ 58 (L._∷_ 58 (L._∷_ 70 (L._∷_ 111 (L._∷_ 117 (L._∷_ 110 (L._∷_ 100 L.[]))))))))))))))))))) (Syntax.tcons Syntax.tyBool (Syntax.tcons Syntax.tyBool (Syntax.tcons (Syntax.tyStruct (L._∷_ 115 (L._∷_ 116 (L._∷_ 101 (L._∷_ 112 (L._∷_ 58 (L._∷_ 58 (L._∷_ 83 (L._∷_ 116 (L._∷_ 101 (L._∷_ 112 L.[])))))))))) (Syntax.tcons (Syntax.tyInt Syntax.w64) (Syntax.tcons (Syntax.tyInt Syntax.w64) (Syntax.tcons (Syntax.tyStruct (L._∷_ 115 (L._∷_ 116 (L._∷_ 101 (L._∷_ 112 (L._∷_ 58 (L._∷_ 58 (L._∷_ 67 (L._∷_ 104 (L._∷_ 97 (L._∷_ 110 (L._∷_ 103 (L._∷_ 101 L.[])))))))))))) (Syntax.tcons (Syntax.tyStruct (L._∷_ 110 (L._∷_ 101 (L._∷_ 116 (L._∷_ 119 (L._∷_ 111 (L._∷_ 114 (L._∷_ 107 (L._∷_ 58 (L._∷_ 58 (L._∷_ 69 (L._∷_ 100 (L._∷_ 105 (L._∷_ 116 L.[]))))))))))))) (Syntax.tcons q12 (Syntax.tcons q12 (Syntax.tcons q12 (Syntax.tcons q12 (Syntax.tcons q3 (Syntax.tcons q3 (Syntax.tcons (Syntax.tyInt Syntax.w64) (Syntax.tcons q11 Syntax.tnil))))))))) (Syntax.tcons (Syntax.tyStruct (L._∷_ 115 (L._∷_ 116 (L._∷_ 101 (L._∷_ 112 (L._∷_ 58 (L._∷_ 58 (L._∷_ 79 (L._∷_ 108 (L._∷_ 100 L.[]))))))))) (Syntax.tcons (Syntax.tyInt Syntax.w64) (Syntax.tcons q11 (Syntax.tcons q12 (Syntax.tcons q12 (Syntax.tcons q12 (Syntax.tcons q12 (Syntax.tcons q7 Syntax.tnil)))))))) Syntax.tnil))) Syntax.tnil)))) Syntax.tnil))))) (L._∷_ q1 (L._∷_ q16 (L._∷_ q14 (L._∷_ q36 (L._∷_ q25 (L._∷_ q22 (L._∷_ q20 (L._∷_ q37 (L._∷_ q38 (L._∷_ (10, Rows.whole (Declared.row step-proofs-Around·.the-type)) (L._∷_ (11, Rows.any-gone (Syntax.tyStruct (L._∷_ 114 (L._∷_ 117 (L._∷_ 108 (L._∷_ 101 (L._∷_ 115 (L._∷_ 58 (L._∷_ 58 (L._∷_ 102 (L._∷_ 111 (L._∷_ 117 (L._∷_ 110 (L._∷_ 100 (L._∷_ 58 (L._∷_ 58 (L._∷_ 70 (L._∷_ 111 (L._∷_ 117 (L._∷_ 110 (L._∷_ 100 L.[]))))))))))))))))))) (Syntax.tcons Syntax.tyBool (Syntax.tcons Syntax.tyBool (Syntax.tcons (Syntax.tyStruct (L._∷_ 115 (L._∷_ 116 (L._∷_ 101 (L._∷_ 112 (L._∷_ 58 (L._∷_ 58 (L._∷_ 83 (L._∷_ 116 (L._∷_ 101 (L._∷_ 112 L.[])))))))))) (Syntax.tcons (Syntax.tyInt Syntax.w64) (Syntax.tcons (Syntax.tyInt Syntax.w64) (Syntax.tcons (Syntax.tyStruct (L._∷_ 115 (L._∷_ 116 (L._∷_ 101 (L._∷_ 112 (L._∷_ 58 (L._∷_ 58 (L._∷_ 67 (L._∷_ 104 (L._∷_ 97 (L._∷_ 110 (L._∷_ 103 (L._∷_ 101 L.[])))))))))))) (Syntax.tcons (Syntax.tyStruct (L._∷_ 110 (L._∷_ 101 (L._∷_ 116 (L._∷_ 119 (L._∷_ 111 (L._∷_ 114 (L._∷_ 107 (L._∷_ 58 (L._∷_ 58 (L._∷_ 69 (L._∷_ 100 (L._∷_ 105 (L._∷_ 116 L.[]))))))))))))) (Syntax.tcons q12 (Syntax.tcons q12 (Syntax.tcons q12 (Syntax.tcons q12 (Syntax.tcons q3 (Syntax.tcons q3 (Syntax.tcons (Syntax.tyInt Syntax.w64) (Syntax.tcons q11 Syntax.tnil))))))))) (Syntax.tcons (Syntax.tyStruct (L._∷_ 115 (L._∷_ 116 (L._∷_ 101 (L._∷_ 112 (L._∷_ 58 (L._∷_ 58 (L._∷_ 79 (L._∷_ 108 (L._∷_ 100 L.[]))))))))) (Syntax.tcons (Syntax.tyInt Syntax.w64) (Syntax.tcons q11 (Syntax.tcons q12 (Syntax.tcons q12 (Syntax.tcons q12 (Syntax.tcons q12 (Syntax.tcons q7 Syntax.tnil)))))))) Syntax.tnil))) Syntax.tnil)))) Syntax.tnil))))) (L._∷_ q30 (L._∷_ q41 (L._∷_ q42 (L._∷_ q45 L.[])))))))))))))))
 
 abbrev pub t36 : L.List Row.Entry
-t36 = L._∷_ q45 (L._∷_ q46 (L._∷_ q47 (L._∷_ q30 (L._∷_ q42 (L._∷_ q31 (L._∷_ q48 (L._∷_ q49 (L._∷_ q9 (L._∷_ (25, ARows.arrF (Declared.row fraction-proofs-Fraction·.the-type) 33 0) (L._∷_ q43 L.[]))))))))))
+t36 = L._∷_ q46 (L._∷_ q47 (L._∷_ q48 (L._∷_ q31 (L._∷_ q43 (L._∷_ q32 (L._∷_ q49 (L._∷_ q50 (L._∷_ q9 (L._∷_ (25, Rows.whole (Declared.row fraction-proofs-Fraction·.the-type)) (L._∷_ q5 (L._∷_ q44 L.[])))))))))))
 
 abbrev pub t37 : L.List Row.Entry
-t37 = L._∷_ (0, Rows.any-gone (Syntax.tyStruct (L._∷_ 114 (L._∷_ 117 (L._∷_ 108 (L._∷_ 101 (L._∷_ 115 (L._∷_ 58 (L._∷_ 58 (L._∷_ 102 (L._∷_ 111 (L._∷_ 117 (L._∷_ 110 (L._∷_ 100 (L._∷_ 58 (L._∷_ 58 (L._∷_ 70 (L._∷_ 111 (L._∷_ 117 (L._∷_ 110 (L._∷_ 100 L.[]))))))))))))))))))) (Syntax.tcons Syntax.tyBool (Syntax.tcons Syntax.tyBool (Syntax.tcons (Syntax.tyStruct (L._∷_ 115 (L._∷_ 116 (L._∷_ 101 (L._∷_ 112 (L._∷_ 58 (L._∷_ 58 (L._∷_ 83 (L._∷_ 116 (L._∷_ 101 (L._∷_ 112 L.[])))))))))) (Syntax.tcons (Syntax.tyInt Syntax.w64) (Syntax.tcons (Syntax.tyInt Syntax.w64) (Syntax.tcons (Syntax.tyStruct (L._∷_ 115 (L._∷_ 116 (L._∷_ 101 (L._∷_ 112 (L._∷_ 58 (L._∷_ 58 (L._∷_ 67 (L._∷_ 104 (L._∷_ 97 (L._∷_ 110 (L._∷_ 103 (L._∷_ 101 L.[])))))))))))) (Syntax.tcons (Syntax.tyStruct (L._∷_ 110 (L._∷_ 101 (L._∷_ 116 (L._∷_ 119 (L._∷_ 111 (L._∷_ 114 (L._∷_ 107 (L._∷_ 58 (L._∷_ 58 (L._∷_ 69 (L._∷_ 100 (L._∷_ 105 (L._∷_ 116 L.[]))))))))))))) (Syntax.tcons q11 (Syntax.tcons q11 (Syntax.tcons q11 (Syntax.tcons q11 (Syntax.tcons q3 (Syntax.tcons q3 (Syntax.tcons (Syntax.tyInt Syntax.w64) Syntax.tnil)))))))) (Syntax.tcons (Syntax.tyStruct (L._∷_ 115 (L._∷_ 116 (L._∷_ 101 (L._∷_ 112 (L._∷_ 58 (L._∷_ 58 (L._∷_ 79 (L._∷_ 108 (L._∷_ 100 L.[]))))))))) (Syntax.tcons (Syntax.tyInt Syntax.w64) (Syntax.tcons q10 (Syntax.tcons q11 (Syntax.tcons q11 (Syntax.tcons q11 (Syntax.tcons q11 (Syntax.tcons q7 Syntax.tnil)))))))) Syntax.tnil))) Syntax.tnil)))) Syntax.tnil))))) (L._∷_ q1 (L._∷_ q15 (L._∷_ q13 (L._∷_ q35 (L._∷_ q24 (L._∷_ q21 (L._∷_ q19 (L._∷_ q36 (L._∷_ q37 (L._∷_ (10, Rows.whole (Declared.row step-proofs-Around·.the-type)) (L._∷_ q17 (L._∷_ q29 (L._∷_ q40 (L._∷_ q41 (L._∷_ q44 L.[])))))))))))))))
+t37 = L._∷_ q46 (L._∷_ q47 (L._∷_ q48 (L._∷_ q31 (L._∷_ q43 (L._∷_ q32 (L._∷_ q49 (L._∷_ q50 (L._∷_ q9 (L._∷_ (25, Rows.whole (Declared.row fraction-proofs-Fraction·.the-type)) (L._∷_ (26, ARows.arrF (Declared.row fraction-proofs-Fraction·.the-type) 33 0) (L._∷_ q44 L.[])))))))))))
 
 abbrev pub t38 : L.List Row.Entry
-t38 = L._∷_ (0, Rows.any-gone (Syntax.tyStruct (L._∷_ 114 (L._∷_ 117 (L._∷_ 108 (L._∷_ 101 (L._∷_ 115 (L._∷_ 58 (L._∷_ 58 (L._∷_ 102 (L._∷_ 111 (L._∷_ 117 (L._∷_ 110 (L._∷_ 100 (L._∷_ 58 (L._∷_ 58 (L._∷_ 70 (L._∷_ 111 (L._∷_ 117 (L._∷_ 110 (L._∷_ 100 L.[]))))))))))))))))))) (Syntax.tcons Syntax.tyBool (Syntax.tcons Syntax.tyBool (Syntax.tcons (Syntax.tyStruct (L._∷_ 115 (L._∷_ 116 (L._∷_ 101 (L._∷_ 112 (L._∷_ 58 (L._∷_ 58 (L._∷_ 83 (L._∷_ 116 (L._∷_ 101 (L._∷_ 112 L.[])))))))))) (Syntax.tcons (Syntax.tyInt Syntax.w64) (Syntax.tcons (Syntax.tyInt Syntax.w64) (Syntax.tcons (Syntax.tyStruct (L._∷_ 115 (L._∷_ 116 (L._∷_ 101 (L._∷_ 112 (L._∷_ 58 (L._∷_ 58 (L._∷_ 67 (L._∷_ 104 (L._∷_ 97 (L._∷_ 110 (L._∷_ 103 (L._∷_ 101 L.[])))))))))))) (Syntax.tcons (Syntax.tyStruct (L._∷_ 110 (L._∷_ 101 (L._∷_ 116 (L._∷_ 119 (L._∷_ 111 (L._∷_ 114 (L._∷_ 107 (L._∷_ 58 (L._∷_ 58 (L._∷_ 69 (L._∷_ 100 (L._∷_ 105 (L._∷_ 116 L.[]))))))))))))) (Syntax.tcons q11 (Syntax.tcons q11 (Syntax.tcons q11 (Syntax.tcons q11 (Syntax.tcons q3 (Syntax.tcons q3 (Syntax.tcons (Syntax.tyInt Syntax.w64) Syntax.tnil)))))))) (Syntax.tcons (Syntax.tyStruct (L._∷_ 115 (L._∷_ 116 (L._∷_ 101 (L._∷_ 112 (L._∷_ 58 (L._∷_ 58 (L._∷_ 79 (L._∷_ 108 (L._∷_ 100 L.[]))))))))) (Syntax.tcons (Syntax.tyInt Syntax.w64) (Syntax.tcons q10 (Syntax.tcons q11 (Syntax.tcons q11 (Syntax.tcons q11 (Syntax.tcons q11 (Syntax.tcons q7 Syntax.tnil)))))))) Syntax.tnil))) Syntax.tnil)))) Syntax.tnil))))) (L._∷_ q1 (L._∷_ q15 (L._∷_ q13 (L._∷_ q35 (L._∷_ q24 (L._∷_ q21 (L._∷_ q19 (L._∷_ q36 (L._∷_ q37 (L._∷_ (10, Rows.any-gone (Syntax.tyStruct (L._∷_ 115 (L._∷_ 116 (L._∷_ 101 (L._∷_ 112 (L._∷_ 58 (L._∷_ 58 (L._∷_ 65 (L._∷_ 114 (L._∷_ 111 (L._∷_ 117 (L._∷_ 110 (L._∷_ 100 L.[])))))))))))) (Syntax.tcons q11 (Syntax.tcons q11 (Syntax.tcons q11 (Syntax.tcons q11 Syntax.tnil)))))) (L._∷_ q17 (L._∷_ q29 (L._∷_ q40 (L._∷_ q41 (L._∷_ q44 L.[])))))))))))))))
+t38 = L._∷_ (0, Rows.any-gone (Syntax.tyStruct (L._∷_ 114 (L._∷_ 117 (L._∷_ 108 (L._∷_ 101 (L._∷_ 115 (L._∷_ 58 (L._∷_ 58 (L._∷_ 102 (L._∷_ 111 (L._∷_ 117 (L._∷_ 110 (L._∷_ 100 (L._∷_ 58 (L._∷_ 58 (L._∷_ 70 (L._∷_ 111 (L._∷_ 117 (L._∷_ 110 (L._∷_ 100 L.[]))))))))))))))))))) (Syntax.tcons Syntax.tyBool (Syntax.tcons Syntax.tyBool (Syntax.tcons (Syntax.tyStruct (L._∷_ 115 (L._∷_ 116 (L._∷_ 101 (L._∷_ 112 (L._∷_ 58 (L._∷_ 58 (L._∷_ 83 (L._∷_ 116 (L._∷_ 101 (L._∷_ 112 L.[])))))))))) (Syntax.tcons (Syntax.tyInt Syntax.w64) (Syntax.tcons (Syntax.tyInt Syntax.w64) (Syntax.tcons (Syntax.tyStruct (L._∷_ 115 (L._∷_ 116 (L._∷_ 101 (L._∷_ 112 (L._∷_ 58 (L._∷_ 58 (L._∷_ 67 (L._∷_ 104 (L._∷_ 97 (L._∷_ 110 (L._∷_ 103 (L._∷_ 101 L.[])))))))))))) (Syntax.tcons (Syntax.tyStruct (L._∷_ 110 (L._∷_ 101 (L._∷_ 116 (L._∷_ 119 (L._∷_ 111 (L._∷_ 114 (L._∷_ 107 (L._∷_ 58 (L._∷_ 58 (L._∷_ 69 (L._∷_ 100 (L._∷_ 105 (L._∷_ 116 L.[]))))))))))))) (Syntax.tcons q12 (Syntax.tcons q12 (Syntax.tcons q12 (Syntax.tcons q12 (Syntax.tcons q3 (Syntax.tcons q3 (Syntax.tcons (Syntax.tyInt Syntax.w64) (Syntax.tcons q11 Syntax.tnil))))))))) (Syntax.tcons (Syntax.tyStruct (L._∷_ 115 (L._∷_ 116 (L._∷_ 101 (L._∷_ 112 (L._∷_ 58 (L._∷_ 58 (L._∷_ 79 (L._∷_ 108 (L._∷_ 100 L.[]))))))))) (Syntax.tcons (Syntax.tyInt Syntax.w64) (Syntax.tcons q11 (Syntax.tcons q12 (Syntax.tcons q12 (Syntax.tcons q12 (Syntax.tcons q12 (Syntax.tcons q7 Syntax.tnil)))))))) Syntax.tnil))) Syntax.tnil)))) Syntax.tnil))))) (L._∷_ q1 (L._∷_ q16 (L._∷_ q14 (L._∷_ q36 (L._∷_ q25 (L._∷_ q22 (L._∷_ q20 (L._∷_ q37 (L._∷_ q38 (L._∷_ (10, Rows.whole (Declared.row step-proofs-Around·.the-type)) (L._∷_ q18 (L._∷_ q30 (L._∷_ q41 (L._∷_ q42 (L._∷_ q45 L.[])))))))))))))))
 
 abbrev pub t39 : L.List Row.Entry
-t39 = L._∷_ q45 (L._∷_ q46 (L._∷_ q47 (L._∷_ q30 (L._∷_ q42 (L._∷_ q31 (L._∷_ q48 (L._∷_ q49 (L._∷_ q9 (L._∷_ q5 (L._∷_ (26, Rows.sc-here Row.sBool) L.[]))))))))))
+t39 = L._∷_ (0, Rows.any-gone (Syntax.tyStruct (L._∷_ 114 (L._∷_ 117 (L._∷_ 108 (L._∷_ 101 (L._∷_ 115 (L._∷_ 58 (L._∷_ 58 (L._∷_ 102 (L._∷_ 111 (L._∷_ 117 (L._∷_ 110 (L._∷_ 100 (L._∷_ 58 (L._∷_ 58 (L._∷_ 70 (L._∷_ 111 (L._∷_ 117 (L._∷_ 110 (L._∷_ 100 L.[]))))))))))))))))))) (Syntax.tcons Syntax.tyBool (Syntax.tcons Syntax.tyBool (Syntax.tcons (Syntax.tyStruct (L._∷_ 115 (L._∷_ 116 (L._∷_ 101 (L._∷_ 112 (L._∷_ 58 (L._∷_ 58 (L._∷_ 83 (L._∷_ 116 (L._∷_ 101 (L._∷_ 112 L.[])))))))))) (Syntax.tcons (Syntax.tyInt Syntax.w64) (Syntax.tcons (Syntax.tyInt Syntax.w64) (Syntax.tcons (Syntax.tyStruct (L._∷_ 115 (L._∷_ 116 (L._∷_ 101 (L._∷_ 112 (L._∷_ 58 (L._∷_ 58 (L._∷_ 67 (L._∷_ 104 (L._∷_ 97 (L._∷_ 110 (L._∷_ 103 (L._∷_ 101 L.[])))))))))))) (Syntax.tcons (Syntax.tyStruct (L._∷_ 110 (L._∷_ 101 (L._∷_ 116 (L._∷_ 119 (L._∷_ 111 (L._∷_ 114 (L._∷_ 107 (L._∷_ 58 (L._∷_ 58 (L._∷_ 69 (L._∷_ 100 (L._∷_ 105 (L._∷_ 116 L.[]))))))))))))) (Syntax.tcons q12 (Syntax.tcons q12 (Syntax.tcons q12 (Syntax.tcons q12 (Syntax.tcons q3 (Syntax.tcons q3 (Syntax.tcons (Syntax.tyInt Syntax.w64) (Syntax.tcons q11 Syntax.tnil))))))))) (Syntax.tcons (Syntax.tyStruct (L._∷_ 115 (L._∷_ 116 (L._∷_ 101 (L._∷_ 112 (L._∷_ 58 (L._∷_ 58 (L._∷_ 79 (L._∷_ 108 (L._∷_ 100 L.[]))))))))) (Syntax.tcons (Syntax.tyInt Syntax.w64) (Syntax.tcons q11 (Syntax.tcons q12 (Syntax.tcons q12 (Syntax.tcons q12 (Syntax.tcons q12 (Syntax.tcons q7 Syntax.tnil)))))))) Syntax.tnil))) Syntax.tnil)))) Syntax.tnil))))) (L._∷_ q1 (L._∷_ q16 (L._∷_ q14 (L._∷_ q36 (L._∷_ q25 (L._∷_ q22 (L._∷_ q20 (L._∷_ q37 (L._∷_ q38 (L._∷_ (10, Rows.any-gone (Syntax.tyStruct (L._∷_ 115 (L._∷_ 116 (L._∷_ 101 (L._∷_ 112 (L._∷_ 58 (L._∷_ 58 (L._∷_ 65 (L._∷_ 114 (L._∷_ 111 (L._∷_ 117 (L._∷_ 110 (L._∷_ 100 L.[])))))))))))) (Syntax.tcons q12 (Syntax.tcons q12 (Syntax.tcons q12 (Syntax.tcons q12 Syntax.tnil)))))) (L._∷_ q18 (L._∷_ q30 (L._∷_ q41 (L._∷_ q42 (L._∷_ q45 L.[])))))))))))))))
 
 abbrev pub t40 : L.List Row.Entry
-t40 = L._∷_ (0, Rows.any-gone (Syntax.tyStruct (L._∷_ 114 (L._∷_ 117 (L._∷_ 108 (L._∷_ 101 (L._∷_ 115 (L._∷_ 58 (L._∷_ 58 (L._∷_ 102 (L._∷_ 111 (L._∷_ 117 (L._∷_ 110 (L._∷_ 100 (L._∷_ 58 (L._∷_ 58 (L._∷_ 70 (L._∷_ 111 (L._∷_ 117 (L._∷_ 110 (L._∷_ 100 L.[]))))))))))))))))))) (Syntax.tcons Syntax.tyBool (Syntax.tcons Syntax.tyBool (Syntax.tcons (Syntax.tyStruct (L._∷_ 115 (L._∷_ 116 (L._∷_ 101 (L._∷_ 112 (L._∷_ 58 (L._∷_ 58 (L._∷_ 83 (L._∷_ 116 (L._∷_ 101 (L._∷_ 112 L.[])))))))))) (Syntax.tcons (Syntax.tyInt Syntax.w64) (Syntax.tcons (Syntax.tyInt Syntax.w64) (Syntax.tcons (Syntax.tyStruct (L._∷_ 115 (L._∷_ 116 (L._∷_ 101 (L._∷_ 112 (L._∷_ 58 (L._∷_ 58 (L._∷_ 67 (L._∷_ 104 (L._∷_ 97 (L._∷_ 110 (L._∷_ 103 (L._∷_ 101 L.[])))))))))))) (Syntax.tcons (Syntax.tyStruct (L._∷_ 110 (L._∷_ 101 (L._∷_ 116 (L._∷_ 119 (L._∷_ 111 (L._∷_ 114 (L._∷_ 107 (L._∷_ 58 (L._∷_ 58 (L._∷_ 69 (L._∷_ 100 (L._∷_ 105 (L._∷_ 116 L.[]))))))))))))) (Syntax.tcons q11 (Syntax.tcons q11 (Syntax.tcons q11 (Syntax.tcons q11 (Syntax.tcons q3 (Syntax.tcons q3 (Syntax.tcons (Syntax.tyInt Syntax.w64) Syntax.tnil)))))))) (Syntax.tcons (Syntax.tyStruct (L._∷_ 115 (L._∷_ 116 (L._∷_ 101 (L._∷_ 112 (L._∷_ 58 (L._∷_ 58 (L._∷_ 79 (L._∷_ 108 (L._∷_ 100 L.[]))))))))) (Syntax.tcons (Syntax.tyInt Syntax.w64) (Syntax.tcons q10 (Syntax.tcons q11 (Syntax.tcons q11 (Syntax.tcons q11 (Syntax.tcons q11 (Syntax.tcons q7 Syntax.tnil)))))))) Syntax.tnil))) Syntax.tnil)))) Syntax.tnil))))) (L._∷_ q1 (L._∷_ q15 (L._∷_ q13 (L._∷_ q35 (L._∷_ q0 (L._∷_ q21 (L._∷_ q19 (L._∷_ q36 (L._∷_ q37 (L._∷_ (10, Rows.any-gone (Syntax.tyStruct (L._∷_ 115 (L._∷_ 116 (L._∷_ 101 (L._∷_ 112 (L._∷_ 58 (L._∷_ 58 (L._∷_ 65 (L._∷_ 114 (L._∷_ 111 (L._∷_ 117 (L._∷_ 110 (L._∷_ 100 L.[])))))))))))) (Syntax.tcons q11 (Syntax.tcons q11 (Syntax.tcons q11 (Syntax.tcons q11 Syntax.tnil)))))) (L._∷_ q17 (L._∷_ q29 (L._∷_ q40 (L._∷_ q41 (L._∷_ q44 L.[])))))))))))))))
+t40 = L._∷_ q46 (L._∷_ q47 (L._∷_ q48 (L._∷_ q31 (L._∷_ q43 (L._∷_ q32 (L._∷_ q49 (L._∷_ q50 (L._∷_ q9 (L._∷_ q10 (L._∷_ (26, ARows.arrF (Declared.row fraction-proofs-Fraction·.the-type) 33 0) (L._∷_ q44 L.[])))))))))))
 
 abbrev pub t41 : L.List Row.Entry
-t41 = L._∷_ (0, Rows.any-gone (Syntax.tyStruct (L._∷_ 114 (L._∷_ 117 (L._∷_ 108 (L._∷_ 101 (L._∷_ 115 (L._∷_ 58 (L._∷_ 58 (L._∷_ 102 (L._∷_ 111 (L._∷_ 117 (L._∷_ 110 (L._∷_ 100 (L._∷_ 58 (L._∷_ 58 (L._∷_ 70 (L._∷_ 111 (L._∷_ 117 (L._∷_ 110 (L._∷_ 100 L.[]))))))))))))))))))) (Syntax.tcons Syntax.tyBool (Syntax.tcons Syntax.tyBool (Syntax.tcons (Syntax.tyStruct (L._∷_ 115 (L._∷_ 116 (L._∷_ 101 (L._∷_ 112 (L._∷_ 58 (L._∷_ 58 (L._∷_ 83 (L._∷_ 116 (L._∷_ 101 (L._∷_ 112 L.[])))))))))) (Syntax.tcons (Syntax.tyInt Syntax.w64) (Syntax.tcons (Syntax.tyInt Syntax.w64) (Syntax.tcons (Syntax.tyStruct (L._∷_ 115 (L._∷_ 116 (L._∷_ 101 (L._∷_ 112 (L._∷_ 58 (L._∷_ 58 (L._∷_ 67 (L._∷_ 104 (L._∷_ 97 (L._∷_ 110 (L._∷_ 103 (L._∷_ 101 L.[])))))))))))) (Syntax.tcons (Syntax.tyStruct (L._∷_ 110 (L._∷_ 101 (L._∷_ 116 (L._∷_ 119 (L._∷_ 111 (L._∷_ 114 (L._∷_ 107 (L._∷_ 58 (L._∷_ 58 (L._∷_ 69 (L._∷_ 100 (L._∷_ 105 (L._∷_ 116 L.[]))))))))))))) (Syntax.tcons q11 (Syntax.tcons q11 (Syntax.tcons q11 (Syntax.tcons q11 (Syntax.tcons q3 (Syntax.tcons q3 (Syntax.tcons (Syntax.tyInt Syntax.w64) Syntax.tnil)))))))) (Syntax.tcons (Syntax.tyStruct (L._∷_ 115 (L._∷_ 116 (L._∷_ 101 (L._∷_ 112 (L._∷_ 58 (L._∷_ 58 (L._∷_ 79 (L._∷_ 108 (L._∷_ 100 L.[]))))))))) (Syntax.tcons (Syntax.tyInt Syntax.w64) (Syntax.tcons q10 (Syntax.tcons q11 (Syntax.tcons q11 (Syntax.tcons q11 (Syntax.tcons q11 (Syntax.tcons q7 Syntax.tnil)))))))) Syntax.tnil))) Syntax.tnil)))) Syntax.tnil))))) (L._∷_ q1 (L._∷_ q15 (L._∷_ q13 (L._∷_ q35 (L._∷_ q0 (L._∷_ q12 (L._∷_ q19 (L._∷_ q36 (L._∷_ q37 (L._∷_ (10, Rows.any-gone (Syntax.tyStruct (L._∷_ 115 (L._∷_ 116 (L._∷_ 101 (L._∷_ 112 (L._∷_ 58 (L._∷_ 58 (L._∷_ 65 (L._∷_ 114 (L._∷_ 111 (L._∷_ 117 (L._∷_ 110 (L._∷_ 100 L.[])))))))))))) (Syntax.tcons q11 (Syntax.tcons q11 (Syntax.tcons q11 (Syntax.tcons q11 Syntax.tnil)))))) (L._∷_ q17 (L._∷_ q29 (L._∷_ q40 (L._∷_ q41 (L._∷_ q44 L.[])))))))))))))))
+t41 = L._∷_ q46 (L._∷_ q47 (L._∷_ q48 (L._∷_ q31 (L._∷_ q43 (L._∷_ q32 (L._∷_ q49 (L._∷_ q50 (L._∷_ q9 (L._∷_ q10 (L._∷_ q5 (L._∷_ (27, Rows.sc-here Row.sBool) L.[])))))))))))
 
 abbrev pub t42 : L.List Row.Entry
-t42 = L._∷_ (0, Rows.any-gone (Syntax.tyStruct (L._∷_ 114 (L._∷_ 117 (L._∷_ 108 (L._∷_ 101 (L._∷_ 115 (L._∷_ 58 (L._∷_ 58 (L._∷_ 102 (L._∷_ 111 (L._∷_ 117 (L._∷_ 110 (L._∷_ 100 (L._∷_ 58 (L._∷_ 58 (L._∷_ 70 (L._∷_ 111 (L._∷_ 117 (L._∷_ 110 (L._∷_ 100 L.[]))))))))))))))))))) (Syntax.tcons Syntax.tyBool (Syntax.tcons Syntax.tyBool (Syntax.tcons (Syntax.tyStruct (L._∷_ 115 (L._∷_ 116 (L._∷_ 101 (L._∷_ 112 (L._∷_ 58 (L._∷_ 58 (L._∷_ 83 (L._∷_ 116 (L._∷_ 101 (L._∷_ 112 L.[])))))))))) (Syntax.tcons (Syntax.tyInt Syntax.w64) (Syntax.tcons (Syntax.tyInt Syntax.w64) (Syntax.tcons (Syntax.tyStruct (L._∷_ 115 (L._∷_ 116 (L._∷_ 101 (L._∷_ 112 (L._∷_ 58 (L._∷_ 58 (L._∷_ 67 (L._∷_ 104 (L._∷_ 97 (L._∷_ 110 (L._∷_ 103 (L._∷_ 101 L.[])))))))))))) (Syntax.tcons (Syntax.tyStruct (L._∷_ 110 (L._∷_ 101 (L._∷_ 116 (L._∷_ 119 (L._∷_ 111 (L._∷_ 114 (L._∷_ 107 (L._∷_ 58 (L._∷_ 58 (L._∷_ 69 (L._∷_ 100 (L._∷_ 105 (L._∷_ 116 L.[]))))))))))))) (Syntax.tcons q11 (Syntax.tcons q11 (Syntax.tcons q11 (Syntax.tcons q11 (Syntax.tcons q3 (Syntax.tcons q3 (Syntax.tcons (Syntax.tyInt Syntax.w64) Syntax.tnil)))))))) (Syntax.tcons (Syntax.tyStruct (L._∷_ 115 (L._∷_ 116 (L._∷_ 101 (L._∷_ 112 (L._∷_ 58 (L._∷_ 58 (L._∷_ 79 (L._∷_ 108 (L._∷_ 100 L.[]))))))))) (Syntax.tcons (Syntax.tyInt Syntax.w64) (Syntax.tcons q10 (Syntax.tcons q11 (Syntax.tcons q11 (Syntax.tcons q11 (Syntax.tcons q11 (Syntax.tcons q7 Syntax.tnil)))))))) Syntax.tnil))) Syntax.tnil)))) Syntax.tnil))))) (L._∷_ q1 (L._∷_ q15 (L._∷_ q13 (L._∷_ q35 (L._∷_ q0 (L._∷_ q12 (L._∷_ q4 (L._∷_ q36 (L._∷_ q37 (L._∷_ (10, Rows.any-gone (Syntax.tyStruct (L._∷_ 115 (L._∷_ 116 (L._∷_ 101 (L._∷_ 112 (L._∷_ 58 (L._∷_ 58 (L._∷_ 65 (L._∷_ 114 (L._∷_ 111 (L._∷_ 117 (L._∷_ 110 (L._∷_ 100 L.[])))))))))))) (Syntax.tcons q11 (Syntax.tcons q11 (Syntax.tcons q11 (Syntax.tcons q11 Syntax.tnil)))))) (L._∷_ q17 (L._∷_ q29 (L._∷_ q40 (L._∷_ q41 (L._∷_ q44 L.[])))))))))))))))
+t42 = L._∷_ (0, Rows.any-gone (Syntax.tyStruct (L._∷_ 114 (L._∷_ 117 (L._∷_ 108 (L._∷_ 101 (L._∷_ 115 (L._∷_ 58 (L._∷_ 58 (L._∷_ 102 (L._∷_ 111 (L._∷_ 117 (L._∷_ 110 (L._∷_ 100 (L._∷_ 58 (L._∷_ 58 (L._∷_ 70 (L._∷_ 111 (L._∷_ 117 (L._∷_ 110 (L._∷_ 100 L.[]))))))))))))))))))) (Syntax.tcons Syntax.tyBool (Syntax.tcons Syntax.tyBool (Syntax.tcons (Syntax.tyStruct (L._∷_ 115 (L._∷_ 116 (L._∷_ 101 (L._∷_ 112 (L._∷_ 58 (L._∷_ 58 (L._∷_ 83 (L._∷_ 116 (L._∷_ 101 (L._∷_ 112 L.[])))))))))) (Syntax.tcons (Syntax.tyInt Syntax.w64) (Syntax.tcons (Syntax.tyInt Syntax.w64) (Syntax.tcons (Syntax.tyStruct (L._∷_ 115 (L._∷_ 116 (L._∷_ 101 (L._∷_ 112 (L._∷_ 58 (L._∷_ 58 (L._∷_ 67 (L._∷_ 104 (L._∷_ 97 (L._∷_ 110 (L._∷_ 103 (L._∷_ 101 L.[])))))))))))) (Syntax.tcons (Syntax.tyStruct (L._∷_ 110 (L._∷_ 101 (L._∷_ 116 (L._∷_ 119 (L._∷_ 111 (L._∷_ 114 (L._∷_ 107 (L._∷_ 58 (L._∷_ 58 (L._∷_ 69 (L._∷_ 100 (L._∷_ 105 (L._∷_ 116 L.[]))))))))))))) (Syntax.tcons q12 (Syntax.tcons q12 (Syntax.tcons q12 (Syntax.tcons q12 (Syntax.tcons q3 (Syntax.tcons q3 (Syntax.tcons (Syntax.tyInt Syntax.w64) (Syntax.tcons q11 Syntax.tnil))))))))) (Syntax.tcons (Syntax.tyStruct (L._∷_ 115 (L._∷_ 116 (L._∷_ 101 (L._∷_ 112 (L._∷_ 58 (L._∷_ 58 (L._∷_ 79 (L._∷_ 108 (L._∷_ 100 L.[]))))))))) (Syntax.tcons (Syntax.tyInt Syntax.w64) (Syntax.tcons q11 (Syntax.tcons q12 (Syntax.tcons q12 (Syntax.tcons q12 (Syntax.tcons q12 (Syntax.tcons q7 Syntax.tnil)))))))) Syntax.tnil))) Syntax.tnil)))) Syntax.tnil))))) (L._∷_ q1 (L._∷_ q16 (L._∷_ q14 (L._∷_ q36 (L._∷_ q0 (L._∷_ q22 (L._∷_ q20 (L._∷_ q37 (L._∷_ q38 (L._∷_ (10, Rows.any-gone (Syntax.tyStruct (L._∷_ 115 (L._∷_ 116 (L._∷_ 101 (L._∷_ 112 (L._∷_ 58 (L._∷_ 58 (L._∷_ 65 (L._∷_ 114 (L._∷_ 111 (L._∷_ 117 (L._∷_ 110 (L._∷_ 100 L.[])))))))))))) (Syntax.tcons q12 (Syntax.tcons q12 (Syntax.tcons q12 (Syntax.tcons q12 Syntax.tnil)))))) (L._∷_ q18 (L._∷_ q30 (L._∷_ q41 (L._∷_ q42 (L._∷_ q45 L.[])))))))))))))))
 
 abbrev pub t43 : L.List Row.Entry
-t43 = L._∷_ q18 (L._∷_ q1 (L._∷_ q15 (L._∷_ q13 (L._∷_ q35 (L._∷_ q0 (L._∷_ q12 (L._∷_ q4 (L._∷_ q36 (L._∷_ q37 (L._∷_ (10, Rows.any-gone (Syntax.tyStruct (L._∷_ 115 (L._∷_ 116 (L._∷_ 101 (L._∷_ 112 (L._∷_ 58 (L._∷_ 58 (L._∷_ 65 (L._∷_ 114 (L._∷_ 111 (L._∷_ 117 (L._∷_ 110 (L._∷_ 100 L.[])))))))))))) (Syntax.tcons q11 (Syntax.tcons q11 (Syntax.tcons q11 (Syntax.tcons q11 Syntax.tnil)))))) (L._∷_ q17 (L._∷_ q29 (L._∷_ q40 (L._∷_ q41 (L._∷_ q44 L.[])))))))))))))))
+t43 = L._∷_ (0, Rows.any-gone (Syntax.tyStruct (L._∷_ 114 (L._∷_ 117 (L._∷_ 108 (L._∷_ 101 (L._∷_ 115 (L._∷_ 58 (L._∷_ 58 (L._∷_ 102 (L._∷_ 111 (L._∷_ 117 (L._∷_ 110 (L._∷_ 100 (L._∷_ 58 (L._∷_ 58 (L._∷_ 70 (L._∷_ 111 (L._∷_ 117 (L._∷_ 110 (L._∷_ 100 L.[]))))))))))))))))))) (Syntax.tcons Syntax.tyBool (Syntax.tcons Syntax.tyBool (Syntax.tcons (Syntax.tyStruct (L._∷_ 115 (L._∷_ 116 (L._∷_ 101 (L._∷_ 112 (L._∷_ 58 (L._∷_ 58 (L._∷_ 83 (L._∷_ 116 (L._∷_ 101 (L._∷_ 112 L.[])))))))))) (Syntax.tcons (Syntax.tyInt Syntax.w64) (Syntax.tcons (Syntax.tyInt Syntax.w64) (Syntax.tcons (Syntax.tyStruct (L._∷_ 115 (L._∷_ 116 (L._∷_ 101 (L._∷_ 112 (L._∷_ 58 (L._∷_ 58 (L._∷_ 67 (L._∷_ 104 (L._∷_ 97 (L._∷_ 110 (L._∷_ 103 (L._∷_ 101 L.[])))))))))))) (Syntax.tcons (Syntax.tyStruct (L._∷_ 110 (L._∷_ 101 (L._∷_ 116 (L._∷_ 119 (L._∷_ 111 (L._∷_ 114 (L._∷_ 107 (L._∷_ 58 (L._∷_ 58 (L._∷_ 69 (L._∷_ 100 (L._∷_ 105 (L._∷_ 116 L.[]))))))))))))) (Syntax.tcons q12 (Syntax.tcons q12 (Syntax.tcons q12 (Syntax.tcons q12 (Syntax.tcons q3 (Syntax.tcons q3 (Syntax.tcons (Syntax.tyInt Syntax.w64) (Syntax.tcons q11 Syntax.tnil))))))))) (Syntax.tcons (Syntax.tyStruct (L._∷_ 115 (L._∷_ 116 (L._∷_ 101 (L._∷_ 112 (L._∷_ 58 (L._∷_ 58 (L._∷_ 79 (L._∷_ 108 (L._∷_ 100 L.[]))))))))) (Syntax.tcons (Syntax.tyInt Syntax.w64) (Syntax.tcons q11 (Syntax.tcons q12 (Syntax.tcons q12 (Syntax.tcons q12 (Syntax.tcons q12 (Syntax.tcons q7 Syntax.tnil)))))))) Syntax.tnil))) Syntax.tnil)))) Syntax.tnil))))) (L._∷_ q1 (L._∷_ q16 (L._∷_ q14 (L._∷_ q36 (L._∷_ q0 (L._∷_ q13 (L._∷_ q20 (L._∷_ q37 (L._∷_ q38 (L._∷_ (10, Rows.any-gone (Syntax.tyStruct (L._∷_ 115 (L._∷_ 116 (L._∷_ 101 (L._∷_ 112 (L._∷_ 58 (L._∷_ 58 (L._∷_ 65 (L._∷_ 114 (L._∷_ 111 (L._∷_ 117 (L._∷_ 110 (L._∷_ 100 L.[])))))))))))) (Syntax.tcons q12 (Syntax.tcons q12 (Syntax.tcons q12 (Syntax.tcons q12 Syntax.tnil)))))) (L._∷_ q18 (L._∷_ q30 (L._∷_ q41 (L._∷_ q42 (L._∷_ q45 L.[])))))))))))))))
 
 abbrev pub t44 : L.List Row.Entry
-t44 = L._∷_ q18 (L._∷_ q1 (L._∷_ q15 (L._∷_ q13 (L._∷_ q35 (L._∷_ q0 (L._∷_ q12 (L._∷_ q4 (L._∷_ q36 (L._∷_ q37 (L._∷_ (10, Rows.any-gone (Syntax.tyStruct (L._∷_ 115 (L._∷_ 116 (L._∷_ 101 (L._∷_ 112 (L._∷_ 58 (L._∷_ 58 (L._∷_ 65 (L._∷_ 114 (L._∷_ 111 (L._∷_ 117 (L._∷_ 110 (L._∷_ 100 L.[])))))))))))) (Syntax.tcons q11 (Syntax.tcons q11 (Syntax.tcons q11 (Syntax.tcons q11 Syntax.tnil)))))) (L._∷_ (11, Rows.any-gone (Syntax.tyStruct (L._∷_ 114 (L._∷_ 117 (L._∷_ 108 (L._∷_ 101 (L._∷_ 115 (L._∷_ 58 (L._∷_ 58 (L._∷_ 102 (L._∷_ 111 (L._∷_ 117 (L._∷_ 110 (L._∷_ 100 (L._∷_ 58 (L._∷_ 58 (L._∷_ 70 (L._∷_ 111 (L._∷_ 117 (L._∷_ 110 (L._∷_ 100 L.[]))))))))))))))))))) (Syntax.tcons Syntax.tyBool (Syntax.tcons Syntax.tyBool (Syntax.tcons (Syntax.tyStruct (L._∷_ 115 (L._∷_ 116 (L._∷_ 101 (L._∷_ 112 (L._∷_ 58 (L._∷_ 58 (L._∷_ 83 (L._∷_ 116 (L._∷_ 101 (L._∷_ 112 L.[])))))))))) (Syntax.tcons (Syntax.tyInt Syntax.w64) (Syntax.tcons (Syntax.tyInt Syntax.w64) (Syntax.tcons (Syntax.tyStruct (L._∷_ 115 (L._∷_ 116 (L._∷_ 101 (L._∷_ 112 (L._∷_ 58 (L._∷_ 58 (L._∷_ 67 (L._∷_ 104 (L._∷_ 97 (L._∷_ 110 (L._∷_ 103 (L._∷_ 101 L.[])))))))))))) (Syntax.tcons (Syntax.tyStruct (L._∷_ 110 (L._∷_ 101 (L._∷_ 116 (L._∷_ 119 (L._∷_ 111 (L._∷_ 114 (L._∷_ 107 (L._∷_ 58 (L._∷_ 58 (L._∷_ 69 (L._∷_ 100 (L._∷_ 105 (L._∷_ 116 L.[]))))))))))))) (Syntax.tcons q11 (Syntax.tcons q11 (Syntax.tcons q11 (Syntax.tcons q11 (Syntax.tcons q3 (Syntax.tcons q3 (Syntax.tcons (Syntax.tyInt Syntax.w64) Syntax.tnil)))))))) (Syntax.tcons (Syntax.tyStruct (L._∷_ 115 (L._∷_ 116 (L._∷_ 101 (L._∷_ 112 (L._∷_ 58 (L._∷_ 58 (L._∷_ 79 (L._∷_ 108 (L._∷_ 100 L.[]))))))))) (Syntax.tcons (Syntax.tyInt Syntax.w64) (Syntax.tcons q10 (Syntax.tcons q11 (Syntax.tcons q11 (Syntax.tcons q11 (Syntax.tcons q11 (Syntax.tcons q7 Syntax.tnil)))))))) Syntax.tnil))) Syntax.tnil)))) Syntax.tnil))))) (L._∷_ q29 (L._∷_ q40 (L._∷_ q41 (L._∷_ q44 L.[])))))))))))))))
+t44 = L._∷_ (0, Rows.any-gone (Syntax.tyStruct (L._∷_ 114 (L._∷_ 117 (L._∷_ 108 (L._∷_ 101 (L._∷_ 115 (L._∷_ 58 (L._∷_ 58 (L._∷_ 102 (L._∷_ 111 (L._∷_ 117 (L._∷_ 110 (L._∷_ 100 (L._∷_ 58 (L._∷_ 58 (L._∷_ 70 (L._∷_ 111 (L._∷_ 117 (L._∷_ 110 (L._∷_ 100 L.[]))))))))))))))))))) (Syntax.tcons Syntax.tyBool (Syntax.tcons Syntax.tyBool (Syntax.tcons (Syntax.tyStruct (L._∷_ 115 (L._∷_ 116 (L._∷_ 101 (L._∷_ 112 (L._∷_ 58 (L._∷_ 58 (L._∷_ 83 (L._∷_ 116 (L._∷_ 101 (L._∷_ 112 L.[])))))))))) (Syntax.tcons (Syntax.tyInt Syntax.w64) (Syntax.tcons (Syntax.tyInt Syntax.w64) (Syntax.tcons (Syntax.tyStruct (L._∷_ 115 (L._∷_ 116 (L._∷_ 101 (L._∷_ 112 (L._∷_ 58 (L._∷_ 58 (L._∷_ 67 (L._∷_ 104 (L._∷_ 97 (L._∷_ 110 (L._∷_ 103 (L._∷_ 101 L.[])))))))))))) (Syntax.tcons (Syntax.tyStruct (L._∷_ 110 (L._∷_ 101 (L._∷_ 116 (L._∷_ 119 (L._∷_ 111 (L._∷_ 114 (L._∷_ 107 (L._∷_ 58 (L._∷_ 58 (L._∷_ 69 (L._∷_ 100 (L._∷_ 105 (L._∷_ 116 L.[]))))))))))))) (Syntax.tcons q12 (Syntax.tcons q12 (Syntax.tcons q12 (Syntax.tcons q12 (Syntax.tcons q3 (Syntax.tcons q3 (Syntax.tcons (Syntax.tyInt Syntax.w64) (Syntax.tcons q11 Syntax.tnil))))))))) (Syntax.tcons (Syntax.tyStruct (L._∷_ 115 (L._∷_ 116 (L._∷_ 101 (L._∷_ 112 (L._∷_ 58 (L._∷_ 58 (L._∷_ 79 (L._∷_ 108 (L._∷_ 100 L.[]))))))))) (Syntax.tcons (Syntax.tyInt Syntax.w64) (Syntax.tcons q11 (Syntax.tcons q12 (Syntax.tcons q12 (Syntax.tcons q12 (Syntax.tcons q12 (Syntax.tcons q7 Syntax.tnil)))))))) Syntax.tnil))) Syntax.tnil)))) Syntax.tnil))))) (L._∷_ q1 (L._∷_ q16 (L._∷_ q14 (L._∷_ q36 (L._∷_ q0 (L._∷_ q13 (L._∷_ q4 (L._∷_ q37 (L._∷_ q38 (L._∷_ (10, Rows.any-gone (Syntax.tyStruct (L._∷_ 115 (L._∷_ 116 (L._∷_ 101 (L._∷_ 112 (L._∷_ 58 (L._∷_ 58 (L._∷_ 65 (L._∷_ 114 (L._∷_ 111 (L._∷_ 117 (L._∷_ 110 (L._∷_ 100 L.[])))))))))))) (Syntax.tcons q12 (Syntax.tcons q12 (Syntax.tcons q12 (Syntax.tcons q12 Syntax.tnil)))))) (L._∷_ q18 (L._∷_ q30 (L._∷_ q41 (L._∷_ q42 (L._∷_ q45 L.[])))))))))))))))
 
 abbrev pub t45 : L.List Row.Entry
-t45 = L._∷_ q18 (L._∷_ q1 (L._∷_ q15 (L._∷_ q13 (L._∷_ (4, Rows.any-gone (Syntax.tyInt Syntax.w64)) (L._∷_ q0 (L._∷_ q12 (L._∷_ q4 (L._∷_ q36 (L._∷_ q37 (L._∷_ (10, Rows.any-gone (Syntax.tyStruct (L._∷_ 115 (L._∷_ 116 (L._∷_ 101 (L._∷_ 112 (L._∷_ 58 (L._∷_ 58 (L._∷_ 65 (L._∷_ 114 (L._∷_ 111 (L._∷_ 117 (L._∷_ 110 (L._∷_ 100 L.[])))))))))))) (Syntax.tcons q11 (Syntax.tcons q11 (Syntax.tcons q11 (Syntax.tcons q11 Syntax.tnil)))))) (L._∷_ (11, Rows.any-gone (Syntax.tyStruct (L._∷_ 114 (L._∷_ 117 (L._∷_ 108 (L._∷_ 101 (L._∷_ 115 (L._∷_ 58 (L._∷_ 58 (L._∷_ 102 (L._∷_ 111 (L._∷_ 117 (L._∷_ 110 (L._∷_ 100 (L._∷_ 58 (L._∷_ 58 (L._∷_ 70 (L._∷_ 111 (L._∷_ 117 (L._∷_ 110 (L._∷_ 100 L.[]))))))))))))))))))) (Syntax.tcons Syntax.tyBool (Syntax.tcons Syntax.tyBool (Syntax.tcons (Syntax.tyStruct (L._∷_ 115 (L._∷_ 116 (L._∷_ 101 (L._∷_ 112 (L._∷_ 58 (L._∷_ 58 (L._∷_ 83 (L._∷_ 116 (L._∷_ 101 (L._∷_ 112 L.[])))))))))) (Syntax.tcons (Syntax.tyInt Syntax.w64) (Syntax.tcons (Syntax.tyInt Syntax.w64) (Syntax.tcons (Syntax.tyStruct (L._∷_ 115 (L._∷_ 116 (L._∷_ 101 (L._∷_ 112 (L._∷_ 58 (L._∷_ 58 (L._∷_ 67 (L._∷_ 104 (L._∷_ 97 (L._∷_ 110 (L._∷_ 103 (L._∷_ 101 L.[])))))))))))) (Syntax.tcons (Syntax.tyStruct (L._∷_ 110 (L._∷_ 101 (L._∷_ 116 (L._∷_ 119 (L._∷_ 111 (L._∷_ 114 (L._∷_ 107 (L._∷_ 58 (L._∷_ 58 (L._∷_ 69 (L._∷_ 100 (L._∷_ 105 (L._∷_ 116 L.[]))))))))))))) (Syntax.tcons q11 (Syntax.tcons q11 (Syntax.tcons q11 (Syntax.tcons q11 (Syntax.tcons q3 (Syntax.tcons q3 (Syntax.tcons (Syntax.tyInt Syntax.w64) Syntax.tnil)))))))) (Syntax.tcons (Syntax.tyStruct (L._∷_ 115 (L._∷_ 116 (L._∷_ 101 (L._∷_ 112 (L._∷_ 58 (L._∷_ 58 (L._∷_ 79 (L._∷_ 108 (L._∷_ 100 L.[]))))))))) (Syntax.tcons (Syntax.tyInt Syntax.w64) (Syntax.tcons q10 (Syntax.tcons q11 (Syntax.tcons q11 (Syntax.tcons q11 (Syntax.tcons q11 (Syntax.tcons q7 Syntax.tnil)))))))) Syntax.tnil))) Syntax.tnil)))) Syntax.tnil))))) (L._∷_ q29 (L._∷_ q40 (L._∷_ q41 (L._∷_ q44 L.[])))))))))))))))
+t45 = L._∷_ q19 (L._∷_ q1 (L._∷_ q16 (L._∷_ q14 (L._∷_ q36 (L._∷_ q0 (L._∷_ q13 (L._∷_ q4 (L._∷_ q37 (L._∷_ q38 (L._∷_ (10, Rows.any-gone (Syntax.tyStruct (L._∷_ 115 (L._∷_ 116 (L._∷_ 101 (L._∷_ 112 (L._∷_ 58 (L._∷_ 58 (L._∷_ 65 (L._∷_ 114 (L._∷_ 111 (L._∷_ 117 (L._∷_ 110 (L._∷_ 100 L.[])))))))))))) (Syntax.tcons q12 (Syntax.tcons q12 (Syntax.tcons q12 (Syntax.tcons q12 Syntax.tnil)))))) (L._∷_ q18 (L._∷_ q30 (L._∷_ q41 (L._∷_ q42 (L._∷_ q45 L.[])))))))))))))))
 
 abbrev pub t46 : L.List Row.Entry
-t46 = L._∷_ q18 (L._∷_ q1 (L._∷_ q15 (L._∷_ q13 (L._∷_ (4, Rows.any-gone (Syntax.tyInt Syntax.w64)) (L._∷_ q0 (L._∷_ q12 (L._∷_ q4 (L._∷_ q32 (L._∷_ q37 (L._∷_ (10, Rows.any-gone (Syntax.tyStruct (L._∷_ 115 (L._∷_ 116 (L._∷_ 101 (L._∷_ 112 (L._∷_ 58 (L._∷_ 58 (L._∷_ 65 (L._∷_ 114 (L._∷_ 111 (L._∷_ 117 (L._∷_ 110 (L._∷_ 100 L.[])))))))))))) (Syntax.tcons q11 (Syntax.tcons q11 (Syntax.tcons q11 (Syntax.tcons q11 Syntax.tnil)))))) (L._∷_ (11, Rows.any-gone (Syntax.tyStruct (L._∷_ 114 (L._∷_ 117 (L._∷_ 108 (L._∷_ 101 (L._∷_ 115 (L._∷_ 58 (L._∷_ 58 (L._∷_ 102 (L._∷_ 111 (L._∷_ 117 (L._∷_ 110 (L._∷_ 100 (L._∷_ 58 (L._∷_ 58 (L._∷_ 70 (L._∷_ 111 (L._∷_ 117 (L._∷_ 110 (L._∷_ 100 L.[]))))))))))))))))))) (Syntax.tcons Syntax.tyBool (Syntax.tcons Syntax.tyBool (Syntax.tcons (Syntax.tyStruct (L._∷_ 115 (L._∷_ 116 (L._∷_ 101 (L._∷_ 112 (L._∷_ 58 (L._∷_ 58 (L._∷_ 83 (L._∷_ 116 (L._∷_ 101 (L._∷_ 112 L.[])))))))))) (Syntax.tcons (Syntax.tyInt Syntax.w64) (Syntax.tcons (Syntax.tyInt Syntax.w64) (Syntax.tcons (Syntax.tyStruct (L._∷_ 115 (L._∷_ 116 (L._∷_ 101 (L._∷_ 112 (L._∷_ 58 (L._∷_ 58 (L._∷_ 67 (L._∷_ 104 (L._∷_ 97 (L._∷_ 110 (L._∷_ 103 (L._∷_ 101 L.[])))))))))))) (Syntax.tcons (Syntax.tyStruct (L._∷_ 110 (L._∷_ 101 (L._∷_ 116 (L._∷_ 119 (L._∷_ 111 (L._∷_ 114 (L._∷_ 107 (L._∷_ 58 (L._∷_ 58 (L._∷_ 69 (L._∷_ 100 (L._∷_ 105 (L._∷_ 116 L.[]))))))))))))) (Syntax.tcons q11 (Syntax.tcons q11 (Syntax.tcons q11 (Syntax.tcons q11 (Syntax.tcons q3 (Syntax.tcons q3 (Syntax.tcons (Syntax.tyInt Syntax.w64) Syntax.tnil)))))))) (Syntax.tcons (Syntax.tyStruct (L._∷_ 115 (L._∷_ 116 (L._∷_ 101 (L._∷_ 112 (L._∷_ 58 (L._∷_ 58 (L._∷_ 79 (L._∷_ 108 (L._∷_ 100 L.[]))))))))) (Syntax.tcons (Syntax.tyInt Syntax.w64) (Syntax.tcons q10 (Syntax.tcons q11 (Syntax.tcons q11 (Syntax.tcons q11 (Syntax.tcons q11 (Syntax.tcons q7 Syntax.tnil)))))))) Syntax.tnil))) Syntax.tnil)))) Syntax.tnil))))) (L._∷_ q29 (L._∷_ q40 (L._∷_ q41 (L._∷_ q44 L.[])))))))))))))))
+t46 = L._∷_ q19 (L._∷_ q1 (L._∷_ q16 (L._∷_ q14 (L._∷_ q36 (L._∷_ q0 (L._∷_ q13 (L._∷_ q4 (L._∷_ q37 (L._∷_ q38 (L._∷_ (10, Rows.any-gone (Syntax.tyStruct (L._∷_ 115 (L._∷_ 116 (L._∷_ 101 (L._∷_ 112 (L._∷_ 58 (L._∷_ 58 (L._∷_ 65 (L._∷_ 114 (L._∷_ 111 (L._∷_ 117 (L._∷_ 110 (L._∷_ 100 L.[])))))))))))) (Syntax.tcons q12 (Syntax.tcons q12 (Syntax.tcons q12 (Syntax.tcons q12 Syntax.tnil)))))) (L._∷_ (11, Rows.any-gone (Syntax.tyStruct (L._∷_ 114 (L._∷_ 117 (L._∷_ 108 (L._∷_ 101 (L._∷_ 115 (L._∷_ 58 (L._∷_ 58 (L._∷_ 102 (L._∷_ 111 (L._∷_ 117 (L._∷_ 110 (L._∷_ 100 (L._∷_ 58 (L._∷_ 58 (L._∷_ 70 (L._∷_ 111 (L._∷_ 117 (L._∷_ 110 (L._∷_ 100 L.[]))))))))))))))))))) (Syntax.tcons Syntax.tyBool (Syntax.tcons Syntax.tyBool (Syntax.tcons (Syntax.tyStruct (L._∷_ 115 (L._∷_ 116 (L._∷_ 101 (L._∷_ 112 (L._∷_ 58 (L._∷_ 58 (L._∷_ 83 (L._∷_ 116 (L._∷_ 101 (L._∷_ 112 L.[])))))))))) (Syntax.tcons (Syntax.tyInt Syntax.w64) (Syntax.tcons (Syntax.tyInt Syntax.w64) (Syntax.tcons (Syntax.tyStruct (L._∷_ 115 (L._∷_ 116 (L._∷_ 101 (L._∷_ 112 (L._∷_ 58 (L._∷_ 58 (L._∷_ 67 (L._∷_ 104 (L._∷_ 97 (L._∷_ 110 (L._∷_ 103 (L._∷_ 101 L.[])))))))))))) (Syntax.tcons (Syntax.tyStruct (L._∷_ 110 (L._∷_ 101 (L._∷_ 116 (L._∷_ 119 (L._∷_ 111 (L._∷_ 114 (L._∷_ 107 (L._∷_ 58 (L._∷_ 58 (L._∷_ 69 (L._∷_ 100 (L._∷_ 105 (L._∷_ 116 L.[]))))))))))))) (Syntax.tcons q12 (Syntax.tcons q12 (Syntax.tcons q12 (Syntax.tcons q12 (Syntax.tcons q3 (Syntax.tcons q3 (Syntax.tcons (Syntax.tyInt Syntax.w64) (Syntax.tcons q11 Syntax.tnil))))))))) (Syntax.tcons (Syntax.tyStruct (L._∷_ 115 (L._∷_ 116 (L._∷_ 101 (L._∷_ 112 (L._∷_ 58 (L._∷_ 58 (L._∷_ 79 (L._∷_ 108 (L._∷_ 100 L.[]))))))))) (Syntax.tcons (Syntax.tyInt Syntax.w64) (Syntax.tcons q11 (Syntax.tcons q12 (Syntax.tcons q12 (Syntax.tcons q12 (Syntax.tcons q12 (Syntax.tcons q7 Syntax.tnil)))))))) Syntax.tnil))) Syntax.tnil)))) Syntax.tnil))))) (L._∷_ q30 (L._∷_ q41 (L._∷_ q42 (L._∷_ q45 L.[])))))))))))))))
 
 abbrev pub t47 : L.List Row.Entry
-t47 = L._∷_ q18 (L._∷_ q1 (L._∷_ q15 (L._∷_ q13 (L._∷_ q35 (L._∷_ q0 (L._∷_ q12 (L._∷_ q4 (L._∷_ q32 (L._∷_ q37 (L._∷_ (10, Rows.any-gone (Syntax.tyStruct (L._∷_ 115 (L._∷_ 116 (L._∷_ 101 (L._∷_ 112 (L._∷_ 58 (L._∷_ 58 (L._∷_ 65 (L._∷_ 114 (L._∷_ 111 (L._∷_ 117 (L._∷_ 110 (L._∷_ 100 L.[])))))))))))) (Syntax.tcons q11 (Syntax.tcons q11 (Syntax.tcons q11 (Syntax.tcons q11 Syntax.tnil)))))) (L._∷_ (11, Rows.any-gone (Syntax.tyStruct (L._∷_ 114 (L._∷_ 117 (L._∷_ 108 (L._∷_ 101 (L._∷_ 115 (L._∷_ 58 (L._∷_ 58 (L._∷_ 102 (L._∷_ 111 (L._∷_ 117 (L._∷_ 110 (L._∷_ 100 (L._∷_ 58 (L._∷_ 58 (L._∷_ 70 (L._∷_ 111 (L._∷_ 117 (L._∷_ 110 (L._∷_ 100 L.[]))))))))))))))))))) (Syntax.tcons Syntax.tyBool (Syntax.tcons Syntax.tyBool (Syntax.tcons (Syntax.tyStruct (L._∷_ 115 (L._∷_ 116 (L._∷_ 101 (L._∷_ 112 (L._∷_ 58 (L._∷_ 58 (L._∷_ 83 (L._∷_ 116 (L._∷_ 101 (L._∷_ 112 L.[])))))))))) (Syntax.tcons (Syntax.tyInt Syntax.w64) (Syntax.tcons (Syntax.tyInt Syntax.w64) (Syntax.tcons (Syntax.tyStruct (L._∷_ 115 (L._∷_ 116 (L._∷_ 101 (L._∷_ 112 (L._∷_ 58 (L._∷_ 58 (L._∷_ 67 (L._∷_ 104 (L._∷_ 97 (L._∷_ 110 (L._∷_ 103 (L._∷_ 101 L.[])))))))))))) (Syntax.tcons (Syntax.tyStruct (L._∷_ 110 (L._∷_ 101 (L._∷_ 116 (L._∷_ 119 (L._∷_ 111 (L._∷_ 114 (L._∷_ 107 (L._∷_ 58 (L._∷_ 58 (L._∷_ 69 (L._∷_ 100 (L._∷_ 105 (L._∷_ 116 L.[]))))))))))))) (Syntax.tcons q11 (Syntax.tcons q11 (Syntax.tcons q11 (Syntax.tcons q11 (Syntax.tcons q3 (Syntax.tcons q3 (Syntax.tcons (Syntax.tyInt Syntax.w64) Syntax.tnil)))))))) (Syntax.tcons (Syntax.tyStruct (L._∷_ 115 (L._∷_ 116 (L._∷_ 101 (L._∷_ 112 (L._∷_ 58 (L._∷_ 58 (L._∷_ 79 (L._∷_ 108 (L._∷_ 100 L.[]))))))))) (Syntax.tcons (Syntax.tyInt Syntax.w64) (Syntax.tcons q10 (Syntax.tcons q11 (Syntax.tcons q11 (Syntax.tcons q11 (Syntax.tcons q11 (Syntax.tcons q7 Syntax.tnil)))))))) Syntax.tnil))) Syntax.tnil)))) Syntax.tnil))))) (L._∷_ q29 (L._∷_ q40 (L._∷_ q41 (L._∷_ q44 L.[])))))))))))))))
+t47 = L._∷_ q19 (L._∷_ q1 (L._∷_ q16 (L._∷_ q14 (L._∷_ (4, Rows.any-gone (Syntax.tyInt Syntax.w64)) (L._∷_ q0 (L._∷_ q13 (L._∷_ q4 (L._∷_ q37 (L._∷_ q38 (L._∷_ (10, Rows.any-gone (Syntax.tyStruct (L._∷_ 115 (L._∷_ 116 (L._∷_ 101 (L._∷_ 112 (L._∷_ 58 (L._∷_ 58 (L._∷_ 65 (L._∷_ 114 (L._∷_ 111 (L._∷_ 117 (L._∷_ 110 (L._∷_ 100 L.[])))))))))))) (Syntax.tcons q12 (Syntax.tcons q12 (Syntax.tcons q12 (Syntax.tcons q12 Syntax.tnil)))))) (L._∷_ (11, Rows.any-gone (Syntax.tyStruct (L._∷_ 114 (L._∷_ 117 (L._∷_ 108 (L._∷_ 101 (L._∷_ 115 (L._∷_ 58 (L._∷_ 58 (L._∷_ 102 (L._∷_ 111 (L._∷_ 117 (L._∷_ 110 (L._∷_ 100 (L._∷_ 58 (L._∷_ 58 (L._∷_ 70 (L._∷_ 111 (L._∷_ 117 (L._∷_ 110 (L._∷_ 100 L.[]))))))))))))))))))) (Syntax.tcons Syntax.tyBool (Syntax.tcons Syntax.tyBool (Syntax.tcons (Syntax.tyStruct (L._∷_ 115 (L._∷_ 116 (L._∷_ 101 (L._∷_ 112 (L._∷_ 58 (L._∷_ 58 (L._∷_ 83 (L._∷_ 116 (L._∷_ 101 (L._∷_ 112 L.[])))))))))) (Syntax.tcons (Syntax.tyInt Syntax.w64) (Syntax.tcons (Syntax.tyInt Syntax.w64) (Syntax.tcons (Syntax.tyStruct (L._∷_ 115 (L._∷_ 116 (L._∷_ 101 (L._∷_ 112 (L._∷_ 58 (L._∷_ 58 (L._∷_ 67 (L._∷_ 104 (L._∷_ 97 (L._∷_ 110 (L._∷_ 103 (L._∷_ 101 L.[])))))))))))) (Syntax.tcons (Syntax.tyStruct (L._∷_ 110 (L._∷_ 101 (L._∷_ 116 (L._∷_ 119 (L._∷_ 111 (L._∷_ 114 (L._∷_ 107 (L._∷_ 58 (L._∷_ 58 (L._∷_ 69 (L._∷_ 100 (L._∷_ 105 (L._∷_ 116 L.[]))))))))))))) (Syntax.tcons q12 (Syntax.tcons q12 (Syntax.tcons q12 (Syntax.tcons q12 (Syntax.tcons q3 (Syntax.tcons q3 (Syntax.tcons (Syntax.tyInt Syntax.w64) (Syntax.tcons q11 Syntax.tnil))))))))) (Syntax.tcons (Syntax.tyStruct (L._∷_ 115 (L._∷_ 116 (L._∷_ 101 (L._∷_ 112 (L._∷_ 58 (L._∷_ 58 (L._∷_ 79 (L._∷_ 108 (L._∷_ 100 L.[]))))))))) (Syntax.tcons (Syntax.tyInt Syntax.w64) (Syntax.tcons q11 (Syntax.tcons q12 (Syntax.tcons q12 (Syntax.tcons q12 (Syntax.tcons q12 (Syntax.tcons q7 Syntax.tnil)))))))) Syntax.tnil))) Syntax.tnil)))) Syntax.tnil))))) (L._∷_ q30 (L._∷_ q41 (L._∷_ q42 (L._∷_ q45 L.[])))))))))))))))
 
 abbrev pub t48 : L.List Row.Entry
-t48 = L._∷_ q18 (L._∷_ q1 (L._∷_ q15 (L._∷_ q13 (L._∷_ q35 (L._∷_ q0 (L._∷_ q12 (L._∷_ q4 (L._∷_ q32 (L._∷_ q33 (L._∷_ (10, Rows.any-gone (Syntax.tyStruct (L._∷_ 115 (L._∷_ 116 (L._∷_ 101 (L._∷_ 112 (L._∷_ 58 (L._∷_ 58 (L._∷_ 65 (L._∷_ 114 (L._∷_ 111 (L._∷_ 117 (L._∷_ 110 (L._∷_ 100 L.[])))))))))))) (Syntax.tcons q11 (Syntax.tcons q11 (Syntax.tcons q11 (Syntax.tcons q11 Syntax.tnil)))))) (L._∷_ (11, Rows.any-gone (Syntax.tyStruct (L._∷_ 114 (L._∷_ 117 (L._∷_ 108 (L._∷_ 101 (L._∷_ 115 (L._∷_ 58 (L._∷_ 58 (L._∷_ 102 (L._∷_ 111 (L._∷_ 117 (L._∷_ 110 (L._∷_ 100 (L._∷_ 58 (L._∷_ 58 (L._∷_ 70 (L._∷_ 111 (L._∷_ 117 (L._∷_ 110 (L._∷_ 100 L.[]))))))))))))))))))) (Syntax.tcons Syntax.tyBool (Syntax.tcons Syntax.tyBool (Syntax.tcons (Syntax.tyStruct (L._∷_ 115 (L._∷_ 116 (L._∷_ 101 (L._∷_ 112 (L._∷_ 58 (L._∷_ 58 (L._∷_ 83 (L._∷_ 116 (L._∷_ 101 (L._∷_ 112 L.[])))))))))) (Syntax.tcons (Syntax.tyInt Syntax.w64) (Syntax.tcons (Syntax.tyInt Syntax.w64) (Syntax.tcons (Syntax.tyStruct (L._∷_ 115 (L._∷_ 116 (L._∷_ 101 (L._∷_ 112 (L._∷_ 58 (L._∷_ 58 (L._∷_ 67 (L._∷_ 104 (L._∷_ 97 (L._∷_ 110 (L._∷_ 103 (L._∷_ 101 L.[])))))))))))) (Syntax.tcons (Syntax.tyStruct (L._∷_ 110 (L._∷_ 101 (L._∷_ 116 (L._∷_ 119 (L._∷_ 111 (L._∷_ 114 (L._∷_ 107 (L._∷_ 58 (L._∷_ 58 (L._∷_ 69 (L._∷_ 100 (L._∷_ 105 (L._∷_ 116 L.[]))))))))))))) (Syntax.tcons q11 (Syntax.tcons q11 (Syntax.tcons q11 (Syntax.tcons q11 (Syntax.tcons q3 (Syntax.tcons q3 (Syntax.tcons (Syntax.tyInt Syntax.w64) Syntax.tnil)))))))) (Syntax.tcons (Syntax.tyStruct (L._∷_ 115 (L._∷_ 116 (L._∷_ 101 (L._∷_ 112 (L._∷_ 58 (L._∷_ 58 (L._∷_ 79 (L._∷_ 108 (L._∷_ 100 L.[]))))))))) (Syntax.tcons (Syntax.tyInt Syntax.w64) (Syntax.tcons q10 (Syntax.tcons q11 (Syntax.tcons q11 (Syntax.tcons q11 (Syntax.tcons q11 (Syntax.tcons q7 Syntax.tnil)))))))) Syntax.tnil))) Syntax.tnil)))) Syntax.tnil))))) (L._∷_ q29 (L._∷_ q40 (L._∷_ q41 (L._∷_ q44 L.[])))))))))))))))
+t48 = L._∷_ q19 (L._∷_ q1 (L._∷_ q16 (L._∷_ q14 (L._∷_ (4, Rows.any-gone (Syntax.tyInt Syntax.w64)) (L._∷_ q0 (L._∷_ q13 (L._∷_ q4 (L._∷_ q33 (L._∷_ q38 (L._∷_ (10, Rows.any-gone (Syntax.tyStruct (L._∷_ 115 (L._∷_ 116 (L._∷_ 101 (L._∷_ 112 (L._∷_ 58 (L._∷_ 58 (L._∷_ 65 (L._∷_ 114 (L._∷_ 111 (L._∷_ 117 (L._∷_ 110 (L._∷_ 100 L.[])))))))))))) (Syntax.tcons q12 (Syntax.tcons q12 (Syntax.tcons q12 (Syntax.tcons q12 Syntax.tnil)))))) (L._∷_ (11, Rows.any-gone (Syntax.tyStruct (L._∷_ 114 (L._∷_ 117 (L._∷_ 108 (L._∷_ 101 (L._∷_ 115 (L._∷_ 58 (L._∷_ 58 (L._∷_ 102 (L._∷_ 111 (L._∷_ 117 (L._∷_ 110 (L._∷_ 100 (L._∷_ 58 (L._∷_ 58 (L._∷_ 70 (L._∷_ 111 (L._∷_ 117 (L._∷_ 110 (L._∷_ 100 L.[]))))))))))))))))))) (Syntax.tcons Syntax.tyBool (Syntax.tcons Syntax.tyBool (Syntax.tcons (Syntax.tyStruct (L._∷_ 115 (L._∷_ 116 (L._∷_ 101 (L._∷_ 112 (L._∷_ 58 (L._∷_ 58 (L._∷_ 83 (L._∷_ 116 (L._∷_ 101 (L._∷_ 112 L.[])))))))))) (Syntax.tcons (Syntax.tyInt Syntax.w64) (Syntax.tcons (Syntax.tyInt Syntax.w64) (Syntax.tcons (Syntax.tyStruct (L._∷_ 115 (L._∷_ 116 (L._∷_ 101 (L._∷_ 112 (L._∷_ 58 (L._∷_ 58 (L._∷_ 67 (L._∷_ 104 (L._∷_ 97 (L._∷_ 110 (L._∷_ 103 (L._∷_ 101 L.[])))))))))))) (Syntax.tcons (Syntax.tyStruct (L._∷_ 110 (L._∷_ 101 (L._∷_ 116 (L._∷_ 119 (L._∷_ 111 (L._∷_ 114 (L._∷_ 107 (L._∷_ 58 (L._∷_ 58 (L._∷_ 69 (L._∷_ 100 (L._∷_ 105 (L._∷_ 116 L.[]))))))))))))) (Syntax.tcons q12 (Syntax.tcons q12 (Syntax.tcons q12 (Syntax.tcons q12 (Syntax.tcons q3 (Syntax.tcons q3 (Syntax.tcons (Syntax.tyInt Syntax.w64) (Syntax.tcons q11 Syntax.tnil))))))))) (Syntax.tcons (Syntax.tyStruct (L._∷_ 115 (L._∷_ 116 (L._∷_ 101 (L._∷_ 112 (L._∷_ 58 (L._∷_ 58 (L._∷_ 79 (L._∷_ 108 (L._∷_ 100 L.[]))))))))) (Syntax.tcons (Syntax.tyInt Syntax.w64) (Syntax.tcons q11 (Syntax.tcons q12 (Syntax.tcons q12 (Syntax.tcons q12 (Syntax.tcons q12 (Syntax.tcons q7 Syntax.tnil)))))))) Syntax.tnil))) Syntax.tnil)))) Syntax.tnil))))) (L._∷_ q30 (L._∷_ q41 (L._∷_ q42 (L._∷_ q45 L.[])))))))))))))))
+
+abbrev pub t49 : L.List Row.Entry
+t49 = L._∷_ q19 (L._∷_ q1 (L._∷_ q16 (L._∷_ q14 (L._∷_ q36 (L._∷_ q0 (L._∷_ q13 (L._∷_ q4 (L._∷_ q33 (L._∷_ q38 (L._∷_ (10, Rows.any-gone (Syntax.tyStruct (L._∷_ 115 (L._∷_ 116 (L._∷_ 101 (L._∷_ 112 (L._∷_ 58 (L._∷_ 58 (L._∷_ 65 (L._∷_ 114 (L._∷_ 111 (L._∷_ 117 (L._∷_ 110 (L._∷_ 100 L.[])))))))))))) (Syntax.tcons q12 (Syntax.tcons q12 (Syntax.tcons q12 (Syntax.tcons q12 Syntax.tnil)))))) (L._∷_ (11, Rows.any-gone (Syntax.tyStruct (L._∷_ 114 (L._∷_ 117 (L._∷_ 108 (L._∷_ 101 (L._∷_ 115 (L._∷_ 58 (L._∷_ 58 (L._∷_ 102 (L._∷_ 111 (L._∷_ 117 (L._∷_ 110 (L._∷_ 100 (L._∷_ 58 (L._∷_ 58 (L._∷_ 70 (L._∷_ 111 (L._∷_ 117 (L._∷_ 110 (L._∷_ 100 L.[]))))))))))))))))))) (Syntax.tcons Syntax.tyBool (Syntax.tcons Syntax.tyBool (Syntax.tcons (Syntax.tyStruct (L._∷_ 115 (L._∷_ 116 (L._∷_ 101 (L._∷_ 112 (L._∷_ 58 (L._∷_ 58 (L._∷_ 83 (L._∷_ 116 (L._∷_ 101 (L._∷_ 112 L.[])))))))))) (Syntax.tcons (Syntax.tyInt Syntax.w64) (Syntax.tcons (Syntax.tyInt Syntax.w64) (Syntax.tcons (Syntax.tyStruct (L._∷_ 115 (L._∷_ 116 (L._∷_ 101 (L._∷_ 112 (L._∷_ 58 (L._∷_ 58 (L._∷_ 67 (L._∷_ 104 (L._∷_ 97 (L._∷_ 110 (L._∷_ 103 (L._∷_ 101 L.[])))))))))))) (Syntax.tcons (Syntax.tyStruct (L._∷_ 110 (L._∷_ 101 (L._∷_ 116 (L._∷_ 119 (L._∷_ 111 (L._∷_ 114 (L._∷_ 107 (L._∷_ 58 (L._∷_ 58 (L._∷_ 69 (L._∷_ 100 (L._∷_ 105 (L._∷_ 116 L.[]))))))))))))) (Syntax.tcons q12 (Syntax.tcons q12 (Syntax.tcons q12 (Syntax.tcons q12 (Syntax.tcons q3 (Syntax.tcons q3 (Syntax.tcons (Syntax.tyInt Syntax.w64) (Syntax.tcons q11 Syntax.tnil))))))))) (Syntax.tcons (Syntax.tyStruct (L._∷_ 115 (L._∷_ 116 (L._∷_ 101 (L._∷_ 112 (L._∷_ 58 (L._∷_ 58 (L._∷_ 79 (L._∷_ 108 (L._∷_ 100 L.[]))))))))) (Syntax.tcons (Syntax.tyInt Syntax.w64) (Syntax.tcons q11 (Syntax.tcons q12 (Syntax.tcons q12 (Syntax.tcons q12 (Syntax.tcons q12 (Syntax.tcons q7 Syntax.tnil)))))))) Syntax.tnil))) Syntax.tnil)))) Syntax.tnil))))) (L._∷_ q30 (L._∷_ q41 (L._∷_ q42 (L._∷_ q45 L.[])))))))))))))))
+
+abbrev pub t50 : L.List Row.Entry
+t50 = L._∷_ q19 (L._∷_ q1 (L._∷_ q16 (L._∷_ q14 (L._∷_ q36 (L._∷_ q0 (L._∷_ q13 (L._∷_ q4 (L._∷_ q33 (L._∷_ q34 (L._∷_ (10, Rows.any-gone (Syntax.tyStruct (L._∷_ 115 (L._∷_ 116 (L._∷_ 101 (L._∷_ 112 (L._∷_ 58 (L._∷_ 58 (L._∷_ 65 (L._∷_ 114 (L._∷_ 111 (L._∷_ 117 (L._∷_ 110 (L._∷_ 100 L.[])))))))))))) (Syntax.tcons q12 (Syntax.tcons q12 (Syntax.tcons q12 (Syntax.tcons q12 Syntax.tnil)))))) (L._∷_ (11, Rows.any-gone (Syntax.tyStruct (L._∷_ 114 (L._∷_ 117 (L._∷_ 108 (L._∷_ 101 (L._∷_ 115 (L._∷_ 58 (L._∷_ 58 (L._∷_ 102 (L._∷_ 111 (L._∷_ 117 (L._∷_ 110 (L._∷_ 100 (L._∷_ 58 (L._∷_ 58 (L._∷_ 70 (L._∷_ 111 (L._∷_ 117 (L._∷_ 110 (L._∷_ 100 L.[]))))))))))))))))))) (Syntax.tcons Syntax.tyBool (Syntax.tcons Syntax.tyBool (Syntax.tcons (Syntax.tyStruct (L._∷_ 115 (L._∷_ 116 (L._∷_ 101 (L._∷_ 112 (L._∷_ 58 (L._∷_ 58 (L._∷_ 83 (L._∷_ 116 (L._∷_ 101 (L._∷_ 112 L.[])))))))))) (Syntax.tcons (Syntax.tyInt Syntax.w64) (Syntax.tcons (Syntax.tyInt Syntax.w64) (Syntax.tcons (Syntax.tyStruct (L._∷_ 115 (L._∷_ 116 (L._∷_ 101 (L._∷_ 112 (L._∷_ 58 (L._∷_ 58 (L._∷_ 67 (L._∷_ 104 (L._∷_ 97 (L._∷_ 110 (L._∷_ 103 (L._∷_ 101 L.[])))))))))))) (Syntax.tcons (Syntax.tyStruct (L._∷_ 110 (L._∷_ 101 (L._∷_ 116 (L._∷_ 119 (L._∷_ 111 (L._∷_ 114 (L._∷_ 107 (L._∷_ 58 (L._∷_ 58 (L._∷_ 69 (L._∷_ 100 (L._∷_ 105 (L._∷_ 116 L.[]))))))))))))) (Syntax.tcons q12 (Syntax.tcons q12 (Syntax.tcons q12 (Syntax.tcons q12 (Syntax.tcons q3 (Syntax.tcons q3 (Syntax.tcons (Syntax.tyInt Syntax.w64) (Syntax.tcons q11 Syntax.tnil))))))))) (Syntax.tcons (Syntax.tyStruct (L._∷_ 115 (L._∷_ 116 (L._∷_ 101 (L._∷_ 112 (L._∷_ 58 (L._∷_ 58 (L._∷_ 79 (L._∷_ 108 (L._∷_ 100 L.[]))))))))) (Syntax.tcons (Syntax.tyInt Syntax.w64) (Syntax.tcons q11 (Syntax.tcons q12 (Syntax.tcons q12 (Syntax.tcons q12 (Syntax.tcons q12 (Syntax.tcons q7 Syntax.tnil)))))))) Syntax.tnil))) Syntax.tnil)))) Syntax.tnil))))) (L._∷_ q30 (L._∷_ q41 (L._∷_ q42 (L._∷_ q45 L.[])))))))))))))))
 
 abbrev pub T0 : Row.Cx
 T0 = record { locals = L._++_ t0 t1; slots = L.[] }
@@ -781,31 +797,31 @@ abbrev pub T47 : Row.Cx
 T47 = record { locals = L._++_ t35 t36; slots = L.[] }
 
 abbrev pub T48 : Row.Cx
-T48 = record { locals = L._++_ t37 t36; slots = L.[] }
+T48 = record { locals = L._++_ t35 t37; slots = L.[] }
 
 abbrev pub T49 : Row.Cx
-T49 = record { locals = L._++_ t38 t36; slots = L.[] }
+T49 = record { locals = L._++_ t38 t37; slots = L.[] }
 
 abbrev pub T50 : Row.Cx
-T50 = record { locals = L._++_ t38 t1; slots = L.[] }
+T50 = record { locals = L._++_ t39 t37; slots = L.[] }
 
 abbrev pub T51 : Row.Cx
-T51 = record { locals = L._++_ t38 t39; slots = L.[] }
+T51 = record { locals = L._++_ t39 t40; slots = L.[] }
 
 abbrev pub T52 : Row.Cx
-T52 = record { locals = L._++_ t40 t39; slots = L.[] }
+T52 = record { locals = L._++_ t39 t1; slots = L.[] }
 
 abbrev pub T53 : Row.Cx
-T53 = record { locals = L._++_ t41 t39; slots = L.[] }
+T53 = record { locals = L._++_ t39 t41; slots = L.[] }
 
 abbrev pub T54 : Row.Cx
-T54 = record { locals = L._++_ t42 t39; slots = L.[] }
+T54 = record { locals = L._++_ t42 t41; slots = L.[] }
 
 abbrev pub T55 : Row.Cx
-T55 = record { locals = L._++_ t42 t1; slots = L.[] }
+T55 = record { locals = L._++_ t43 t41; slots = L.[] }
 
 abbrev pub T56 : Row.Cx
-T56 = record { locals = L._++_ t43 t1; slots = L.[] }
+T56 = record { locals = L._++_ t44 t41; slots = L.[] }
 
 abbrev pub T57 : Row.Cx
 T57 = record { locals = L._++_ t44 t1; slots = L.[] }
@@ -817,16 +833,16 @@ abbrev pub T59 : Row.Cx
 T59 = record { locals = L._++_ t46 t1; slots = L.[] }
 
 abbrev pub T60 : Row.Cx
-T60 = record { locals = L._++_ t2 t1; slots = L.[] }
+T60 = record { locals = L._++_ t47 t1; slots = L.[] }
 
 abbrev pub T61 : Row.Cx
-T61 = record { locals = L._++_ t9 t39; slots = L.[] }
+T61 = record { locals = L._++_ t48 t1; slots = L.[] }
 
 abbrev pub T62 : Row.Cx
-T62 = record { locals = L._++_ t9 t1; slots = L.[] }
+T62 = record { locals = L._++_ t2 t1; slots = L.[] }
 
 abbrev pub T63 : Row.Cx
-T63 = record { locals = L._++_ t9 t1; slots = L.[] }
+T63 = record { locals = L._++_ t9 t41; slots = L.[] }
 
 abbrev pub T64 : Row.Cx
 T64 = record { locals = L._++_ t9 t1; slots = L.[] }
@@ -835,16 +851,22 @@ abbrev pub T65 : Row.Cx
 T65 = record { locals = L._++_ t9 t1; slots = L.[] }
 
 abbrev pub T66 : Row.Cx
-T66 = record { locals = L._++_ t44 t1; slots = L.[] }
+T66 = record { locals = L._++_ t9 t1; slots = L.[] }
 
 abbrev pub T67 : Row.Cx
-T67 = record { locals = L._++_ t47 t1; slots = L.[] }
+T67 = record { locals = L._++_ t9 t1; slots = L.[] }
 
 abbrev pub T68 : Row.Cx
-T68 = record { locals = L._++_ t48 t1; slots = L.[] }
+T68 = record { locals = L._++_ t46 t1; slots = L.[] }
 
 abbrev pub T69 : Row.Cx
-T69 = record { locals = L._++_ t2 t1; slots = L.[] }
+T69 = record { locals = L._++_ t49 t1; slots = L.[] }
+
+abbrev pub T70 : Row.Cx
+T70 = record { locals = L._++_ t50 t1; slots = L.[] }
+
+abbrev pub T71 : Row.Cx
+T71 = record { locals = L._++_ t2 t1; slots = L.[] }
 
 abbrev pub O0 : Typed.Outs
 O0 = record { next = Option.none; exits = L.[]; returns = Option.some T1 }
@@ -872,28 +894,28 @@ MeasureT-loop = L.List (Rec.row .Denot) → Rows.sc-here (Row.sInt Syntax.w64) .
 
 module _ (claims· : Claims) where
   abbrev s0 : (bs : L.List Nat.ℕ) → Typed.Mo T0 → Typed.Mo T2
-  s0 = λ bs. LocalCopy.n-val-copy T0 1 5 (Declared.row network-proofs-Nodes·.the-type) q26 q26 (λ x. x) (λ x. x) λ x. x
+  s0 = λ bs. LocalCopy.n-val-copy T0 1 5 (Declared.row network-proofs-Nodes·.the-type) q27 q27 (λ x. x) (λ x. x) λ x. x
 
   abbrev s1 : (bs : L.List Nat.ℕ) → Typed.Mo T2 → Typed.Mo T3
   s1 = λ bs. Scalar.n-room T2 1 q2
 
   abbrev s2 : (bs : L.List Nat.ℕ) → Typed.Mo T3 → Typed.Mo T4
-  s2 = λ bs. LocalCopy.n-val-copy T3 3 6 (Declared.row network-proofs-Degrees·.the-type) q25 q25 (λ x. x) (λ x. x) λ x. x
+  s2 = λ bs. LocalCopy.n-val-copy T3 3 6 (Declared.row network-proofs-Degrees·.the-type) q26 q26 (λ x. x) (λ x. x) λ x. x
 
   abbrev s3 : (bs : L.List Nat.ℕ) → Typed.Mo T4 → Typed.Mo T5
-  s3 = λ bs. Scalar.n-room T4 3 q14
+  s3 = λ bs. Scalar.n-room T4 3 q15
 
   abbrev s4 : (bs : L.List Nat.ℕ) → Typed.Both T5 T6
   s4 = λ bs. Call.callB ps·0 r·0 (claims· .0) (claims· .1) T5 (Num.vAt 4 λ x. x, tt) 7 L.[] q6
 
   abbrev s5 : (bs : L.List Nat.ℕ) → Typed.Mo T6 → Typed.Mo T7
-  s5 = λ bs. Scalar.n-use T6 (Scalar.oFld 7 (L._∷_ (Syntax.field 1) L.[]) (Syntax.tyInt Syntax.w64) 8 (Reads.fieldV rules-proofs-tried-Asks·.the-type rules-proofs-tried-Asks-Laws·.the-laws 1)) 8 q38 (Row.sInt Syntax.w64 .of)
+  s5 = λ bs. Scalar.n-use T6 (Scalar.oFld 7 (L._∷_ (Syntax.field 1) L.[]) (Syntax.tyInt Syntax.w64) 8 (Reads.fieldV rules-proofs-tried-Asks·.the-type rules-proofs-tried-Asks-Laws·.the-laws 1)) 8 q39 (Row.sInt Syntax.w64 .of)
 
   abbrev s6 : (bs : L.List Nat.ℕ) → Typed.Mo T7 → Typed.Mo T8
-  s6 = λ bs. Scalar.n-use T7 (Scalar.oInt Syntax.w64 1) 9 q38 (Row.sInt Syntax.w64 .of)
+  s6 = λ bs. Scalar.n-use T7 (Scalar.oInt Syntax.w64 1) 9 q39 (Row.sInt Syntax.w64 .of)
 
   abbrev s7 : (bs : L.List Nat.ℕ) → Typed.Mo T8 → Typed.Mo T10
-  s7 = λ bs. Scalar.n-use T8 (Scalar.oFld 5 (L._∷_ (Syntax.field 0) L.[]) (Syntax.tyInt Syntax.w64) 0 (Reads.fieldV network-proofs-Nodes·.the-type network-proofs-Nodes-Laws·.the-laws 0)) 12 q38 (Row.sInt Syntax.w64 .of)
+  s7 = λ bs. Scalar.n-use T8 (Scalar.oFld 5 (L._∷_ (Syntax.field 0) L.[]) (Syntax.tyInt Syntax.w64) 0 (Reads.fieldV network-proofs-Nodes·.the-type network-proofs-Nodes-Laws·.the-laws 0)) 12 q39 (Row.sInt Syntax.w64 .of)
 
   abbrev s8 : (bs : L.List Nat.ℕ) → Typed.Asks T10 T11
   s8 = λ bs. Scalar.k-op2 T10 (Syntax.le Syntax.unsigned) (Scalar.oAt 9 (Syntax.tyInt Syntax.w64) (Row.valS (Row.sInt Syntax.w64))) (Scalar.oAt 12 (Syntax.tyInt Syntax.w64) (Row.valS (Row.sInt Syntax.w64))) 13 (Rows.sc-here Row.sBool) (Row.sBool .of)
@@ -908,7 +930,7 @@ module _ (claims· : Claims) where
   s11 = λ bs. Scalar.n-room T13 5 q2
 
   abbrev s12 : (bs : L.List Nat.ℕ) → Typed.Mo T15 → Typed.Mo T16
-  s12 = λ bs. Scalar.n-room T15 6 q14
+  s12 = λ bs. Scalar.n-room T15 6 q15
 
   abbrev s13 : (bs : L.List Nat.ℕ) → Typed.Mo T16 → Typed.Mo T17
   s13 = λ bs. Scalar.n-room T16 7 q6
@@ -917,7 +939,7 @@ module _ (claims· : Claims) where
   s14 = λ bs. Scalar.n-room T17 13 Syntax.tyBool
 
   abbrev s15 : (bs : L.List Nat.ℕ) → Typed.Mo T12 → Typed.Mo T19
-  s15 = λ bs. Init.n-addr-at T12 (Row.hd 0 (Row.tl (Row.tl (Row.tl (Row.tl (Row.tl bs)))))) 16 15
+  s15 = λ bs. Init.n-addr-at T12 (Row.hd 0 (Row.tl (Row.tl (Row.tl (Row.tl (Row.tl bs)))))) 24 15
 
   abbrev s16 : (bs : L.List Nat.ℕ) → Typed.Asks T19 T20
   s16 = λ bs. Scalar.k-op2 T19 Syntax.offset (Scalar.oAt 15 Syntax.tyPtr (Row.valS Row.sPtr)) (Scalar.oAt 9 (Syntax.tyInt Syntax.w64) (Row.valS (Row.sInt Syntax.w64))) 16 (Rows.sc-here Row.sPtr) (Row.sPtr .of)
@@ -926,13 +948,13 @@ module _ (claims· : Claims) where
   s17 = λ bs. Scalar.n-room T20 15 Syntax.tyPtr
 
   abbrev s18 : (bs : L.List Nat.ℕ) → Typed.Both T21 T22
-  s18 = λ bs. WayStmt.k-way-copy-out T21 (Row.out 16 (Row.out 5 (T21 .locals))) (λ u. Row.drop 16 (Row.out 5 (T21 .locals)) (Row.drop 5 (T21 .locals) u)) 13 (Rows.sc-here Row.sBool) (λ u. ListN.getD (At.getAt (network-proofs-Nodes·.the-type .parts) 2 (network-proofs-Nodes·.struct .as-values (u .1 .1 .1 .1 .1 .0))) (u .1 .1 .1 .1 .1 .1 .1 .1 .1 .0) Bool.false) (λ T′. record { locals = Row.setRow 5 q24 (Row.setRow 16 (16, Rows.sc-here Row.sPtr) T′); slots = L.[] }) (λ u T′ m′. Row.set 5 q24 (u .1 .1 .1 .1 .1 .0) (Row.setRow 16 (16, Rows.sc-here Row.sPtr) T′) (Row.set 16 (16, Rows.sc-here Row.sPtr) (u .1 .1 .1 .1 .1 .1 .1 .1 .1 .1 .1 .1 .1 .1 .1 .1 .0) T′ m′)) (λ u. Path._≡_ (u .1 .1 .1 .1 .1 .1 .1 .1 .1 .1 .1 .1 .1 .1 .1 .1 .0 .0) (Row.hd 0 (Row.tl (Row.tl (Row.tl (Row.tl (Row.tl bs)))))) × Path._≡_ (u .1 .1 .1 .1 .1 .1 .1 .1 .1 .1 .1 .1 .1 .1 .1 .1 .0 .1) (Shared.byByte (u .1 .1 .1 .1 .1 .1 .1 .1 .1 .0) (Nat._+_ Nat.zero 16)) × Asked.InArray T21 (λ u. u .1 .1 .1 .1 .1 .1 .1 .1 .1 .0) 33 u) λ u. Unit
+  s18 = λ bs. WayStmt.k-way-copy-out T21 (Row.out 16 (Row.out 5 (T21 .locals))) (λ u. Row.drop 16 (Row.out 5 (T21 .locals)) (Row.drop 5 (T21 .locals) u)) 13 (Rows.sc-here Row.sBool) (λ u. ListN.getD (At.getAt (network-proofs-Nodes·.the-type .parts) 3 (network-proofs-Nodes·.struct .as-values (u .1 .1 .1 .1 .1 .0))) (u .1 .1 .1 .1 .1 .1 .1 .1 .1 .0) Bool.false) (λ T′. record { locals = Row.setRow 5 q25 (Row.setRow 16 (16, Rows.sc-here Row.sPtr) T′); slots = L.[] }) (λ u T′ m′. Row.set 5 q25 (u .1 .1 .1 .1 .1 .0) (Row.setRow 16 (16, Rows.sc-here Row.sPtr) T′) (Row.set 16 (16, Rows.sc-here Row.sPtr) (u .1 .1 .1 .1 .1 .1 .1 .1 .1 .1 .1 .1 .1 .1 .1 .1 .0) T′ m′)) (λ u. Path._≡_ (u .1 .1 .1 .1 .1 .1 .1 .1 .1 .1 .1 .1 .1 .1 .1 .1 .0 .0) (Row.hd 0 (Row.tl (Row.tl (Row.tl (Row.tl (Row.tl bs)))))) × Path._≡_ (u .1 .1 .1 .1 .1 .1 .1 .1 .1 .1 .1 .1 .1 .1 .1 .1 .0 .1) (Shared.byByte (u .1 .1 .1 .1 .1 .1 .1 .1 .1 .0) (Nat._+_ Nat.zero 24)) × Asked.InArray T21 (λ u. u .1 .1 .1 .1 .1 .1 .1 .1 .1 .0) 33 u) λ u. Unit
 
   abbrev s19 : (bs : L.List Nat.ℕ) → Typed.Mo T22 → Typed.Mo T23
   s19 = λ bs. Scalar.n-room T22 16 Syntax.tyPtr
 
   abbrev s20 : (bs : L.List Nat.ℕ) → Typed.Asks T23 T24
-  s20 = λ bs. Scalar.k-op2 T23 (Syntax.mul Syntax.unsigned) (Scalar.oAt 9 (Syntax.tyInt Syntax.w64) (Row.valS (Row.sInt Syntax.w64))) (Scalar.oInt Syntax.w64 8) 12 q38 (Row.sInt Syntax.w64 .of)
+  s20 = λ bs. Scalar.k-op2 T23 (Syntax.mul Syntax.unsigned) (Scalar.oAt 9 (Syntax.tyInt Syntax.w64) (Row.valS (Row.sInt Syntax.w64))) (Scalar.oInt Syntax.w64 8) 12 q39 (Row.sInt Syntax.w64 .of)
 
   abbrev s21 : (bs : L.List Nat.ℕ) → Typed.Mo T24 → Typed.Mo T25
   s21 = λ bs. Init.n-addr-at T24 (Row.hd 0 (Row.tl (Row.tl (Row.tl (Row.tl (Row.tl (Row.tl bs))))))) 0 17
@@ -944,7 +966,7 @@ module _ (claims· : Claims) where
   s23 = λ bs. Scalar.n-room T26 17 Syntax.tyPtr
 
   abbrev s24 : (bs : L.List Nat.ℕ) → Typed.Both T27 T28
-  s24 = λ bs. WayStmt.k-way-copy-out T27 (Row.out 18 (Row.out 6 (T27 .locals))) (λ u. Row.drop 18 (Row.out 6 (T27 .locals)) (Row.drop 6 (T27 .locals) u)) 19 q38 (λ u. ListN.getD (At.getAt (network-proofs-Degrees·.the-type .parts) 0 (network-proofs-Degrees·.struct .as-values (u .1 .1 .1 .1 .1 .1 .0))) (u .1 .1 .1 .1 .1 .1 .1 .1 .1 .0) 0) (λ T′. record { locals = Row.setRow 6 q21 (Row.setRow 18 (18, Rows.sc-here Row.sPtr) T′); slots = L.[] }) (λ u T′ m′. Row.set 6 q21 (u .1 .1 .1 .1 .1 .1 .0) (Row.setRow 18 (18, Rows.sc-here Row.sPtr) T′) (Row.set 18 (18, Rows.sc-here Row.sPtr) (u .1 .1 .1 .1 .1 .1 .1 .1 .1 .1 .1 .1 .1 .1 .1 .1 .1 .1 .0) T′ m′)) (λ u. Path._≡_ (u .1 .1 .1 .1 .1 .1 .1 .1 .1 .1 .1 .1 .1 .1 .1 .1 .1 .1 .0 .0) (Row.hd 0 (Row.tl (Row.tl (Row.tl (Row.tl (Row.tl (Row.tl bs))))))) × Path._≡_ (u .1 .1 .1 .1 .1 .1 .1 .1 .1 .1 .1 .1 .1 .1 .1 .1 .1 .1 .0 .1) (Shared.bySize 8 (u .1 .1 .1 .1 .1 .1 .1 .1 .1 .0) (Nat._+_ Nat.zero 0)) × Asked.InArray T27 (λ u. u .1 .1 .1 .1 .1 .1 .1 .1 .1 .0) 33 u) λ u. Unit
+  s24 = λ bs. WayStmt.k-way-copy-out T27 (Row.out 18 (Row.out 6 (T27 .locals))) (λ u. Row.drop 18 (Row.out 6 (T27 .locals)) (Row.drop 6 (T27 .locals) u)) 19 q39 (λ u. ListN.getD (At.getAt (network-proofs-Degrees·.the-type .parts) 0 (network-proofs-Degrees·.struct .as-values (u .1 .1 .1 .1 .1 .1 .0))) (u .1 .1 .1 .1 .1 .1 .1 .1 .1 .0) 0) (λ T′. record { locals = Row.setRow 6 q22 (Row.setRow 18 (18, Rows.sc-here Row.sPtr) T′); slots = L.[] }) (λ u T′ m′. Row.set 6 q22 (u .1 .1 .1 .1 .1 .1 .0) (Row.setRow 18 (18, Rows.sc-here Row.sPtr) T′) (Row.set 18 (18, Rows.sc-here Row.sPtr) (u .1 .1 .1 .1 .1 .1 .1 .1 .1 .1 .1 .1 .1 .1 .1 .1 .1 .1 .0) T′ m′)) (λ u. Path._≡_ (u .1 .1 .1 .1 .1 .1 .1 .1 .1 .1 .1 .1 .1 .1 .1 .1 .1 .1 .0 .0) (Row.hd 0 (Row.tl (Row.tl (Row.tl (Row.tl (Row.tl (Row.tl bs))))))) × Path._≡_ (u .1 .1 .1 .1 .1 .1 .1 .1 .1 .1 .1 .1 .1 .1 .1 .1 .1 .1 .0 .1) (Shared.bySize 8 (u .1 .1 .1 .1 .1 .1 .1 .1 .1 .0) (Nat._+_ Nat.zero 0)) × Asked.InArray T27 (λ u. u .1 .1 .1 .1 .1 .1 .1 .1 .1 .0) 33 u) λ u. Unit
 
   abbrev s25 : (bs : L.List Nat.ℕ) → Typed.Mo T28 → Typed.Mo T29
   s25 = λ bs. Scalar.n-room T28 12 (Syntax.tyInt Syntax.w64)
@@ -965,10 +987,10 @@ module _ (claims· : Claims) where
   s30 = λ bs. Scalar.n-room T34 14 Syntax.tyBool
 
   abbrev s31 : (bs : L.List Nat.ℕ) → Typed.Asks T35 T36
-  s31 = λ bs. Scalar.k-op2 T35 (Syntax.mul Syntax.unsigned) (Scalar.oAt 9 (Syntax.tyInt Syntax.w64) (Row.valS (Row.sInt Syntax.w64))) (Scalar.oInt Syntax.w64 8) 21 q38 (Row.sInt Syntax.w64 .of)
+  s31 = λ bs. Scalar.k-op2 T35 (Syntax.mul Syntax.unsigned) (Scalar.oAt 9 (Syntax.tyInt Syntax.w64) (Row.valS (Row.sInt Syntax.w64))) (Scalar.oInt Syntax.w64 8) 21 q39 (Row.sInt Syntax.w64 .of)
 
   abbrev s32 : (bs : L.List Nat.ℕ) → Typed.Mo T36 → Typed.Mo T37
-  s32 = λ bs. Init.n-addr-at T36 (Row.hd 0 (Row.tl (Row.tl (Row.tl (Row.tl (Row.tl bs)))))) 52 22
+  s32 = λ bs. Init.n-addr-at T36 (Row.hd 0 (Row.tl (Row.tl (Row.tl (Row.tl (Row.tl bs)))))) 60 22
 
   abbrev s33 : (bs : L.List Nat.ℕ) → Typed.Asks T37 T38
   s33 = λ bs. Scalar.k-op2 T37 Syntax.offset (Scalar.oAt 22 Syntax.tyPtr (Row.valS Row.sPtr)) (Scalar.oAt 21 (Syntax.tyInt Syntax.w64) (Row.valS (Row.sInt Syntax.w64))) 23 (Rows.sc-here Row.sPtr) (Row.sPtr .of)
@@ -977,7 +999,7 @@ module _ (claims· : Claims) where
   s34 = λ bs. Scalar.n-room T38 22 Syntax.tyPtr
 
   abbrev s35 : (bs : L.List Nat.ℕ) → Typed.Both T39 T40
-  s35 = λ bs. WayStmt.k-way-copy-out T39 (Row.out 23 (Row.out 5 (T39 .locals))) (λ u. Row.drop 23 (Row.out 5 (T39 .locals)) (Row.drop 5 (T39 .locals) u)) 24 q22 (λ u. ListN.getD (At.getAt (network-proofs-Nodes·.the-type .parts) 3 (network-proofs-Nodes·.struct .as-values (u .1 .1 .1 .1 .1 .0))) (u .1 .1 .1 .1 .1 .1 .1 .1 .1 .0) (fraction-proofs-Fraction·.struct .make (IntN.pos 0, (0, tt)) tt)) (λ T′. record { locals = Row.setRow 5 q24 (Row.setRow 23 (23, Rows.sc-here Row.sPtr) T′); slots = L.[] }) (λ u T′ m′. Row.set 5 q24 (u .1 .1 .1 .1 .1 .0) (Row.setRow 23 (23, Rows.sc-here Row.sPtr) T′) (Row.set 23 (23, Rows.sc-here Row.sPtr) (u .1 .1 .1 .1 .1 .1 .1 .1 .1 .1 .1 .1 .1 .1 .1 .1 .1 .1 .1 .1 .1 .1 .1 .0) T′ m′)) (λ u. Path._≡_ (u .1 .1 .1 .1 .1 .1 .1 .1 .1 .1 .1 .1 .1 .1 .1 .1 .1 .1 .1 .1 .1 .1 .1 .0 .0) (Row.hd 0 (Row.tl (Row.tl (Row.tl (Row.tl (Row.tl bs)))))) × Path._≡_ (u .1 .1 .1 .1 .1 .1 .1 .1 .1 .1 .1 .1 .1 .1 .1 .1 .1 .1 .1 .1 .1 .1 .1 .0 .1) (Shared.bySize 8 (u .1 .1 .1 .1 .1 .1 .1 .1 .1 .0) (Nat._+_ Nat.zero 52)) × Asked.InArray T39 (λ u. u .1 .1 .1 .1 .1 .1 .1 .1 .1 .0) 33 u) λ u. Unit
+  s35 = λ bs. WayStmt.k-way-copy-out T39 (Row.out 23 (Row.out 5 (T39 .locals))) (λ u. Row.drop 23 (Row.out 5 (T39 .locals)) (Row.drop 5 (T39 .locals) u)) 24 q23 (λ u. ListN.getD (At.getAt (network-proofs-Nodes·.the-type .parts) 4 (network-proofs-Nodes·.struct .as-values (u .1 .1 .1 .1 .1 .0))) (u .1 .1 .1 .1 .1 .1 .1 .1 .1 .0) (fraction-proofs-Fraction·.struct .make (IntN.pos 0, (0, tt)) tt)) (λ T′. record { locals = Row.setRow 5 q25 (Row.setRow 23 (23, Rows.sc-here Row.sPtr) T′); slots = L.[] }) (λ u T′ m′. Row.set 5 q25 (u .1 .1 .1 .1 .1 .0) (Row.setRow 23 (23, Rows.sc-here Row.sPtr) T′) (Row.set 23 (23, Rows.sc-here Row.sPtr) (u .1 .1 .1 .1 .1 .1 .1 .1 .1 .1 .1 .1 .1 .1 .1 .1 .1 .1 .1 .1 .1 .1 .1 .0) T′ m′)) (λ u. Path._≡_ (u .1 .1 .1 .1 .1 .1 .1 .1 .1 .1 .1 .1 .1 .1 .1 .1 .1 .1 .1 .1 .1 .1 .1 .0 .0) (Row.hd 0 (Row.tl (Row.tl (Row.tl (Row.tl (Row.tl bs)))))) × Path._≡_ (u .1 .1 .1 .1 .1 .1 .1 .1 .1 .1 .1 .1 .1 .1 .1 .1 .1 .1 .1 .1 .1 .1 .1 .0 .1) (Shared.bySize 8 (u .1 .1 .1 .1 .1 .1 .1 .1 .1 .0) (Nat._+_ Nat.zero 60)) × Asked.InArray T39 (λ u. u .1 .1 .1 .1 .1 .1 .1 .1 .1 .0) 33 u) λ u. Unit
 
   abbrev s36 : (bs : L.List Nat.ℕ) → Typed.Mo T40 → Typed.Mo T41
   s36 = λ bs. Scalar.n-room T40 21 (Syntax.tyInt Syntax.w64)
@@ -989,85 +1011,91 @@ module _ (claims· : Claims) where
   s38 = λ bs. Call.callB ps·2 r·2 (claims· .4) (claims· .5) T42 (record { pos = 7; st = L.[]; d = 0; at = λ x. x }, (record { pos = 24; st = L.[]; d = 0; at = λ x. x }, tt)) 20 L.[] Syntax.tyBool
 
   abbrev s39 : (bs : L.List Nat.ℕ) → Typed.Mo T43 → Typed.Mo T44
-  s39 = λ bs. Scalar.n-room T43 24 q10
+  s39 = λ bs. Scalar.n-room T43 24 q11
 
   abbrev s40 : (bs : L.List Nat.ℕ) → Typed.Mo T44 → Typed.Mo T45
   s40 = λ bs. Scalar.n-room T44 20 Syntax.tyBool
 
   abbrev s41 : (bs : L.List Nat.ℕ) → Typed.Both T45 T46
-  s41 = λ bs. Call.callB ps·3 r·3 (claims· .6) (claims· .7) T45 (record { pos = 2; ty = Syntax.tyRef (Syntax.named 0) Syntax.imm Rec.named; ref = λ x. x }, (Num.vAt 9 λ x. x, (Num.vAt 8 λ x. x, tt))) 10 (L._∷_ 0 L.[]) (Syntax.tyStruct (L._∷_ 115 (L._∷_ 116 (L._∷_ 101 (L._∷_ 112 (L._∷_ 58 (L._∷_ 58 (L._∷_ 65 (L._∷_ 114 (L._∷_ 111 (L._∷_ 117 (L._∷_ 110 (L._∷_ 100 L.[])))))))))))) (Syntax.tcons q11 (Syntax.tcons q11 (Syntax.tcons q11 (Syntax.tcons q11 Syntax.tnil)))))
+  s41 = λ bs. Call.callB ps·3 r·3 (claims· .6) (claims· .7) T45 (record { pos = 2; ty = Syntax.tyRef (Syntax.named 0) Syntax.imm Rec.named; ref = λ x. x }, (Num.vAt 9 λ x. x, (Num.vAt 8 λ x. x, tt))) 10 (L._∷_ 0 L.[]) (Syntax.tyStruct (L._∷_ 115 (L._∷_ 116 (L._∷_ 101 (L._∷_ 112 (L._∷_ 58 (L._∷_ 58 (L._∷_ 65 (L._∷_ 114 (L._∷_ 111 (L._∷_ 117 (L._∷_ 110 (L._∷_ 100 L.[])))))))))))) (Syntax.tcons q12 (Syntax.tcons q12 (Syntax.tcons q12 (Syntax.tcons q12 Syntax.tnil)))))
 
   abbrev s42 : (bs : L.List Nat.ℕ) → Typed.Both T46 T47
-  s42 = λ bs. WayStmt.k-way-copy-out T46 (Row.out 5 (T46 .locals)) (λ u. Row.drop 5 (T46 .locals) u) 25 (ARows.arrF (Declared.row fraction-proofs-Fraction·.the-type) 33 0) (λ u. At.getAt (network-proofs-Nodes·.the-type .parts) 3 (network-proofs-Nodes·.struct .as-values (u .1 .1 .1 .1 .1 .0))) (λ T′. record { locals = Row.setRow 5 q24 T′; slots = L.[] }) (λ u T′ m′. Row.set 5 q24 (u .1 .1 .1 .1 .1 .0) T′ m′) (λ u. Unit) λ u. Unit
+  s42 = λ bs. WayStmt.k-way-copy-out T46 (Row.out 5 (T46 .locals)) (λ u. Row.drop 5 (T46 .locals) u) 25 q23 (λ u. At.getAt (network-proofs-Nodes·.the-type .parts) 2 (network-proofs-Nodes·.struct .as-values (u .1 .1 .1 .1 .1 .0))) (λ T′. record { locals = Row.setRow 5 q25 T′; slots = L.[] }) (λ u T′ m′. Row.set 5 q25 (u .1 .1 .1 .1 .1 .0) T′ m′) (λ u. Unit) λ u. Unit
 
   abbrev s43 : (bs : L.List Nat.ℕ) → Typed.Both T47 T48
-  s43 = λ bs. Call.callB ps·4 r·4 (claims· .8) (claims· .9) T47 (record { pos = 25; st = L.[]; d = 0; at = λ x. x }, (Num.vAt 4 λ x. x, (Num.vAt 9 λ x. x, (Num.vAt 8 λ x. x, (record { pos = 10; st = L.[]; d = 0; at = λ x. x }, tt))))) 11 L.[] (Syntax.tyStruct (L._∷_ 114 (L._∷_ 117 (L._∷_ 108 (L._∷_ 101 (L._∷_ 115 (L._∷_ 58 (L._∷_ 58 (L._∷_ 102 (L._∷_ 111 (L._∷_ 117 (L._∷_ 110 (L._∷_ 100 (L._∷_ 58 (L._∷_ 58 (L._∷_ 70 (L._∷_ 111 (L._∷_ 117 (L._∷_ 110 (L._∷_ 100 L.[]))))))))))))))))))) (Syntax.tcons Syntax.tyBool (Syntax.tcons Syntax.tyBool (Syntax.tcons (Syntax.tyStruct (L._∷_ 115 (L._∷_ 116 (L._∷_ 101 (L._∷_ 112 (L._∷_ 58 (L._∷_ 58 (L._∷_ 83 (L._∷_ 116 (L._∷_ 101 (L._∷_ 112 L.[])))))))))) (Syntax.tcons (Syntax.tyInt Syntax.w64) (Syntax.tcons (Syntax.tyInt Syntax.w64) (Syntax.tcons (Syntax.tyStruct (L._∷_ 115 (L._∷_ 116 (L._∷_ 101 (L._∷_ 112 (L._∷_ 58 (L._∷_ 58 (L._∷_ 67 (L._∷_ 104 (L._∷_ 97 (L._∷_ 110 (L._∷_ 103 (L._∷_ 101 L.[])))))))))))) (Syntax.tcons (Syntax.tyStruct (L._∷_ 110 (L._∷_ 101 (L._∷_ 116 (L._∷_ 119 (L._∷_ 111 (L._∷_ 114 (L._∷_ 107 (L._∷_ 58 (L._∷_ 58 (L._∷_ 69 (L._∷_ 100 (L._∷_ 105 (L._∷_ 116 L.[]))))))))))))) (Syntax.tcons q11 (Syntax.tcons q11 (Syntax.tcons q11 (Syntax.tcons q11 (Syntax.tcons q3 (Syntax.tcons q3 (Syntax.tcons (Syntax.tyInt Syntax.w64) Syntax.tnil)))))))) (Syntax.tcons (Syntax.tyStruct (L._∷_ 115 (L._∷_ 116 (L._∷_ 101 (L._∷_ 112 (L._∷_ 58 (L._∷_ 58 (L._∷_ 79 (L._∷_ 108 (L._∷_ 100 L.[]))))))))) (Syntax.tcons (Syntax.tyInt Syntax.w64) (Syntax.tcons q10 (Syntax.tcons q11 (Syntax.tcons q11 (Syntax.tcons q11 (Syntax.tcons q11 (Syntax.tcons q7 Syntax.tnil)))))))) Syntax.tnil))) Syntax.tnil)))) Syntax.tnil))))
+  s43 = λ bs. WayStmt.k-way-copy-out T47 (Row.out 5 (T47 .locals)) (λ u. Row.drop 5 (T47 .locals) u) 26 (ARows.arrF (Declared.row fraction-proofs-Fraction·.the-type) 33 0) (λ u. At.getAt (network-proofs-Nodes·.the-type .parts) 4 (network-proofs-Nodes·.struct .as-values (u .1 .1 .1 .1 .1 .0))) (λ T′. record { locals = Row.setRow 5 q25 T′; slots = L.[] }) (λ u T′ m′. Row.set 5 q25 (u .1 .1 .1 .1 .1 .0) T′ m′) (λ u. Unit) λ u. Unit
 
-  abbrev s44 : (bs : L.List Nat.ℕ) → Typed.Mo T48 → Typed.Mo T49
-  s44 = λ bs. Scalar.n-room T48 10 (Syntax.tyStruct (L._∷_ 115 (L._∷_ 116 (L._∷_ 101 (L._∷_ 112 (L._∷_ 58 (L._∷_ 58 (L._∷_ 65 (L._∷_ 114 (L._∷_ 111 (L._∷_ 117 (L._∷_ 110 (L._∷_ 100 L.[])))))))))))) (Syntax.tcons q11 (Syntax.tcons q11 (Syntax.tcons q11 (Syntax.tcons q11 Syntax.tnil)))))
+  abbrev s44 : (bs : L.List Nat.ℕ) → Typed.Both T48 T49
+  s44 = λ bs. Call.callB ps·4 r·4 (claims· .8) (claims· .9) T48 (record { pos = 25; st = L.[]; d = 0; at = λ x. x }, (record { pos = 26; st = L.[]; d = 0; at = λ x. x }, (Num.vAt 4 λ x. x, (Num.vAt 9 λ x. x, (Num.vAt 8 λ x. x, (record { pos = 10; st = L.[]; d = 0; at = λ x. x }, tt)))))) 11 L.[] (Syntax.tyStruct (L._∷_ 114 (L._∷_ 117 (L._∷_ 108 (L._∷_ 101 (L._∷_ 115 (L._∷_ 58 (L._∷_ 58 (L._∷_ 102 (L._∷_ 111 (L._∷_ 117 (L._∷_ 110 (L._∷_ 100 (L._∷_ 58 (L._∷_ 58 (L._∷_ 70 (L._∷_ 111 (L._∷_ 117 (L._∷_ 110 (L._∷_ 100 L.[]))))))))))))))))))) (Syntax.tcons Syntax.tyBool (Syntax.tcons Syntax.tyBool (Syntax.tcons (Syntax.tyStruct (L._∷_ 115 (L._∷_ 116 (L._∷_ 101 (L._∷_ 112 (L._∷_ 58 (L._∷_ 58 (L._∷_ 83 (L._∷_ 116 (L._∷_ 101 (L._∷_ 112 L.[])))))))))) (Syntax.tcons (Syntax.tyInt Syntax.w64) (Syntax.tcons (Syntax.tyInt Syntax.w64) (Syntax.tcons (Syntax.tyStruct (L._∷_ 115 (L._∷_ 116 (L._∷_ 101 (L._∷_ 112 (L._∷_ 58 (L._∷_ 58 (L._∷_ 67 (L._∷_ 104 (L._∷_ 97 (L._∷_ 110 (L._∷_ 103 (L._∷_ 101 L.[])))))))))))) (Syntax.tcons (Syntax.tyStruct (L._∷_ 110 (L._∷_ 101 (L._∷_ 116 (L._∷_ 119 (L._∷_ 111 (L._∷_ 114 (L._∷_ 107 (L._∷_ 58 (L._∷_ 58 (L._∷_ 69 (L._∷_ 100 (L._∷_ 105 (L._∷_ 116 L.[]))))))))))))) (Syntax.tcons q12 (Syntax.tcons q12 (Syntax.tcons q12 (Syntax.tcons q12 (Syntax.tcons q3 (Syntax.tcons q3 (Syntax.tcons (Syntax.tyInt Syntax.w64) (Syntax.tcons q11 Syntax.tnil))))))))) (Syntax.tcons (Syntax.tyStruct (L._∷_ 115 (L._∷_ 116 (L._∷_ 101 (L._∷_ 112 (L._∷_ 58 (L._∷_ 58 (L._∷_ 79 (L._∷_ 108 (L._∷_ 100 L.[]))))))))) (Syntax.tcons (Syntax.tyInt Syntax.w64) (Syntax.tcons q11 (Syntax.tcons q12 (Syntax.tcons q12 (Syntax.tcons q12 (Syntax.tcons q12 (Syntax.tcons q7 Syntax.tnil)))))))) Syntax.tnil))) Syntax.tnil)))) Syntax.tnil))))
 
   abbrev s45 : (bs : L.List Nat.ℕ) → Typed.Mo T49 → Typed.Mo T50
-  s45 = λ bs. Scalar.n-room T49 25 q8
+  s45 = λ bs. Scalar.n-room T49 10 (Syntax.tyStruct (L._∷_ 115 (L._∷_ 116 (L._∷_ 101 (L._∷_ 112 (L._∷_ 58 (L._∷_ 58 (L._∷_ 65 (L._∷_ 114 (L._∷_ 111 (L._∷_ 117 (L._∷_ 110 (L._∷_ 100 L.[])))))))))))) (Syntax.tcons q12 (Syntax.tcons q12 (Syntax.tcons q12 (Syntax.tcons q12 Syntax.tnil)))))
 
   abbrev s46 : (bs : L.List Nat.ℕ) → Typed.Mo T50 → Typed.Mo T51
-  s46 = λ bs. Scalar.n-use T50 (Scalar.oFld 11 (L._∷_ (Syntax.field 0) L.[]) Syntax.tyBool 0 (Reads.fieldV rules-proofs-found-Found·.the-type rules-proofs-found-Found-Laws·.the-laws 0)) 26 (Rows.sc-here Row.sBool) (Row.sBool .of)
+  s46 = λ bs. Scalar.n-room T50 25 q11
 
   abbrev s47 : (bs : L.List Nat.ℕ) → Typed.Mo T51 → Typed.Mo T52
-  s47 = λ bs. Scalar.n-room T51 5 q2
+  s47 = λ bs. Scalar.n-room T51 26 q8
 
   abbrev s48 : (bs : L.List Nat.ℕ) → Typed.Mo T52 → Typed.Mo T53
-  s48 = λ bs. Scalar.n-room T52 6 q14
+  s48 = λ bs. Scalar.n-use T52 (Scalar.oFld 11 (L._∷_ (Syntax.field 0) L.[]) Syntax.tyBool 0 (Reads.fieldV rules-proofs-found-Found·.the-type rules-proofs-found-Found-Laws·.the-laws 0)) 27 (Rows.sc-here Row.sBool) (Row.sBool .of)
 
   abbrev s49 : (bs : L.List Nat.ℕ) → Typed.Mo T53 → Typed.Mo T54
-  s49 = λ bs. Scalar.n-room T53 7 q6
+  s49 = λ bs. Scalar.n-room T53 5 q2
 
   abbrev s50 : (bs : L.List Nat.ℕ) → Typed.Mo T54 → Typed.Mo T55
-  s50 = λ bs. Scalar.n-room T54 26 Syntax.tyBool
+  s50 = λ bs. Scalar.n-room T54 6 q15
 
   abbrev s51 : (bs : L.List Nat.ℕ) → Typed.Mo T55 → Typed.Mo T56
-  s51 = λ bs. LocalCopy.n-val-copy T55 11 0 (Declared.row rules-proofs-found-Found·.the-type) q23 q23 (λ x. x) (λ x. x) λ x. x
+  s51 = λ bs. Scalar.n-room T55 7 q6
 
   abbrev s52 : (bs : L.List Nat.ℕ) → Typed.Mo T56 → Typed.Mo T57
-  s52 = λ bs. Scalar.n-room T56 11 (Syntax.tyStruct (L._∷_ 114 (L._∷_ 117 (L._∷_ 108 (L._∷_ 101 (L._∷_ 115 (L._∷_ 58 (L._∷_ 58 (L._∷_ 102 (L._∷_ 111 (L._∷_ 117 (L._∷_ 110 (L._∷_ 100 (L._∷_ 58 (L._∷_ 58 (L._∷_ 70 (L._∷_ 111 (L._∷_ 117 (L._∷_ 110 (L._∷_ 100 L.[]))))))))))))))))))) (Syntax.tcons Syntax.tyBool (Syntax.tcons Syntax.tyBool (Syntax.tcons (Syntax.tyStruct (L._∷_ 115 (L._∷_ 116 (L._∷_ 101 (L._∷_ 112 (L._∷_ 58 (L._∷_ 58 (L._∷_ 83 (L._∷_ 116 (L._∷_ 101 (L._∷_ 112 L.[])))))))))) (Syntax.tcons (Syntax.tyInt Syntax.w64) (Syntax.tcons (Syntax.tyInt Syntax.w64) (Syntax.tcons (Syntax.tyStruct (L._∷_ 115 (L._∷_ 116 (L._∷_ 101 (L._∷_ 112 (L._∷_ 58 (L._∷_ 58 (L._∷_ 67 (L._∷_ 104 (L._∷_ 97 (L._∷_ 110 (L._∷_ 103 (L._∷_ 101 L.[])))))))))))) (Syntax.tcons (Syntax.tyStruct (L._∷_ 110 (L._∷_ 101 (L._∷_ 116 (L._∷_ 119 (L._∷_ 111 (L._∷_ 114 (L._∷_ 107 (L._∷_ 58 (L._∷_ 58 (L._∷_ 69 (L._∷_ 100 (L._∷_ 105 (L._∷_ 116 L.[]))))))))))))) (Syntax.tcons q11 (Syntax.tcons q11 (Syntax.tcons q11 (Syntax.tcons q11 (Syntax.tcons q3 (Syntax.tcons q3 (Syntax.tcons (Syntax.tyInt Syntax.w64) Syntax.tnil)))))))) (Syntax.tcons (Syntax.tyStruct (L._∷_ 115 (L._∷_ 116 (L._∷_ 101 (L._∷_ 112 (L._∷_ 58 (L._∷_ 58 (L._∷_ 79 (L._∷_ 108 (L._∷_ 100 L.[]))))))))) (Syntax.tcons (Syntax.tyInt Syntax.w64) (Syntax.tcons q10 (Syntax.tcons q11 (Syntax.tcons q11 (Syntax.tcons q11 (Syntax.tcons q11 (Syntax.tcons q7 Syntax.tnil)))))))) Syntax.tnil))) Syntax.tnil)))) Syntax.tnil))))
+  s52 = λ bs. Scalar.n-room T56 27 Syntax.tyBool
 
   abbrev s53 : (bs : L.List Nat.ℕ) → Typed.Mo T57 → Typed.Mo T58
-  s53 = λ bs. Scalar.n-room T57 4 (Syntax.tyInt Syntax.w64)
+  s53 = λ bs. LocalCopy.n-val-copy T57 11 0 (Declared.row rules-proofs-found-Found·.the-type) q24 q24 (λ x. x) (λ x. x) λ x. x
 
   abbrev s54 : (bs : L.List Nat.ℕ) → Typed.Mo T58 → Typed.Mo T59
-  s54 = λ bs. Scalar.n-room T58 8 (Syntax.tyInt Syntax.w64)
+  s54 = λ bs. Scalar.n-room T58 11 (Syntax.tyStruct (L._∷_ 114 (L._∷_ 117 (L._∷_ 108 (L._∷_ 101 (L._∷_ 115 (L._∷_ 58 (L._∷_ 58 (L._∷_ 102 (L._∷_ 111 (L._∷_ 117 (L._∷_ 110 (L._∷_ 100 (L._∷_ 58 (L._∷_ 58 (L._∷_ 70 (L._∷_ 111 (L._∷_ 117 (L._∷_ 110 (L._∷_ 100 L.[]))))))))))))))))))) (Syntax.tcons Syntax.tyBool (Syntax.tcons Syntax.tyBool (Syntax.tcons (Syntax.tyStruct (L._∷_ 115 (L._∷_ 116 (L._∷_ 101 (L._∷_ 112 (L._∷_ 58 (L._∷_ 58 (L._∷_ 83 (L._∷_ 116 (L._∷_ 101 (L._∷_ 112 L.[])))))))))) (Syntax.tcons (Syntax.tyInt Syntax.w64) (Syntax.tcons (Syntax.tyInt Syntax.w64) (Syntax.tcons (Syntax.tyStruct (L._∷_ 115 (L._∷_ 116 (L._∷_ 101 (L._∷_ 112 (L._∷_ 58 (L._∷_ 58 (L._∷_ 67 (L._∷_ 104 (L._∷_ 97 (L._∷_ 110 (L._∷_ 103 (L._∷_ 101 L.[])))))))))))) (Syntax.tcons (Syntax.tyStruct (L._∷_ 110 (L._∷_ 101 (L._∷_ 116 (L._∷_ 119 (L._∷_ 111 (L._∷_ 114 (L._∷_ 107 (L._∷_ 58 (L._∷_ 58 (L._∷_ 69 (L._∷_ 100 (L._∷_ 105 (L._∷_ 116 L.[]))))))))))))) (Syntax.tcons q12 (Syntax.tcons q12 (Syntax.tcons q12 (Syntax.tcons q12 (Syntax.tcons q3 (Syntax.tcons q3 (Syntax.tcons (Syntax.tyInt Syntax.w64) (Syntax.tcons q11 Syntax.tnil))))))))) (Syntax.tcons (Syntax.tyStruct (L._∷_ 115 (L._∷_ 116 (L._∷_ 101 (L._∷_ 112 (L._∷_ 58 (L._∷_ 58 (L._∷_ 79 (L._∷_ 108 (L._∷_ 100 L.[]))))))))) (Syntax.tcons (Syntax.tyInt Syntax.w64) (Syntax.tcons q11 (Syntax.tcons q12 (Syntax.tcons q12 (Syntax.tcons q12 (Syntax.tcons q12 (Syntax.tcons q7 Syntax.tnil)))))))) Syntax.tnil))) Syntax.tnil)))) Syntax.tnil))))
 
   abbrev s55 : (bs : L.List Nat.ℕ) → Typed.Mo T59 → Typed.Mo T60
-  s55 = λ bs. Scalar.n-room T59 9 (Syntax.tyInt Syntax.w64)
+  s55 = λ bs. Scalar.n-room T59 4 (Syntax.tyInt Syntax.w64)
 
-  abbrev s56 : (bs : L.List Nat.ℕ) → Typed.Mo T51 → Typed.Mo T61
-  s56 = λ bs. Scalar.n-room T51 11 (Syntax.tyStruct (L._∷_ 114 (L._∷_ 117 (L._∷_ 108 (L._∷_ 101 (L._∷_ 115 (L._∷_ 58 (L._∷_ 58 (L._∷_ 102 (L._∷_ 111 (L._∷_ 117 (L._∷_ 110 (L._∷_ 100 (L._∷_ 58 (L._∷_ 58 (L._∷_ 70 (L._∷_ 111 (L._∷_ 117 (L._∷_ 110 (L._∷_ 100 L.[]))))))))))))))))))) (Syntax.tcons Syntax.tyBool (Syntax.tcons Syntax.tyBool (Syntax.tcons (Syntax.tyStruct (L._∷_ 115 (L._∷_ 116 (L._∷_ 101 (L._∷_ 112 (L._∷_ 58 (L._∷_ 58 (L._∷_ 83 (L._∷_ 116 (L._∷_ 101 (L._∷_ 112 L.[])))))))))) (Syntax.tcons (Syntax.tyInt Syntax.w64) (Syntax.tcons (Syntax.tyInt Syntax.w64) (Syntax.tcons (Syntax.tyStruct (L._∷_ 115 (L._∷_ 116 (L._∷_ 101 (L._∷_ 112 (L._∷_ 58 (L._∷_ 58 (L._∷_ 67 (L._∷_ 104 (L._∷_ 97 (L._∷_ 110 (L._∷_ 103 (L._∷_ 101 L.[])))))))))))) (Syntax.tcons (Syntax.tyStruct (L._∷_ 110 (L._∷_ 101 (L._∷_ 116 (L._∷_ 119 (L._∷_ 111 (L._∷_ 114 (L._∷_ 107 (L._∷_ 58 (L._∷_ 58 (L._∷_ 69 (L._∷_ 100 (L._∷_ 105 (L._∷_ 116 L.[]))))))))))))) (Syntax.tcons q11 (Syntax.tcons q11 (Syntax.tcons q11 (Syntax.tcons q11 (Syntax.tcons q3 (Syntax.tcons q3 (Syntax.tcons (Syntax.tyInt Syntax.w64) Syntax.tnil)))))))) (Syntax.tcons (Syntax.tyStruct (L._∷_ 115 (L._∷_ 116 (L._∷_ 101 (L._∷_ 112 (L._∷_ 58 (L._∷_ 58 (L._∷_ 79 (L._∷_ 108 (L._∷_ 100 L.[]))))))))) (Syntax.tcons (Syntax.tyInt Syntax.w64) (Syntax.tcons q10 (Syntax.tcons q11 (Syntax.tcons q11 (Syntax.tcons q11 (Syntax.tcons q11 (Syntax.tcons q7 Syntax.tnil)))))))) Syntax.tnil))) Syntax.tnil)))) Syntax.tnil))))
+  abbrev s56 : (bs : L.List Nat.ℕ) → Typed.Mo T60 → Typed.Mo T61
+  s56 = λ bs. Scalar.n-room T60 8 (Syntax.tyInt Syntax.w64)
 
   abbrev s57 : (bs : L.List Nat.ℕ) → Typed.Mo T61 → Typed.Mo T62
-  s57 = λ bs. Scalar.n-room T61 26 Syntax.tyBool
+  s57 = λ bs. Scalar.n-room T61 9 (Syntax.tyInt Syntax.w64)
 
-  abbrev s58 : (bs : L.List Nat.ℕ) → Typed.Mo T44 → Typed.Mo T63
-  s58 = λ bs. Scalar.n-room T44 20 Syntax.tyBool
+  abbrev s58 : (bs : L.List Nat.ℕ) → Typed.Mo T53 → Typed.Mo T63
+  s58 = λ bs. Scalar.n-room T53 11 (Syntax.tyStruct (L._∷_ 114 (L._∷_ 117 (L._∷_ 108 (L._∷_ 101 (L._∷_ 115 (L._∷_ 58 (L._∷_ 58 (L._∷_ 102 (L._∷_ 111 (L._∷_ 117 (L._∷_ 110 (L._∷_ 100 (L._∷_ 58 (L._∷_ 58 (L._∷_ 70 (L._∷_ 111 (L._∷_ 117 (L._∷_ 110 (L._∷_ 100 L.[]))))))))))))))))))) (Syntax.tcons Syntax.tyBool (Syntax.tcons Syntax.tyBool (Syntax.tcons (Syntax.tyStruct (L._∷_ 115 (L._∷_ 116 (L._∷_ 101 (L._∷_ 112 (L._∷_ 58 (L._∷_ 58 (L._∷_ 83 (L._∷_ 116 (L._∷_ 101 (L._∷_ 112 L.[])))))))))) (Syntax.tcons (Syntax.tyInt Syntax.w64) (Syntax.tcons (Syntax.tyInt Syntax.w64) (Syntax.tcons (Syntax.tyStruct (L._∷_ 115 (L._∷_ 116 (L._∷_ 101 (L._∷_ 112 (L._∷_ 58 (L._∷_ 58 (L._∷_ 67 (L._∷_ 104 (L._∷_ 97 (L._∷_ 110 (L._∷_ 103 (L._∷_ 101 L.[])))))))))))) (Syntax.tcons (Syntax.tyStruct (L._∷_ 110 (L._∷_ 101 (L._∷_ 116 (L._∷_ 119 (L._∷_ 111 (L._∷_ 114 (L._∷_ 107 (L._∷_ 58 (L._∷_ 58 (L._∷_ 69 (L._∷_ 100 (L._∷_ 105 (L._∷_ 116 L.[]))))))))))))) (Syntax.tcons q12 (Syntax.tcons q12 (Syntax.tcons q12 (Syntax.tcons q12 (Syntax.tcons q3 (Syntax.tcons q3 (Syntax.tcons (Syntax.tyInt Syntax.w64) (Syntax.tcons q11 Syntax.tnil))))))))) (Syntax.tcons (Syntax.tyStruct (L._∷_ 115 (L._∷_ 116 (L._∷_ 101 (L._∷_ 112 (L._∷_ 58 (L._∷_ 58 (L._∷_ 79 (L._∷_ 108 (L._∷_ 100 L.[]))))))))) (Syntax.tcons (Syntax.tyInt Syntax.w64) (Syntax.tcons q11 (Syntax.tcons q12 (Syntax.tcons q12 (Syntax.tcons q12 (Syntax.tcons q12 (Syntax.tcons q7 Syntax.tnil)))))))) Syntax.tnil))) Syntax.tnil)))) Syntax.tnil))))
 
-  abbrev s59 : (bs : L.List Nat.ℕ) → Typed.Mo T34 → Typed.Mo T64
-  s59 = λ bs. Scalar.n-room T34 14 Syntax.tyBool
+  abbrev s59 : (bs : L.List Nat.ℕ) → Typed.Mo T63 → Typed.Mo T64
+  s59 = λ bs. Scalar.n-room T63 27 Syntax.tyBool
 
-  abbrev s60 : (bs : L.List Nat.ℕ) → Typed.Asks T32 T65
-  s60 = λ bs. Scalar.k-op2 T32 (Syntax.add Syntax.unsigned) (Scalar.oAt 9 (Syntax.tyInt Syntax.w64) (Row.valS (Row.sInt Syntax.w64))) (Scalar.oInt Syntax.w64 1) 9 q38 (Row.sInt Syntax.w64 .of)
+  abbrev s60 : (bs : L.List Nat.ℕ) → Typed.Mo T44 → Typed.Mo T65
+  s60 = λ bs. Scalar.n-room T44 20 Syntax.tyBool
 
-  abbrev s61 : (bs : L.List Nat.ℕ) → Typed.Both T9 T66
-  s61 = λ bs. Call.callB ps·5 r·5 (claims· .10) (claims· .11) T9 tt 0 L.[] (Syntax.tyStruct (L._∷_ 114 (L._∷_ 117 (L._∷_ 108 (L._∷_ 101 (L._∷_ 115 (L._∷_ 58 (L._∷_ 58 (L._∷_ 102 (L._∷_ 111 (L._∷_ 117 (L._∷_ 110 (L._∷_ 100 (L._∷_ 58 (L._∷_ 58 (L._∷_ 70 (L._∷_ 111 (L._∷_ 117 (L._∷_ 110 (L._∷_ 100 L.[]))))))))))))))))))) (Syntax.tcons Syntax.tyBool (Syntax.tcons Syntax.tyBool (Syntax.tcons (Syntax.tyStruct (L._∷_ 115 (L._∷_ 116 (L._∷_ 101 (L._∷_ 112 (L._∷_ 58 (L._∷_ 58 (L._∷_ 83 (L._∷_ 116 (L._∷_ 101 (L._∷_ 112 L.[])))))))))) (Syntax.tcons (Syntax.tyInt Syntax.w64) (Syntax.tcons (Syntax.tyInt Syntax.w64) (Syntax.tcons (Syntax.tyStruct (L._∷_ 115 (L._∷_ 116 (L._∷_ 101 (L._∷_ 112 (L._∷_ 58 (L._∷_ 58 (L._∷_ 67 (L._∷_ 104 (L._∷_ 97 (L._∷_ 110 (L._∷_ 103 (L._∷_ 101 L.[])))))))))))) (Syntax.tcons (Syntax.tyStruct (L._∷_ 110 (L._∷_ 101 (L._∷_ 116 (L._∷_ 119 (L._∷_ 111 (L._∷_ 114 (L._∷_ 107 (L._∷_ 58 (L._∷_ 58 (L._∷_ 69 (L._∷_ 100 (L._∷_ 105 (L._∷_ 116 L.[]))))))))))))) (Syntax.tcons q11 (Syntax.tcons q11 (Syntax.tcons q11 (Syntax.tcons q11 (Syntax.tcons q3 (Syntax.tcons q3 (Syntax.tcons (Syntax.tyInt Syntax.w64) Syntax.tnil)))))))) (Syntax.tcons (Syntax.tyStruct (L._∷_ 115 (L._∷_ 116 (L._∷_ 101 (L._∷_ 112 (L._∷_ 58 (L._∷_ 58 (L._∷_ 79 (L._∷_ 108 (L._∷_ 100 L.[]))))))))) (Syntax.tcons (Syntax.tyInt Syntax.w64) (Syntax.tcons q10 (Syntax.tcons q11 (Syntax.tcons q11 (Syntax.tcons q11 (Syntax.tcons q11 (Syntax.tcons q7 Syntax.tnil)))))))) Syntax.tnil))) Syntax.tnil)))) Syntax.tnil))))
+  abbrev s61 : (bs : L.List Nat.ℕ) → Typed.Mo T34 → Typed.Mo T66
+  s61 = λ bs. Scalar.n-room T34 14 Syntax.tyBool
 
-  abbrev s62 : (bs : L.List Nat.ℕ) → Typed.Mo T66 → Typed.Mo T67
-  s62 = λ bs. Scalar.n-room T66 8 (Syntax.tyInt Syntax.w64)
+  abbrev s62 : (bs : L.List Nat.ℕ) → Typed.Asks T32 T67
+  s62 = λ bs. Scalar.k-op2 T32 (Syntax.add Syntax.unsigned) (Scalar.oAt 9 (Syntax.tyInt Syntax.w64) (Row.valS (Row.sInt Syntax.w64))) (Scalar.oInt Syntax.w64 1) 9 q39 (Row.sInt Syntax.w64 .of)
 
-  abbrev s63 : (bs : L.List Nat.ℕ) → Typed.Mo T67 → Typed.Mo T68
-  s63 = λ bs. Scalar.n-room T67 9 (Syntax.tyInt Syntax.w64)
+  abbrev s63 : (bs : L.List Nat.ℕ) → Typed.Both T9 T68
+  s63 = λ bs. Call.callB ps·5 r·5 (claims· .10) (claims· .11) T9 tt 0 L.[] (Syntax.tyStruct (L._∷_ 114 (L._∷_ 117 (L._∷_ 108 (L._∷_ 101 (L._∷_ 115 (L._∷_ 58 (L._∷_ 58 (L._∷_ 102 (L._∷_ 111 (L._∷_ 117 (L._∷_ 110 (L._∷_ 100 (L._∷_ 58 (L._∷_ 58 (L._∷_ 70 (L._∷_ 111 (L._∷_ 117 (L._∷_ 110 (L._∷_ 100 L.[]))))))))))))))))))) (Syntax.tcons Syntax.tyBool (Syntax.tcons Syntax.tyBool (Syntax.tcons (Syntax.tyStruct (L._∷_ 115 (L._∷_ 116 (L._∷_ 101 (L._∷_ 112 (L._∷_ 58 (L._∷_ 58 (L._∷_ 83 (L._∷_ 116 (L._∷_ 101 (L._∷_ 112 L.[])))))))))) (Syntax.tcons (Syntax.tyInt Syntax.w64) (Syntax.tcons (Syntax.tyInt Syntax.w64) (Syntax.tcons (Syntax.tyStruct (L._∷_ 115 (L._∷_ 116 (L._∷_ 101 (L._∷_ 112 (L._∷_ 58 (L._∷_ 58 (L._∷_ 67 (L._∷_ 104 (L._∷_ 97 (L._∷_ 110 (L._∷_ 103 (L._∷_ 101 L.[])))))))))))) (Syntax.tcons (Syntax.tyStruct (L._∷_ 110 (L._∷_ 101 (L._∷_ 116 (L._∷_ 119 (L._∷_ 111 (L._∷_ 114 (L._∷_ 107 (L._∷_ 58 (L._∷_ 58 (L._∷_ 69 (L._∷_ 100 (L._∷_ 105 (L._∷_ 116 L.[]))))))))))))) (Syntax.tcons q12 (Syntax.tcons q12 (Syntax.tcons q12 (Syntax.tcons q12 (Syntax.tcons q3 (Syntax.tcons q3 (Syntax.tcons (Syntax.tyInt Syntax.w64) (Syntax.tcons q11 Syntax.tnil))))))))) (Syntax.tcons (Syntax.tyStruct (L._∷_ 115 (L._∷_ 116 (L._∷_ 101 (L._∷_ 112 (L._∷_ 58 (L._∷_ 58 (L._∷_ 79 (L._∷_ 108 (L._∷_ 100 L.[]))))))))) (Syntax.tcons (Syntax.tyInt Syntax.w64) (Syntax.tcons q11 (Syntax.tcons q12 (Syntax.tcons q12 (Syntax.tcons q12 (Syntax.tcons q12 (Syntax.tcons q7 Syntax.tnil)))))))) Syntax.tnil))) Syntax.tnil)))) Syntax.tnil))))
 
   abbrev s64 : (bs : L.List Nat.ℕ) → Typed.Mo T68 → Typed.Mo T69
-  s64 = λ bs. Scalar.n-room T68 4 (Syntax.tyInt Syntax.w64)
+  s64 = λ bs. Scalar.n-room T68 8 (Syntax.tyInt Syntax.w64)
+
+  abbrev s65 : (bs : L.List Nat.ℕ) → Typed.Mo T69 → Typed.Mo T70
+  s65 = λ bs. Scalar.n-room T69 9 (Syntax.tyInt Syntax.w64)
+
+  abbrev s66 : (bs : L.List Nat.ℕ) → Typed.Mo T70 → Typed.Mo T71
+  s66 = λ bs. Scalar.n-room T70 4 (Syntax.tyInt Syntax.w64)
 
   abbrev put0 : Rows.sc-here (Row.sInt Syntax.w64) .Mod → Typed.Mo T8 → Typed.Mo T8
-  put0 = λ vs u. Row.set 9 q37 vs (T8 .locals) u
+  put0 = λ vs u. Row.set 9 q38 vs (T8 .locals) u
 
   module _ (Pre· : (κs : Lifetimes.Lfts 1) → FnKinds.Dens κs ps → Type 0) (Post· : (κs : Lifetimes.Lfts 1) → (a : FnKinds.Dens κs ps) → FnKinds.Plain 1 ps r κs) where
     module _ (M : Type 1) where
@@ -1102,224 +1130,230 @@ module _ (claims· : Claims) where
       abbrev at8 : (bs : L.List Nat.ℕ) → Typed.TF T11 O4
       at8 = λ bs. λ Ψ. Typed.pass T11 T13 (s9 bs) (at7 bs Ψ)
 
-      abbrev at9 : (bs : L.List Nat.ℕ) → Typed.TF T60 O5
+      abbrev at9 : (bs : L.List Nat.ℕ) → Typed.TF T62 O5
       at9 = λ bs. Typed.atRet O5
 
-      abbrev at10 : (bs : L.List Nat.ℕ) → Typed.TF T59 O5
-      at10 = λ bs. λ Ψ. Typed.pass T59 T60 (s55 bs) (at9 bs Ψ)
+      abbrev at10 : (bs : L.List Nat.ℕ) → Typed.TF T61 O5
+      at10 = λ bs. λ Ψ. Typed.pass T61 T62 (s57 bs) (at9 bs Ψ)
 
-      abbrev at11 : (bs : L.List Nat.ℕ) → Typed.TF T58 O5
-      at11 = λ bs. λ Ψ. Typed.pass T58 T59 (s54 bs) (at10 bs Ψ)
+      abbrev at11 : (bs : L.List Nat.ℕ) → Typed.TF T60 O5
+      at11 = λ bs. λ Ψ. Typed.pass T60 T61 (s56 bs) (at10 bs Ψ)
 
-      abbrev at12 : (bs : L.List Nat.ℕ) → Typed.TF T57 O5
-      at12 = λ bs. λ Ψ. Typed.pass T57 T58 (s53 bs) (at11 bs Ψ)
+      abbrev at12 : (bs : L.List Nat.ℕ) → Typed.TF T59 O5
+      at12 = λ bs. λ Ψ. Typed.pass T59 T60 (s55 bs) (at11 bs Ψ)
 
-      abbrev at13 : (bs : L.List Nat.ℕ) → Typed.TF T56 O5
-      at13 = λ bs. λ Ψ. Typed.pass T56 T57 (s52 bs) (at12 bs Ψ)
+      abbrev at13 : (bs : L.List Nat.ℕ) → Typed.TF T58 O5
+      at13 = λ bs. λ Ψ. Typed.pass T58 T59 (s54 bs) (at12 bs Ψ)
 
-      abbrev at14 : (bs : L.List Nat.ℕ) → Typed.TF T55 O5
-      at14 = λ bs. λ Ψ. Typed.pass T55 T56 (s51 bs) (at13 bs Ψ)
+      abbrev at14 : (bs : L.List Nat.ℕ) → Typed.TF T57 O5
+      at14 = λ bs. λ Ψ. Typed.pass T57 T58 (s53 bs) (at13 bs Ψ)
 
-      abbrev at15 : (bs : L.List Nat.ℕ) → Typed.TF T54 O5
-      at15 = λ bs. λ Ψ. Typed.pass T54 T55 (s50 bs) (at14 bs Ψ)
+      abbrev at15 : (bs : L.List Nat.ℕ) → Typed.TF T56 O5
+      at15 = λ bs. λ Ψ. Typed.pass T56 T57 (s52 bs) (at14 bs Ψ)
 
-      abbrev at16 : (bs : L.List Nat.ℕ) → Typed.TF T53 O5
-      at16 = λ bs. λ Ψ. Typed.pass T53 T54 (s49 bs) (at15 bs Ψ)
+      abbrev at16 : (bs : L.List Nat.ℕ) → Typed.TF T55 O5
+      at16 = λ bs. λ Ψ. Typed.pass T55 T56 (s51 bs) (at15 bs Ψ)
 
-      abbrev at17 : (bs : L.List Nat.ℕ) → Typed.TF T52 O5
-      at17 = λ bs. λ Ψ. Typed.pass T52 T53 (s48 bs) (at16 bs Ψ)
+      abbrev at17 : (bs : L.List Nat.ℕ) → Typed.TF T54 O5
+      at17 = λ bs. λ Ψ. Typed.pass T54 T55 (s50 bs) (at16 bs Ψ)
 
-      abbrev at18 : (bs : L.List Nat.ℕ) → Typed.TF T51 O5
-      at18 = λ bs. λ Ψ. Typed.pass T51 T52 (s47 bs) (at17 bs Ψ)
+      abbrev at18 : (bs : L.List Nat.ℕ) → Typed.TF T53 O5
+      at18 = λ bs. λ Ψ. Typed.pass T53 T54 (s49 bs) (at17 bs Ψ)
 
-      abbrev at19 : (bs : L.List Nat.ℕ) → Typed.TF T62 O5
+      abbrev at19 : (bs : L.List Nat.ℕ) → Typed.TF T64 O5
       at19 = λ bs. Typed.atNext O5
 
-      abbrev at20 : (bs : L.List Nat.ℕ) → Typed.TF T61 O5
-      at20 = λ bs. λ Ψ. Typed.pass T61 T62 (s57 bs) (at19 bs Ψ)
+      abbrev at20 : (bs : L.List Nat.ℕ) → Typed.TF T63 O5
+      at20 = λ bs. λ Ψ. Typed.pass T63 T64 (s59 bs) (at19 bs Ψ)
 
-      abbrev at21 : (bs : L.List Nat.ℕ) → Typed.TF T51 O5
-      at21 = λ bs. λ Ψ. Typed.pass T51 T61 (s56 bs) (at20 bs Ψ)
+      abbrev at21 : (bs : L.List Nat.ℕ) → Typed.TF T53 O5
+      at21 = λ bs. λ Ψ. Typed.pass T53 T63 (s58 bs) (at20 bs Ψ)
 
-      abbrev at22 : (bs : L.List Nat.ℕ) → Typed.TF T51 O5
-      at22 = λ bs. Scalar.Φcond T51 O5 26 (λ x. x) (at18 bs) (at21 bs)
+      abbrev at22 : (bs : L.List Nat.ℕ) → Typed.TF T53 O5
+      at22 = λ bs. Scalar.Φcond T53 O5 27 (λ x. x) (at18 bs) (at21 bs)
 
-      abbrev at23 : (bs : L.List Nat.ℕ) → Typed.TF T50 O5
-      at23 = λ bs. λ Ψ. Typed.pass T50 T51 (s46 bs) (at22 bs Ψ)
+      abbrev at23 : (bs : L.List Nat.ℕ) → Typed.TF T52 O5
+      at23 = λ bs. λ Ψ. Typed.pass T52 T53 (s48 bs) (at22 bs Ψ)
 
-      abbrev at24 : (bs : L.List Nat.ℕ) → Typed.TF T49 O5
-      at24 = λ bs. λ Ψ. Typed.pass T49 T50 (s45 bs) (at23 bs Ψ)
+      abbrev at24 : (bs : L.List Nat.ℕ) → Typed.TF T51 O5
+      at24 = λ bs. λ Ψ. Typed.pass T51 T52 (s47 bs) (at23 bs Ψ)
 
-      abbrev at25 : (bs : L.List Nat.ℕ) → Typed.TF T48 O5
-      at25 = λ bs. λ Ψ. Typed.pass T48 T49 (s44 bs) (at24 bs Ψ)
+      abbrev at25 : (bs : L.List Nat.ℕ) → Typed.TF T50 O5
+      at25 = λ bs. λ Ψ. Typed.pass T50 T51 (s46 bs) (at24 bs Ψ)
 
-      abbrev at26 : (bs : L.List Nat.ℕ) → Typed.TF T47 O5
-      at26 = λ bs. λ Ψ. Typed.both (s43 bs) (at25 bs Ψ)
+      abbrev at26 : (bs : L.List Nat.ℕ) → Typed.TF T49 O5
+      at26 = λ bs. λ Ψ. Typed.pass T49 T50 (s45 bs) (at25 bs Ψ)
 
-      abbrev at27 : (bs : L.List Nat.ℕ) → Typed.TF T46 O5
-      at27 = λ bs. λ Ψ. Typed.both (s42 bs) (at26 bs Ψ)
+      abbrev at27 : (bs : L.List Nat.ℕ) → Typed.TF T48 O5
+      at27 = λ bs. λ Ψ. Typed.both (s44 bs) (at26 bs Ψ)
 
-      abbrev at28 : (bs : L.List Nat.ℕ) → Typed.TF T45 O5
-      at28 = λ bs. λ Ψ. Typed.both (s41 bs) (at27 bs Ψ)
+      abbrev at28 : (bs : L.List Nat.ℕ) → Typed.TF T47 O5
+      at28 = λ bs. λ Ψ. Typed.both (s43 bs) (at27 bs Ψ)
 
-      abbrev at29 : (bs : L.List Nat.ℕ) → Typed.TF T44 O5
-      at29 = λ bs. λ Ψ. Typed.pass T44 T45 (s40 bs) (at28 bs Ψ)
+      abbrev at29 : (bs : L.List Nat.ℕ) → Typed.TF T46 O5
+      at29 = λ bs. λ Ψ. Typed.both (s42 bs) (at28 bs Ψ)
 
-      abbrev at30 : (bs : L.List Nat.ℕ) → Typed.TF T63 O5
-      at30 = λ bs. Typed.atNext O5
+      abbrev at30 : (bs : L.List Nat.ℕ) → Typed.TF T45 O5
+      at30 = λ bs. λ Ψ. Typed.both (s41 bs) (at29 bs Ψ)
 
       abbrev at31 : (bs : L.List Nat.ℕ) → Typed.TF T44 O5
-      at31 = λ bs. λ Ψ. Typed.pass T44 T63 (s58 bs) (at30 bs Ψ)
+      at31 = λ bs. λ Ψ. Typed.pass T44 T45 (s40 bs) (at30 bs Ψ)
 
-      abbrev at32 : (bs : L.List Nat.ℕ) → Typed.TF T44 O5
-      at32 = λ bs. Scalar.Φcond T44 O5 20 (λ x. x) (at29 bs) (at31 bs)
+      abbrev at32 : (bs : L.List Nat.ℕ) → Typed.TF T65 O5
+      at32 = λ bs. Typed.atNext O5
 
-      abbrev at33 : (bs : L.List Nat.ℕ) → Typed.TF T43 O5
-      at33 = λ bs. λ Ψ. Typed.pass T43 T44 (s39 bs) (at32 bs Ψ)
+      abbrev at33 : (bs : L.List Nat.ℕ) → Typed.TF T44 O5
+      at33 = λ bs. λ Ψ. Typed.pass T44 T65 (s60 bs) (at32 bs Ψ)
 
-      abbrev at34 : (bs : L.List Nat.ℕ) → Typed.TF T42 O5
-      at34 = λ bs. λ Ψ. Typed.both (s38 bs) (at33 bs Ψ)
+      abbrev at34 : (bs : L.List Nat.ℕ) → Typed.TF T44 O5
+      at34 = λ bs. Scalar.Φcond T44 O5 20 (λ x. x) (at31 bs) (at33 bs)
 
-      abbrev at35 : (bs : L.List Nat.ℕ) → Typed.TF T41 O5
-      at35 = λ bs. λ Ψ. Typed.pass T41 T42 (s37 bs) (at34 bs Ψ)
+      abbrev at35 : (bs : L.List Nat.ℕ) → Typed.TF T43 O5
+      at35 = λ bs. λ Ψ. Typed.pass T43 T44 (s39 bs) (at34 bs Ψ)
 
-      abbrev at36 : (bs : L.List Nat.ℕ) → Typed.TF T40 O5
-      at36 = λ bs. λ Ψ. Typed.pass T40 T41 (s36 bs) (at35 bs Ψ)
+      abbrev at36 : (bs : L.List Nat.ℕ) → Typed.TF T42 O5
+      at36 = λ bs. λ Ψ. Typed.both (s38 bs) (at35 bs Ψ)
 
-      abbrev at37 : (bs : L.List Nat.ℕ) → Typed.TF T39 O5
-      at37 = λ bs. λ Ψ. Typed.both (s35 bs) (at36 bs Ψ)
+      abbrev at37 : (bs : L.List Nat.ℕ) → Typed.TF T41 O5
+      at37 = λ bs. λ Ψ. Typed.pass T41 T42 (s37 bs) (at36 bs Ψ)
 
-      abbrev at38 : (bs : L.List Nat.ℕ) → Typed.TF T38 O5
-      at38 = λ bs. λ Ψ. Typed.pass T38 T39 (s34 bs) (at37 bs Ψ)
+      abbrev at38 : (bs : L.List Nat.ℕ) → Typed.TF T40 O5
+      at38 = λ bs. λ Ψ. Typed.pass T40 T41 (s36 bs) (at37 bs Ψ)
 
-      abbrev at39 : (bs : L.List Nat.ℕ) → Typed.TF T37 O5
-      at39 = λ bs. λ Ψ. Typed.ask (s33 bs) (at38 bs Ψ)
+      abbrev at39 : (bs : L.List Nat.ℕ) → Typed.TF T39 O5
+      at39 = λ bs. λ Ψ. Typed.both (s35 bs) (at38 bs Ψ)
 
-      abbrev at40 : (bs : L.List Nat.ℕ) → Typed.TF T36 O5
-      at40 = λ bs. λ Ψ. Typed.pass T36 T37 (s32 bs) (at39 bs Ψ)
+      abbrev at40 : (bs : L.List Nat.ℕ) → Typed.TF T38 O5
+      at40 = λ bs. λ Ψ. Typed.pass T38 T39 (s34 bs) (at39 bs Ψ)
 
-      abbrev at41 : (bs : L.List Nat.ℕ) → Typed.TF T35 O5
-      at41 = λ bs. λ Ψ. Typed.ask (s31 bs) (at40 bs Ψ)
+      abbrev at41 : (bs : L.List Nat.ℕ) → Typed.TF T37 O5
+      at41 = λ bs. λ Ψ. Typed.ask (s33 bs) (at40 bs Ψ)
 
-      abbrev at42 : (bs : L.List Nat.ℕ) → Typed.TF T34 O5
-      at42 = λ bs. λ Ψ. Typed.pass T34 T35 (s30 bs) (at41 bs Ψ)
+      abbrev at42 : (bs : L.List Nat.ℕ) → Typed.TF T36 O5
+      at42 = λ bs. λ Ψ. Typed.pass T36 T37 (s32 bs) (at41 bs Ψ)
 
-      abbrev at43 : (bs : L.List Nat.ℕ) → Typed.TF T64 O5
-      at43 = λ bs. Typed.atNext O5
+      abbrev at43 : (bs : L.List Nat.ℕ) → Typed.TF T35 O5
+      at43 = λ bs. λ Ψ. Typed.ask (s31 bs) (at42 bs Ψ)
 
       abbrev at44 : (bs : L.List Nat.ℕ) → Typed.TF T34 O5
-      at44 = λ bs. λ Ψ. Typed.pass T34 T64 (s59 bs) (at43 bs Ψ)
+      at44 = λ bs. λ Ψ. Typed.pass T34 T35 (s30 bs) (at43 bs Ψ)
 
-      abbrev at45 : (bs : L.List Nat.ℕ) → Typed.TF T34 O5
-      at45 = λ bs. Scalar.Φcond T34 O5 14 (λ x. x) (at42 bs) (at44 bs)
+      abbrev at45 : (bs : L.List Nat.ℕ) → Typed.TF T66 O5
+      at45 = λ bs. Typed.atNext O5
 
-      abbrev at46 : (bs : L.List Nat.ℕ) → Typed.TF T33 O5
-      at46 = λ bs. λ Ψ. Typed.pass T33 T34 (s29 bs) (at45 bs Ψ)
+      abbrev at46 : (bs : L.List Nat.ℕ) → Typed.TF T34 O5
+      at46 = λ bs. λ Ψ. Typed.pass T34 T66 (s61 bs) (at45 bs Ψ)
 
-      abbrev at47 : (bs : L.List Nat.ℕ) → Typed.TF T31 O5
-      at47 = λ bs. λ Ψ. Typed.pass T31 T33 (s28 bs) (at46 bs Ψ)
+      abbrev at47 : (bs : L.List Nat.ℕ) → Typed.TF T34 O5
+      at47 = λ bs. Scalar.Φcond T34 O5 14 (λ x. x) (at44 bs) (at46 bs)
 
-      pub at48 : (bs : L.List Nat.ℕ) → Typed.TF T32 O3
-      at48 = λ bs. λ Ψ. Typed.ask (s60 bs) (Typed.atNext O3 Ψ)
+      abbrev at48 : (bs : L.List Nat.ℕ) → Typed.TF T33 O5
+      at48 = λ bs. λ Ψ. Typed.pass T33 T34 (s29 bs) (at47 bs Ψ)
 
-      abbrev at49 : (bs : L.List Nat.ℕ) → Typed.TF T31 O3
-      at49 = λ bs. λ Ψ. at47 bs (Typed.wantNext T32 O3 (at48 bs Ψ) Ψ)
+      abbrev at49 : (bs : L.List Nat.ℕ) → Typed.TF T31 O5
+      at49 = λ bs. λ Ψ. Typed.pass T31 T33 (s28 bs) (at48 bs Ψ)
 
-      abbrev at50 : (bs : L.List Nat.ℕ) → Typed.TF T30 O3
-      at50 = λ bs. λ Ψ. Typed.both (s27 bs) (at49 bs Ψ)
+      pub at50 : (bs : L.List Nat.ℕ) → Typed.TF T32 O3
+      at50 = λ bs. λ Ψ. Typed.ask (s62 bs) (Typed.atNext O3 Ψ)
 
-      abbrev at51 : (bs : L.List Nat.ℕ) → Typed.TF T29 O3
-      at51 = λ bs. λ Ψ. Typed.pass T29 T30 (s26 bs) (at50 bs Ψ)
+      abbrev at51 : (bs : L.List Nat.ℕ) → Typed.TF T31 O3
+      at51 = λ bs. λ Ψ. at49 bs (Typed.wantNext T32 O3 (at50 bs Ψ) Ψ)
 
-      abbrev at52 : (bs : L.List Nat.ℕ) → Typed.TF T28 O3
-      at52 = λ bs. λ Ψ. Typed.pass T28 T29 (s25 bs) (at51 bs Ψ)
+      abbrev at52 : (bs : L.List Nat.ℕ) → Typed.TF T30 O3
+      at52 = λ bs. λ Ψ. Typed.both (s27 bs) (at51 bs Ψ)
 
-      abbrev at53 : (bs : L.List Nat.ℕ) → Typed.TF T27 O3
-      at53 = λ bs. λ Ψ. Typed.both (s24 bs) (at52 bs Ψ)
+      abbrev at53 : (bs : L.List Nat.ℕ) → Typed.TF T29 O3
+      at53 = λ bs. λ Ψ. Typed.pass T29 T30 (s26 bs) (at52 bs Ψ)
 
-      abbrev at54 : (bs : L.List Nat.ℕ) → Typed.TF T26 O3
-      at54 = λ bs. λ Ψ. Typed.pass T26 T27 (s23 bs) (at53 bs Ψ)
+      abbrev at54 : (bs : L.List Nat.ℕ) → Typed.TF T28 O3
+      at54 = λ bs. λ Ψ. Typed.pass T28 T29 (s25 bs) (at53 bs Ψ)
 
-      abbrev at55 : (bs : L.List Nat.ℕ) → Typed.TF T25 O3
-      at55 = λ bs. λ Ψ. Typed.ask (s22 bs) (at54 bs Ψ)
+      abbrev at55 : (bs : L.List Nat.ℕ) → Typed.TF T27 O3
+      at55 = λ bs. λ Ψ. Typed.both (s24 bs) (at54 bs Ψ)
 
-      abbrev at56 : (bs : L.List Nat.ℕ) → Typed.TF T24 O3
-      at56 = λ bs. λ Ψ. Typed.pass T24 T25 (s21 bs) (at55 bs Ψ)
+      abbrev at56 : (bs : L.List Nat.ℕ) → Typed.TF T26 O3
+      at56 = λ bs. λ Ψ. Typed.pass T26 T27 (s23 bs) (at55 bs Ψ)
 
-      abbrev at57 : (bs : L.List Nat.ℕ) → Typed.TF T23 O3
-      at57 = λ bs. λ Ψ. Typed.ask (s20 bs) (at56 bs Ψ)
+      abbrev at57 : (bs : L.List Nat.ℕ) → Typed.TF T25 O3
+      at57 = λ bs. λ Ψ. Typed.ask (s22 bs) (at56 bs Ψ)
 
-      abbrev at58 : (bs : L.List Nat.ℕ) → Typed.TF T22 O3
-      at58 = λ bs. λ Ψ. Typed.pass T22 T23 (s19 bs) (at57 bs Ψ)
+      abbrev at58 : (bs : L.List Nat.ℕ) → Typed.TF T24 O3
+      at58 = λ bs. λ Ψ. Typed.pass T24 T25 (s21 bs) (at57 bs Ψ)
 
-      abbrev at59 : (bs : L.List Nat.ℕ) → Typed.TF T21 O3
-      at59 = λ bs. λ Ψ. Typed.both (s18 bs) (at58 bs Ψ)
+      abbrev at59 : (bs : L.List Nat.ℕ) → Typed.TF T23 O3
+      at59 = λ bs. λ Ψ. Typed.ask (s20 bs) (at58 bs Ψ)
 
-      abbrev at60 : (bs : L.List Nat.ℕ) → Typed.TF T20 O3
-      at60 = λ bs. λ Ψ. Typed.pass T20 T21 (s17 bs) (at59 bs Ψ)
+      abbrev at60 : (bs : L.List Nat.ℕ) → Typed.TF T22 O3
+      at60 = λ bs. λ Ψ. Typed.pass T22 T23 (s19 bs) (at59 bs Ψ)
 
-      abbrev at61 : (bs : L.List Nat.ℕ) → Typed.TF T19 O3
-      at61 = λ bs. λ Ψ. Typed.ask (s16 bs) (at60 bs Ψ)
+      abbrev at61 : (bs : L.List Nat.ℕ) → Typed.TF T21 O3
+      at61 = λ bs. λ Ψ. Typed.both (s18 bs) (at60 bs Ψ)
 
-      abbrev at62 : (bs : L.List Nat.ℕ) → Typed.TF T12 O3
-      at62 = λ bs. λ Ψ. Typed.pass T12 T19 (s15 bs) (at61 bs Ψ)
+      abbrev at62 : (bs : L.List Nat.ℕ) → Typed.TF T20 O3
+      at62 = λ bs. λ Ψ. Typed.pass T20 T21 (s17 bs) (at61 bs Ψ)
 
-      abbrev at63 : (bs : L.List Nat.ℕ) → Typed.TF T11 O3
-      at63 = λ bs. λ Ψ. at8 bs (Typed.wantNext T12 O3 (at62 bs Ψ) Ψ)
+      abbrev at63 : (bs : L.List Nat.ℕ) → Typed.TF T19 O3
+      at63 = λ bs. λ Ψ. Typed.ask (s16 bs) (at62 bs Ψ)
 
-      abbrev at64 : (bs : L.List Nat.ℕ) → Typed.TF T10 O3
-      at64 = λ bs. λ Ψ. Typed.ask (s8 bs) (at63 bs Ψ)
+      abbrev at64 : (bs : L.List Nat.ℕ) → Typed.TF T12 O3
+      at64 = λ bs. λ Ψ. Typed.pass T12 T19 (s15 bs) (at63 bs Ψ)
 
-      abbrev at65 : (bs : L.List Nat.ℕ) → Typed.TF T8 O3
-      at65 = λ bs. λ Ψ. Typed.pass T8 T10 (s7 bs) (at64 bs Ψ)
+      abbrev at65 : (bs : L.List Nat.ℕ) → Typed.TF T11 O3
+      at65 = λ bs. λ Ψ. at8 bs (Typed.wantNext T12 O3 (at64 bs Ψ) Ψ)
 
-      abbrev at66 : (bs : L.List Nat.ℕ) → Typed.TF T8 O2
-      at66 = λ bs. Typed.LoopBy T8 O2 put0 (λ u vs. Inv·0 (Row.get 2 (T8 .locals) u .now) (Row.get 4 (T8 .locals) u) (Row.get 5 (T8 .locals) u) (Row.get 6 (T8 .locals) u) (Row.get 7 (T8 .locals) u) (Row.get 8 (T8 .locals) u) (Row.get 9 (T8 .locals) u) vs) (λ u vs. μ·0 (Row.get 2 (T8 .locals) u .now) (Row.get 4 (T8 .locals) u) (Row.get 5 (T8 .locals) u) (Row.get 6 (T8 .locals) u) (Row.get 7 (T8 .locals) u) (Row.get 8 (T8 .locals) u) (Row.get 9 (T8 .locals) u) vs) (at65 bs)
+      abbrev at66 : (bs : L.List Nat.ℕ) → Typed.TF T10 O3
+      at66 = λ bs. λ Ψ. Typed.ask (s8 bs) (at65 bs Ψ)
 
-      abbrev at67 : (bs : L.List Nat.ℕ) → Typed.TF T8 O1
-      at67 = λ bs. λ Ψ. at66 bs (Typed.inBlock O1 Ψ)
+      abbrev at67 : (bs : L.List Nat.ℕ) → Typed.TF T8 O3
+      at67 = λ bs. λ Ψ. Typed.pass T8 T10 (s7 bs) (at66 bs Ψ)
 
-      abbrev at68 : (bs : L.List Nat.ℕ) → Typed.TF T69 O0
-      at68 = λ bs. Typed.atRet O0
+      abbrev at68 : (bs : L.List Nat.ℕ) → Typed.TF T8 O2
+      at68 = λ bs. Typed.LoopBy T8 O2 put0 (λ u vs. Inv·0 (Row.get 2 (T8 .locals) u .now) (Row.get 4 (T8 .locals) u) (Row.get 5 (T8 .locals) u) (Row.get 6 (T8 .locals) u) (Row.get 7 (T8 .locals) u) (Row.get 8 (T8 .locals) u) (Row.get 9 (T8 .locals) u) vs) (λ u vs. μ·0 (Row.get 2 (T8 .locals) u .now) (Row.get 4 (T8 .locals) u) (Row.get 5 (T8 .locals) u) (Row.get 6 (T8 .locals) u) (Row.get 7 (T8 .locals) u) (Row.get 8 (T8 .locals) u) (Row.get 9 (T8 .locals) u) vs) (at67 bs)
 
-      abbrev at69 : (bs : L.List Nat.ℕ) → Typed.TF T68 O0
-      at69 = λ bs. λ Ψ. Typed.pass T68 T69 (s64 bs) (at68 bs Ψ)
+      abbrev at69 : (bs : L.List Nat.ℕ) → Typed.TF T8 O1
+      at69 = λ bs. λ Ψ. at68 bs (Typed.inBlock O1 Ψ)
 
-      abbrev at70 : (bs : L.List Nat.ℕ) → Typed.TF T67 O0
-      at70 = λ bs. λ Ψ. Typed.pass T67 T68 (s63 bs) (at69 bs Ψ)
+      abbrev at70 : (bs : L.List Nat.ℕ) → Typed.TF T71 O0
+      at70 = λ bs. Typed.atRet O0
 
-      abbrev at71 : (bs : L.List Nat.ℕ) → Typed.TF T66 O0
-      at71 = λ bs. λ Ψ. Typed.pass T66 T67 (s62 bs) (at70 bs Ψ)
+      abbrev at71 : (bs : L.List Nat.ℕ) → Typed.TF T70 O0
+      at71 = λ bs. λ Ψ. Typed.pass T70 T71 (s66 bs) (at70 bs Ψ)
 
-      abbrev at72 : (bs : L.List Nat.ℕ) → Typed.TF T9 O0
-      at72 = λ bs. λ Ψ. Typed.both (s61 bs) (at71 bs Ψ)
+      abbrev at72 : (bs : L.List Nat.ℕ) → Typed.TF T69 O0
+      at72 = λ bs. λ Ψ. Typed.pass T69 T70 (s65 bs) (at71 bs Ψ)
 
-      abbrev at73 : (bs : L.List Nat.ℕ) → Typed.TF T8 O0
-      at73 = λ bs. λ Ψ. at67 bs (Typed.wantNext T9 O0 (at72 bs Ψ) Ψ)
+      abbrev at73 : (bs : L.List Nat.ℕ) → Typed.TF T68 O0
+      at73 = λ bs. λ Ψ. Typed.pass T68 T69 (s64 bs) (at72 bs Ψ)
 
-      abbrev at74 : (bs : L.List Nat.ℕ) → Typed.TF T7 O0
-      at74 = λ bs. λ Ψ. Typed.pass T7 T8 (s6 bs) (at73 bs Ψ)
+      abbrev at74 : (bs : L.List Nat.ℕ) → Typed.TF T9 O0
+      at74 = λ bs. λ Ψ. Typed.both (s63 bs) (at73 bs Ψ)
 
-      abbrev at75 : (bs : L.List Nat.ℕ) → Typed.TF T6 O0
-      at75 = λ bs. λ Ψ. Typed.pass T6 T7 (s5 bs) (at74 bs Ψ)
+      abbrev at75 : (bs : L.List Nat.ℕ) → Typed.TF T8 O0
+      at75 = λ bs. λ Ψ. at69 bs (Typed.wantNext T9 O0 (at74 bs Ψ) Ψ)
 
-      abbrev at76 : (bs : L.List Nat.ℕ) → Typed.TF T5 O0
-      at76 = λ bs. λ Ψ. Typed.both (s4 bs) (at75 bs Ψ)
+      abbrev at76 : (bs : L.List Nat.ℕ) → Typed.TF T7 O0
+      at76 = λ bs. λ Ψ. Typed.pass T7 T8 (s6 bs) (at75 bs Ψ)
 
-      abbrev at77 : (bs : L.List Nat.ℕ) → Typed.TF T4 O0
-      at77 = λ bs. λ Ψ. Typed.pass T4 T5 (s3 bs) (at76 bs Ψ)
+      abbrev at77 : (bs : L.List Nat.ℕ) → Typed.TF T6 O0
+      at77 = λ bs. λ Ψ. Typed.pass T6 T7 (s5 bs) (at76 bs Ψ)
 
-      abbrev at78 : (bs : L.List Nat.ℕ) → Typed.TF T3 O0
-      at78 = λ bs. λ Ψ. Typed.pass T3 T4 (s2 bs) (at77 bs Ψ)
+      abbrev at78 : (bs : L.List Nat.ℕ) → Typed.TF T5 O0
+      at78 = λ bs. λ Ψ. Typed.both (s4 bs) (at77 bs Ψ)
 
-      abbrev at79 : (bs : L.List Nat.ℕ) → Typed.TF T2 O0
-      at79 = λ bs. λ Ψ. Typed.pass T2 T3 (s1 bs) (at78 bs Ψ)
+      abbrev at79 : (bs : L.List Nat.ℕ) → Typed.TF T4 O0
+      at79 = λ bs. λ Ψ. Typed.pass T4 T5 (s3 bs) (at78 bs Ψ)
 
-      abbrev at80 : (bs : L.List Nat.ℕ) → Typed.TF T0 O0
-      at80 = λ bs. λ Ψ. Typed.pass T0 T2 (s0 bs) (at79 bs Ψ)
+      abbrev at80 : (bs : L.List Nat.ℕ) → Typed.TF T3 O0
+      at80 = λ bs. λ Ψ. Typed.pass T3 T4 (s2 bs) (at79 bs Ψ)
+
+      abbrev at81 : (bs : L.List Nat.ℕ) → Typed.TF T2 O0
+      at81 = λ bs. λ Ψ. Typed.pass T2 T3 (s1 bs) (at80 bs Ψ)
+
+      abbrev at82 : (bs : L.List Nat.ℕ) → Typed.TF T0 O0
+      at82 = λ bs. λ Ψ. Typed.pass T0 T2 (s0 bs) (at81 bs Ψ)
 
       abbrev pub Φ : (bs : L.List Nat.ℕ) → Typed.TF T0 O0
-      Φ = λ bs. at80 bs
+      Φ = λ bs. at82 bs
 
       module _ {M : Type 1} (𝓤 : URA.URA M) (H : Wp.Heap 𝓤) (A : Atoms.Atoms 𝓤) (W : Kit.Given 𝓤 H A) (𝓣 : Wp.Tables 𝓤 H) where
         abbrev Knowns : Type 1
@@ -1471,31 +1505,31 @@ module _ (claims· : Claims) where
         G47 = record { locals = L._++_ t35 t36; slots = L._∷_ (Row.lease (κs .0) (qs .0)) L.[] }
 
         abbrev G48 : Row.Cx
-        G48 = record { locals = L._++_ t37 t36; slots = L._∷_ (Row.lease (κs .0) (qs .0)) L.[] }
+        G48 = record { locals = L._++_ t35 t37; slots = L._∷_ (Row.lease (κs .0) (qs .0)) L.[] }
 
         abbrev G49 : Row.Cx
-        G49 = record { locals = L._++_ t38 t36; slots = L._∷_ (Row.lease (κs .0) (qs .0)) L.[] }
+        G49 = record { locals = L._++_ t38 t37; slots = L._∷_ (Row.lease (κs .0) (qs .0)) L.[] }
 
         abbrev G50 : Row.Cx
-        G50 = record { locals = L._++_ t38 t1; slots = L._∷_ (Row.lease (κs .0) (qs .0)) L.[] }
+        G50 = record { locals = L._++_ t39 t37; slots = L._∷_ (Row.lease (κs .0) (qs .0)) L.[] }
 
         abbrev G51 : Row.Cx
-        G51 = record { locals = L._++_ t38 t39; slots = L._∷_ (Row.lease (κs .0) (qs .0)) L.[] }
+        G51 = record { locals = L._++_ t39 t40; slots = L._∷_ (Row.lease (κs .0) (qs .0)) L.[] }
 
         abbrev G52 : Row.Cx
-        G52 = record { locals = L._++_ t40 t39; slots = L._∷_ (Row.lease (κs .0) (qs .0)) L.[] }
+        G52 = record { locals = L._++_ t39 t1; slots = L._∷_ (Row.lease (κs .0) (qs .0)) L.[] }
 
         abbrev G53 : Row.Cx
-        G53 = record { locals = L._++_ t41 t39; slots = L._∷_ (Row.lease (κs .0) (qs .0)) L.[] }
+        G53 = record { locals = L._++_ t39 t41; slots = L._∷_ (Row.lease (κs .0) (qs .0)) L.[] }
 
         abbrev G54 : Row.Cx
-        G54 = record { locals = L._++_ t42 t39; slots = L._∷_ (Row.lease (κs .0) (qs .0)) L.[] }
+        G54 = record { locals = L._++_ t42 t41; slots = L._∷_ (Row.lease (κs .0) (qs .0)) L.[] }
 
         abbrev G55 : Row.Cx
-        G55 = record { locals = L._++_ t42 t1; slots = L._∷_ (Row.lease (κs .0) (qs .0)) L.[] }
+        G55 = record { locals = L._++_ t43 t41; slots = L._∷_ (Row.lease (κs .0) (qs .0)) L.[] }
 
         abbrev G56 : Row.Cx
-        G56 = record { locals = L._++_ t43 t1; slots = L._∷_ (Row.lease (κs .0) (qs .0)) L.[] }
+        G56 = record { locals = L._++_ t44 t41; slots = L._∷_ (Row.lease (κs .0) (qs .0)) L.[] }
 
         abbrev G57 : Row.Cx
         G57 = record { locals = L._++_ t44 t1; slots = L._∷_ (Row.lease (κs .0) (qs .0)) L.[] }
@@ -1507,16 +1541,16 @@ module _ (claims· : Claims) where
         G59 = record { locals = L._++_ t46 t1; slots = L._∷_ (Row.lease (κs .0) (qs .0)) L.[] }
 
         abbrev G60 : Row.Cx
-        G60 = record { locals = L._++_ t2 t1; slots = L._∷_ (Row.lease (κs .0) (qs .0)) L.[] }
+        G60 = record { locals = L._++_ t47 t1; slots = L._∷_ (Row.lease (κs .0) (qs .0)) L.[] }
 
         abbrev G61 : Row.Cx
-        G61 = record { locals = L._++_ t9 t39; slots = L._∷_ (Row.lease (κs .0) (qs .0)) L.[] }
+        G61 = record { locals = L._++_ t48 t1; slots = L._∷_ (Row.lease (κs .0) (qs .0)) L.[] }
 
         abbrev G62 : Row.Cx
-        G62 = record { locals = L._++_ t9 t1; slots = L._∷_ (Row.lease (κs .0) (qs .0)) L.[] }
+        G62 = record { locals = L._++_ t2 t1; slots = L._∷_ (Row.lease (κs .0) (qs .0)) L.[] }
 
         abbrev G63 : Row.Cx
-        G63 = record { locals = L._++_ t9 t1; slots = L._∷_ (Row.lease (κs .0) (qs .0)) L.[] }
+        G63 = record { locals = L._++_ t9 t41; slots = L._∷_ (Row.lease (κs .0) (qs .0)) L.[] }
 
         abbrev G64 : Row.Cx
         G64 = record { locals = L._++_ t9 t1; slots = L._∷_ (Row.lease (κs .0) (qs .0)) L.[] }
@@ -1525,16 +1559,22 @@ module _ (claims· : Claims) where
         G65 = record { locals = L._++_ t9 t1; slots = L._∷_ (Row.lease (κs .0) (qs .0)) L.[] }
 
         abbrev G66 : Row.Cx
-        G66 = record { locals = L._++_ t44 t1; slots = L._∷_ (Row.lease (κs .0) (qs .0)) L.[] }
+        G66 = record { locals = L._++_ t9 t1; slots = L._∷_ (Row.lease (κs .0) (qs .0)) L.[] }
 
         abbrev G67 : Row.Cx
-        G67 = record { locals = L._++_ t47 t1; slots = L._∷_ (Row.lease (κs .0) (qs .0)) L.[] }
+        G67 = record { locals = L._++_ t9 t1; slots = L._∷_ (Row.lease (κs .0) (qs .0)) L.[] }
 
         abbrev G68 : Row.Cx
-        G68 = record { locals = L._++_ t48 t1; slots = L._∷_ (Row.lease (κs .0) (qs .0)) L.[] }
+        G68 = record { locals = L._++_ t46 t1; slots = L._∷_ (Row.lease (κs .0) (qs .0)) L.[] }
 
         abbrev G69 : Row.Cx
-        G69 = record { locals = L._++_ t2 t1; slots = L._∷_ (Row.lease (κs .0) (qs .0)) L.[] }
+        G69 = record { locals = L._++_ t49 t1; slots = L._∷_ (Row.lease (κs .0) (qs .0)) L.[] }
+
+        abbrev G70 : Row.Cx
+        G70 = record { locals = L._++_ t50 t1; slots = L._∷_ (Row.lease (κs .0) (qs .0)) L.[] }
+
+        abbrev G71 : Row.Cx
+        G71 = record { locals = L._++_ t2 t1; slots = L._∷_ (Row.lease (κs .0) (qs .0)) L.[] }
 
         abbrev Δ0 : Typed.Outs
         Δ0 = record { next = Option.none; exits = L.[]; returns = Option.some G1 }
@@ -1574,7 +1614,7 @@ module _ (claims· : Claims) where
           d4 = Typed.g-pre 𝓤 H A W 𝓣 E G16 G17 b8 Δ4 (Typed.pass T16 T17 (s13 bs)) (at3 bs) (Scalar.g-room 𝓤 H A W E G16 7 q6 (Local.room-whole 𝓤 H A W (Declared.row rules-proofs-tried-Asks·.the-type) q6 Path.refl)) d3
 
           d5 : Typed.Typed 𝓤 H A 𝓣 E G15 b8 Δ4 (at5 bs)
-          d5 = Typed.g-pre 𝓤 H A W 𝓣 E G15 G16 b8 Δ4 (Typed.pass T15 T16 (s12 bs)) (at4 bs) (Scalar.g-room 𝓤 H A W E G15 6 q14 (Local.room-whole 𝓤 H A W (Declared.row network-proofs-Degrees·.the-type) q14 Path.refl)) d4
+          d5 = Typed.g-pre 𝓤 H A W 𝓣 E G15 G16 b8 Δ4 (Typed.pass T15 T16 (s12 bs)) (at4 bs) (Scalar.g-room 𝓤 H A W E G15 6 q15 (Local.room-whole 𝓤 H A W (Declared.row network-proofs-Degrees·.the-type) q15 Path.refl)) d4
 
           d6 : Typed.Typed 𝓤 H A 𝓣 E G13 b8 Δ4 (at6 bs)
           d6 = Typed.g-pre 𝓤 H A W 𝓣 E G13 G15 b8 Δ4 (Typed.pass T13 T15 (s11 bs)) (at5 bs) (Scalar.g-room 𝓤 H A W E G13 5 q2 (Local.room-whole 𝓤 H A W (Declared.row network-proofs-Nodes·.the-type) q2 Path.refl)) d5
@@ -1585,225 +1625,231 @@ module _ (claims· : Claims) where
           d8 : Typed.Typed 𝓤 H A 𝓣 E G11 b9 Δ4 (at8 bs)
           d8 = Typed.g-pre 𝓤 H A W 𝓣 E G11 G13 b9 Δ4 (Typed.pass T11 T13 (s9 bs)) (at7 bs) (Scalar.g-room 𝓤 H A W E G11 12 (Syntax.tyInt Syntax.w64) (Scalar.room-sc 𝓤 H A W (Row.sInt Syntax.w64))) d7
 
-          d9 : Typed.Typed 𝓤 H A 𝓣 E G60 b28 Δ5 (at9 bs)
+          d9 : Typed.Typed 𝓤 H A 𝓣 E G62 b29 Δ5 (at9 bs)
           d9 = Typed.t-return 𝓤 H A W 𝓣 E Δ5 tt
 
-          d10 : Typed.Typed 𝓤 H A 𝓣 E G59 b28 Δ5 (at10 bs)
-          d10 = Typed.g-pre 𝓤 H A W 𝓣 E G59 G60 b28 Δ5 (Typed.pass T59 T60 (s55 bs)) (at9 bs) (Scalar.g-room 𝓤 H A W E G59 9 (Syntax.tyInt Syntax.w64) (Scalar.room-sc 𝓤 H A W (Row.sInt Syntax.w64))) d9
+          d10 : Typed.Typed 𝓤 H A 𝓣 E G61 b29 Δ5 (at10 bs)
+          d10 = Typed.g-pre 𝓤 H A W 𝓣 E G61 G62 b29 Δ5 (Typed.pass T61 T62 (s57 bs)) (at9 bs) (Scalar.g-room 𝓤 H A W E G61 9 (Syntax.tyInt Syntax.w64) (Scalar.room-sc 𝓤 H A W (Row.sInt Syntax.w64))) d9
 
-          d11 : Typed.Typed 𝓤 H A 𝓣 E G58 b28 Δ5 (at11 bs)
-          d11 = Typed.g-pre 𝓤 H A W 𝓣 E G58 G59 b28 Δ5 (Typed.pass T58 T59 (s54 bs)) (at10 bs) (Scalar.g-room 𝓤 H A W E G58 8 (Syntax.tyInt Syntax.w64) (Scalar.room-sc 𝓤 H A W (Row.sInt Syntax.w64))) d10
+          d11 : Typed.Typed 𝓤 H A 𝓣 E G60 b29 Δ5 (at11 bs)
+          d11 = Typed.g-pre 𝓤 H A W 𝓣 E G60 G61 b29 Δ5 (Typed.pass T60 T61 (s56 bs)) (at10 bs) (Scalar.g-room 𝓤 H A W E G60 8 (Syntax.tyInt Syntax.w64) (Scalar.room-sc 𝓤 H A W (Row.sInt Syntax.w64))) d10
 
-          d12 : Typed.Typed 𝓤 H A 𝓣 E G57 b28 Δ5 (at12 bs)
-          d12 = Typed.g-pre 𝓤 H A W 𝓣 E G57 G58 b28 Δ5 (Typed.pass T57 T58 (s53 bs)) (at11 bs) (Scalar.g-room 𝓤 H A W E G57 4 (Syntax.tyInt Syntax.w64) (Scalar.room-sc 𝓤 H A W (Row.sInt Syntax.w64))) d11
+          d12 : Typed.Typed 𝓤 H A 𝓣 E G59 b29 Δ5 (at12 bs)
+          d12 = Typed.g-pre 𝓤 H A W 𝓣 E G59 G60 b29 Δ5 (Typed.pass T59 T60 (s55 bs)) (at11 bs) (Scalar.g-room 𝓤 H A W E G59 4 (Syntax.tyInt Syntax.w64) (Scalar.room-sc 𝓤 H A W (Row.sInt Syntax.w64))) d11
 
-          d13 : Typed.Typed 𝓤 H A 𝓣 E G56 b28 Δ5 (at13 bs)
-          d13 = Typed.g-pre 𝓤 H A W 𝓣 E G56 G57 b28 Δ5 (Typed.pass T56 T57 (s52 bs)) (at12 bs) (Scalar.g-room 𝓤 H A W E G56 11 (Syntax.tyStruct (L._∷_ 114 (L._∷_ 117 (L._∷_ 108 (L._∷_ 101 (L._∷_ 115 (L._∷_ 58 (L._∷_ 58 (L._∷_ 102 (L._∷_ 111 (L._∷_ 117 (L._∷_ 110 (L._∷_ 100 (L._∷_ 58 (L._∷_ 58 (L._∷_ 70 (L._∷_ 111 (L._∷_ 117 (L._∷_ 110 (L._∷_ 100 L.[]))))))))))))))))))) (Syntax.tcons Syntax.tyBool (Syntax.tcons Syntax.tyBool (Syntax.tcons (Syntax.tyStruct (L._∷_ 115 (L._∷_ 116 (L._∷_ 101 (L._∷_ 112 (L._∷_ 58 (L._∷_ 58 (L._∷_ 83 (L._∷_ 116 (L._∷_ 101 (L._∷_ 112 L.[])))))))))) (Syntax.tcons (Syntax.tyInt Syntax.w64) (Syntax.tcons (Syntax.tyInt Syntax.w64) (Syntax.tcons (Syntax.tyStruct (L._∷_ 115 (L._∷_ 116 (L._∷_ 101 (L._∷_ 112 (L._∷_ 58 (L._∷_ 58 (L._∷_ 67 (L._∷_ 104 (L._∷_ 97 (L._∷_ 110 (L._∷_ 103 (L._∷_ 101 L.[])))))))))))) (Syntax.tcons (Syntax.tyStruct (L._∷_ 110 (L._∷_ 101 (L._∷_ 116 (L._∷_ 119 (L._∷_ 111 (L._∷_ 114 (L._∷_ 107 (L._∷_ 58 (L._∷_ 58 (L._∷_ 69 (L._∷_ 100 (L._∷_ 105 (L._∷_ 116 L.[]))))))))))))) (Syntax.tcons q11 (Syntax.tcons q11 (Syntax.tcons q11 (Syntax.tcons q11 (Syntax.tcons q3 (Syntax.tcons q3 (Syntax.tcons (Syntax.tyInt Syntax.w64) Syntax.tnil)))))))) (Syntax.tcons (Syntax.tyStruct (L._∷_ 115 (L._∷_ 116 (L._∷_ 101 (L._∷_ 112 (L._∷_ 58 (L._∷_ 58 (L._∷_ 79 (L._∷_ 108 (L._∷_ 100 L.[]))))))))) (Syntax.tcons (Syntax.tyInt Syntax.w64) (Syntax.tcons q10 (Syntax.tcons q11 (Syntax.tcons q11 (Syntax.tcons q11 (Syntax.tcons q11 (Syntax.tcons q7 Syntax.tnil)))))))) Syntax.tnil))) Syntax.tnil)))) Syntax.tnil)))) (Local.room-whole 𝓤 H A W (Declared.row rules-proofs-found-Found·.the-type) (Syntax.tyStruct (L._∷_ 114 (L._∷_ 117 (L._∷_ 108 (L._∷_ 101 (L._∷_ 115 (L._∷_ 58 (L._∷_ 58 (L._∷_ 102 (L._∷_ 111 (L._∷_ 117 (L._∷_ 110 (L._∷_ 100 (L._∷_ 58 (L._∷_ 58 (L._∷_ 70 (L._∷_ 111 (L._∷_ 117 (L._∷_ 110 (L._∷_ 100 L.[]))))))))))))))))))) (Syntax.tcons Syntax.tyBool (Syntax.tcons Syntax.tyBool (Syntax.tcons (Syntax.tyStruct (L._∷_ 115 (L._∷_ 116 (L._∷_ 101 (L._∷_ 112 (L._∷_ 58 (L._∷_ 58 (L._∷_ 83 (L._∷_ 116 (L._∷_ 101 (L._∷_ 112 L.[])))))))))) (Syntax.tcons (Syntax.tyInt Syntax.w64) (Syntax.tcons (Syntax.tyInt Syntax.w64) (Syntax.tcons (Syntax.tyStruct (L._∷_ 115 (L._∷_ 116 (L._∷_ 101 (L._∷_ 112 (L._∷_ 58 (L._∷_ 58 (L._∷_ 67 (L._∷_ 104 (L._∷_ 97 (L._∷_ 110 (L._∷_ 103 (L._∷_ 101 L.[])))))))))))) (Syntax.tcons (Syntax.tyStruct (L._∷_ 110 (L._∷_ 101 (L._∷_ 116 (L._∷_ 119 (L._∷_ 111 (L._∷_ 114 (L._∷_ 107 (L._∷_ 58 (L._∷_ 58 (L._∷_ 69 (L._∷_ 100 (L._∷_ 105 (L._∷_ 116 L.[]))))))))))))) (Syntax.tcons q11 (Syntax.tcons q11 (Syntax.tcons q11 (Syntax.tcons q11 (Syntax.tcons q3 (Syntax.tcons q3 (Syntax.tcons (Syntax.tyInt Syntax.w64) Syntax.tnil)))))))) (Syntax.tcons (Syntax.tyStruct (L._∷_ 115 (L._∷_ 116 (L._∷_ 101 (L._∷_ 112 (L._∷_ 58 (L._∷_ 58 (L._∷_ 79 (L._∷_ 108 (L._∷_ 100 L.[]))))))))) (Syntax.tcons (Syntax.tyInt Syntax.w64) (Syntax.tcons q10 (Syntax.tcons q11 (Syntax.tcons q11 (Syntax.tcons q11 (Syntax.tcons q11 (Syntax.tcons q7 Syntax.tnil)))))))) Syntax.tnil))) Syntax.tnil)))) Syntax.tnil)))) Path.refl)) d12
+          d13 : Typed.Typed 𝓤 H A 𝓣 E G58 b29 Δ5 (at13 bs)
+          d13 = Typed.g-pre 𝓤 H A W 𝓣 E G58 G59 b29 Δ5 (Typed.pass T58 T59 (s54 bs)) (at12 bs) (Scalar.g-room 𝓤 H A W E G58 11 (Syntax.tyStruct (L._∷_ 114 (L._∷_ 117 (L._∷_ 108 (L._∷_ 101 (L._∷_ 115 (L._∷_ 58 (L._∷_ 58 (L._∷_ 102 (L._∷_ 111 (L._∷_ 117 (L._∷_ 110 (L._∷_ 100 (L._∷_ 58 (L._∷_ 58 (L._∷_ 70 (L._∷_ 111 (L._∷_ 117 (L._∷_ 110 (L._∷_ 100 L.[]))))))))))))))))))) (Syntax.tcons Syntax.tyBool (Syntax.tcons Syntax.tyBool (Syntax.tcons (Syntax.tyStruct (L._∷_ 115 (L._∷_ 116 (L._∷_ 101 (L._∷_ 112 (L._∷_ 58 (L._∷_ 58 (L._∷_ 83 (L._∷_ 116 (L._∷_ 101 (L._∷_ 112 L.[])))))))))) (Syntax.tcons (Syntax.tyInt Syntax.w64) (Syntax.tcons (Syntax.tyInt Syntax.w64) (Syntax.tcons (Syntax.tyStruct (L._∷_ 115 (L._∷_ 116 (L._∷_ 101 (L._∷_ 112 (L._∷_ 58 (L._∷_ 58 (L._∷_ 67 (L._∷_ 104 (L._∷_ 97 (L._∷_ 110 (L._∷_ 103 (L._∷_ 101 L.[])))))))))))) (Syntax.tcons (Syntax.tyStruct (L._∷_ 110 (L._∷_ 101 (L._∷_ 116 (L._∷_ 119 (L._∷_ 111 (L._∷_ 114 (L._∷_ 107 (L._∷_ 58 (L._∷_ 58 (L._∷_ 69 (L._∷_ 100 (L._∷_ 105 (L._∷_ 116 L.[]))))))))))))) (Syntax.tcons q12 (Syntax.tcons q12 (Syntax.tcons q12 (Syntax.tcons q12 (Syntax.tcons q3 (Syntax.tcons q3 (Syntax.tcons (Syntax.tyInt Syntax.w64) (Syntax.tcons q11 Syntax.tnil))))))))) (Syntax.tcons (Syntax.tyStruct (L._∷_ 115 (L._∷_ 116 (L._∷_ 101 (L._∷_ 112 (L._∷_ 58 (L._∷_ 58 (L._∷_ 79 (L._∷_ 108 (L._∷_ 100 L.[]))))))))) (Syntax.tcons (Syntax.tyInt Syntax.w64) (Syntax.tcons q11 (Syntax.tcons q12 (Syntax.tcons q12 (Syntax.tcons q12 (Syntax.tcons q12 (Syntax.tcons q7 Syntax.tnil)))))))) Syntax.tnil))) Syntax.tnil)))) Syntax.tnil)))) (Local.room-whole 𝓤 H A W (Declared.row rules-proofs-found-Found·.the-type) (Syntax.tyStruct (L._∷_ 114 (L._∷_ 117 (L._∷_ 108 (L._∷_ 101 (L._∷_ 115 (L._∷_ 58 (L._∷_ 58 (L._∷_ 102 (L._∷_ 111 (L._∷_ 117 (L._∷_ 110 (L._∷_ 100 (L._∷_ 58 (L._∷_ 58 (L._∷_ 70 (L._∷_ 111 (L._∷_ 117 (L._∷_ 110 (L._∷_ 100 L.[]))))))))))))))))))) (Syntax.tcons Syntax.tyBool (Syntax.tcons Syntax.tyBool (Syntax.tcons (Syntax.tyStruct (L._∷_ 115 (L._∷_ 116 (L._∷_ 101 (L._∷_ 112 (L._∷_ 58 (L._∷_ 58 (L._∷_ 83 (L._∷_ 116 (L._∷_ 101 (L._∷_ 112 L.[])))))))))) (Syntax.tcons (Syntax.tyInt Syntax.w64) (Syntax.tcons (Syntax.tyInt Syntax.w64) (Syntax.tcons (Syntax.tyStruct (L._∷_ 115 (L._∷_ 116 (L._∷_ 101 (L._∷_ 112 (L._∷_ 58 (L._∷_ 58 (L._∷_ 67 (L._∷_ 104 (L._∷_ 97 (L._∷_ 110 (L._∷_ 103 (L._∷_ 101 L.[])))))))))))) (Syntax.tcons (Syntax.tyStruct (L._∷_ 110 (L._∷_ 101 (L._∷_ 116 (L._∷_ 119 (L._∷_ 111 (L._∷_ 114 (L._∷_ 107 (L._∷_ 58 (L._∷_ 58 (L._∷_ 69 (L._∷_ 100 (L._∷_ 105 (L._∷_ 116 L.[]))))))))))))) (Syntax.tcons q12 (Syntax.tcons q12 (Syntax.tcons q12 (Syntax.tcons q12 (Syntax.tcons q3 (Syntax.tcons q3 (Syntax.tcons (Syntax.tyInt Syntax.w64) (Syntax.tcons q11 Syntax.tnil))))))))) (Syntax.tcons (Syntax.tyStruct (L._∷_ 115 (L._∷_ 116 (L._∷_ 101 (L._∷_ 112 (L._∷_ 58 (L._∷_ 58 (L._∷_ 79 (L._∷_ 108 (L._∷_ 100 L.[]))))))))) (Syntax.tcons (Syntax.tyInt Syntax.w64) (Syntax.tcons q11 (Syntax.tcons q12 (Syntax.tcons q12 (Syntax.tcons q12 (Syntax.tcons q12 (Syntax.tcons q7 Syntax.tnil)))))))) Syntax.tnil))) Syntax.tnil)))) Syntax.tnil)))) Path.refl)) d12
 
-          d14 : Typed.Typed 𝓤 H A 𝓣 E G55 b29 Δ5 (at14 bs)
-          d14 = Typed.s-seq 𝓤 H A W 𝓣 E G55 G56 b27 b28 Δ5 (Typed.pass T55 T56 (s51 bs)) (at13 bs) (LocalCopy.t-val-copy 𝓤 H A W E 𝓣 (λ ρ. Unit) G55 11 0 (Declared.row rules-proofs-found-Found·.the-type) (Syntax.tyStruct (L._∷_ 114 (L._∷_ 117 (L._∷_ 108 (L._∷_ 101 (L._∷_ 115 (L._∷_ 58 (L._∷_ 58 (L._∷_ 102 (L._∷_ 111 (L._∷_ 117 (L._∷_ 110 (L._∷_ 100 (L._∷_ 58 (L._∷_ 58 (L._∷_ 70 (L._∷_ 111 (L._∷_ 117 (L._∷_ 110 (L._∷_ 100 L.[]))))))))))))))))))) (Syntax.tcons Syntax.tyBool (Syntax.tcons Syntax.tyBool (Syntax.tcons (Syntax.tyStruct (L._∷_ 115 (L._∷_ 116 (L._∷_ 101 (L._∷_ 112 (L._∷_ 58 (L._∷_ 58 (L._∷_ 83 (L._∷_ 116 (L._∷_ 101 (L._∷_ 112 L.[])))))))))) (Syntax.tcons (Syntax.tyInt Syntax.w64) (Syntax.tcons (Syntax.tyInt Syntax.w64) (Syntax.tcons (Syntax.tyStruct (L._∷_ 115 (L._∷_ 116 (L._∷_ 101 (L._∷_ 112 (L._∷_ 58 (L._∷_ 58 (L._∷_ 67 (L._∷_ 104 (L._∷_ 97 (L._∷_ 110 (L._∷_ 103 (L._∷_ 101 L.[])))))))))))) (Syntax.tcons (Syntax.tyStruct (L._∷_ 110 (L._∷_ 101 (L._∷_ 116 (L._∷_ 119 (L._∷_ 111 (L._∷_ 114 (L._∷_ 107 (L._∷_ 58 (L._∷_ 58 (L._∷_ 69 (L._∷_ 100 (L._∷_ 105 (L._∷_ 116 L.[]))))))))))))) (Syntax.tcons q11 (Syntax.tcons q11 (Syntax.tcons q11 (Syntax.tcons q11 (Syntax.tcons q3 (Syntax.tcons q3 (Syntax.tcons (Syntax.tyInt Syntax.w64) Syntax.tnil)))))))) (Syntax.tcons (Syntax.tyStruct (L._∷_ 115 (L._∷_ 116 (L._∷_ 101 (L._∷_ 112 (L._∷_ 58 (L._∷_ 58 (L._∷_ 79 (L._∷_ 108 (L._∷_ 100 L.[]))))))))) (Syntax.tcons (Syntax.tyInt Syntax.w64) (Syntax.tcons q10 (Syntax.tcons q11 (Syntax.tcons q11 (Syntax.tcons q11 (Syntax.tcons q11 (Syntax.tcons q7 Syntax.tnil)))))))) Syntax.tnil))) Syntax.tnil)))) Syntax.tnil)))) (Syntax.tyStruct (L._∷_ 114 (L._∷_ 117 (L._∷_ 108 (L._∷_ 101 (L._∷_ 115 (L._∷_ 58 (L._∷_ 58 (L._∷_ 102 (L._∷_ 111 (L._∷_ 117 (L._∷_ 110 (L._∷_ 100 (L._∷_ 58 (L._∷_ 58 (L._∷_ 70 (L._∷_ 111 (L._∷_ 117 (L._∷_ 110 (L._∷_ 100 L.[]))))))))))))))))))) (Syntax.tcons Syntax.tyBool (Syntax.tcons Syntax.tyBool (Syntax.tcons (Syntax.tyStruct (L._∷_ 115 (L._∷_ 116 (L._∷_ 101 (L._∷_ 112 (L._∷_ 58 (L._∷_ 58 (L._∷_ 83 (L._∷_ 116 (L._∷_ 101 (L._∷_ 112 L.[])))))))))) (Syntax.tcons (Syntax.tyInt Syntax.w64) (Syntax.tcons (Syntax.tyInt Syntax.w64) (Syntax.tcons (Syntax.tyStruct (L._∷_ 115 (L._∷_ 116 (L._∷_ 101 (L._∷_ 112 (L._∷_ 58 (L._∷_ 58 (L._∷_ 67 (L._∷_ 104 (L._∷_ 97 (L._∷_ 110 (L._∷_ 103 (L._∷_ 101 L.[])))))))))))) (Syntax.tcons (Syntax.tyStruct (L._∷_ 110 (L._∷_ 101 (L._∷_ 116 (L._∷_ 119 (L._∷_ 111 (L._∷_ 114 (L._∷_ 107 (L._∷_ 58 (L._∷_ 58 (L._∷_ 69 (L._∷_ 100 (L._∷_ 105 (L._∷_ 116 L.[]))))))))))))) (Syntax.tcons q11 (Syntax.tcons q11 (Syntax.tcons q11 (Syntax.tcons q11 (Syntax.tcons q3 (Syntax.tcons q3 (Syntax.tcons (Syntax.tyInt Syntax.w64) Syntax.tnil)))))))) (Syntax.tcons (Syntax.tyStruct (L._∷_ 115 (L._∷_ 116 (L._∷_ 101 (L._∷_ 112 (L._∷_ 58 (L._∷_ 58 (L._∷_ 79 (L._∷_ 108 (L._∷_ 100 L.[]))))))))) (Syntax.tcons (Syntax.tyInt Syntax.w64) (Syntax.tcons q10 (Syntax.tcons q11 (Syntax.tcons q11 (Syntax.tcons q11 (Syntax.tcons q11 (Syntax.tcons q7 Syntax.tnil)))))))) Syntax.tnil))) Syntax.tnil)))) Syntax.tnil)))) q23 q23 (λ x. x) (λ x. x) (λ x. x) Path.refl (Own.told-none 𝓤 H A (G55 .slots)) (Yields.yields-copy 𝓤 H A W (λ ρ. Unit) (Declared.row rules-proofs-found-Found·.the-type) Path.refl (Copies.cStruct rules-proofs-found-Found·.the-type rules-proofs-found-Found-Laws·.the-laws rules-proofs-found-Found-Laws·.the-copy .copy 𝓤 H A W) q23 (λ x. x) (λ x. x) (λ ρ told. Local.mem-whole 𝓤 H A W (Declared.row rules-proofs-found-Found·.the-type) ρ) λ ρ told. Local.whole-mem 𝓤 H A W (Declared.row rules-proofs-found-Found·.the-type) ρ) (TReads.room-gone 𝓤 H A (Syntax.tyStruct (L._∷_ 114 (L._∷_ 117 (L._∷_ 108 (L._∷_ 101 (L._∷_ 115 (L._∷_ 58 (L._∷_ 58 (L._∷_ 102 (L._∷_ 111 (L._∷_ 117 (L._∷_ 110 (L._∷_ 100 (L._∷_ 58 (L._∷_ 58 (L._∷_ 70 (L._∷_ 111 (L._∷_ 117 (L._∷_ 110 (L._∷_ 100 L.[]))))))))))))))))))) (Syntax.tcons Syntax.tyBool (Syntax.tcons Syntax.tyBool (Syntax.tcons (Syntax.tyStruct (L._∷_ 115 (L._∷_ 116 (L._∷_ 101 (L._∷_ 112 (L._∷_ 58 (L._∷_ 58 (L._∷_ 83 (L._∷_ 116 (L._∷_ 101 (L._∷_ 112 L.[])))))))))) (Syntax.tcons (Syntax.tyInt Syntax.w64) (Syntax.tcons (Syntax.tyInt Syntax.w64) (Syntax.tcons (Syntax.tyStruct (L._∷_ 115 (L._∷_ 116 (L._∷_ 101 (L._∷_ 112 (L._∷_ 58 (L._∷_ 58 (L._∷_ 67 (L._∷_ 104 (L._∷_ 97 (L._∷_ 110 (L._∷_ 103 (L._∷_ 101 L.[])))))))))))) (Syntax.tcons (Syntax.tyStruct (L._∷_ 110 (L._∷_ 101 (L._∷_ 116 (L._∷_ 119 (L._∷_ 111 (L._∷_ 114 (L._∷_ 107 (L._∷_ 58 (L._∷_ 58 (L._∷_ 69 (L._∷_ 100 (L._∷_ 105 (L._∷_ 116 L.[]))))))))))))) (Syntax.tcons q11 (Syntax.tcons q11 (Syntax.tcons q11 (Syntax.tcons q11 (Syntax.tcons q3 (Syntax.tcons q3 (Syntax.tcons (Syntax.tyInt Syntax.w64) Syntax.tnil)))))))) (Syntax.tcons (Syntax.tyStruct (L._∷_ 115 (L._∷_ 116 (L._∷_ 101 (L._∷_ 112 (L._∷_ 58 (L._∷_ 58 (L._∷_ 79 (L._∷_ 108 (L._∷_ 100 L.[]))))))))) (Syntax.tcons (Syntax.tyInt Syntax.w64) (Syntax.tcons q10 (Syntax.tcons q11 (Syntax.tcons q11 (Syntax.tcons q11 (Syntax.tcons q11 (Syntax.tcons q7 Syntax.tnil)))))))) Syntax.tnil))) Syntax.tnil)))) Syntax.tnil))))) (Yields.makes-mem 𝓤 H A W (λ ρ. Unit) (Declared.row rules-proofs-found-Found·.the-type) Path.refl q23 (λ x. x) λ ρ told. Local.whole-mem 𝓤 H A W (Declared.row rules-proofs-found-Found·.the-type) ρ) Path.refl Path.refl) d13
+          d14 : Typed.Typed 𝓤 H A 𝓣 E G57 b30 Δ5 (at14 bs)
+          d14 = Typed.s-seq 𝓤 H A W 𝓣 E G57 G58 b28 b29 Δ5 (Typed.pass T57 T58 (s53 bs)) (at13 bs) (LocalCopy.t-val-copy 𝓤 H A W E 𝓣 (λ ρ. Unit) G57 11 0 (Declared.row rules-proofs-found-Found·.the-type) (Syntax.tyStruct (L._∷_ 114 (L._∷_ 117 (L._∷_ 108 (L._∷_ 101 (L._∷_ 115 (L._∷_ 58 (L._∷_ 58 (L._∷_ 102 (L._∷_ 111 (L._∷_ 117 (L._∷_ 110 (L._∷_ 100 (L._∷_ 58 (L._∷_ 58 (L._∷_ 70 (L._∷_ 111 (L._∷_ 117 (L._∷_ 110 (L._∷_ 100 L.[]))))))))))))))))))) (Syntax.tcons Syntax.tyBool (Syntax.tcons Syntax.tyBool (Syntax.tcons (Syntax.tyStruct (L._∷_ 115 (L._∷_ 116 (L._∷_ 101 (L._∷_ 112 (L._∷_ 58 (L._∷_ 58 (L._∷_ 83 (L._∷_ 116 (L._∷_ 101 (L._∷_ 112 L.[])))))))))) (Syntax.tcons (Syntax.tyInt Syntax.w64) (Syntax.tcons (Syntax.tyInt Syntax.w64) (Syntax.tcons (Syntax.tyStruct (L._∷_ 115 (L._∷_ 116 (L._∷_ 101 (L._∷_ 112 (L._∷_ 58 (L._∷_ 58 (L._∷_ 67 (L._∷_ 104 (L._∷_ 97 (L._∷_ 110 (L._∷_ 103 (L._∷_ 101 L.[])))))))))))) (Syntax.tcons (Syntax.tyStruct (L._∷_ 110 (L._∷_ 101 (L._∷_ 116 (L._∷_ 119 (L._∷_ 111 (L._∷_ 114 (L._∷_ 107 (L._∷_ 58 (L._∷_ 58 (L._∷_ 69 (L._∷_ 100 (L._∷_ 105 (L._∷_ 116 L.[]))))))))))))) (Syntax.tcons q12 (Syntax.tcons q12 (Syntax.tcons q12 (Syntax.tcons q12 (Syntax.tcons q3 (Syntax.tcons q3 (Syntax.tcons (Syntax.tyInt Syntax.w64) (Syntax.tcons q11 Syntax.tnil))))))))) (Syntax.tcons (Syntax.tyStruct (L._∷_ 115 (L._∷_ 116 (L._∷_ 101 (L._∷_ 112 (L._∷_ 58 (L._∷_ 58 (L._∷_ 79 (L._∷_ 108 (L._∷_ 100 L.[]))))))))) (Syntax.tcons (Syntax.tyInt Syntax.w64) (Syntax.tcons q11 (Syntax.tcons q12 (Syntax.tcons q12 (Syntax.tcons q12 (Syntax.tcons q12 (Syntax.tcons q7 Syntax.tnil)))))))) Syntax.tnil))) Syntax.tnil)))) Syntax.tnil)))) (Syntax.tyStruct (L._∷_ 114 (L._∷_ 117 (L._∷_ 108 (L._∷_ 101 (L._∷_ 115 (L._∷_ 58 (L._∷_ 58 (L._∷_ 102 (L._∷_ 111 (L._∷_ 117 (L._∷_ 110 (L._∷_ 100 (L._∷_ 58 (L._∷_ 58 (L._∷_ 70 (L._∷_ 111 (L._∷_ 117 (L._∷_ 110 (L._∷_ 100 L.[]))))))))))))))))))) (Syntax.tcons Syntax.tyBool (Syntax.tcons Syntax.tyBool (Syntax.tcons (Syntax.tyStruct (L._∷_ 115 (L._∷_ 116 (L._∷_ 101 (L._∷_ 112 (L._∷_ 58 (L._∷_ 58 (L._∷_ 83 (L._∷_ 116 (L._∷_ 101 (L._∷_ 112 L.[])))))))))) (Syntax.tcons (Syntax.tyInt Syntax.w64) (Syntax.tcons (Syntax.tyInt Syntax.w64) (Syntax.tcons (Syntax.tyStruct (L._∷_ 115 (L._∷_ 116 (L._∷_ 101 (L._∷_ 112 (L._∷_ 58 (L._∷_ 58 (L._∷_ 67 (L._∷_ 104 (L._∷_ 97 (L._∷_ 110 (L._∷_ 103 (L._∷_ 101 L.[])))))))))))) (Syntax.tcons (Syntax.tyStruct (L._∷_ 110 (L._∷_ 101 (L._∷_ 116 (L._∷_ 119 (L._∷_ 111 (L._∷_ 114 (L._∷_ 107 (L._∷_ 58 (L._∷_ 58 (L._∷_ 69 (L._∷_ 100 (L._∷_ 105 (L._∷_ 116 L.[]))))))))))))) (Syntax.tcons q12 (Syntax.tcons q12 (Syntax.tcons q12 (Syntax.tcons q12 (Syntax.tcons q3 (Syntax.tcons q3 (Syntax.tcons (Syntax.tyInt Syntax.w64) (Syntax.tcons q11 Syntax.tnil))))))))) (Syntax.tcons (Syntax.tyStruct (L._∷_ 115 (L._∷_ 116 (L._∷_ 101 (L._∷_ 112 (L._∷_ 58 (L._∷_ 58 (L._∷_ 79 (L._∷_ 108 (L._∷_ 100 L.[]))))))))) (Syntax.tcons (Syntax.tyInt Syntax.w64) (Syntax.tcons q11 (Syntax.tcons q12 (Syntax.tcons q12 (Syntax.tcons q12 (Syntax.tcons q12 (Syntax.tcons q7 Syntax.tnil)))))))) Syntax.tnil))) Syntax.tnil)))) Syntax.tnil)))) q24 q24 (λ x. x) (λ x. x) (λ x. x) Path.refl (Own.told-none 𝓤 H A (G57 .slots)) (Yields.yields-copy 𝓤 H A W (λ ρ. Unit) (Declared.row rules-proofs-found-Found·.the-type) Path.refl (Copies.cStruct rules-proofs-found-Found·.the-type rules-proofs-found-Found-Laws·.the-laws rules-proofs-found-Found-Laws·.the-copy .copy 𝓤 H A W) q24 (λ x. x) (λ x. x) (λ ρ told. Local.mem-whole 𝓤 H A W (Declared.row rules-proofs-found-Found·.the-type) ρ) λ ρ told. Local.whole-mem 𝓤 H A W (Declared.row rules-proofs-found-Found·.the-type) ρ) (TReads.room-gone 𝓤 H A (Syntax.tyStruct (L._∷_ 114 (L._∷_ 117 (L._∷_ 108 (L._∷_ 101 (L._∷_ 115 (L._∷_ 58 (L._∷_ 58 (L._∷_ 102 (L._∷_ 111 (L._∷_ 117 (L._∷_ 110 (L._∷_ 100 (L._∷_ 58 (L._∷_ 58 (L._∷_ 70 (L._∷_ 111 (L._∷_ 117 (L._∷_ 110 (L._∷_ 100 L.[]))))))))))))))))))) (Syntax.tcons Syntax.tyBool (Syntax.tcons Syntax.tyBool (Syntax.tcons (Syntax.tyStruct (L._∷_ 115 (L._∷_ 116 (L._∷_ 101 (L._∷_ 112 (L._∷_ 58 (L._∷_ 58 (L._∷_ 83 (L._∷_ 116 (L._∷_ 101 (L._∷_ 112 L.[])))))))))) (Syntax.tcons (Syntax.tyInt Syntax.w64) (Syntax.tcons (Syntax.tyInt Syntax.w64) (Syntax.tcons (Syntax.tyStruct (L._∷_ 115 (L._∷_ 116 (L._∷_ 101 (L._∷_ 112 (L._∷_ 58 (L._∷_ 58 (L._∷_ 67 (L._∷_ 104 (L._∷_ 97 (L._∷_ 110 (L._∷_ 103 (L._∷_ 101 L.[])))))))))))) (Syntax.tcons (Syntax.tyStruct (L._∷_ 110 (L._∷_ 101 (L._∷_ 116 (L._∷_ 119 (L._∷_ 111 (L._∷_ 114 (L._∷_ 107 (L._∷_ 58 (L._∷_ 58 (L._∷_ 69 (L._∷_ 100 (L._∷_ 105 (L._∷_ 116 L.[]))))))))))))) (Syntax.tcons q12 (Syntax.tcons q12 (Syntax.tcons q12 (Syntax.tcons q12 (Syntax.tcons q3 (Syntax.tcons q3 (Syntax.tcons (Syntax.tyInt Syntax.w64) (Syntax.tcons q11 Syntax.tnil))))))))) (Syntax.tcons (Syntax.tyStruct (L._∷_ 115 (L._∷_ 116 (L._∷_ 101 (L._∷_ 112 (L._∷_ 58 (L._∷_ 58 (L._∷_ 79 (L._∷_ 108 (L._∷_ 100 L.[]))))))))) (Syntax.tcons (Syntax.tyInt Syntax.w64) (Syntax.tcons q11 (Syntax.tcons q12 (Syntax.tcons q12 (Syntax.tcons q12 (Syntax.tcons q12 (Syntax.tcons q7 Syntax.tnil)))))))) Syntax.tnil))) Syntax.tnil)))) Syntax.tnil))))) (Yields.makes-mem 𝓤 H A W (λ ρ. Unit) (Declared.row rules-proofs-found-Found·.the-type) Path.refl q24 (λ x. x) λ ρ told. Local.whole-mem 𝓤 H A W (Declared.row rules-proofs-found-Found·.the-type) ρ) Path.refl Path.refl) d13
 
-          d15 : Typed.Typed 𝓤 H A 𝓣 E G54 b29 Δ5 (at15 bs)
-          d15 = Typed.g-pre 𝓤 H A W 𝓣 E G54 G55 b29 Δ5 (Typed.pass T54 T55 (s50 bs)) (at14 bs) (Scalar.g-room 𝓤 H A W E G54 26 Syntax.tyBool (Scalar.room-sc 𝓤 H A W Row.sBool)) d14
+          d15 : Typed.Typed 𝓤 H A 𝓣 E G56 b30 Δ5 (at15 bs)
+          d15 = Typed.g-pre 𝓤 H A W 𝓣 E G56 G57 b30 Δ5 (Typed.pass T56 T57 (s52 bs)) (at14 bs) (Scalar.g-room 𝓤 H A W E G56 27 Syntax.tyBool (Scalar.room-sc 𝓤 H A W Row.sBool)) d14
 
-          d16 : Typed.Typed 𝓤 H A 𝓣 E G53 b29 Δ5 (at16 bs)
-          d16 = Typed.g-pre 𝓤 H A W 𝓣 E G53 G54 b29 Δ5 (Typed.pass T53 T54 (s49 bs)) (at15 bs) (Scalar.g-room 𝓤 H A W E G53 7 q6 (Local.room-whole 𝓤 H A W (Declared.row rules-proofs-tried-Asks·.the-type) q6 Path.refl)) d15
+          d16 : Typed.Typed 𝓤 H A 𝓣 E G55 b30 Δ5 (at16 bs)
+          d16 = Typed.g-pre 𝓤 H A W 𝓣 E G55 G56 b30 Δ5 (Typed.pass T55 T56 (s51 bs)) (at15 bs) (Scalar.g-room 𝓤 H A W E G55 7 q6 (Local.room-whole 𝓤 H A W (Declared.row rules-proofs-tried-Asks·.the-type) q6 Path.refl)) d15
 
-          d17 : Typed.Typed 𝓤 H A 𝓣 E G52 b29 Δ5 (at17 bs)
-          d17 = Typed.g-pre 𝓤 H A W 𝓣 E G52 G53 b29 Δ5 (Typed.pass T52 T53 (s48 bs)) (at16 bs) (Scalar.g-room 𝓤 H A W E G52 6 q14 (Local.room-whole 𝓤 H A W (Declared.row network-proofs-Degrees·.the-type) q14 Path.refl)) d16
+          d17 : Typed.Typed 𝓤 H A 𝓣 E G54 b30 Δ5 (at17 bs)
+          d17 = Typed.g-pre 𝓤 H A W 𝓣 E G54 G55 b30 Δ5 (Typed.pass T54 T55 (s50 bs)) (at16 bs) (Scalar.g-room 𝓤 H A W E G54 6 q15 (Local.room-whole 𝓤 H A W (Declared.row network-proofs-Degrees·.the-type) q15 Path.refl)) d16
 
-          d18 : Typed.Typed 𝓤 H A 𝓣 E G51 b29 Δ5 (at18 bs)
-          d18 = Typed.g-pre 𝓤 H A W 𝓣 E G51 G52 b29 Δ5 (Typed.pass T51 T52 (s47 bs)) (at17 bs) (Scalar.g-room 𝓤 H A W E G51 5 q2 (Local.room-whole 𝓤 H A W (Declared.row network-proofs-Nodes·.the-type) q2 Path.refl)) d17
+          d18 : Typed.Typed 𝓤 H A 𝓣 E G53 b30 Δ5 (at18 bs)
+          d18 = Typed.g-pre 𝓤 H A W 𝓣 E G53 G54 b30 Δ5 (Typed.pass T53 T54 (s49 bs)) (at17 bs) (Scalar.g-room 𝓤 H A W E G53 5 q2 (Local.room-whole 𝓤 H A W (Declared.row network-proofs-Nodes·.the-type) q2 Path.refl)) d17
 
-          d19 : Typed.Typed 𝓤 H A 𝓣 E G62 b30 Δ5 (at19 bs)
+          d19 : Typed.Typed 𝓤 H A 𝓣 E G64 b31 Δ5 (at19 bs)
           d19 = Typed.t-skip 𝓤 H A W 𝓣 E Δ5 tt
 
-          d20 : Typed.Typed 𝓤 H A 𝓣 E G61 b30 Δ5 (at20 bs)
-          d20 = Typed.g-pre 𝓤 H A W 𝓣 E G61 G62 b30 Δ5 (Typed.pass T61 T62 (s57 bs)) (at19 bs) (Scalar.g-room 𝓤 H A W E G61 26 Syntax.tyBool (Scalar.room-sc 𝓤 H A W Row.sBool)) d19
+          d20 : Typed.Typed 𝓤 H A 𝓣 E G63 b31 Δ5 (at20 bs)
+          d20 = Typed.g-pre 𝓤 H A W 𝓣 E G63 G64 b31 Δ5 (Typed.pass T63 T64 (s59 bs)) (at19 bs) (Scalar.g-room 𝓤 H A W E G63 27 Syntax.tyBool (Scalar.room-sc 𝓤 H A W Row.sBool)) d19
 
-          d21 : Typed.Typed 𝓤 H A 𝓣 E G51 b30 Δ5 (at21 bs)
-          d21 = Typed.g-pre 𝓤 H A W 𝓣 E G51 G61 b30 Δ5 (Typed.pass T51 T61 (s56 bs)) (at20 bs) (Scalar.g-room 𝓤 H A W E G51 11 (Syntax.tyStruct (L._∷_ 114 (L._∷_ 117 (L._∷_ 108 (L._∷_ 101 (L._∷_ 115 (L._∷_ 58 (L._∷_ 58 (L._∷_ 102 (L._∷_ 111 (L._∷_ 117 (L._∷_ 110 (L._∷_ 100 (L._∷_ 58 (L._∷_ 58 (L._∷_ 70 (L._∷_ 111 (L._∷_ 117 (L._∷_ 110 (L._∷_ 100 L.[]))))))))))))))))))) (Syntax.tcons Syntax.tyBool (Syntax.tcons Syntax.tyBool (Syntax.tcons (Syntax.tyStruct (L._∷_ 115 (L._∷_ 116 (L._∷_ 101 (L._∷_ 112 (L._∷_ 58 (L._∷_ 58 (L._∷_ 83 (L._∷_ 116 (L._∷_ 101 (L._∷_ 112 L.[])))))))))) (Syntax.tcons (Syntax.tyInt Syntax.w64) (Syntax.tcons (Syntax.tyInt Syntax.w64) (Syntax.tcons (Syntax.tyStruct (L._∷_ 115 (L._∷_ 116 (L._∷_ 101 (L._∷_ 112 (L._∷_ 58 (L._∷_ 58 (L._∷_ 67 (L._∷_ 104 (L._∷_ 97 (L._∷_ 110 (L._∷_ 103 (L._∷_ 101 L.[])))))))))))) (Syntax.tcons (Syntax.tyStruct (L._∷_ 110 (L._∷_ 101 (L._∷_ 116 (L._∷_ 119 (L._∷_ 111 (L._∷_ 114 (L._∷_ 107 (L._∷_ 58 (L._∷_ 58 (L._∷_ 69 (L._∷_ 100 (L._∷_ 105 (L._∷_ 116 L.[]))))))))))))) (Syntax.tcons q11 (Syntax.tcons q11 (Syntax.tcons q11 (Syntax.tcons q11 (Syntax.tcons q3 (Syntax.tcons q3 (Syntax.tcons (Syntax.tyInt Syntax.w64) Syntax.tnil)))))))) (Syntax.tcons (Syntax.tyStruct (L._∷_ 115 (L._∷_ 116 (L._∷_ 101 (L._∷_ 112 (L._∷_ 58 (L._∷_ 58 (L._∷_ 79 (L._∷_ 108 (L._∷_ 100 L.[]))))))))) (Syntax.tcons (Syntax.tyInt Syntax.w64) (Syntax.tcons q10 (Syntax.tcons q11 (Syntax.tcons q11 (Syntax.tcons q11 (Syntax.tcons q11 (Syntax.tcons q7 Syntax.tnil)))))))) Syntax.tnil))) Syntax.tnil)))) Syntax.tnil)))) (Local.room-whole 𝓤 H A W (Declared.row rules-proofs-found-Found·.the-type) (Syntax.tyStruct (L._∷_ 114 (L._∷_ 117 (L._∷_ 108 (L._∷_ 101 (L._∷_ 115 (L._∷_ 58 (L._∷_ 58 (L._∷_ 102 (L._∷_ 111 (L._∷_ 117 (L._∷_ 110 (L._∷_ 100 (L._∷_ 58 (L._∷_ 58 (L._∷_ 70 (L._∷_ 111 (L._∷_ 117 (L._∷_ 110 (L._∷_ 100 L.[]))))))))))))))))))) (Syntax.tcons Syntax.tyBool (Syntax.tcons Syntax.tyBool (Syntax.tcons (Syntax.tyStruct (L._∷_ 115 (L._∷_ 116 (L._∷_ 101 (L._∷_ 112 (L._∷_ 58 (L._∷_ 58 (L._∷_ 83 (L._∷_ 116 (L._∷_ 101 (L._∷_ 112 L.[])))))))))) (Syntax.tcons (Syntax.tyInt Syntax.w64) (Syntax.tcons (Syntax.tyInt Syntax.w64) (Syntax.tcons (Syntax.tyStruct (L._∷_ 115 (L._∷_ 116 (L._∷_ 101 (L._∷_ 112 (L._∷_ 58 (L._∷_ 58 (L._∷_ 67 (L._∷_ 104 (L._∷_ 97 (L._∷_ 110 (L._∷_ 103 (L._∷_ 101 L.[])))))))))))) (Syntax.tcons (Syntax.tyStruct (L._∷_ 110 (L._∷_ 101 (L._∷_ 116 (L._∷_ 119 (L._∷_ 111 (L._∷_ 114 (L._∷_ 107 (L._∷_ 58 (L._∷_ 58 (L._∷_ 69 (L._∷_ 100 (L._∷_ 105 (L._∷_ 116 L.[]))))))))))))) (Syntax.tcons q11 (Syntax.tcons q11 (Syntax.tcons q11 (Syntax.tcons q11 (Syntax.tcons q3 (Syntax.tcons q3 (Syntax.tcons (Syntax.tyInt Syntax.w64) Syntax.tnil)))))))) (Syntax.tcons (Syntax.tyStruct (L._∷_ 115 (L._∷_ 116 (L._∷_ 101 (L._∷_ 112 (L._∷_ 58 (L._∷_ 58 (L._∷_ 79 (L._∷_ 108 (L._∷_ 100 L.[]))))))))) (Syntax.tcons (Syntax.tyInt Syntax.w64) (Syntax.tcons q10 (Syntax.tcons q11 (Syntax.tcons q11 (Syntax.tcons q11 (Syntax.tcons q11 (Syntax.tcons q7 Syntax.tnil)))))))) Syntax.tnil))) Syntax.tnil)))) Syntax.tnil)))) Path.refl)) d20
+          d21 : Typed.Typed 𝓤 H A 𝓣 E G53 b31 Δ5 (at21 bs)
+          d21 = Typed.g-pre 𝓤 H A W 𝓣 E G53 G63 b31 Δ5 (Typed.pass T53 T63 (s58 bs)) (at20 bs) (Scalar.g-room 𝓤 H A W E G53 11 (Syntax.tyStruct (L._∷_ 114 (L._∷_ 117 (L._∷_ 108 (L._∷_ 101 (L._∷_ 115 (L._∷_ 58 (L._∷_ 58 (L._∷_ 102 (L._∷_ 111 (L._∷_ 117 (L._∷_ 110 (L._∷_ 100 (L._∷_ 58 (L._∷_ 58 (L._∷_ 70 (L._∷_ 111 (L._∷_ 117 (L._∷_ 110 (L._∷_ 100 L.[]))))))))))))))))))) (Syntax.tcons Syntax.tyBool (Syntax.tcons Syntax.tyBool (Syntax.tcons (Syntax.tyStruct (L._∷_ 115 (L._∷_ 116 (L._∷_ 101 (L._∷_ 112 (L._∷_ 58 (L._∷_ 58 (L._∷_ 83 (L._∷_ 116 (L._∷_ 101 (L._∷_ 112 L.[])))))))))) (Syntax.tcons (Syntax.tyInt Syntax.w64) (Syntax.tcons (Syntax.tyInt Syntax.w64) (Syntax.tcons (Syntax.tyStruct (L._∷_ 115 (L._∷_ 116 (L._∷_ 101 (L._∷_ 112 (L._∷_ 58 (L._∷_ 58 (L._∷_ 67 (L._∷_ 104 (L._∷_ 97 (L._∷_ 110 (L._∷_ 103 (L._∷_ 101 L.[])))))))))))) (Syntax.tcons (Syntax.tyStruct (L._∷_ 110 (L._∷_ 101 (L._∷_ 116 (L._∷_ 119 (L._∷_ 111 (L._∷_ 114 (L._∷_ 107 (L._∷_ 58 (L._∷_ 58 (L._∷_ 69 (L._∷_ 100 (L._∷_ 105 (L._∷_ 116 L.[]))))))))))))) (Syntax.tcons q12 (Syntax.tcons q12 (Syntax.tcons q12 (Syntax.tcons q12 (Syntax.tcons q3 (Syntax.tcons q3 (Syntax.tcons (Syntax.tyInt Syntax.w64) (Syntax.tcons q11 Syntax.tnil))))))))) (Syntax.tcons (Syntax.tyStruct (L._∷_ 115 (L._∷_ 116 (L._∷_ 101 (L._∷_ 112 (L._∷_ 58 (L._∷_ 58 (L._∷_ 79 (L._∷_ 108 (L._∷_ 100 L.[]))))))))) (Syntax.tcons (Syntax.tyInt Syntax.w64) (Syntax.tcons q11 (Syntax.tcons q12 (Syntax.tcons q12 (Syntax.tcons q12 (Syntax.tcons q12 (Syntax.tcons q7 Syntax.tnil)))))))) Syntax.tnil))) Syntax.tnil)))) Syntax.tnil)))) (Local.room-whole 𝓤 H A W (Declared.row rules-proofs-found-Found·.the-type) (Syntax.tyStruct (L._∷_ 114 (L._∷_ 117 (L._∷_ 108 (L._∷_ 101 (L._∷_ 115 (L._∷_ 58 (L._∷_ 58 (L._∷_ 102 (L._∷_ 111 (L._∷_ 117 (L._∷_ 110 (L._∷_ 100 (L._∷_ 58 (L._∷_ 58 (L._∷_ 70 (L._∷_ 111 (L._∷_ 117 (L._∷_ 110 (L._∷_ 100 L.[]))))))))))))))))))) (Syntax.tcons Syntax.tyBool (Syntax.tcons Syntax.tyBool (Syntax.tcons (Syntax.tyStruct (L._∷_ 115 (L._∷_ 116 (L._∷_ 101 (L._∷_ 112 (L._∷_ 58 (L._∷_ 58 (L._∷_ 83 (L._∷_ 116 (L._∷_ 101 (L._∷_ 112 L.[])))))))))) (Syntax.tcons (Syntax.tyInt Syntax.w64) (Syntax.tcons (Syntax.tyInt Syntax.w64) (Syntax.tcons (Syntax.tyStruct (L._∷_ 115 (L._∷_ 116 (L._∷_ 101 (L._∷_ 112 (L._∷_ 58 (L._∷_ 58 (L._∷_ 67 (L._∷_ 104 (L._∷_ 97 (L._∷_ 110 (L._∷_ 103 (L._∷_ 101 L.[])))))))))))) (Syntax.tcons (Syntax.tyStruct (L._∷_ 110 (L._∷_ 101 (L._∷_ 116 (L._∷_ 119 (L._∷_ 111 (L._∷_ 114 (L._∷_ 107 (L._∷_ 58 (L._∷_ 58 (L._∷_ 69 (L._∷_ 100 (L._∷_ 105 (L._∷_ 116 L.[]))))))))))))) (Syntax.tcons q12 (Syntax.tcons q12 (Syntax.tcons q12 (Syntax.tcons q12 (Syntax.tcons q3 (Syntax.tcons q3 (Syntax.tcons (Syntax.tyInt Syntax.w64) (Syntax.tcons q11 Syntax.tnil))))))))) (Syntax.tcons (Syntax.tyStruct (L._∷_ 115 (L._∷_ 116 (L._∷_ 101 (L._∷_ 112 (L._∷_ 58 (L._∷_ 58 (L._∷_ 79 (L._∷_ 108 (L._∷_ 100 L.[]))))))))) (Syntax.tcons (Syntax.tyInt Syntax.w64) (Syntax.tcons q11 (Syntax.tcons q12 (Syntax.tcons q12 (Syntax.tcons q12 (Syntax.tcons q12 (Syntax.tcons q7 Syntax.tnil)))))))) Syntax.tnil))) Syntax.tnil)))) Syntax.tnil)))) Path.refl)) d20
 
-          d22 : Typed.Typed 𝓤 H A 𝓣 E G51 b31 Δ5 (at22 bs)
-          d22 = Scalar.t-cond 𝓤 H A W E 𝓣 G51 26 (λ x. x) b29 b30 Δ5 (at18 bs) (at21 bs) (Scalar.reads-sc 𝓤 H A W Row.sBool) Path.refl d18 d21
+          d22 : Typed.Typed 𝓤 H A 𝓣 E G53 b32 Δ5 (at22 bs)
+          d22 = Scalar.t-cond 𝓤 H A W E 𝓣 G53 27 (λ x. x) b30 b31 Δ5 (at18 bs) (at21 bs) (Scalar.reads-sc 𝓤 H A W Row.sBool) Path.refl d18 d21
 
-          d23 : Typed.Typed 𝓤 H A 𝓣 E G50 b32 Δ5 (at23 bs)
-          d23 = Typed.s-seq 𝓤 H A W 𝓣 E G50 G51 b26 b31 Δ5 (Typed.pass T50 T51 (s46 bs)) (at22 bs) (Scalar.t-use 𝓤 H A W E 𝓣 G50 (Scalar.oFld 11 (L._∷_ (Syntax.field 0) L.[]) Syntax.tyBool 0 (Reads.fieldV rules-proofs-found-Found·.the-type rules-proofs-found-Found-Laws·.the-laws 0)) 26 (Rows.sc-here Row.sBool) Syntax.tyBool (Row.valS Row.sBool) (Row.sBool .of) (Reads.reads-field 𝓤 H A W rules-proofs-found-Found·.the-type rules-proofs-found-Found-Laws·.the-laws 0 Syntax.tyBool 0 Path.refl, Path.refl) (TReads.room-gone 𝓤 H A Syntax.tyBool) (Scalar.holds-sc 𝓤 H A W Row.sBool) Path.refl (λ u. Path.refl) λ u. tt) d22
+          d23 : Typed.Typed 𝓤 H A 𝓣 E G52 b33 Δ5 (at23 bs)
+          d23 = Typed.s-seq 𝓤 H A W 𝓣 E G52 G53 b27 b32 Δ5 (Typed.pass T52 T53 (s48 bs)) (at22 bs) (Scalar.t-use 𝓤 H A W E 𝓣 G52 (Scalar.oFld 11 (L._∷_ (Syntax.field 0) L.[]) Syntax.tyBool 0 (Reads.fieldV rules-proofs-found-Found·.the-type rules-proofs-found-Found-Laws·.the-laws 0)) 27 (Rows.sc-here Row.sBool) Syntax.tyBool (Row.valS Row.sBool) (Row.sBool .of) (Reads.reads-field 𝓤 H A W rules-proofs-found-Found·.the-type rules-proofs-found-Found-Laws·.the-laws 0 Syntax.tyBool 0 Path.refl, Path.refl) (TReads.room-gone 𝓤 H A Syntax.tyBool) (Scalar.holds-sc 𝓤 H A W Row.sBool) Path.refl (λ u. Path.refl) λ u. tt) d22
 
-          d24 : Typed.Typed 𝓤 H A 𝓣 E G49 b32 Δ5 (at24 bs)
-          d24 = Typed.g-pre 𝓤 H A W 𝓣 E G49 G50 b32 Δ5 (Typed.pass T49 T50 (s45 bs)) (at23 bs) (Scalar.g-room 𝓤 H A W E G49 25 q8 (Init.room-arr 𝓤 H A W (Declared.row fraction-proofs-Fraction·.the-type) 33 0 33 Path.refl)) d23
+          d24 : Typed.Typed 𝓤 H A 𝓣 E G51 b33 Δ5 (at24 bs)
+          d24 = Typed.g-pre 𝓤 H A W 𝓣 E G51 G52 b33 Δ5 (Typed.pass T51 T52 (s47 bs)) (at23 bs) (Scalar.g-room 𝓤 H A W E G51 26 q8 (Init.room-arr 𝓤 H A W (Declared.row fraction-proofs-Fraction·.the-type) 33 0 33 Path.refl)) d23
 
-          d25 : Typed.Typed 𝓤 H A 𝓣 E G48 b32 Δ5 (at25 bs)
-          d25 = Typed.g-pre 𝓤 H A W 𝓣 E G48 G49 b32 Δ5 (Typed.pass T48 T49 (s44 bs)) (at24 bs) (Scalar.g-room 𝓤 H A W E G48 10 (Syntax.tyStruct (L._∷_ 115 (L._∷_ 116 (L._∷_ 101 (L._∷_ 112 (L._∷_ 58 (L._∷_ 58 (L._∷_ 65 (L._∷_ 114 (L._∷_ 111 (L._∷_ 117 (L._∷_ 110 (L._∷_ 100 L.[])))))))))))) (Syntax.tcons q11 (Syntax.tcons q11 (Syntax.tcons q11 (Syntax.tcons q11 Syntax.tnil))))) (Local.room-whole 𝓤 H A W (Declared.row step-proofs-Around·.the-type) (Syntax.tyStruct (L._∷_ 115 (L._∷_ 116 (L._∷_ 101 (L._∷_ 112 (L._∷_ 58 (L._∷_ 58 (L._∷_ 65 (L._∷_ 114 (L._∷_ 111 (L._∷_ 117 (L._∷_ 110 (L._∷_ 100 L.[])))))))))))) (Syntax.tcons q11 (Syntax.tcons q11 (Syntax.tcons q11 (Syntax.tcons q11 Syntax.tnil))))) Path.refl)) d24
+          d25 : Typed.Typed 𝓤 H A 𝓣 E G50 b33 Δ5 (at25 bs)
+          d25 = Typed.g-pre 𝓤 H A W 𝓣 E G50 G51 b33 Δ5 (Typed.pass T50 T51 (s46 bs)) (at24 bs) (Scalar.g-room 𝓤 H A W E G50 25 q11 (Local.room-whole 𝓤 H A W (Declared.row fraction-proofs-Fraction·.the-type) q11 Path.refl)) d24
 
-          d26 : Typed.Typed 𝓤 H A 𝓣 E G47 b33 Δ5 (at26 bs)
-          d26 = Typed.s-seq 𝓤 H A W 𝓣 E G47 G48 b25 b32 Δ5 (Typed.both (s43 bs)) (at25 bs) (Plain.t-call-plain 𝓤 H A W 𝓣 0 ps·4 r·4 (claims· .8) (claims· .9) "rules::tried::at_node" (known .4) E (λ pos β. β) G47 (record { pos = 25; st = L.[]; d = 0; at = λ x. x }, (Num.vAt 4 λ x. x, (Num.vAt 9 λ x. x, (Num.vAt 8 λ x. x, (record { pos = 10; st = L.[]; d = 0; at = λ x. x }, tt))))) 11 L.[] (Call.sub-id 𝓤 H A W (G47 .slots)) ((KArray.arr-yields 𝓤 H A W (KArray.eStruct fraction-proofs-Fraction·.the-type fraction-proofs-Fraction-Laws·.the-laws fraction-proofs-Fraction-Laws·.the-copy) (KArray.eStruct-laws fraction-proofs-Fraction·.the-type fraction-proofs-Fraction-Laws·.the-laws fraction-proofs-Fraction-Laws·.the-copy fraction-proofs-Fraction-Laws·.the-plain) 33, Path.refl), ((Scalar.reads-sc 𝓤 H A W (Row.sInt Syntax.w64), Path.refl), ((Scalar.reads-sc 𝓤 H A W (Row.sInt Syntax.w64), Path.refl), ((Scalar.reads-sc 𝓤 H A W (Row.sInt Syntax.w64), Path.refl), ((Yields.yields-copy 𝓤 H A W (λ ρ. Unit) (Declared.row step-proofs-Around·.the-type) Path.refl (Copies.cStruct step-proofs-Around·.the-type step-proofs-Around-Laws·.the-laws step-proofs-Around-Laws·.the-copy .copy 𝓤 H A W) (Rows.whole (Declared.row step-proofs-Around·.the-type)) (λ x. x) (λ x. x) (λ ρ told. Local.mem-whole 𝓤 H A W (Declared.row step-proofs-Around·.the-type) ρ) λ ρ told. Local.whole-mem 𝓤 H A W (Declared.row step-proofs-Around·.the-type) ρ, Path.refl), tt))))) (TReads.room-gone 𝓤 H A (Syntax.tyStruct (L._∷_ 114 (L._∷_ 117 (L._∷_ 108 (L._∷_ 101 (L._∷_ 115 (L._∷_ 58 (L._∷_ 58 (L._∷_ 102 (L._∷_ 111 (L._∷_ 117 (L._∷_ 110 (L._∷_ 100 (L._∷_ 58 (L._∷_ 58 (L._∷_ 70 (L._∷_ 111 (L._∷_ 117 (L._∷_ 110 (L._∷_ 100 L.[]))))))))))))))))))) (Syntax.tcons Syntax.tyBool (Syntax.tcons Syntax.tyBool (Syntax.tcons (Syntax.tyStruct (L._∷_ 115 (L._∷_ 116 (L._∷_ 101 (L._∷_ 112 (L._∷_ 58 (L._∷_ 58 (L._∷_ 83 (L._∷_ 116 (L._∷_ 101 (L._∷_ 112 L.[])))))))))) (Syntax.tcons (Syntax.tyInt Syntax.w64) (Syntax.tcons (Syntax.tyInt Syntax.w64) (Syntax.tcons (Syntax.tyStruct (L._∷_ 115 (L._∷_ 116 (L._∷_ 101 (L._∷_ 112 (L._∷_ 58 (L._∷_ 58 (L._∷_ 67 (L._∷_ 104 (L._∷_ 97 (L._∷_ 110 (L._∷_ 103 (L._∷_ 101 L.[])))))))))))) (Syntax.tcons (Syntax.tyStruct (L._∷_ 110 (L._∷_ 101 (L._∷_ 116 (L._∷_ 119 (L._∷_ 111 (L._∷_ 114 (L._∷_ 107 (L._∷_ 58 (L._∷_ 58 (L._∷_ 69 (L._∷_ 100 (L._∷_ 105 (L._∷_ 116 L.[]))))))))))))) (Syntax.tcons q11 (Syntax.tcons q11 (Syntax.tcons q11 (Syntax.tcons q11 (Syntax.tcons q3 (Syntax.tcons q3 (Syntax.tcons (Syntax.tyInt Syntax.w64) Syntax.tnil)))))))) (Syntax.tcons (Syntax.tyStruct (L._∷_ 115 (L._∷_ 116 (L._∷_ 101 (L._∷_ 112 (L._∷_ 58 (L._∷_ 58 (L._∷_ 79 (L._∷_ 108 (L._∷_ 100 L.[]))))))))) (Syntax.tcons (Syntax.tyInt Syntax.w64) (Syntax.tcons q10 (Syntax.tcons q11 (Syntax.tcons q11 (Syntax.tcons q11 (Syntax.tcons q11 (Syntax.tcons q7 Syntax.tnil)))))))) Syntax.tnil))) Syntax.tnil)))) Syntax.tnil))))) tt Path.refl) d25
+          d26 : Typed.Typed 𝓤 H A 𝓣 E G49 b33 Δ5 (at26 bs)
+          d26 = Typed.g-pre 𝓤 H A W 𝓣 E G49 G50 b33 Δ5 (Typed.pass T49 T50 (s45 bs)) (at25 bs) (Scalar.g-room 𝓤 H A W E G49 10 (Syntax.tyStruct (L._∷_ 115 (L._∷_ 116 (L._∷_ 101 (L._∷_ 112 (L._∷_ 58 (L._∷_ 58 (L._∷_ 65 (L._∷_ 114 (L._∷_ 111 (L._∷_ 117 (L._∷_ 110 (L._∷_ 100 L.[])))))))))))) (Syntax.tcons q12 (Syntax.tcons q12 (Syntax.tcons q12 (Syntax.tcons q12 Syntax.tnil))))) (Local.room-whole 𝓤 H A W (Declared.row step-proofs-Around·.the-type) (Syntax.tyStruct (L._∷_ 115 (L._∷_ 116 (L._∷_ 101 (L._∷_ 112 (L._∷_ 58 (L._∷_ 58 (L._∷_ 65 (L._∷_ 114 (L._∷_ 111 (L._∷_ 117 (L._∷_ 110 (L._∷_ 100 L.[])))))))))))) (Syntax.tcons q12 (Syntax.tcons q12 (Syntax.tcons q12 (Syntax.tcons q12 Syntax.tnil))))) Path.refl)) d25
 
-          d27 : Typed.Typed 𝓤 H A 𝓣 E G46 b34 Δ5 (at27 bs)
-          d27 = Typed.s-seq 𝓤 H A W 𝓣 E G46 G47 b24 b33 Δ5 (Typed.both (s42 bs)) (at26 bs) (WayStmt.t-way-copy-out 𝓤 H A W E 𝓣 (DArray.Array (Declared.row fraction-proofs-Fraction·.the-type) 33) Path.refl (Copies.cArr (Declared.row fraction-proofs-Fraction·.the-type) (Copies.cStruct fraction-proofs-Fraction·.the-type fraction-proofs-Fraction-Laws·.the-laws fraction-proofs-Fraction-Laws·.the-copy) 33 .copy 𝓤 H A W) (λ ρ. Unit) G46 (Row.out 5 (G46 .locals)) (λ u. Row.drop 5 (G46 .locals) u) (G46 .slots) 5 (λ t. L._∷_ (Syntax.field 3) t) q8 q8 25 (ARows.arrF (Declared.row fraction-proofs-Fraction·.the-type) 33 0) (λ x. x) (λ u. At.getAt (network-proofs-Nodes·.the-type .parts) 3 (network-proofs-Nodes·.struct .as-values (u .1 .1 .1 .1 .1 .0))) (λ u. (Row.hd 0 (Row.tl (Row.tl (Row.tl (Row.tl (Row.tl bs))))), Nat._+_ 0 52)) (λ T′. record { locals = Row.setRow 5 q24 T′; slots = G46 .slots }) (λ u T′ m′. Row.set 5 q24 (u .1 .1 .1 .1 .1 .0) T′ m′) (λ u. Unit) (λ x. Unit) (Own.told-none 𝓤 H A (G46 .slots)) (DerefMove.learns-nothing 𝓤 H A (DArray.Array (Declared.row fraction-proofs-Fraction·.the-type) 33)) (λ ρ told u asked. StructWay.w-partˢ 𝓤 H A W E (Declared.row network-proofs-Nodes·.the-type) (DArray.Array (Declared.row fraction-proofs-Fraction·.the-type) 33) q2 q8 3 52 (u .1 .1 .1 .1 .1 .0) (At.getAt (network-proofs-Nodes·.the-type .parts) 3 (network-proofs-Nodes·.struct .as-values (u .1 .1 .1 .1 .1 .0))) (Row.hd 0 (Row.tl (Row.tl (Row.tl (Row.tl (Row.tl bs))))), 0) (RuleWay.w-look 𝓤 H A W E (RuleWay.w-local 𝓤 H A W E G46 ρ u (G46 .slots) 5 (Declared.row network-proofs-Nodes·.the-type) q26 (λ x. x) (λ x. x) (u .1 .1 .1 .1 .1 .0) (Local.mem-whole 𝓤 H A W (Declared.row network-proofs-Nodes·.the-type) ρ (u .1 .1 .1 .1 .1 .0) (Row.hd 0 (Row.tl (Row.tl (Row.tl (Row.tl (Row.tl bs))))))) (Local.whole-mem 𝓤 H A W (Declared.row network-proofs-Nodes·.the-type) ρ (u .1 .1 .1 .1 .1 .0) (Row.hd 0 (Row.tl (Row.tl (Row.tl (Row.tl (Row.tl bs))))))))) Path.refl λ q. Items.cut-records 𝓤 H A q (Declared.row network-proofs-Nodes·.the-type) fraction-proofs-Fraction·.the-type 33 52 (u .1 .1 .1 .1 .1 .0) (u .1 .1 .1 .1 .1 .0) (At.getAt (network-proofs-Nodes·.the-type .parts) 3 (network-proofs-Nodes·.struct .as-values (u .1 .1 .1 .1 .1 .0))) (At.getAt (network-proofs-Nodes·.the-type .parts) 3 (network-proofs-Nodes·.struct .as-values (u .1 .1 .1 .1 .1 .0))) (Row.hd 0 (Row.tl (Row.tl (Row.tl (Row.tl (Row.tl bs))))), 0) (Behind.look-at 𝓤 H A W q network-proofs-Nodes·.the-type network-proofs-Nodes-Laws·.the-laws 3 52 Path.refl Path.refl (Row.hd 0 (Row.tl (Row.tl (Row.tl (Row.tl (Row.tl bs))))), 0) (u .1 .1 .1 .1 .1 .0) (network-proofs-Nodes·.struct .as-values (u .1 .1 .1 .1 .1 .0)) Path.refl)) (TReads.room-gone 𝓤 H A q8) (Yields.makes-mem 𝓤 H A W (λ ρ. Unit) (DArray.Array (Declared.row fraction-proofs-Fraction·.the-type) 33) Path.refl (ARows.arrF (Declared.row fraction-proofs-Fraction·.the-type) 33 0) (λ x. x) λ ρ told. Whole.arr-mem 𝓤 H A W (Declared.row fraction-proofs-Fraction·.the-type) 33 tt ρ) Path.refl Path.refl Path.refl) d26
+          d27 : Typed.Typed 𝓤 H A 𝓣 E G48 b34 Δ5 (at27 bs)
+          d27 = Typed.s-seq 𝓤 H A W 𝓣 E G48 G49 b26 b33 Δ5 (Typed.both (s44 bs)) (at26 bs) (Plain.t-call-plain 𝓤 H A W 𝓣 0 ps·4 r·4 (claims· .8) (claims· .9) "rules::tried::at_node" (known .4) E (λ pos β. β) G48 (record { pos = 25; st = L.[]; d = 0; at = λ x. x }, (record { pos = 26; st = L.[]; d = 0; at = λ x. x }, (Num.vAt 4 λ x. x, (Num.vAt 9 λ x. x, (Num.vAt 8 λ x. x, (record { pos = 10; st = L.[]; d = 0; at = λ x. x }, tt)))))) 11 L.[] (Call.sub-id 𝓤 H A W (G48 .slots)) ((Yields.yields-copy 𝓤 H A W (λ ρ. Unit) (Declared.row fraction-proofs-Fraction·.the-type) Path.refl (Copies.cStruct fraction-proofs-Fraction·.the-type fraction-proofs-Fraction-Laws·.the-laws fraction-proofs-Fraction-Laws·.the-copy .copy 𝓤 H A W) q23 (λ x. x) (λ x. x) (λ ρ told. Local.mem-whole 𝓤 H A W (Declared.row fraction-proofs-Fraction·.the-type) ρ) λ ρ told. Local.whole-mem 𝓤 H A W (Declared.row fraction-proofs-Fraction·.the-type) ρ, Path.refl), ((KArray.arr-yields 𝓤 H A W (KArray.eStruct fraction-proofs-Fraction·.the-type fraction-proofs-Fraction-Laws·.the-laws fraction-proofs-Fraction-Laws·.the-copy) (KArray.eStruct-laws fraction-proofs-Fraction·.the-type fraction-proofs-Fraction-Laws·.the-laws fraction-proofs-Fraction-Laws·.the-copy fraction-proofs-Fraction-Laws·.the-plain) 33, Path.refl), ((Scalar.reads-sc 𝓤 H A W (Row.sInt Syntax.w64), Path.refl), ((Scalar.reads-sc 𝓤 H A W (Row.sInt Syntax.w64), Path.refl), ((Scalar.reads-sc 𝓤 H A W (Row.sInt Syntax.w64), Path.refl), ((Yields.yields-copy 𝓤 H A W (λ ρ. Unit) (Declared.row step-proofs-Around·.the-type) Path.refl (Copies.cStruct step-proofs-Around·.the-type step-proofs-Around-Laws·.the-laws step-proofs-Around-Laws·.the-copy .copy 𝓤 H A W) (Rows.whole (Declared.row step-proofs-Around·.the-type)) (λ x. x) (λ x. x) (λ ρ told. Local.mem-whole 𝓤 H A W (Declared.row step-proofs-Around·.the-type) ρ) λ ρ told. Local.whole-mem 𝓤 H A W (Declared.row step-proofs-Around·.the-type) ρ, Path.refl), tt)))))) (TReads.room-gone 𝓤 H A (Syntax.tyStruct (L._∷_ 114 (L._∷_ 117 (L._∷_ 108 (L._∷_ 101 (L._∷_ 115 (L._∷_ 58 (L._∷_ 58 (L._∷_ 102 (L._∷_ 111 (L._∷_ 117 (L._∷_ 110 (L._∷_ 100 (L._∷_ 58 (L._∷_ 58 (L._∷_ 70 (L._∷_ 111 (L._∷_ 117 (L._∷_ 110 (L._∷_ 100 L.[]))))))))))))))))))) (Syntax.tcons Syntax.tyBool (Syntax.tcons Syntax.tyBool (Syntax.tcons (Syntax.tyStruct (L._∷_ 115 (L._∷_ 116 (L._∷_ 101 (L._∷_ 112 (L._∷_ 58 (L._∷_ 58 (L._∷_ 83 (L._∷_ 116 (L._∷_ 101 (L._∷_ 112 L.[])))))))))) (Syntax.tcons (Syntax.tyInt Syntax.w64) (Syntax.tcons (Syntax.tyInt Syntax.w64) (Syntax.tcons (Syntax.tyStruct (L._∷_ 115 (L._∷_ 116 (L._∷_ 101 (L._∷_ 112 (L._∷_ 58 (L._∷_ 58 (L._∷_ 67 (L._∷_ 104 (L._∷_ 97 (L._∷_ 110 (L._∷_ 103 (L._∷_ 101 L.[])))))))))))) (Syntax.tcons (Syntax.tyStruct (L._∷_ 110 (L._∷_ 101 (L._∷_ 116 (L._∷_ 119 (L._∷_ 111 (L._∷_ 114 (L._∷_ 107 (L._∷_ 58 (L._∷_ 58 (L._∷_ 69 (L._∷_ 100 (L._∷_ 105 (L._∷_ 116 L.[]))))))))))))) (Syntax.tcons q12 (Syntax.tcons q12 (Syntax.tcons q12 (Syntax.tcons q12 (Syntax.tcons q3 (Syntax.tcons q3 (Syntax.tcons (Syntax.tyInt Syntax.w64) (Syntax.tcons q11 Syntax.tnil))))))))) (Syntax.tcons (Syntax.tyStruct (L._∷_ 115 (L._∷_ 116 (L._∷_ 101 (L._∷_ 112 (L._∷_ 58 (L._∷_ 58 (L._∷_ 79 (L._∷_ 108 (L._∷_ 100 L.[]))))))))) (Syntax.tcons (Syntax.tyInt Syntax.w64) (Syntax.tcons q11 (Syntax.tcons q12 (Syntax.tcons q12 (Syntax.tcons q12 (Syntax.tcons q12 (Syntax.tcons q7 Syntax.tnil)))))))) Syntax.tnil))) Syntax.tnil)))) Syntax.tnil))))) tt Path.refl) d26
 
-          d28 : Typed.Typed 𝓤 H A 𝓣 E G45 b35 Δ5 (at28 bs)
-          d28 = Typed.s-seq 𝓤 H A W 𝓣 E G45 G46 b23 b34 Δ5 (Typed.both (s41 bs)) (at27 bs) (Plain.t-call-plain 𝓤 H A W 𝓣 1 ps·3 r·3 (claims· .6) (claims· .7) "search::scan::gather" (known .3) E (λ pos β. β) G45 (record { pos = 2; ty = Syntax.tyRef (Syntax.named 0) Syntax.imm Rec.named; ref = λ x. x }, (Num.vAt 9 λ x. x, (Num.vAt 8 λ x. x, tt))) 10 (L._∷_ 0 L.[]) (Call.sub-id 𝓤 H A W (G45 .slots)) (ShrSlice.spares-sslice 𝓤 H A W Rec.row q27 0, Shared.reads-sslice 𝓤 H A W Rec.row q27 0, Path.refl, ((Scalar.reads-sc 𝓤 H A W (Row.sInt Syntax.w64), Path.refl), ((Scalar.reads-sc 𝓤 H A W (Row.sInt Syntax.w64), Path.refl), tt))) (TReads.room-gone 𝓤 H A (Syntax.tyStruct (L._∷_ 115 (L._∷_ 116 (L._∷_ 101 (L._∷_ 112 (L._∷_ 58 (L._∷_ 58 (L._∷_ 65 (L._∷_ 114 (L._∷_ 111 (L._∷_ 117 (L._∷_ 110 (L._∷_ 100 L.[])))))))))))) (Syntax.tcons q11 (Syntax.tcons q11 (Syntax.tcons q11 (Syntax.tcons q11 Syntax.tnil)))))) (tt, tt) Path.refl) d27
+          d28 : Typed.Typed 𝓤 H A 𝓣 E G47 b35 Δ5 (at28 bs)
+          d28 = Typed.s-seq 𝓤 H A W 𝓣 E G47 G48 b25 b34 Δ5 (Typed.both (s43 bs)) (at27 bs) (WayStmt.t-way-copy-out 𝓤 H A W E 𝓣 (DArray.Array (Declared.row fraction-proofs-Fraction·.the-type) 33) Path.refl (Copies.cArr (Declared.row fraction-proofs-Fraction·.the-type) (Copies.cStruct fraction-proofs-Fraction·.the-type fraction-proofs-Fraction-Laws·.the-laws fraction-proofs-Fraction-Laws·.the-copy) 33 .copy 𝓤 H A W) (λ ρ. Unit) G47 (Row.out 5 (G47 .locals)) (λ u. Row.drop 5 (G47 .locals) u) (G47 .slots) 5 (λ t. L._∷_ (Syntax.field 4) t) q8 q8 26 (ARows.arrF (Declared.row fraction-proofs-Fraction·.the-type) 33 0) (λ x. x) (λ u. At.getAt (network-proofs-Nodes·.the-type .parts) 4 (network-proofs-Nodes·.struct .as-values (u .1 .1 .1 .1 .1 .0))) (λ u. (Row.hd 0 (Row.tl (Row.tl (Row.tl (Row.tl (Row.tl bs))))), Nat._+_ 0 60)) (λ T′. record { locals = Row.setRow 5 q25 T′; slots = G47 .slots }) (λ u T′ m′. Row.set 5 q25 (u .1 .1 .1 .1 .1 .0) T′ m′) (λ u. Unit) (λ x. Unit) (Own.told-none 𝓤 H A (G47 .slots)) (DerefMove.learns-nothing 𝓤 H A (DArray.Array (Declared.row fraction-proofs-Fraction·.the-type) 33)) (λ ρ told u asked. StructWay.w-partˢ 𝓤 H A W E (Declared.row network-proofs-Nodes·.the-type) (DArray.Array (Declared.row fraction-proofs-Fraction·.the-type) 33) q2 q8 4 60 (u .1 .1 .1 .1 .1 .0) (At.getAt (network-proofs-Nodes·.the-type .parts) 4 (network-proofs-Nodes·.struct .as-values (u .1 .1 .1 .1 .1 .0))) (Row.hd 0 (Row.tl (Row.tl (Row.tl (Row.tl (Row.tl bs))))), 0) (RuleWay.w-look 𝓤 H A W E (RuleWay.w-local 𝓤 H A W E G47 ρ u (G47 .slots) 5 (Declared.row network-proofs-Nodes·.the-type) q27 (λ x. x) (λ x. x) (u .1 .1 .1 .1 .1 .0) (Local.mem-whole 𝓤 H A W (Declared.row network-proofs-Nodes·.the-type) ρ (u .1 .1 .1 .1 .1 .0) (Row.hd 0 (Row.tl (Row.tl (Row.tl (Row.tl (Row.tl bs))))))) (Local.whole-mem 𝓤 H A W (Declared.row network-proofs-Nodes·.the-type) ρ (u .1 .1 .1 .1 .1 .0) (Row.hd 0 (Row.tl (Row.tl (Row.tl (Row.tl (Row.tl bs))))))))) Path.refl λ q. Items.cut-records 𝓤 H A q (Declared.row network-proofs-Nodes·.the-type) fraction-proofs-Fraction·.the-type 33 60 (u .1 .1 .1 .1 .1 .0) (u .1 .1 .1 .1 .1 .0) (At.getAt (network-proofs-Nodes·.the-type .parts) 4 (network-proofs-Nodes·.struct .as-values (u .1 .1 .1 .1 .1 .0))) (At.getAt (network-proofs-Nodes·.the-type .parts) 4 (network-proofs-Nodes·.struct .as-values (u .1 .1 .1 .1 .1 .0))) (Row.hd 0 (Row.tl (Row.tl (Row.tl (Row.tl (Row.tl bs))))), 0) (Behind.look-at 𝓤 H A W q network-proofs-Nodes·.the-type network-proofs-Nodes-Laws·.the-laws 4 60 Path.refl Path.refl (Row.hd 0 (Row.tl (Row.tl (Row.tl (Row.tl (Row.tl bs))))), 0) (u .1 .1 .1 .1 .1 .0) (network-proofs-Nodes·.struct .as-values (u .1 .1 .1 .1 .1 .0)) Path.refl)) (TReads.room-gone 𝓤 H A q8) (Yields.makes-mem 𝓤 H A W (λ ρ. Unit) (DArray.Array (Declared.row fraction-proofs-Fraction·.the-type) 33) Path.refl (ARows.arrF (Declared.row fraction-proofs-Fraction·.the-type) 33 0) (λ x. x) λ ρ told. Whole.arr-mem 𝓤 H A W (Declared.row fraction-proofs-Fraction·.the-type) 33 tt ρ) Path.refl Path.refl Path.refl) d27
 
-          d29 : Typed.Typed 𝓤 H A 𝓣 E G44 b35 Δ5 (at29 bs)
-          d29 = Typed.g-pre 𝓤 H A W 𝓣 E G44 G45 b35 Δ5 (Typed.pass T44 T45 (s40 bs)) (at28 bs) (Scalar.g-room 𝓤 H A W E G44 20 Syntax.tyBool (Scalar.room-sc 𝓤 H A W Row.sBool)) d28
+          d29 : Typed.Typed 𝓤 H A 𝓣 E G46 b36 Δ5 (at29 bs)
+          d29 = Typed.s-seq 𝓤 H A W 𝓣 E G46 G47 b24 b35 Δ5 (Typed.both (s42 bs)) (at28 bs) (WayStmt.t-way-copy-out 𝓤 H A W E 𝓣 (Declared.row fraction-proofs-Fraction·.the-type) Path.refl (Copies.cStruct fraction-proofs-Fraction·.the-type fraction-proofs-Fraction-Laws·.the-laws fraction-proofs-Fraction-Laws·.the-copy .copy 𝓤 H A W) (λ ρ. Unit) G46 (Row.out 5 (G46 .locals)) (λ u. Row.drop 5 (G46 .locals) u) (G46 .slots) 5 (λ t. L._∷_ (Syntax.field 2) t) q11 q11 25 q23 (λ x. x) (λ u. At.getAt (network-proofs-Nodes·.the-type .parts) 2 (network-proofs-Nodes·.struct .as-values (u .1 .1 .1 .1 .1 .0))) (λ u. (Row.hd 0 (Row.tl (Row.tl (Row.tl (Row.tl (Row.tl bs))))), Nat._+_ 0 16)) (λ T′. record { locals = Row.setRow 5 q25 T′; slots = G46 .slots }) (λ u T′ m′. Row.set 5 q25 (u .1 .1 .1 .1 .1 .0) T′ m′) (λ u. Unit) (λ x. Unit) (Own.told-none 𝓤 H A (G46 .slots)) (DerefMove.learns-nothing 𝓤 H A (Declared.row fraction-proofs-Fraction·.the-type)) (λ ρ told u asked. StructWay.w-partˢ 𝓤 H A W E (Declared.row network-proofs-Nodes·.the-type) (Declared.row fraction-proofs-Fraction·.the-type) q2 q11 2 16 (u .1 .1 .1 .1 .1 .0) (At.getAt (network-proofs-Nodes·.the-type .parts) 2 (network-proofs-Nodes·.struct .as-values (u .1 .1 .1 .1 .1 .0))) (Row.hd 0 (Row.tl (Row.tl (Row.tl (Row.tl (Row.tl bs))))), 0) (RuleWay.w-look 𝓤 H A W E (RuleWay.w-local 𝓤 H A W E G46 ρ u (G46 .slots) 5 (Declared.row network-proofs-Nodes·.the-type) q27 (λ x. x) (λ x. x) (u .1 .1 .1 .1 .1 .0) (Local.mem-whole 𝓤 H A W (Declared.row network-proofs-Nodes·.the-type) ρ (u .1 .1 .1 .1 .1 .0) (Row.hd 0 (Row.tl (Row.tl (Row.tl (Row.tl (Row.tl bs))))))) (Local.whole-mem 𝓤 H A W (Declared.row network-proofs-Nodes·.the-type) ρ (u .1 .1 .1 .1 .1 .0) (Row.hd 0 (Row.tl (Row.tl (Row.tl (Row.tl (Row.tl bs))))))))) Path.refl λ q. Inner.cut-record 𝓤 H A q (Declared.row network-proofs-Nodes·.the-type) fraction-proofs-Fraction·.the-type 16 (u .1 .1 .1 .1 .1 .0) (u .1 .1 .1 .1 .1 .0) (At.getAt (network-proofs-Nodes·.the-type .parts) 2 (network-proofs-Nodes·.struct .as-values (u .1 .1 .1 .1 .1 .0))) (At.getAt (network-proofs-Nodes·.the-type .parts) 2 (network-proofs-Nodes·.struct .as-values (u .1 .1 .1 .1 .1 .0))) (Row.hd 0 (Row.tl (Row.tl (Row.tl (Row.tl (Row.tl bs))))), 0) (Behind.look-at 𝓤 H A W q network-proofs-Nodes·.the-type network-proofs-Nodes-Laws·.the-laws 2 16 Path.refl Path.refl (Row.hd 0 (Row.tl (Row.tl (Row.tl (Row.tl (Row.tl bs))))), 0) (u .1 .1 .1 .1 .1 .0) (network-proofs-Nodes·.struct .as-values (u .1 .1 .1 .1 .1 .0)) Path.refl)) (TReads.room-gone 𝓤 H A q11) (Yields.makes-mem 𝓤 H A W (λ ρ. Unit) (Declared.row fraction-proofs-Fraction·.the-type) Path.refl q23 (λ x. x) λ ρ told. Local.whole-mem 𝓤 H A W (Declared.row fraction-proofs-Fraction·.the-type) ρ) Path.refl Path.refl Path.refl) d28
 
-          d30 : Typed.Typed 𝓤 H A 𝓣 E G63 b36 Δ5 (at30 bs)
-          d30 = Typed.t-skip 𝓤 H A W 𝓣 E Δ5 tt
+          d30 : Typed.Typed 𝓤 H A 𝓣 E G45 b37 Δ5 (at30 bs)
+          d30 = Typed.s-seq 𝓤 H A W 𝓣 E G45 G46 b23 b36 Δ5 (Typed.both (s41 bs)) (at29 bs) (Plain.t-call-plain 𝓤 H A W 𝓣 1 ps·3 r·3 (claims· .6) (claims· .7) "search::scan::gather" (known .3) E (λ pos β. β) G45 (record { pos = 2; ty = Syntax.tyRef (Syntax.named 0) Syntax.imm Rec.named; ref = λ x. x }, (Num.vAt 9 λ x. x, (Num.vAt 8 λ x. x, tt))) 10 (L._∷_ 0 L.[]) (Call.sub-id 𝓤 H A W (G45 .slots)) (ShrSlice.spares-sslice 𝓤 H A W Rec.row q28 0, Shared.reads-sslice 𝓤 H A W Rec.row q28 0, Path.refl, ((Scalar.reads-sc 𝓤 H A W (Row.sInt Syntax.w64), Path.refl), ((Scalar.reads-sc 𝓤 H A W (Row.sInt Syntax.w64), Path.refl), tt))) (TReads.room-gone 𝓤 H A (Syntax.tyStruct (L._∷_ 115 (L._∷_ 116 (L._∷_ 101 (L._∷_ 112 (L._∷_ 58 (L._∷_ 58 (L._∷_ 65 (L._∷_ 114 (L._∷_ 111 (L._∷_ 117 (L._∷_ 110 (L._∷_ 100 L.[])))))))))))) (Syntax.tcons q12 (Syntax.tcons q12 (Syntax.tcons q12 (Syntax.tcons q12 Syntax.tnil)))))) (tt, tt) Path.refl) d29
 
-          d31 : Typed.Typed 𝓤 H A 𝓣 E G44 b36 Δ5 (at31 bs)
-          d31 = Typed.g-pre 𝓤 H A W 𝓣 E G44 G63 b36 Δ5 (Typed.pass T44 T63 (s58 bs)) (at30 bs) (Scalar.g-room 𝓤 H A W E G44 20 Syntax.tyBool (Scalar.room-sc 𝓤 H A W Row.sBool)) d30
+          d31 : Typed.Typed 𝓤 H A 𝓣 E G44 b37 Δ5 (at31 bs)
+          d31 = Typed.g-pre 𝓤 H A W 𝓣 E G44 G45 b37 Δ5 (Typed.pass T44 T45 (s40 bs)) (at30 bs) (Scalar.g-room 𝓤 H A W E G44 20 Syntax.tyBool (Scalar.room-sc 𝓤 H A W Row.sBool)) d30
 
-          d32 : Typed.Typed 𝓤 H A 𝓣 E G44 b37 Δ5 (at32 bs)
-          d32 = Scalar.t-cond 𝓤 H A W E 𝓣 G44 20 (λ x. x) b35 b36 Δ5 (at29 bs) (at31 bs) (Scalar.reads-sc 𝓤 H A W Row.sBool) Path.refl d29 d31
+          d32 : Typed.Typed 𝓤 H A 𝓣 E G65 b38 Δ5 (at32 bs)
+          d32 = Typed.t-skip 𝓤 H A W 𝓣 E Δ5 tt
 
-          d33 : Typed.Typed 𝓤 H A 𝓣 E G43 b37 Δ5 (at33 bs)
-          d33 = Typed.g-pre 𝓤 H A W 𝓣 E G43 G44 b37 Δ5 (Typed.pass T43 T44 (s39 bs)) (at32 bs) (Scalar.g-room 𝓤 H A W E G43 24 q10 (Local.room-whole 𝓤 H A W (Declared.row fraction-proofs-Fraction·.the-type) q10 Path.refl)) d32
+          d33 : Typed.Typed 𝓤 H A 𝓣 E G44 b38 Δ5 (at33 bs)
+          d33 = Typed.g-pre 𝓤 H A W 𝓣 E G44 G65 b38 Δ5 (Typed.pass T44 T65 (s60 bs)) (at32 bs) (Scalar.g-room 𝓤 H A W E G44 20 Syntax.tyBool (Scalar.room-sc 𝓤 H A W Row.sBool)) d32
 
-          d34 : Typed.Typed 𝓤 H A 𝓣 E G42 b38 Δ5 (at34 bs)
-          d34 = Typed.s-seq 𝓤 H A W 𝓣 E G42 G43 b22 b37 Δ5 (Typed.both (s38 bs)) (at33 bs) (Plain.t-call-plain 𝓤 H A W 𝓣 0 ps·2 r·2 (claims· .4) (claims· .5) "rules::tried::may_apply" (known .2) E (λ pos β. β) G42 (record { pos = 7; st = L.[]; d = 0; at = λ x. x }, (record { pos = 24; st = L.[]; d = 0; at = λ x. x }, tt)) 20 L.[] (Call.sub-id 𝓤 H A W (G42 .slots)) ((Yields.yields-copy 𝓤 H A W (λ ρ. Unit) (Declared.row rules-proofs-tried-Asks·.the-type) Path.refl (Copies.cStruct rules-proofs-tried-Asks·.the-type rules-proofs-tried-Asks-Laws·.the-laws rules-proofs-tried-Asks-Laws·.the-copy .copy 𝓤 H A W) (Rows.whole (Declared.row rules-proofs-tried-Asks·.the-type)) (λ x. x) (λ x. x) (λ ρ told. Local.mem-whole 𝓤 H A W (Declared.row rules-proofs-tried-Asks·.the-type) ρ) λ ρ told. Local.whole-mem 𝓤 H A W (Declared.row rules-proofs-tried-Asks·.the-type) ρ, Path.refl), ((Yields.yields-copy 𝓤 H A W (λ ρ. Unit) (Declared.row fraction-proofs-Fraction·.the-type) Path.refl (Copies.cStruct fraction-proofs-Fraction·.the-type fraction-proofs-Fraction-Laws·.the-laws fraction-proofs-Fraction-Laws·.the-copy .copy 𝓤 H A W) q22 (λ x. x) (λ x. x) (λ ρ told. Local.mem-whole 𝓤 H A W (Declared.row fraction-proofs-Fraction·.the-type) ρ) λ ρ told. Local.whole-mem 𝓤 H A W (Declared.row fraction-proofs-Fraction·.the-type) ρ, Path.refl), tt)) (TReads.room-gone 𝓤 H A Syntax.tyBool) tt Path.refl) d33
+          d34 : Typed.Typed 𝓤 H A 𝓣 E G44 b39 Δ5 (at34 bs)
+          d34 = Scalar.t-cond 𝓤 H A W E 𝓣 G44 20 (λ x. x) b37 b38 Δ5 (at31 bs) (at33 bs) (Scalar.reads-sc 𝓤 H A W Row.sBool) Path.refl d31 d33
 
-          d35 : Typed.Typed 𝓤 H A 𝓣 E G41 b38 Δ5 (at35 bs)
-          d35 = Typed.g-pre 𝓤 H A W 𝓣 E G41 G42 b38 Δ5 (Typed.pass T41 T42 (s37 bs)) (at34 bs) (Scalar.g-room 𝓤 H A W E G41 23 Syntax.tyPtr (Scalar.room-sc 𝓤 H A W Row.sPtr)) d34
+          d35 : Typed.Typed 𝓤 H A 𝓣 E G43 b39 Δ5 (at35 bs)
+          d35 = Typed.g-pre 𝓤 H A W 𝓣 E G43 G44 b39 Δ5 (Typed.pass T43 T44 (s39 bs)) (at34 bs) (Scalar.g-room 𝓤 H A W E G43 24 q11 (Local.room-whole 𝓤 H A W (Declared.row fraction-proofs-Fraction·.the-type) q11 Path.refl)) d34
 
-          d36 : Typed.Typed 𝓤 H A 𝓣 E G40 b38 Δ5 (at36 bs)
-          d36 = Typed.g-pre 𝓤 H A W 𝓣 E G40 G41 b38 Δ5 (Typed.pass T40 T41 (s36 bs)) (at35 bs) (Scalar.g-room 𝓤 H A W E G40 21 (Syntax.tyInt Syntax.w64) (Scalar.room-sc 𝓤 H A W (Row.sInt Syntax.w64))) d35
+          d36 : Typed.Typed 𝓤 H A 𝓣 E G42 b40 Δ5 (at36 bs)
+          d36 = Typed.s-seq 𝓤 H A W 𝓣 E G42 G43 b22 b39 Δ5 (Typed.both (s38 bs)) (at35 bs) (Plain.t-call-plain 𝓤 H A W 𝓣 0 ps·2 r·2 (claims· .4) (claims· .5) "rules::tried::may_apply" (known .2) E (λ pos β. β) G42 (record { pos = 7; st = L.[]; d = 0; at = λ x. x }, (record { pos = 24; st = L.[]; d = 0; at = λ x. x }, tt)) 20 L.[] (Call.sub-id 𝓤 H A W (G42 .slots)) ((Yields.yields-copy 𝓤 H A W (λ ρ. Unit) (Declared.row rules-proofs-tried-Asks·.the-type) Path.refl (Copies.cStruct rules-proofs-tried-Asks·.the-type rules-proofs-tried-Asks-Laws·.the-laws rules-proofs-tried-Asks-Laws·.the-copy .copy 𝓤 H A W) (Rows.whole (Declared.row rules-proofs-tried-Asks·.the-type)) (λ x. x) (λ x. x) (λ ρ told. Local.mem-whole 𝓤 H A W (Declared.row rules-proofs-tried-Asks·.the-type) ρ) λ ρ told. Local.whole-mem 𝓤 H A W (Declared.row rules-proofs-tried-Asks·.the-type) ρ, Path.refl), ((Yields.yields-copy 𝓤 H A W (λ ρ. Unit) (Declared.row fraction-proofs-Fraction·.the-type) Path.refl (Copies.cStruct fraction-proofs-Fraction·.the-type fraction-proofs-Fraction-Laws·.the-laws fraction-proofs-Fraction-Laws·.the-copy .copy 𝓤 H A W) q23 (λ x. x) (λ x. x) (λ ρ told. Local.mem-whole 𝓤 H A W (Declared.row fraction-proofs-Fraction·.the-type) ρ) λ ρ told. Local.whole-mem 𝓤 H A W (Declared.row fraction-proofs-Fraction·.the-type) ρ, Path.refl), tt)) (TReads.room-gone 𝓤 H A Syntax.tyBool) tt Path.refl) d35
 
-          d37 : Typed.Typed 𝓤 H A 𝓣 E G39 b39 Δ5 (at37 bs)
-          d37 = Typed.s-seq 𝓤 H A W 𝓣 E G39 G40 b21 b38 Δ5 (Typed.both (s35 bs)) (at36 bs) (WayStmt.t-way-copy-out 𝓤 H A W E 𝓣 (Declared.row fraction-proofs-Fraction·.the-type) Path.refl (Copies.cStruct fraction-proofs-Fraction·.the-type fraction-proofs-Fraction-Laws·.the-laws fraction-proofs-Fraction-Laws·.the-copy .copy 𝓤 H A W) (λ ρ. Unit) G39 (Row.out 23 (Row.out 5 (G39 .locals))) (λ u. Row.drop 23 (Row.out 5 (G39 .locals)) (Row.drop 5 (G39 .locals) u)) (G39 .slots) 23 (λ t. L._∷_ (Syntax.deref q10) t) q10 q10 24 q22 (λ x. x) (λ u. ListN.getD (At.getAt (network-proofs-Nodes·.the-type .parts) 3 (network-proofs-Nodes·.struct .as-values (u .1 .1 .1 .1 .1 .0))) (u .1 .1 .1 .1 .1 .1 .1 .1 .1 .0) (fraction-proofs-Fraction·.struct .make (IntN.pos 0, (0, tt)) tt)) (λ u. (Row.hd 0 (Row.tl (Row.tl (Row.tl (Row.tl (Row.tl bs))))), Shared.bySize 8 (u .1 .1 .1 .1 .1 .1 .1 .1 .1 .0) (Nat._+_ Nat.zero 52))) (λ T′. record { locals = Row.setRow 5 q24 (Row.setRow 23 (23, Rows.sc-here Row.sPtr) T′); slots = G39 .slots }) (λ u T′ m′. Row.set 5 q24 (u .1 .1 .1 .1 .1 .0) (Row.setRow 23 (23, Rows.sc-here Row.sPtr) T′) (Row.set 23 (23, Rows.sc-here Row.sPtr) (u .1 .1 .1 .1 .1 .1 .1 .1 .1 .1 .1 .1 .1 .1 .1 .1 .1 .1 .1 .1 .1 .1 .1 .0) T′ m′)) (λ u. Path._≡_ (u .1 .1 .1 .1 .1 .1 .1 .1 .1 .1 .1 .1 .1 .1 .1 .1 .1 .1 .1 .1 .1 .1 .1 .0 .0) (Row.hd 0 (Row.tl (Row.tl (Row.tl (Row.tl (Row.tl bs)))))) × Path._≡_ (u .1 .1 .1 .1 .1 .1 .1 .1 .1 .1 .1 .1 .1 .1 .1 .1 .1 .1 .1 .1 .1 .1 .1 .0 .1) (Shared.bySize 8 (u .1 .1 .1 .1 .1 .1 .1 .1 .1 .0) (Nat._+_ Nat.zero 52)) × Asked.InArray G39 (λ u. u .1 .1 .1 .1 .1 .1 .1 .1 .1 .0) 33 u) (λ x. Unit) (Own.told-none 𝓤 H A (G39 .slots)) (DerefMove.learns-nothing 𝓤 H A (Declared.row fraction-proofs-Fraction·.the-type)) (λ ρ told u asked. RuleWay.w-look 𝓤 H A W E (ItemWay.w-item-look 𝓤 H A W E (Declared.row network-proofs-Nodes·.the-type) (Declared.row fraction-proofs-Fraction·.the-type) 33 tt q8 q10 3 52 (λ x. At.getAt (network-proofs-Nodes·.the-type .parts) 3 (network-proofs-Nodes·.struct .as-values x)) (λ x ys. x) (Shared.bySize 8) (λ i o. Elements.at-mul o 8 i) G39 ρ u (G39 .slots) 5 23 (u .1 .1 .1 .1 .1 .1 .1 .1 .1 .0) (fraction-proofs-Fraction·.struct .make (IntN.pos 0, (0, tt)) tt) (λ x. x) (λ x. x) (TReads.as-is 𝓤 H A q26) (TReads.as-is 𝓤 H A (Rows.sc-here Row.sPtr)) Path.refl (asked .0) (asked .1) (asked .2) Path.refl λ a. Items.cut-records 𝓤 H A TreeShare.fullShare (Declared.row network-proofs-Nodes·.the-type) fraction-proofs-Fraction·.the-type 33 52 (u .1 .1 .1 .1 .1 .0) (u .1 .1 .1 .1 .1 .0) (At.getAt (network-proofs-Nodes·.the-type .parts) 3 (network-proofs-Nodes·.struct .as-values (u .1 .1 .1 .1 .1 .0))) (At.getAt (network-proofs-Nodes·.the-type .parts) 3 (network-proofs-Nodes·.struct .as-values (u .1 .1 .1 .1 .1 .0))) a (Behind.look-at 𝓤 H A W TreeShare.fullShare network-proofs-Nodes·.the-type network-proofs-Nodes-Laws·.the-laws 3 52 Path.refl Path.refl a (u .1 .1 .1 .1 .1 .0) (network-proofs-Nodes·.struct .as-values (u .1 .1 .1 .1 .1 .0)) Path.refl))) (TReads.room-gone 𝓤 H A q10) (Yields.makes-mem 𝓤 H A W (λ ρ. Unit) (Declared.row fraction-proofs-Fraction·.the-type) Path.refl q22 (λ x. x) λ ρ told. Local.whole-mem 𝓤 H A W (Declared.row fraction-proofs-Fraction·.the-type) ρ) Path.refl Path.refl Path.refl) d36
+          d37 : Typed.Typed 𝓤 H A 𝓣 E G41 b40 Δ5 (at37 bs)
+          d37 = Typed.g-pre 𝓤 H A W 𝓣 E G41 G42 b40 Δ5 (Typed.pass T41 T42 (s37 bs)) (at36 bs) (Scalar.g-room 𝓤 H A W E G41 23 Syntax.tyPtr (Scalar.room-sc 𝓤 H A W Row.sPtr)) d36
 
-          d38 : Typed.Typed 𝓤 H A 𝓣 E G38 b39 Δ5 (at38 bs)
-          d38 = Typed.g-pre 𝓤 H A W 𝓣 E G38 G39 b39 Δ5 (Typed.pass T38 T39 (s34 bs)) (at37 bs) (Scalar.g-room 𝓤 H A W E G38 22 Syntax.tyPtr (Scalar.room-sc 𝓤 H A W Row.sPtr)) d37
+          d38 : Typed.Typed 𝓤 H A 𝓣 E G40 b40 Δ5 (at38 bs)
+          d38 = Typed.g-pre 𝓤 H A W 𝓣 E G40 G41 b40 Δ5 (Typed.pass T40 T41 (s36 bs)) (at37 bs) (Scalar.g-room 𝓤 H A W E G40 21 (Syntax.tyInt Syntax.w64) (Scalar.room-sc 𝓤 H A W (Row.sInt Syntax.w64))) d37
 
-          d39 : Typed.Typed 𝓤 H A 𝓣 E G37 b40 Δ5 (at39 bs)
-          d39 = Typed.s-seq 𝓤 H A W 𝓣 E G37 G38 b20 b39 Δ5 (Typed.ask (s33 bs)) (at38 bs) (Scalar.t-op2 𝓤 H A W E 𝓣 G37 Syntax.offset (Scalar.oAt 22 Syntax.tyPtr (Row.valS Row.sPtr)) (Scalar.oAt 21 (Syntax.tyInt Syntax.w64) (Row.valS (Row.sInt Syntax.w64))) 23 (Rows.sc-here Row.sPtr) Syntax.tyPtr (Row.valS Row.sPtr) (Row.sPtr .of) (Scalar.reads-sc 𝓤 H A W Row.sPtr, Path.refl) (Scalar.reads-sc 𝓤 H A W (Row.sInt Syntax.w64), Path.refl) (TReads.room-gone 𝓤 H A Syntax.tyPtr) (Scalar.holds-sc 𝓤 H A W Row.sPtr) Path.refl (λ u. Path.refl) λ u. tt) d38
+          d39 : Typed.Typed 𝓤 H A 𝓣 E G39 b41 Δ5 (at39 bs)
+          d39 = Typed.s-seq 𝓤 H A W 𝓣 E G39 G40 b21 b40 Δ5 (Typed.both (s35 bs)) (at38 bs) (WayStmt.t-way-copy-out 𝓤 H A W E 𝓣 (Declared.row fraction-proofs-Fraction·.the-type) Path.refl (Copies.cStruct fraction-proofs-Fraction·.the-type fraction-proofs-Fraction-Laws·.the-laws fraction-proofs-Fraction-Laws·.the-copy .copy 𝓤 H A W) (λ ρ. Unit) G39 (Row.out 23 (Row.out 5 (G39 .locals))) (λ u. Row.drop 23 (Row.out 5 (G39 .locals)) (Row.drop 5 (G39 .locals) u)) (G39 .slots) 23 (λ t. L._∷_ (Syntax.deref q11) t) q11 q11 24 q23 (λ x. x) (λ u. ListN.getD (At.getAt (network-proofs-Nodes·.the-type .parts) 4 (network-proofs-Nodes·.struct .as-values (u .1 .1 .1 .1 .1 .0))) (u .1 .1 .1 .1 .1 .1 .1 .1 .1 .0) (fraction-proofs-Fraction·.struct .make (IntN.pos 0, (0, tt)) tt)) (λ u. (Row.hd 0 (Row.tl (Row.tl (Row.tl (Row.tl (Row.tl bs))))), Shared.bySize 8 (u .1 .1 .1 .1 .1 .1 .1 .1 .1 .0) (Nat._+_ Nat.zero 60))) (λ T′. record { locals = Row.setRow 5 q25 (Row.setRow 23 (23, Rows.sc-here Row.sPtr) T′); slots = G39 .slots }) (λ u T′ m′. Row.set 5 q25 (u .1 .1 .1 .1 .1 .0) (Row.setRow 23 (23, Rows.sc-here Row.sPtr) T′) (Row.set 23 (23, Rows.sc-here Row.sPtr) (u .1 .1 .1 .1 .1 .1 .1 .1 .1 .1 .1 .1 .1 .1 .1 .1 .1 .1 .1 .1 .1 .1 .1 .0) T′ m′)) (λ u. Path._≡_ (u .1 .1 .1 .1 .1 .1 .1 .1 .1 .1 .1 .1 .1 .1 .1 .1 .1 .1 .1 .1 .1 .1 .1 .0 .0) (Row.hd 0 (Row.tl (Row.tl (Row.tl (Row.tl (Row.tl bs)))))) × Path._≡_ (u .1 .1 .1 .1 .1 .1 .1 .1 .1 .1 .1 .1 .1 .1 .1 .1 .1 .1 .1 .1 .1 .1 .1 .0 .1) (Shared.bySize 8 (u .1 .1 .1 .1 .1 .1 .1 .1 .1 .0) (Nat._+_ Nat.zero 60)) × Asked.InArray G39 (λ u. u .1 .1 .1 .1 .1 .1 .1 .1 .1 .0) 33 u) (λ x. Unit) (Own.told-none 𝓤 H A (G39 .slots)) (DerefMove.learns-nothing 𝓤 H A (Declared.row fraction-proofs-Fraction·.the-type)) (λ ρ told u asked. RuleWay.w-look 𝓤 H A W E (ItemWay.w-item-look 𝓤 H A W E (Declared.row network-proofs-Nodes·.the-type) (Declared.row fraction-proofs-Fraction·.the-type) 33 tt q8 q11 4 60 (λ x. At.getAt (network-proofs-Nodes·.the-type .parts) 4 (network-proofs-Nodes·.struct .as-values x)) (λ x ys. x) (Shared.bySize 8) (λ i o. Elements.at-mul o 8 i) G39 ρ u (G39 .slots) 5 23 (u .1 .1 .1 .1 .1 .1 .1 .1 .1 .0) (fraction-proofs-Fraction·.struct .make (IntN.pos 0, (0, tt)) tt) (λ x. x) (λ x. x) (TReads.as-is 𝓤 H A q27) (TReads.as-is 𝓤 H A (Rows.sc-here Row.sPtr)) Path.refl (asked .0) (asked .1) (asked .2) Path.refl λ a. Items.cut-records 𝓤 H A TreeShare.fullShare (Declared.row network-proofs-Nodes·.the-type) fraction-proofs-Fraction·.the-type 33 60 (u .1 .1 .1 .1 .1 .0) (u .1 .1 .1 .1 .1 .0) (At.getAt (network-proofs-Nodes·.the-type .parts) 4 (network-proofs-Nodes·.struct .as-values (u .1 .1 .1 .1 .1 .0))) (At.getAt (network-proofs-Nodes·.the-type .parts) 4 (network-proofs-Nodes·.struct .as-values (u .1 .1 .1 .1 .1 .0))) a (Behind.look-at 𝓤 H A W TreeShare.fullShare network-proofs-Nodes·.the-type network-proofs-Nodes-Laws·.the-laws 4 60 Path.refl Path.refl a (u .1 .1 .1 .1 .1 .0) (network-proofs-Nodes·.struct .as-values (u .1 .1 .1 .1 .1 .0)) Path.refl))) (TReads.room-gone 𝓤 H A q11) (Yields.makes-mem 𝓤 H A W (λ ρ. Unit) (Declared.row fraction-proofs-Fraction·.the-type) Path.refl q23 (λ x. x) λ ρ told. Local.whole-mem 𝓤 H A W (Declared.row fraction-proofs-Fraction·.the-type) ρ) Path.refl Path.refl Path.refl) d38
 
-          d40 : Typed.Typed 𝓤 H A 𝓣 E G36 b41 Δ5 (at40 bs)
-          d40 = Typed.s-seq 𝓤 H A W 𝓣 E G36 G37 b19 b40 Δ5 (Typed.pass T36 T37 (s32 bs)) (at39 bs) (Init.t-addr-at 𝓤 H A W E 𝓣 G36 22 5 (L._∷_ (Syntax.field 3) L.[]) q8 52 Path.refl (TReads.room-gone 𝓤 H A Syntax.tyPtr) Path.refl) d39
+          d40 : Typed.Typed 𝓤 H A 𝓣 E G38 b41 Δ5 (at40 bs)
+          d40 = Typed.g-pre 𝓤 H A W 𝓣 E G38 G39 b41 Δ5 (Typed.pass T38 T39 (s34 bs)) (at39 bs) (Scalar.g-room 𝓤 H A W E G38 22 Syntax.tyPtr (Scalar.room-sc 𝓤 H A W Row.sPtr)) d39
 
-          d41 : Typed.Typed 𝓤 H A 𝓣 E G35 b42 Δ5 (at41 bs)
-          d41 = Typed.s-seq 𝓤 H A W 𝓣 E G35 G36 b18 b41 Δ5 (Typed.ask (s31 bs)) (at40 bs) (Scalar.t-op2 𝓤 H A W E 𝓣 G35 (Syntax.mul Syntax.unsigned) (Scalar.oAt 9 (Syntax.tyInt Syntax.w64) (Row.valS (Row.sInt Syntax.w64))) (Scalar.oInt Syntax.w64 8) 21 q38 (Syntax.tyInt Syntax.w64) (Row.valS (Row.sInt Syntax.w64)) (Row.sInt Syntax.w64 .of) (Scalar.reads-sc 𝓤 H A W (Row.sInt Syntax.w64), Path.refl) tt (TReads.room-gone 𝓤 H A (Syntax.tyInt Syntax.w64)) (Scalar.holds-sc 𝓤 H A W (Row.sInt Syntax.w64)) Path.refl (λ u. Path.refl) λ u. tt) d40
+          d41 : Typed.Typed 𝓤 H A 𝓣 E G37 b42 Δ5 (at41 bs)
+          d41 = Typed.s-seq 𝓤 H A W 𝓣 E G37 G38 b20 b41 Δ5 (Typed.ask (s33 bs)) (at40 bs) (Scalar.t-op2 𝓤 H A W E 𝓣 G37 Syntax.offset (Scalar.oAt 22 Syntax.tyPtr (Row.valS Row.sPtr)) (Scalar.oAt 21 (Syntax.tyInt Syntax.w64) (Row.valS (Row.sInt Syntax.w64))) 23 (Rows.sc-here Row.sPtr) Syntax.tyPtr (Row.valS Row.sPtr) (Row.sPtr .of) (Scalar.reads-sc 𝓤 H A W Row.sPtr, Path.refl) (Scalar.reads-sc 𝓤 H A W (Row.sInt Syntax.w64), Path.refl) (TReads.room-gone 𝓤 H A Syntax.tyPtr) (Scalar.holds-sc 𝓤 H A W Row.sPtr) Path.refl (λ u. Path.refl) λ u. tt) d40
 
-          d42 : Typed.Typed 𝓤 H A 𝓣 E G34 b42 Δ5 (at42 bs)
-          d42 = Typed.g-pre 𝓤 H A W 𝓣 E G34 G35 b42 Δ5 (Typed.pass T34 T35 (s30 bs)) (at41 bs) (Scalar.g-room 𝓤 H A W E G34 14 Syntax.tyBool (Scalar.room-sc 𝓤 H A W Row.sBool)) d41
+          d42 : Typed.Typed 𝓤 H A 𝓣 E G36 b43 Δ5 (at42 bs)
+          d42 = Typed.s-seq 𝓤 H A W 𝓣 E G36 G37 b19 b42 Δ5 (Typed.pass T36 T37 (s32 bs)) (at41 bs) (Init.t-addr-at 𝓤 H A W E 𝓣 G36 22 5 (L._∷_ (Syntax.field 4) L.[]) q8 60 Path.refl (TReads.room-gone 𝓤 H A Syntax.tyPtr) Path.refl) d41
 
-          d43 : Typed.Typed 𝓤 H A 𝓣 E G64 b43 Δ5 (at43 bs)
-          d43 = Typed.t-skip 𝓤 H A W 𝓣 E Δ5 tt
+          d43 : Typed.Typed 𝓤 H A 𝓣 E G35 b44 Δ5 (at43 bs)
+          d43 = Typed.s-seq 𝓤 H A W 𝓣 E G35 G36 b18 b43 Δ5 (Typed.ask (s31 bs)) (at42 bs) (Scalar.t-op2 𝓤 H A W E 𝓣 G35 (Syntax.mul Syntax.unsigned) (Scalar.oAt 9 (Syntax.tyInt Syntax.w64) (Row.valS (Row.sInt Syntax.w64))) (Scalar.oInt Syntax.w64 8) 21 q39 (Syntax.tyInt Syntax.w64) (Row.valS (Row.sInt Syntax.w64)) (Row.sInt Syntax.w64 .of) (Scalar.reads-sc 𝓤 H A W (Row.sInt Syntax.w64), Path.refl) tt (TReads.room-gone 𝓤 H A (Syntax.tyInt Syntax.w64)) (Scalar.holds-sc 𝓤 H A W (Row.sInt Syntax.w64)) Path.refl (λ u. Path.refl) λ u. tt) d42
 
-          d44 : Typed.Typed 𝓤 H A 𝓣 E G34 b43 Δ5 (at44 bs)
-          d44 = Typed.g-pre 𝓤 H A W 𝓣 E G34 G64 b43 Δ5 (Typed.pass T34 T64 (s59 bs)) (at43 bs) (Scalar.g-room 𝓤 H A W E G34 14 Syntax.tyBool (Scalar.room-sc 𝓤 H A W Row.sBool)) d43
+          d44 : Typed.Typed 𝓤 H A 𝓣 E G34 b44 Δ5 (at44 bs)
+          d44 = Typed.g-pre 𝓤 H A W 𝓣 E G34 G35 b44 Δ5 (Typed.pass T34 T35 (s30 bs)) (at43 bs) (Scalar.g-room 𝓤 H A W E G34 14 Syntax.tyBool (Scalar.room-sc 𝓤 H A W Row.sBool)) d43
 
-          d45 : Typed.Typed 𝓤 H A 𝓣 E G34 b44 Δ5 (at45 bs)
-          d45 = Scalar.t-cond 𝓤 H A W E 𝓣 G34 14 (λ x. x) b42 b43 Δ5 (at42 bs) (at44 bs) (Scalar.reads-sc 𝓤 H A W Row.sBool) Path.refl d42 d44
+          d45 : Typed.Typed 𝓤 H A 𝓣 E G66 b45 Δ5 (at45 bs)
+          d45 = Typed.t-skip 𝓤 H A W 𝓣 E Δ5 tt
 
-          d46 : Typed.Typed 𝓤 H A 𝓣 E G33 b44 Δ5 (at46 bs)
-          d46 = Typed.g-pre 𝓤 H A W 𝓣 E G33 G34 b44 Δ5 (Typed.pass T33 T34 (s29 bs)) (at45 bs) (Scalar.g-room 𝓤 H A W E G33 19 (Syntax.tyInt Syntax.w64) (Scalar.room-sc 𝓤 H A W (Row.sInt Syntax.w64))) d45
+          d46 : Typed.Typed 𝓤 H A 𝓣 E G34 b45 Δ5 (at46 bs)
+          d46 = Typed.g-pre 𝓤 H A W 𝓣 E G34 G66 b45 Δ5 (Typed.pass T34 T66 (s61 bs)) (at45 bs) (Scalar.g-room 𝓤 H A W E G34 14 Syntax.tyBool (Scalar.room-sc 𝓤 H A W Row.sBool)) d45
 
-          d47 : Typed.Typed 𝓤 H A 𝓣 E G31 b44 Δ5 (at47 bs)
-          d47 = Typed.g-pre 𝓤 H A W 𝓣 E G31 G33 b44 Δ5 (Typed.pass T31 T33 (s28 bs)) (at46 bs) (Scalar.g-room 𝓤 H A W E G31 13 Syntax.tyBool (Scalar.room-sc 𝓤 H A W Row.sBool)) d46
+          d47 : Typed.Typed 𝓤 H A 𝓣 E G34 b46 Δ5 (at47 bs)
+          d47 = Scalar.t-cond 𝓤 H A W E 𝓣 G34 14 (λ x. x) b44 b45 Δ5 (at44 bs) (at46 bs) (Scalar.reads-sc 𝓤 H A W Row.sBool) Path.refl d44 d46
 
-          d48 : Typed.Typed 𝓤 H A 𝓣 E G32 b45 Δ3 (at48 bs)
-          unfolding at48
-          d48 = Typed.s-typed 𝓤 H A W 𝓣 E G32 b45 Δ3 (Typed.ask (s60 bs)) tt (Scalar.t-op2 𝓤 H A W E 𝓣 G32 (Syntax.add Syntax.unsigned) (Scalar.oAt 9 (Syntax.tyInt Syntax.w64) (Row.valS (Row.sInt Syntax.w64))) (Scalar.oInt Syntax.w64 1) 9 q38 (Syntax.tyInt Syntax.w64) (Row.valS (Row.sInt Syntax.w64)) (Row.sInt Syntax.w64 .of) (Scalar.reads-sc 𝓤 H A W (Row.sInt Syntax.w64), Path.refl) tt (Scalar.room-sc 𝓤 H A W (Row.sInt Syntax.w64)) (Scalar.holds-sc 𝓤 H A W (Row.sInt Syntax.w64)) Path.refl (λ u. Path.refl) λ u. tt)
+          d48 : Typed.Typed 𝓤 H A 𝓣 E G33 b46 Δ5 (at48 bs)
+          d48 = Typed.g-pre 𝓤 H A W 𝓣 E G33 G34 b46 Δ5 (Typed.pass T33 T34 (s29 bs)) (at47 bs) (Scalar.g-room 𝓤 H A W E G33 19 (Syntax.tyInt Syntax.w64) (Scalar.room-sc 𝓤 H A W (Row.sInt Syntax.w64))) d47
 
-          d49 : Typed.Typed 𝓤 H A 𝓣 E G31 b46 Δ3 (at49 bs)
-          d49 = Typed.t-seq 𝓤 H A W 𝓣 E G31 G32 b44 b45 Δ3 (at47 bs) (at48 bs) d47 d48
+          d49 : Typed.Typed 𝓤 H A 𝓣 E G31 b46 Δ5 (at49 bs)
+          d49 = Typed.g-pre 𝓤 H A W 𝓣 E G31 G33 b46 Δ5 (Typed.pass T31 T33 (s28 bs)) (at48 bs) (Scalar.g-room 𝓤 H A W E G31 13 Syntax.tyBool (Scalar.room-sc 𝓤 H A W Row.sBool)) d48
 
-          d50 : Typed.Typed 𝓤 H A 𝓣 E G30 b47 Δ3 (at50 bs)
-          d50 = Typed.s-seq 𝓤 H A W 𝓣 E G30 G31 b17 b46 Δ3 (Typed.both (s27 bs)) (at49 bs) (Plain.t-call-plain 𝓤 H A W 𝓣 0 ps·1 r·1 (claims· .2) (claims· .3) "search::scan::has_degree" (known .1) E (λ pos β. β) G30 (KBool.bAt 13 λ x. x, (Num.vAt 19 λ x. x, (Num.vAt 8 λ x. x, tt))) 14 L.[] (Call.sub-id 𝓤 H A W (G30 .slots)) ((Scalar.reads-sc 𝓤 H A W Row.sBool, Path.refl), ((Scalar.reads-sc 𝓤 H A W (Row.sInt Syntax.w64), Path.refl), ((Scalar.reads-sc 𝓤 H A W (Row.sInt Syntax.w64), Path.refl), tt))) (TReads.room-gone 𝓤 H A Syntax.tyBool) tt Path.refl) d49
+          d50 : Typed.Typed 𝓤 H A 𝓣 E G32 b47 Δ3 (at50 bs)
+          unfolding at50
+          d50 = Typed.s-typed 𝓤 H A W 𝓣 E G32 b47 Δ3 (Typed.ask (s62 bs)) tt (Scalar.t-op2 𝓤 H A W E 𝓣 G32 (Syntax.add Syntax.unsigned) (Scalar.oAt 9 (Syntax.tyInt Syntax.w64) (Row.valS (Row.sInt Syntax.w64))) (Scalar.oInt Syntax.w64 1) 9 q39 (Syntax.tyInt Syntax.w64) (Row.valS (Row.sInt Syntax.w64)) (Row.sInt Syntax.w64 .of) (Scalar.reads-sc 𝓤 H A W (Row.sInt Syntax.w64), Path.refl) tt (Scalar.room-sc 𝓤 H A W (Row.sInt Syntax.w64)) (Scalar.holds-sc 𝓤 H A W (Row.sInt Syntax.w64)) Path.refl (λ u. Path.refl) λ u. tt)
 
-          d51 : Typed.Typed 𝓤 H A 𝓣 E G29 b47 Δ3 (at51 bs)
-          d51 = Typed.g-pre 𝓤 H A W 𝓣 E G29 G30 b47 Δ3 (Typed.pass T29 T30 (s26 bs)) (at50 bs) (Scalar.g-room 𝓤 H A W E G29 18 Syntax.tyPtr (Scalar.room-sc 𝓤 H A W Row.sPtr)) d50
+          d51 : Typed.Typed 𝓤 H A 𝓣 E G31 b48 Δ3 (at51 bs)
+          d51 = Typed.t-seq 𝓤 H A W 𝓣 E G31 G32 b46 b47 Δ3 (at49 bs) (at50 bs) d49 d50
 
-          d52 : Typed.Typed 𝓤 H A 𝓣 E G28 b47 Δ3 (at52 bs)
-          d52 = Typed.g-pre 𝓤 H A W 𝓣 E G28 G29 b47 Δ3 (Typed.pass T28 T29 (s25 bs)) (at51 bs) (Scalar.g-room 𝓤 H A W E G28 12 (Syntax.tyInt Syntax.w64) (Scalar.room-sc 𝓤 H A W (Row.sInt Syntax.w64))) d51
+          d52 : Typed.Typed 𝓤 H A 𝓣 E G30 b49 Δ3 (at52 bs)
+          d52 = Typed.s-seq 𝓤 H A W 𝓣 E G30 G31 b17 b48 Δ3 (Typed.both (s27 bs)) (at51 bs) (Plain.t-call-plain 𝓤 H A W 𝓣 0 ps·1 r·1 (claims· .2) (claims· .3) "search::scan::has_degree" (known .1) E (λ pos β. β) G30 (KBool.bAt 13 λ x. x, (Num.vAt 19 λ x. x, (Num.vAt 8 λ x. x, tt))) 14 L.[] (Call.sub-id 𝓤 H A W (G30 .slots)) ((Scalar.reads-sc 𝓤 H A W Row.sBool, Path.refl), ((Scalar.reads-sc 𝓤 H A W (Row.sInt Syntax.w64), Path.refl), ((Scalar.reads-sc 𝓤 H A W (Row.sInt Syntax.w64), Path.refl), tt))) (TReads.room-gone 𝓤 H A Syntax.tyBool) tt Path.refl) d51
 
-          d53 : Typed.Typed 𝓤 H A 𝓣 E G27 b48 Δ3 (at53 bs)
-          d53 = Typed.s-seq 𝓤 H A W 𝓣 E G27 G28 b16 b47 Δ3 (Typed.both (s24 bs)) (at52 bs) (WayStmt.t-way-copy-out 𝓤 H A W E 𝓣 (Referent.rtF (Referent.fInt Syntax.w64)) Path.refl (Copies.cRf (Referent.fInt Syntax.w64) .copy 𝓤 H A W) (λ ρ. Unit) G27 (Row.out 18 (Row.out 6 (G27 .locals))) (λ u. Row.drop 18 (Row.out 6 (G27 .locals)) (Row.drop 6 (G27 .locals) u)) (G27 .slots) 18 (λ t. L._∷_ (Syntax.deref (Syntax.tyInt Syntax.w64)) t) (Syntax.tyInt Syntax.w64) (Syntax.tyInt Syntax.w64) 19 q38 (λ x. x) (λ u. ListN.getD (At.getAt (network-proofs-Degrees·.the-type .parts) 0 (network-proofs-Degrees·.struct .as-values (u .1 .1 .1 .1 .1 .1 .0))) (u .1 .1 .1 .1 .1 .1 .1 .1 .1 .0) 0) (λ u. (Row.hd 0 (Row.tl (Row.tl (Row.tl (Row.tl (Row.tl (Row.tl bs)))))), Shared.bySize 8 (u .1 .1 .1 .1 .1 .1 .1 .1 .1 .0) (Nat._+_ Nat.zero 0))) (λ T′. record { locals = Row.setRow 6 q21 (Row.setRow 18 (18, Rows.sc-here Row.sPtr) T′); slots = G27 .slots }) (λ u T′ m′. Row.set 6 q21 (u .1 .1 .1 .1 .1 .1 .0) (Row.setRow 18 (18, Rows.sc-here Row.sPtr) T′) (Row.set 18 (18, Rows.sc-here Row.sPtr) (u .1 .1 .1 .1 .1 .1 .1 .1 .1 .1 .1 .1 .1 .1 .1 .1 .1 .1 .0) T′ m′)) (λ u. Path._≡_ (u .1 .1 .1 .1 .1 .1 .1 .1 .1 .1 .1 .1 .1 .1 .1 .1 .1 .1 .0 .0) (Row.hd 0 (Row.tl (Row.tl (Row.tl (Row.tl (Row.tl (Row.tl bs))))))) × Path._≡_ (u .1 .1 .1 .1 .1 .1 .1 .1 .1 .1 .1 .1 .1 .1 .1 .1 .1 .1 .0 .1) (Shared.bySize 8 (u .1 .1 .1 .1 .1 .1 .1 .1 .1 .0) (Nat._+_ Nat.zero 0)) × Asked.InArray G27 (λ u. u .1 .1 .1 .1 .1 .1 .1 .1 .1 .0) 33 u) (λ x. Unit) (Own.told-none 𝓤 H A (G27 .slots)) (DerefMove.learns-nothing 𝓤 H A (Referent.rtF (Referent.fInt Syntax.w64))) (λ ρ told u asked. RuleWay.w-look 𝓤 H A W E (ItemWay.w-item-look 𝓤 H A W E (Declared.row network-proofs-Degrees·.the-type) (Referent.rtF (Referent.fInt Syntax.w64)) 33 tt q28 (Syntax.tyInt Syntax.w64) 0 0 (λ x. At.getAt (network-proofs-Degrees·.the-type .parts) 0 (network-proofs-Degrees·.struct .as-values x)) (λ x ys. x) (Shared.bySize 8) (λ i o. Elements.at-mul o 8 i) G27 ρ u (G27 .slots) 6 18 (u .1 .1 .1 .1 .1 .1 .1 .1 .1 .0) 0 (λ x. x) (λ x. x) (TReads.as-is 𝓤 H A q25) (TReads.as-is 𝓤 H A (Rows.sc-here Row.sPtr)) Path.refl (asked .0) (asked .1) (asked .2) Path.refl λ a. Items.cut-array 𝓤 H A TreeShare.fullShare (Declared.row network-proofs-Degrees·.the-type) (Referent.rtF (Referent.fInt Syntax.w64)) 33 0 (u .1 .1 .1 .1 .1 .1 .0) (u .1 .1 .1 .1 .1 .1 .0) (At.getAt (network-proofs-Degrees·.the-type .parts) 0 (network-proofs-Degrees·.struct .as-values (u .1 .1 .1 .1 .1 .1 .0))) (At.getAt (network-proofs-Degrees·.the-type .parts) 0 (network-proofs-Degrees·.struct .as-values (u .1 .1 .1 .1 .1 .1 .0))) a (Behind.look-at 𝓤 H A W TreeShare.fullShare network-proofs-Degrees·.the-type network-proofs-Degrees-Laws·.the-laws 0 0 Path.refl Path.refl a (u .1 .1 .1 .1 .1 .1 .0) (network-proofs-Degrees·.struct .as-values (u .1 .1 .1 .1 .1 .1 .0)) Path.refl))) (TReads.room-gone 𝓤 H A (Syntax.tyInt Syntax.w64)) (Yields.makes-mem 𝓤 H A W (λ ρ. Unit) (Referent.rtF (Referent.fInt Syntax.w64)) Path.refl q38 (λ x. x) λ ρ told. Local.sc-mem 𝓤 H A W (Referent.fInt Syntax.w64) ρ) Path.refl Path.refl Path.refl) d52
+          d53 : Typed.Typed 𝓤 H A 𝓣 E G29 b49 Δ3 (at53 bs)
+          d53 = Typed.g-pre 𝓤 H A W 𝓣 E G29 G30 b49 Δ3 (Typed.pass T29 T30 (s26 bs)) (at52 bs) (Scalar.g-room 𝓤 H A W E G29 18 Syntax.tyPtr (Scalar.room-sc 𝓤 H A W Row.sPtr)) d52
 
-          d54 : Typed.Typed 𝓤 H A 𝓣 E G26 b48 Δ3 (at54 bs)
-          d54 = Typed.g-pre 𝓤 H A W 𝓣 E G26 G27 b48 Δ3 (Typed.pass T26 T27 (s23 bs)) (at53 bs) (Scalar.g-room 𝓤 H A W E G26 17 Syntax.tyPtr (Scalar.room-sc 𝓤 H A W Row.sPtr)) d53
+          d54 : Typed.Typed 𝓤 H A 𝓣 E G28 b49 Δ3 (at54 bs)
+          d54 = Typed.g-pre 𝓤 H A W 𝓣 E G28 G29 b49 Δ3 (Typed.pass T28 T29 (s25 bs)) (at53 bs) (Scalar.g-room 𝓤 H A W E G28 12 (Syntax.tyInt Syntax.w64) (Scalar.room-sc 𝓤 H A W (Row.sInt Syntax.w64))) d53
 
-          d55 : Typed.Typed 𝓤 H A 𝓣 E G25 b49 Δ3 (at55 bs)
-          d55 = Typed.s-seq 𝓤 H A W 𝓣 E G25 G26 b15 b48 Δ3 (Typed.ask (s22 bs)) (at54 bs) (Scalar.t-op2 𝓤 H A W E 𝓣 G25 Syntax.offset (Scalar.oAt 17 Syntax.tyPtr (Row.valS Row.sPtr)) (Scalar.oAt 12 (Syntax.tyInt Syntax.w64) (Row.valS (Row.sInt Syntax.w64))) 18 (Rows.sc-here Row.sPtr) Syntax.tyPtr (Row.valS Row.sPtr) (Row.sPtr .of) (Scalar.reads-sc 𝓤 H A W Row.sPtr, Path.refl) (Scalar.reads-sc 𝓤 H A W (Row.sInt Syntax.w64), Path.refl) (TReads.room-gone 𝓤 H A Syntax.tyPtr) (Scalar.holds-sc 𝓤 H A W Row.sPtr) Path.refl (λ u. Path.refl) λ u. tt) d54
+          d55 : Typed.Typed 𝓤 H A 𝓣 E G27 b50 Δ3 (at55 bs)
+          d55 = Typed.s-seq 𝓤 H A W 𝓣 E G27 G28 b16 b49 Δ3 (Typed.both (s24 bs)) (at54 bs) (WayStmt.t-way-copy-out 𝓤 H A W E 𝓣 (Referent.rtF (Referent.fInt Syntax.w64)) Path.refl (Copies.cRf (Referent.fInt Syntax.w64) .copy 𝓤 H A W) (λ ρ. Unit) G27 (Row.out 18 (Row.out 6 (G27 .locals))) (λ u. Row.drop 18 (Row.out 6 (G27 .locals)) (Row.drop 6 (G27 .locals) u)) (G27 .slots) 18 (λ t. L._∷_ (Syntax.deref (Syntax.tyInt Syntax.w64)) t) (Syntax.tyInt Syntax.w64) (Syntax.tyInt Syntax.w64) 19 q39 (λ x. x) (λ u. ListN.getD (At.getAt (network-proofs-Degrees·.the-type .parts) 0 (network-proofs-Degrees·.struct .as-values (u .1 .1 .1 .1 .1 .1 .0))) (u .1 .1 .1 .1 .1 .1 .1 .1 .1 .0) 0) (λ u. (Row.hd 0 (Row.tl (Row.tl (Row.tl (Row.tl (Row.tl (Row.tl bs)))))), Shared.bySize 8 (u .1 .1 .1 .1 .1 .1 .1 .1 .1 .0) (Nat._+_ Nat.zero 0))) (λ T′. record { locals = Row.setRow 6 q22 (Row.setRow 18 (18, Rows.sc-here Row.sPtr) T′); slots = G27 .slots }) (λ u T′ m′. Row.set 6 q22 (u .1 .1 .1 .1 .1 .1 .0) (Row.setRow 18 (18, Rows.sc-here Row.sPtr) T′) (Row.set 18 (18, Rows.sc-here Row.sPtr) (u .1 .1 .1 .1 .1 .1 .1 .1 .1 .1 .1 .1 .1 .1 .1 .1 .1 .1 .0) T′ m′)) (λ u. Path._≡_ (u .1 .1 .1 .1 .1 .1 .1 .1 .1 .1 .1 .1 .1 .1 .1 .1 .1 .1 .0 .0) (Row.hd 0 (Row.tl (Row.tl (Row.tl (Row.tl (Row.tl (Row.tl bs))))))) × Path._≡_ (u .1 .1 .1 .1 .1 .1 .1 .1 .1 .1 .1 .1 .1 .1 .1 .1 .1 .1 .0 .1) (Shared.bySize 8 (u .1 .1 .1 .1 .1 .1 .1 .1 .1 .0) (Nat._+_ Nat.zero 0)) × Asked.InArray G27 (λ u. u .1 .1 .1 .1 .1 .1 .1 .1 .1 .0) 33 u) (λ x. Unit) (Own.told-none 𝓤 H A (G27 .slots)) (DerefMove.learns-nothing 𝓤 H A (Referent.rtF (Referent.fInt Syntax.w64))) (λ ρ told u asked. RuleWay.w-look 𝓤 H A W E (ItemWay.w-item-look 𝓤 H A W E (Declared.row network-proofs-Degrees·.the-type) (Referent.rtF (Referent.fInt Syntax.w64)) 33 tt q29 (Syntax.tyInt Syntax.w64) 0 0 (λ x. At.getAt (network-proofs-Degrees·.the-type .parts) 0 (network-proofs-Degrees·.struct .as-values x)) (λ x ys. x) (Shared.bySize 8) (λ i o. Elements.at-mul o 8 i) G27 ρ u (G27 .slots) 6 18 (u .1 .1 .1 .1 .1 .1 .1 .1 .1 .0) 0 (λ x. x) (λ x. x) (TReads.as-is 𝓤 H A q26) (TReads.as-is 𝓤 H A (Rows.sc-here Row.sPtr)) Path.refl (asked .0) (asked .1) (asked .2) Path.refl λ a. Items.cut-array 𝓤 H A TreeShare.fullShare (Declared.row network-proofs-Degrees·.the-type) (Referent.rtF (Referent.fInt Syntax.w64)) 33 0 (u .1 .1 .1 .1 .1 .1 .0) (u .1 .1 .1 .1 .1 .1 .0) (At.getAt (network-proofs-Degrees·.the-type .parts) 0 (network-proofs-Degrees·.struct .as-values (u .1 .1 .1 .1 .1 .1 .0))) (At.getAt (network-proofs-Degrees·.the-type .parts) 0 (network-proofs-Degrees·.struct .as-values (u .1 .1 .1 .1 .1 .1 .0))) a (Behind.look-at 𝓤 H A W TreeShare.fullShare network-proofs-Degrees·.the-type network-proofs-Degrees-Laws·.the-laws 0 0 Path.refl Path.refl a (u .1 .1 .1 .1 .1 .1 .0) (network-proofs-Degrees·.struct .as-values (u .1 .1 .1 .1 .1 .1 .0)) Path.refl))) (TReads.room-gone 𝓤 H A (Syntax.tyInt Syntax.w64)) (Yields.makes-mem 𝓤 H A W (λ ρ. Unit) (Referent.rtF (Referent.fInt Syntax.w64)) Path.refl q39 (λ x. x) λ ρ told. Local.sc-mem 𝓤 H A W (Referent.fInt Syntax.w64) ρ) Path.refl Path.refl Path.refl) d54
 
-          d56 : Typed.Typed 𝓤 H A 𝓣 E G24 b50 Δ3 (at56 bs)
-          d56 = Typed.s-seq 𝓤 H A W 𝓣 E G24 G25 b14 b49 Δ3 (Typed.pass T24 T25 (s21 bs)) (at55 bs) (Init.t-addr-at 𝓤 H A W E 𝓣 G24 17 6 (L._∷_ (Syntax.field 0) L.[]) q28 0 Path.refl (TReads.room-gone 𝓤 H A Syntax.tyPtr) Path.refl) d55
+          d56 : Typed.Typed 𝓤 H A 𝓣 E G26 b50 Δ3 (at56 bs)
+          d56 = Typed.g-pre 𝓤 H A W 𝓣 E G26 G27 b50 Δ3 (Typed.pass T26 T27 (s23 bs)) (at55 bs) (Scalar.g-room 𝓤 H A W E G26 17 Syntax.tyPtr (Scalar.room-sc 𝓤 H A W Row.sPtr)) d55
 
-          d57 : Typed.Typed 𝓤 H A 𝓣 E G23 b51 Δ3 (at57 bs)
-          d57 = Typed.s-seq 𝓤 H A W 𝓣 E G23 G24 b13 b50 Δ3 (Typed.ask (s20 bs)) (at56 bs) (Scalar.t-op2 𝓤 H A W E 𝓣 G23 (Syntax.mul Syntax.unsigned) (Scalar.oAt 9 (Syntax.tyInt Syntax.w64) (Row.valS (Row.sInt Syntax.w64))) (Scalar.oInt Syntax.w64 8) 12 q38 (Syntax.tyInt Syntax.w64) (Row.valS (Row.sInt Syntax.w64)) (Row.sInt Syntax.w64 .of) (Scalar.reads-sc 𝓤 H A W (Row.sInt Syntax.w64), Path.refl) tt (TReads.room-gone 𝓤 H A (Syntax.tyInt Syntax.w64)) (Scalar.holds-sc 𝓤 H A W (Row.sInt Syntax.w64)) Path.refl (λ u. Path.refl) λ u. tt) d56
+          d57 : Typed.Typed 𝓤 H A 𝓣 E G25 b51 Δ3 (at57 bs)
+          d57 = Typed.s-seq 𝓤 H A W 𝓣 E G25 G26 b15 b50 Δ3 (Typed.ask (s22 bs)) (at56 bs) (Scalar.t-op2 𝓤 H A W E 𝓣 G25 Syntax.offset (Scalar.oAt 17 Syntax.tyPtr (Row.valS Row.sPtr)) (Scalar.oAt 12 (Syntax.tyInt Syntax.w64) (Row.valS (Row.sInt Syntax.w64))) 18 (Rows.sc-here Row.sPtr) Syntax.tyPtr (Row.valS Row.sPtr) (Row.sPtr .of) (Scalar.reads-sc 𝓤 H A W Row.sPtr, Path.refl) (Scalar.reads-sc 𝓤 H A W (Row.sInt Syntax.w64), Path.refl) (TReads.room-gone 𝓤 H A Syntax.tyPtr) (Scalar.holds-sc 𝓤 H A W Row.sPtr) Path.refl (λ u. Path.refl) λ u. tt) d56
 
-          d58 : Typed.Typed 𝓤 H A 𝓣 E G22 b51 Δ3 (at58 bs)
-          d58 = Typed.g-pre 𝓤 H A W 𝓣 E G22 G23 b51 Δ3 (Typed.pass T22 T23 (s19 bs)) (at57 bs) (Scalar.g-room 𝓤 H A W E G22 16 Syntax.tyPtr (Scalar.room-sc 𝓤 H A W Row.sPtr)) d57
+          d58 : Typed.Typed 𝓤 H A 𝓣 E G24 b52 Δ3 (at58 bs)
+          d58 = Typed.s-seq 𝓤 H A W 𝓣 E G24 G25 b14 b51 Δ3 (Typed.pass T24 T25 (s21 bs)) (at57 bs) (Init.t-addr-at 𝓤 H A W E 𝓣 G24 17 6 (L._∷_ (Syntax.field 0) L.[]) q29 0 Path.refl (TReads.room-gone 𝓤 H A Syntax.tyPtr) Path.refl) d57
 
-          d59 : Typed.Typed 𝓤 H A 𝓣 E G21 b52 Δ3 (at59 bs)
-          d59 = Typed.s-seq 𝓤 H A W 𝓣 E G21 G22 b12 b51 Δ3 (Typed.both (s18 bs)) (at58 bs) (WayStmt.t-way-copy-out 𝓤 H A W E 𝓣 (Referent.rtF Referent.fBool) Path.refl (Copies.cRf Referent.fBool .copy 𝓤 H A W) (λ ρ. Unit) G21 (Row.out 16 (Row.out 5 (G21 .locals))) (λ u. Row.drop 16 (Row.out 5 (G21 .locals)) (Row.drop 5 (G21 .locals) u)) (G21 .slots) 16 (λ t. L._∷_ (Syntax.deref Syntax.tyBool) t) Syntax.tyBool Syntax.tyBool 13 (Rows.sc-here Row.sBool) (λ x. x) (λ u. ListN.getD (At.getAt (network-proofs-Nodes·.the-type .parts) 2 (network-proofs-Nodes·.struct .as-values (u .1 .1 .1 .1 .1 .0))) (u .1 .1 .1 .1 .1 .1 .1 .1 .1 .0) Bool.false) (λ u. (Row.hd 0 (Row.tl (Row.tl (Row.tl (Row.tl (Row.tl bs))))), Shared.byByte (u .1 .1 .1 .1 .1 .1 .1 .1 .1 .0) (Nat._+_ Nat.zero 16))) (λ T′. record { locals = Row.setRow 5 q24 (Row.setRow 16 (16, Rows.sc-here Row.sPtr) T′); slots = G21 .slots }) (λ u T′ m′. Row.set 5 q24 (u .1 .1 .1 .1 .1 .0) (Row.setRow 16 (16, Rows.sc-here Row.sPtr) T′) (Row.set 16 (16, Rows.sc-here Row.sPtr) (u .1 .1 .1 .1 .1 .1 .1 .1 .1 .1 .1 .1 .1 .1 .1 .1 .0) T′ m′)) (λ u. Path._≡_ (u .1 .1 .1 .1 .1 .1 .1 .1 .1 .1 .1 .1 .1 .1 .1 .1 .0 .0) (Row.hd 0 (Row.tl (Row.tl (Row.tl (Row.tl (Row.tl bs)))))) × Path._≡_ (u .1 .1 .1 .1 .1 .1 .1 .1 .1 .1 .1 .1 .1 .1 .1 .1 .0 .1) (Shared.byByte (u .1 .1 .1 .1 .1 .1 .1 .1 .1 .0) (Nat._+_ Nat.zero 16)) × Asked.InArray G21 (λ u. u .1 .1 .1 .1 .1 .1 .1 .1 .1 .0) 33 u) (λ x. Unit) (Own.told-none 𝓤 H A (G21 .slots)) (DerefMove.learns-nothing 𝓤 H A (Referent.rtF Referent.fBool)) (λ ρ told u asked. RuleWay.w-look 𝓤 H A W E (ItemWay.w-item-look 𝓤 H A W E (Declared.row network-proofs-Nodes·.the-type) (Referent.rtF Referent.fBool) 33 tt q39 Syntax.tyBool 2 16 (λ x. At.getAt (network-proofs-Nodes·.the-type .parts) 2 (network-proofs-Nodes·.struct .as-values x)) (λ x ys. x) Shared.byByte (λ i o. Elements.at-byte o i) G21 ρ u (G21 .slots) 5 16 (u .1 .1 .1 .1 .1 .1 .1 .1 .1 .0) Bool.false (λ x. x) (λ x. x) (TReads.as-is 𝓤 H A q26) (TReads.as-is 𝓤 H A (Rows.sc-here Row.sPtr)) Path.refl (asked .0) (asked .1) (asked .2) Path.refl λ a. Items.cut-array 𝓤 H A TreeShare.fullShare (Declared.row network-proofs-Nodes·.the-type) (Referent.rtF Referent.fBool) 33 16 (u .1 .1 .1 .1 .1 .0) (u .1 .1 .1 .1 .1 .0) (At.getAt (network-proofs-Nodes·.the-type .parts) 2 (network-proofs-Nodes·.struct .as-values (u .1 .1 .1 .1 .1 .0))) (At.getAt (network-proofs-Nodes·.the-type .parts) 2 (network-proofs-Nodes·.struct .as-values (u .1 .1 .1 .1 .1 .0))) a (Behind.look-at 𝓤 H A W TreeShare.fullShare network-proofs-Nodes·.the-type network-proofs-Nodes-Laws·.the-laws 2 16 Path.refl Path.refl a (u .1 .1 .1 .1 .1 .0) (network-proofs-Nodes·.struct .as-values (u .1 .1 .1 .1 .1 .0)) Path.refl))) (TReads.room-gone 𝓤 H A Syntax.tyBool) (Yields.makes-mem 𝓤 H A W (λ ρ. Unit) (Referent.rtF Referent.fBool) Path.refl (Rows.sc-here Row.sBool) (λ x. x) λ ρ told. Local.sc-mem 𝓤 H A W Referent.fBool ρ) Path.refl Path.refl Path.refl) d58
+          d59 : Typed.Typed 𝓤 H A 𝓣 E G23 b53 Δ3 (at59 bs)
+          d59 = Typed.s-seq 𝓤 H A W 𝓣 E G23 G24 b13 b52 Δ3 (Typed.ask (s20 bs)) (at58 bs) (Scalar.t-op2 𝓤 H A W E 𝓣 G23 (Syntax.mul Syntax.unsigned) (Scalar.oAt 9 (Syntax.tyInt Syntax.w64) (Row.valS (Row.sInt Syntax.w64))) (Scalar.oInt Syntax.w64 8) 12 q39 (Syntax.tyInt Syntax.w64) (Row.valS (Row.sInt Syntax.w64)) (Row.sInt Syntax.w64 .of) (Scalar.reads-sc 𝓤 H A W (Row.sInt Syntax.w64), Path.refl) tt (TReads.room-gone 𝓤 H A (Syntax.tyInt Syntax.w64)) (Scalar.holds-sc 𝓤 H A W (Row.sInt Syntax.w64)) Path.refl (λ u. Path.refl) λ u. tt) d58
 
-          d60 : Typed.Typed 𝓤 H A 𝓣 E G20 b52 Δ3 (at60 bs)
-          d60 = Typed.g-pre 𝓤 H A W 𝓣 E G20 G21 b52 Δ3 (Typed.pass T20 T21 (s17 bs)) (at59 bs) (Scalar.g-room 𝓤 H A W E G20 15 Syntax.tyPtr (Scalar.room-sc 𝓤 H A W Row.sPtr)) d59
+          d60 : Typed.Typed 𝓤 H A 𝓣 E G22 b53 Δ3 (at60 bs)
+          d60 = Typed.g-pre 𝓤 H A W 𝓣 E G22 G23 b53 Δ3 (Typed.pass T22 T23 (s19 bs)) (at59 bs) (Scalar.g-room 𝓤 H A W E G22 16 Syntax.tyPtr (Scalar.room-sc 𝓤 H A W Row.sPtr)) d59
 
-          d61 : Typed.Typed 𝓤 H A 𝓣 E G19 b53 Δ3 (at61 bs)
-          d61 = Typed.s-seq 𝓤 H A W 𝓣 E G19 G20 b11 b52 Δ3 (Typed.ask (s16 bs)) (at60 bs) (Scalar.t-op2 𝓤 H A W E 𝓣 G19 Syntax.offset (Scalar.oAt 15 Syntax.tyPtr (Row.valS Row.sPtr)) (Scalar.oAt 9 (Syntax.tyInt Syntax.w64) (Row.valS (Row.sInt Syntax.w64))) 16 (Rows.sc-here Row.sPtr) Syntax.tyPtr (Row.valS Row.sPtr) (Row.sPtr .of) (Scalar.reads-sc 𝓤 H A W Row.sPtr, Path.refl) (Scalar.reads-sc 𝓤 H A W (Row.sInt Syntax.w64), Path.refl) (TReads.room-gone 𝓤 H A Syntax.tyPtr) (Scalar.holds-sc 𝓤 H A W Row.sPtr) Path.refl (λ u. Path.refl) λ u. tt) d60
+          d61 : Typed.Typed 𝓤 H A 𝓣 E G21 b54 Δ3 (at61 bs)
+          d61 = Typed.s-seq 𝓤 H A W 𝓣 E G21 G22 b12 b53 Δ3 (Typed.both (s18 bs)) (at60 bs) (WayStmt.t-way-copy-out 𝓤 H A W E 𝓣 (Referent.rtF Referent.fBool) Path.refl (Copies.cRf Referent.fBool .copy 𝓤 H A W) (λ ρ. Unit) G21 (Row.out 16 (Row.out 5 (G21 .locals))) (λ u. Row.drop 16 (Row.out 5 (G21 .locals)) (Row.drop 5 (G21 .locals) u)) (G21 .slots) 16 (λ t. L._∷_ (Syntax.deref Syntax.tyBool) t) Syntax.tyBool Syntax.tyBool 13 (Rows.sc-here Row.sBool) (λ x. x) (λ u. ListN.getD (At.getAt (network-proofs-Nodes·.the-type .parts) 3 (network-proofs-Nodes·.struct .as-values (u .1 .1 .1 .1 .1 .0))) (u .1 .1 .1 .1 .1 .1 .1 .1 .1 .0) Bool.false) (λ u. (Row.hd 0 (Row.tl (Row.tl (Row.tl (Row.tl (Row.tl bs))))), Shared.byByte (u .1 .1 .1 .1 .1 .1 .1 .1 .1 .0) (Nat._+_ Nat.zero 24))) (λ T′. record { locals = Row.setRow 5 q25 (Row.setRow 16 (16, Rows.sc-here Row.sPtr) T′); slots = G21 .slots }) (λ u T′ m′. Row.set 5 q25 (u .1 .1 .1 .1 .1 .0) (Row.setRow 16 (16, Rows.sc-here Row.sPtr) T′) (Row.set 16 (16, Rows.sc-here Row.sPtr) (u .1 .1 .1 .1 .1 .1 .1 .1 .1 .1 .1 .1 .1 .1 .1 .1 .0) T′ m′)) (λ u. Path._≡_ (u .1 .1 .1 .1 .1 .1 .1 .1 .1 .1 .1 .1 .1 .1 .1 .1 .0 .0) (Row.hd 0 (Row.tl (Row.tl (Row.tl (Row.tl (Row.tl bs)))))) × Path._≡_ (u .1 .1 .1 .1 .1 .1 .1 .1 .1 .1 .1 .1 .1 .1 .1 .1 .0 .1) (Shared.byByte (u .1 .1 .1 .1 .1 .1 .1 .1 .1 .0) (Nat._+_ Nat.zero 24)) × Asked.InArray G21 (λ u. u .1 .1 .1 .1 .1 .1 .1 .1 .1 .0) 33 u) (λ x. Unit) (Own.told-none 𝓤 H A (G21 .slots)) (DerefMove.learns-nothing 𝓤 H A (Referent.rtF Referent.fBool)) (λ ρ told u asked. RuleWay.w-look 𝓤 H A W E (ItemWay.w-item-look 𝓤 H A W E (Declared.row network-proofs-Nodes·.the-type) (Referent.rtF Referent.fBool) 33 tt q40 Syntax.tyBool 3 24 (λ x. At.getAt (network-proofs-Nodes·.the-type .parts) 3 (network-proofs-Nodes·.struct .as-values x)) (λ x ys. x) Shared.byByte (λ i o. Elements.at-byte o i) G21 ρ u (G21 .slots) 5 16 (u .1 .1 .1 .1 .1 .1 .1 .1 .1 .0) Bool.false (λ x. x) (λ x. x) (TReads.as-is 𝓤 H A q27) (TReads.as-is 𝓤 H A (Rows.sc-here Row.sPtr)) Path.refl (asked .0) (asked .1) (asked .2) Path.refl λ a. Items.cut-array 𝓤 H A TreeShare.fullShare (Declared.row network-proofs-Nodes·.the-type) (Referent.rtF Referent.fBool) 33 24 (u .1 .1 .1 .1 .1 .0) (u .1 .1 .1 .1 .1 .0) (At.getAt (network-proofs-Nodes·.the-type .parts) 3 (network-proofs-Nodes·.struct .as-values (u .1 .1 .1 .1 .1 .0))) (At.getAt (network-proofs-Nodes·.the-type .parts) 3 (network-proofs-Nodes·.struct .as-values (u .1 .1 .1 .1 .1 .0))) a (Behind.look-at 𝓤 H A W TreeShare.fullShare network-proofs-Nodes·.the-type network-proofs-Nodes-Laws·.the-laws 3 24 Path.refl Path.refl a (u .1 .1 .1 .1 .1 .0) (network-proofs-Nodes·.struct .as-values (u .1 .1 .1 .1 .1 .0)) Path.refl))) (TReads.room-gone 𝓤 H A Syntax.tyBool) (Yields.makes-mem 𝓤 H A W (λ ρ. Unit) (Referent.rtF Referent.fBool) Path.refl (Rows.sc-here Row.sBool) (λ x. x) λ ρ told. Local.sc-mem 𝓤 H A W Referent.fBool ρ) Path.refl Path.refl Path.refl) d60
 
-          d62 : Typed.Typed 𝓤 H A 𝓣 E G12 b54 Δ3 (at62 bs)
-          d62 = Typed.s-seq 𝓤 H A W 𝓣 E G12 G19 b10 b53 Δ3 (Typed.pass T12 T19 (s15 bs)) (at61 bs) (Init.t-addr-at 𝓤 H A W E 𝓣 G12 15 5 (L._∷_ (Syntax.field 2) L.[]) q39 16 Path.refl (TReads.room-gone 𝓤 H A Syntax.tyPtr) Path.refl) d61
+          d62 : Typed.Typed 𝓤 H A 𝓣 E G20 b54 Δ3 (at62 bs)
+          d62 = Typed.g-pre 𝓤 H A W 𝓣 E G20 G21 b54 Δ3 (Typed.pass T20 T21 (s17 bs)) (at61 bs) (Scalar.g-room 𝓤 H A W E G20 15 Syntax.tyPtr (Scalar.room-sc 𝓤 H A W Row.sPtr)) d61
 
-          d63 : Typed.Typed 𝓤 H A 𝓣 E G11 b55 Δ3 (at63 bs)
-          d63 = Typed.t-seq 𝓤 H A W 𝓣 E G11 G12 b9 b54 Δ3 (at8 bs) (at62 bs) d8 d62
+          d63 : Typed.Typed 𝓤 H A 𝓣 E G19 b55 Δ3 (at63 bs)
+          d63 = Typed.s-seq 𝓤 H A W 𝓣 E G19 G20 b11 b54 Δ3 (Typed.ask (s16 bs)) (at62 bs) (Scalar.t-op2 𝓤 H A W E 𝓣 G19 Syntax.offset (Scalar.oAt 15 Syntax.tyPtr (Row.valS Row.sPtr)) (Scalar.oAt 9 (Syntax.tyInt Syntax.w64) (Row.valS (Row.sInt Syntax.w64))) 16 (Rows.sc-here Row.sPtr) Syntax.tyPtr (Row.valS Row.sPtr) (Row.sPtr .of) (Scalar.reads-sc 𝓤 H A W Row.sPtr, Path.refl) (Scalar.reads-sc 𝓤 H A W (Row.sInt Syntax.w64), Path.refl) (TReads.room-gone 𝓤 H A Syntax.tyPtr) (Scalar.holds-sc 𝓤 H A W Row.sPtr) Path.refl (λ u. Path.refl) λ u. tt) d62
 
-          d64 : Typed.Typed 𝓤 H A 𝓣 E G10 b56 Δ3 (at64 bs)
-          d64 = Typed.s-seq 𝓤 H A W 𝓣 E G10 G11 b6 b55 Δ3 (Typed.ask (s8 bs)) (at63 bs) (Scalar.t-op2 𝓤 H A W E 𝓣 G10 (Syntax.le Syntax.unsigned) (Scalar.oAt 9 (Syntax.tyInt Syntax.w64) (Row.valS (Row.sInt Syntax.w64))) (Scalar.oAt 12 (Syntax.tyInt Syntax.w64) (Row.valS (Row.sInt Syntax.w64))) 13 (Rows.sc-here Row.sBool) Syntax.tyBool (Row.valS Row.sBool) (Row.sBool .of) (Scalar.reads-sc 𝓤 H A W (Row.sInt Syntax.w64), Path.refl) (Scalar.reads-sc 𝓤 H A W (Row.sInt Syntax.w64), Path.refl) (TReads.room-gone 𝓤 H A Syntax.tyBool) (Scalar.holds-sc 𝓤 H A W Row.sBool) Path.refl (λ u. Path.refl) λ u. tt) d63
+          d64 : Typed.Typed 𝓤 H A 𝓣 E G12 b56 Δ3 (at64 bs)
+          d64 = Typed.s-seq 𝓤 H A W 𝓣 E G12 G19 b10 b55 Δ3 (Typed.pass T12 T19 (s15 bs)) (at63 bs) (Init.t-addr-at 𝓤 H A W E 𝓣 G12 15 5 (L._∷_ (Syntax.field 3) L.[]) q40 24 Path.refl (TReads.room-gone 𝓤 H A Syntax.tyPtr) Path.refl) d63
 
-          d65 : Typed.Typed 𝓤 H A 𝓣 E G8 b57 Δ3 (at65 bs)
-          d65 = Typed.s-seq 𝓤 H A W 𝓣 E G8 G10 b5 b56 Δ3 (Typed.pass T8 T10 (s7 bs)) (at64 bs) (Scalar.t-use 𝓤 H A W E 𝓣 G8 (Scalar.oFld 5 (L._∷_ (Syntax.field 0) L.[]) (Syntax.tyInt Syntax.w64) 0 (Reads.fieldV network-proofs-Nodes·.the-type network-proofs-Nodes-Laws·.the-laws 0)) 12 q38 (Syntax.tyInt Syntax.w64) (Row.valS (Row.sInt Syntax.w64)) (Row.sInt Syntax.w64 .of) (Reads.reads-field 𝓤 H A W network-proofs-Nodes·.the-type network-proofs-Nodes-Laws·.the-laws 0 (Syntax.tyInt Syntax.w64) 0 Path.refl, Path.refl) (TReads.room-gone 𝓤 H A (Syntax.tyInt Syntax.w64)) (Scalar.holds-sc 𝓤 H A W (Row.sInt Syntax.w64)) Path.refl (λ u. Path.refl) λ u. tt) d64
+          d65 : Typed.Typed 𝓤 H A 𝓣 E G11 b57 Δ3 (at65 bs)
+          d65 = Typed.t-seq 𝓤 H A W 𝓣 E G11 G12 b9 b56 Δ3 (at8 bs) (at64 bs) d8 d64
 
-          d66 : Typed.Typed 𝓤 H A 𝓣 E G8 b58 Δ2 (at66 bs)
-          d66 = Typed.t-loop-by 𝓤 H A W 𝓣 E G8 b57 Δ2 put0 (λ u vs. Inv·0 (Row.get 2 (T8 .locals) u .now) (Row.get 4 (T8 .locals) u) (Row.get 5 (T8 .locals) u) (Row.get 6 (T8 .locals) u) (Row.get 7 (T8 .locals) u) (Row.get 8 (T8 .locals) u) (Row.get 9 (T8 .locals) u) vs) (λ u vs. μ·0 (Row.get 2 (T8 .locals) u .now) (Row.get 4 (T8 .locals) u) (Row.get 5 (T8 .locals) u) (Row.get 6 (T8 .locals) u) (Row.get 7 (T8 .locals) u) (Row.get 8 (T8 .locals) u) (Row.get 9 (T8 .locals) u) vs) (at65 bs) d65
+          d66 : Typed.Typed 𝓤 H A 𝓣 E G10 b58 Δ3 (at66 bs)
+          d66 = Typed.s-seq 𝓤 H A W 𝓣 E G10 G11 b6 b57 Δ3 (Typed.ask (s8 bs)) (at65 bs) (Scalar.t-op2 𝓤 H A W E 𝓣 G10 (Syntax.le Syntax.unsigned) (Scalar.oAt 9 (Syntax.tyInt Syntax.w64) (Row.valS (Row.sInt Syntax.w64))) (Scalar.oAt 12 (Syntax.tyInt Syntax.w64) (Row.valS (Row.sInt Syntax.w64))) 13 (Rows.sc-here Row.sBool) Syntax.tyBool (Row.valS Row.sBool) (Row.sBool .of) (Scalar.reads-sc 𝓤 H A W (Row.sInt Syntax.w64), Path.refl) (Scalar.reads-sc 𝓤 H A W (Row.sInt Syntax.w64), Path.refl) (TReads.room-gone 𝓤 H A Syntax.tyBool) (Scalar.holds-sc 𝓤 H A W Row.sBool) Path.refl (λ u. Path.refl) λ u. tt) d65
 
-          d67 : Typed.Typed 𝓤 H A 𝓣 E G8 b59 Δ1 (at67 bs)
-          d67 = Typed.t-block 𝓤 H A W 𝓣 E G8 b58 Δ1 (at66 bs) d66
+          d67 : Typed.Typed 𝓤 H A 𝓣 E G8 b59 Δ3 (at67 bs)
+          d67 = Typed.s-seq 𝓤 H A W 𝓣 E G8 G10 b5 b58 Δ3 (Typed.pass T8 T10 (s7 bs)) (at66 bs) (Scalar.t-use 𝓤 H A W E 𝓣 G8 (Scalar.oFld 5 (L._∷_ (Syntax.field 0) L.[]) (Syntax.tyInt Syntax.w64) 0 (Reads.fieldV network-proofs-Nodes·.the-type network-proofs-Nodes-Laws·.the-laws 0)) 12 q39 (Syntax.tyInt Syntax.w64) (Row.valS (Row.sInt Syntax.w64)) (Row.sInt Syntax.w64 .of) (Reads.reads-field 𝓤 H A W network-proofs-Nodes·.the-type network-proofs-Nodes-Laws·.the-laws 0 (Syntax.tyInt Syntax.w64) 0 Path.refl, Path.refl) (TReads.room-gone 𝓤 H A (Syntax.tyInt Syntax.w64)) (Scalar.holds-sc 𝓤 H A W (Row.sInt Syntax.w64)) Path.refl (λ u. Path.refl) λ u. tt) d66
 
-          d68 : Typed.Typed 𝓤 H A 𝓣 E G69 b61 Δ0 (at68 bs)
-          d68 = Typed.t-return 𝓤 H A W 𝓣 E Δ0 tt
+          d68 : Typed.Typed 𝓤 H A 𝓣 E G8 b60 Δ2 (at68 bs)
+          d68 = Typed.t-loop-by 𝓤 H A W 𝓣 E G8 b59 Δ2 put0 (λ u vs. Inv·0 (Row.get 2 (T8 .locals) u .now) (Row.get 4 (T8 .locals) u) (Row.get 5 (T8 .locals) u) (Row.get 6 (T8 .locals) u) (Row.get 7 (T8 .locals) u) (Row.get 8 (T8 .locals) u) (Row.get 9 (T8 .locals) u) vs) (λ u vs. μ·0 (Row.get 2 (T8 .locals) u .now) (Row.get 4 (T8 .locals) u) (Row.get 5 (T8 .locals) u) (Row.get 6 (T8 .locals) u) (Row.get 7 (T8 .locals) u) (Row.get 8 (T8 .locals) u) (Row.get 9 (T8 .locals) u) vs) (at67 bs) d67
 
-          d69 : Typed.Typed 𝓤 H A 𝓣 E G68 b61 Δ0 (at69 bs)
-          d69 = Typed.g-pre 𝓤 H A W 𝓣 E G68 G69 b61 Δ0 (Typed.pass T68 T69 (s64 bs)) (at68 bs) (Scalar.g-room 𝓤 H A W E G68 4 (Syntax.tyInt Syntax.w64) (Scalar.room-sc 𝓤 H A W (Row.sInt Syntax.w64))) d68
+          d69 : Typed.Typed 𝓤 H A 𝓣 E G8 b61 Δ1 (at69 bs)
+          d69 = Typed.t-block 𝓤 H A W 𝓣 E G8 b60 Δ1 (at68 bs) d68
 
-          d70 : Typed.Typed 𝓤 H A 𝓣 E G67 b61 Δ0 (at70 bs)
-          d70 = Typed.g-pre 𝓤 H A W 𝓣 E G67 G68 b61 Δ0 (Typed.pass T67 T68 (s63 bs)) (at69 bs) (Scalar.g-room 𝓤 H A W E G67 9 (Syntax.tyInt Syntax.w64) (Scalar.room-sc 𝓤 H A W (Row.sInt Syntax.w64))) d69
+          d70 : Typed.Typed 𝓤 H A 𝓣 E G71 b63 Δ0 (at70 bs)
+          d70 = Typed.t-return 𝓤 H A W 𝓣 E Δ0 tt
 
-          d71 : Typed.Typed 𝓤 H A 𝓣 E G66 b61 Δ0 (at71 bs)
-          d71 = Typed.g-pre 𝓤 H A W 𝓣 E G66 G67 b61 Δ0 (Typed.pass T66 T67 (s62 bs)) (at70 bs) (Scalar.g-room 𝓤 H A W E G66 8 (Syntax.tyInt Syntax.w64) (Scalar.room-sc 𝓤 H A W (Row.sInt Syntax.w64))) d70
+          d71 : Typed.Typed 𝓤 H A 𝓣 E G70 b63 Δ0 (at71 bs)
+          d71 = Typed.g-pre 𝓤 H A W 𝓣 E G70 G71 b63 Δ0 (Typed.pass T70 T71 (s66 bs)) (at70 bs) (Scalar.g-room 𝓤 H A W E G70 4 (Syntax.tyInt Syntax.w64) (Scalar.room-sc 𝓤 H A W (Row.sInt Syntax.w64))) d70
 
-          d72 : Typed.Typed 𝓤 H A 𝓣 E G9 b62 Δ0 (at72 bs)
-          d72 = Typed.s-seq 𝓤 H A W 𝓣 E G9 G66 b60 b61 Δ0 (Typed.both (s61 bs)) (at71 bs) (Plain.t-call-plain 𝓤 H A W 𝓣 0 ps·5 r·5 (claims· .10) (claims· .11) "rules::found::nothing" (known .5) E (λ pos β. β) G9 tt 0 L.[] (Call.sub-id 𝓤 H A W (G9 .slots)) tt (TReads.room-gone 𝓤 H A (Syntax.tyStruct (L._∷_ 114 (L._∷_ 117 (L._∷_ 108 (L._∷_ 101 (L._∷_ 115 (L._∷_ 58 (L._∷_ 58 (L._∷_ 102 (L._∷_ 111 (L._∷_ 117 (L._∷_ 110 (L._∷_ 100 (L._∷_ 58 (L._∷_ 58 (L._∷_ 70 (L._∷_ 111 (L._∷_ 117 (L._∷_ 110 (L._∷_ 100 L.[]))))))))))))))))))) (Syntax.tcons Syntax.tyBool (Syntax.tcons Syntax.tyBool (Syntax.tcons (Syntax.tyStruct (L._∷_ 115 (L._∷_ 116 (L._∷_ 101 (L._∷_ 112 (L._∷_ 58 (L._∷_ 58 (L._∷_ 83 (L._∷_ 116 (L._∷_ 101 (L._∷_ 112 L.[])))))))))) (Syntax.tcons (Syntax.tyInt Syntax.w64) (Syntax.tcons (Syntax.tyInt Syntax.w64) (Syntax.tcons (Syntax.tyStruct (L._∷_ 115 (L._∷_ 116 (L._∷_ 101 (L._∷_ 112 (L._∷_ 58 (L._∷_ 58 (L._∷_ 67 (L._∷_ 104 (L._∷_ 97 (L._∷_ 110 (L._∷_ 103 (L._∷_ 101 L.[])))))))))))) (Syntax.tcons (Syntax.tyStruct (L._∷_ 110 (L._∷_ 101 (L._∷_ 116 (L._∷_ 119 (L._∷_ 111 (L._∷_ 114 (L._∷_ 107 (L._∷_ 58 (L._∷_ 58 (L._∷_ 69 (L._∷_ 100 (L._∷_ 105 (L._∷_ 116 L.[]))))))))))))) (Syntax.tcons q11 (Syntax.tcons q11 (Syntax.tcons q11 (Syntax.tcons q11 (Syntax.tcons q3 (Syntax.tcons q3 (Syntax.tcons (Syntax.tyInt Syntax.w64) Syntax.tnil)))))))) (Syntax.tcons (Syntax.tyStruct (L._∷_ 115 (L._∷_ 116 (L._∷_ 101 (L._∷_ 112 (L._∷_ 58 (L._∷_ 58 (L._∷_ 79 (L._∷_ 108 (L._∷_ 100 L.[]))))))))) (Syntax.tcons (Syntax.tyInt Syntax.w64) (Syntax.tcons q10 (Syntax.tcons q11 (Syntax.tcons q11 (Syntax.tcons q11 (Syntax.tcons q11 (Syntax.tcons q7 Syntax.tnil)))))))) Syntax.tnil))) Syntax.tnil)))) Syntax.tnil))))) tt Path.refl) d71
+          d72 : Typed.Typed 𝓤 H A 𝓣 E G69 b63 Δ0 (at72 bs)
+          d72 = Typed.g-pre 𝓤 H A W 𝓣 E G69 G70 b63 Δ0 (Typed.pass T69 T70 (s65 bs)) (at71 bs) (Scalar.g-room 𝓤 H A W E G69 9 (Syntax.tyInt Syntax.w64) (Scalar.room-sc 𝓤 H A W (Row.sInt Syntax.w64))) d71
 
-          d73 : Typed.Typed 𝓤 H A 𝓣 E G8 b63 Δ0 (at73 bs)
-          d73 = Typed.t-seq 𝓤 H A W 𝓣 E G8 G9 b59 b62 Δ0 (at67 bs) (at72 bs) d67 d72
+          d73 : Typed.Typed 𝓤 H A 𝓣 E G68 b63 Δ0 (at73 bs)
+          d73 = Typed.g-pre 𝓤 H A W 𝓣 E G68 G69 b63 Δ0 (Typed.pass T68 T69 (s64 bs)) (at72 bs) (Scalar.g-room 𝓤 H A W E G68 8 (Syntax.tyInt Syntax.w64) (Scalar.room-sc 𝓤 H A W (Row.sInt Syntax.w64))) d72
 
-          d74 : Typed.Typed 𝓤 H A 𝓣 E G7 b64 Δ0 (at74 bs)
-          d74 = Typed.s-seq 𝓤 H A W 𝓣 E G7 G8 b4 b63 Δ0 (Typed.pass T7 T8 (s6 bs)) (at73 bs) (Scalar.t-use 𝓤 H A W E 𝓣 G7 (Scalar.oInt Syntax.w64 1) 9 q38 (Syntax.tyInt Syntax.w64) (Row.valS (Row.sInt Syntax.w64)) (Row.sInt Syntax.w64 .of) tt (TReads.room-gone 𝓤 H A (Syntax.tyInt Syntax.w64)) (Scalar.holds-sc 𝓤 H A W (Row.sInt Syntax.w64)) Path.refl (λ u. Path.refl) λ u. tt) d73
+          d74 : Typed.Typed 𝓤 H A 𝓣 E G9 b64 Δ0 (at74 bs)
+          d74 = Typed.s-seq 𝓤 H A W 𝓣 E G9 G68 b62 b63 Δ0 (Typed.both (s63 bs)) (at73 bs) (Plain.t-call-plain 𝓤 H A W 𝓣 0 ps·5 r·5 (claims· .10) (claims· .11) "rules::found::nothing" (known .5) E (λ pos β. β) G9 tt 0 L.[] (Call.sub-id 𝓤 H A W (G9 .slots)) tt (TReads.room-gone 𝓤 H A (Syntax.tyStruct (L._∷_ 114 (L._∷_ 117 (L._∷_ 108 (L._∷_ 101 (L._∷_ 115 (L._∷_ 58 (L._∷_ 58 (L._∷_ 102 (L._∷_ 111 (L._∷_ 117 (L._∷_ 110 (L._∷_ 100 (L._∷_ 58 (L._∷_ 58 (L._∷_ 70 (L._∷_ 111 (L._∷_ 117 (L._∷_ 110 (L._∷_ 100 L.[]))))))))))))))))))) (Syntax.tcons Syntax.tyBool (Syntax.tcons Syntax.tyBool (Syntax.tcons (Syntax.tyStruct (L._∷_ 115 (L._∷_ 116 (L._∷_ 101 (L._∷_ 112 (L._∷_ 58 (L._∷_ 58 (L._∷_ 83 (L._∷_ 116 (L._∷_ 101 (L._∷_ 112 L.[])))))))))) (Syntax.tcons (Syntax.tyInt Syntax.w64) (Syntax.tcons (Syntax.tyInt Syntax.w64) (Syntax.tcons (Syntax.tyStruct (L._∷_ 115 (L._∷_ 116 (L._∷_ 101 (L._∷_ 112 (L._∷_ 58 (L._∷_ 58 (L._∷_ 67 (L._∷_ 104 (L._∷_ 97 (L._∷_ 110 (L._∷_ 103 (L._∷_ 101 L.[])))))))))))) (Syntax.tcons (Syntax.tyStruct (L._∷_ 110 (L._∷_ 101 (L._∷_ 116 (L._∷_ 119 (L._∷_ 111 (L._∷_ 114 (L._∷_ 107 (L._∷_ 58 (L._∷_ 58 (L._∷_ 69 (L._∷_ 100 (L._∷_ 105 (L._∷_ 116 L.[]))))))))))))) (Syntax.tcons q12 (Syntax.tcons q12 (Syntax.tcons q12 (Syntax.tcons q12 (Syntax.tcons q3 (Syntax.tcons q3 (Syntax.tcons (Syntax.tyInt Syntax.w64) (Syntax.tcons q11 Syntax.tnil))))))))) (Syntax.tcons (Syntax.tyStruct (L._∷_ 115 (L._∷_ 116 (L._∷_ 101 (L._∷_ 112 (L._∷_ 58 (L._∷_ 58 (L._∷_ 79 (L._∷_ 108 (L._∷_ 100 L.[]))))))))) (Syntax.tcons (Syntax.tyInt Syntax.w64) (Syntax.tcons q11 (Syntax.tcons q12 (Syntax.tcons q12 (Syntax.tcons q12 (Syntax.tcons q12 (Syntax.tcons q7 Syntax.tnil)))))))) Syntax.tnil))) Syntax.tnil)))) Syntax.tnil))))) tt Path.refl) d73
 
-          d75 : Typed.Typed 𝓤 H A 𝓣 E G6 b65 Δ0 (at75 bs)
-          d75 = Typed.s-seq 𝓤 H A W 𝓣 E G6 G7 b3 b64 Δ0 (Typed.pass T6 T7 (s5 bs)) (at74 bs) (Scalar.t-use 𝓤 H A W E 𝓣 G6 (Scalar.oFld 7 (L._∷_ (Syntax.field 1) L.[]) (Syntax.tyInt Syntax.w64) 8 (Reads.fieldV rules-proofs-tried-Asks·.the-type rules-proofs-tried-Asks-Laws·.the-laws 1)) 8 q38 (Syntax.tyInt Syntax.w64) (Row.valS (Row.sInt Syntax.w64)) (Row.sInt Syntax.w64 .of) (Reads.reads-field 𝓤 H A W rules-proofs-tried-Asks·.the-type rules-proofs-tried-Asks-Laws·.the-laws 1 (Syntax.tyInt Syntax.w64) 8 Path.refl, Path.refl) (TReads.room-gone 𝓤 H A (Syntax.tyInt Syntax.w64)) (Scalar.holds-sc 𝓤 H A W (Row.sInt Syntax.w64)) Path.refl (λ u. Path.refl) λ u. tt) d74
+          d75 : Typed.Typed 𝓤 H A 𝓣 E G8 b65 Δ0 (at75 bs)
+          d75 = Typed.t-seq 𝓤 H A W 𝓣 E G8 G9 b61 b64 Δ0 (at69 bs) (at74 bs) d69 d74
 
-          d76 : Typed.Typed 𝓤 H A 𝓣 E G5 b66 Δ0 (at76 bs)
-          d76 = Typed.s-seq 𝓤 H A W 𝓣 E G5 G6 b2 b65 Δ0 (Typed.both (s4 bs)) (at75 bs) (Plain.t-call-plain 𝓤 H A W 𝓣 0 ps·0 r·0 (claims· .0) (claims· .1) "rules::tried::asks_of" (known .0) E (λ pos β. β) G5 (Num.vAt 4 λ x. x, tt) 7 L.[] (Call.sub-id 𝓤 H A W (G5 .slots)) ((Scalar.reads-sc 𝓤 H A W (Row.sInt Syntax.w64), Path.refl), tt) (TReads.room-gone 𝓤 H A q6) tt Path.refl) d75
+          d76 : Typed.Typed 𝓤 H A 𝓣 E G7 b66 Δ0 (at76 bs)
+          d76 = Typed.s-seq 𝓤 H A W 𝓣 E G7 G8 b4 b65 Δ0 (Typed.pass T7 T8 (s6 bs)) (at75 bs) (Scalar.t-use 𝓤 H A W E 𝓣 G7 (Scalar.oInt Syntax.w64 1) 9 q39 (Syntax.tyInt Syntax.w64) (Row.valS (Row.sInt Syntax.w64)) (Row.sInt Syntax.w64 .of) tt (TReads.room-gone 𝓤 H A (Syntax.tyInt Syntax.w64)) (Scalar.holds-sc 𝓤 H A W (Row.sInt Syntax.w64)) Path.refl (λ u. Path.refl) λ u. tt) d75
 
-          d77 : Typed.Typed 𝓤 H A 𝓣 E G4 b66 Δ0 (at77 bs)
-          d77 = Typed.g-pre 𝓤 H A W 𝓣 E G4 G5 b66 Δ0 (Typed.pass T4 T5 (s3 bs)) (at76 bs) (Scalar.g-room 𝓤 H A W E G4 3 q14 (Local.room-whole 𝓤 H A W (Declared.row network-proofs-Degrees·.the-type) q14 Path.refl)) d76
+          d77 : Typed.Typed 𝓤 H A 𝓣 E G6 b67 Δ0 (at77 bs)
+          d77 = Typed.s-seq 𝓤 H A W 𝓣 E G6 G7 b3 b66 Δ0 (Typed.pass T6 T7 (s5 bs)) (at76 bs) (Scalar.t-use 𝓤 H A W E 𝓣 G6 (Scalar.oFld 7 (L._∷_ (Syntax.field 1) L.[]) (Syntax.tyInt Syntax.w64) 8 (Reads.fieldV rules-proofs-tried-Asks·.the-type rules-proofs-tried-Asks-Laws·.the-laws 1)) 8 q39 (Syntax.tyInt Syntax.w64) (Row.valS (Row.sInt Syntax.w64)) (Row.sInt Syntax.w64 .of) (Reads.reads-field 𝓤 H A W rules-proofs-tried-Asks·.the-type rules-proofs-tried-Asks-Laws·.the-laws 1 (Syntax.tyInt Syntax.w64) 8 Path.refl, Path.refl) (TReads.room-gone 𝓤 H A (Syntax.tyInt Syntax.w64)) (Scalar.holds-sc 𝓤 H A W (Row.sInt Syntax.w64)) Path.refl (λ u. Path.refl) λ u. tt) d76
 
-          d78 : Typed.Typed 𝓤 H A 𝓣 E G3 b67 Δ0 (at78 bs)
-          d78 = Typed.s-seq 𝓤 H A W 𝓣 E G3 G4 b1 b66 Δ0 (Typed.pass T3 T4 (s2 bs)) (at77 bs) (LocalCopy.t-val-copy 𝓤 H A W E 𝓣 (λ ρ. Unit) G3 3 6 (Declared.row network-proofs-Degrees·.the-type) q14 q14 q25 q25 (λ x. x) (λ x. x) (λ x. x) Path.refl (Own.told-none 𝓤 H A (G3 .slots)) (Yields.yields-copy 𝓤 H A W (λ ρ. Unit) (Declared.row network-proofs-Degrees·.the-type) Path.refl (Copies.cStruct network-proofs-Degrees·.the-type network-proofs-Degrees-Laws·.the-laws network-proofs-Degrees-Laws·.the-copy .copy 𝓤 H A W) q25 (λ x. x) (λ x. x) (λ ρ told. Local.mem-whole 𝓤 H A W (Declared.row network-proofs-Degrees·.the-type) ρ) λ ρ told. Local.whole-mem 𝓤 H A W (Declared.row network-proofs-Degrees·.the-type) ρ) (TReads.room-gone 𝓤 H A q14) (Yields.makes-mem 𝓤 H A W (λ ρ. Unit) (Declared.row network-proofs-Degrees·.the-type) Path.refl q25 (λ x. x) λ ρ told. Local.whole-mem 𝓤 H A W (Declared.row network-proofs-Degrees·.the-type) ρ) Path.refl Path.refl) d77
+          d78 : Typed.Typed 𝓤 H A 𝓣 E G5 b68 Δ0 (at78 bs)
+          d78 = Typed.s-seq 𝓤 H A W 𝓣 E G5 G6 b2 b67 Δ0 (Typed.both (s4 bs)) (at77 bs) (Plain.t-call-plain 𝓤 H A W 𝓣 0 ps·0 r·0 (claims· .0) (claims· .1) "rules::tried::asks_of" (known .0) E (λ pos β. β) G5 (Num.vAt 4 λ x. x, tt) 7 L.[] (Call.sub-id 𝓤 H A W (G5 .slots)) ((Scalar.reads-sc 𝓤 H A W (Row.sInt Syntax.w64), Path.refl), tt) (TReads.room-gone 𝓤 H A q6) tt Path.refl) d77
 
-          d79 : Typed.Typed 𝓤 H A 𝓣 E G2 b67 Δ0 (at79 bs)
-          d79 = Typed.g-pre 𝓤 H A W 𝓣 E G2 G3 b67 Δ0 (Typed.pass T2 T3 (s1 bs)) (at78 bs) (Scalar.g-room 𝓤 H A W E G2 1 q2 (Local.room-whole 𝓤 H A W (Declared.row network-proofs-Nodes·.the-type) q2 Path.refl)) d78
+          d79 : Typed.Typed 𝓤 H A 𝓣 E G4 b68 Δ0 (at79 bs)
+          d79 = Typed.g-pre 𝓤 H A W 𝓣 E G4 G5 b68 Δ0 (Typed.pass T4 T5 (s3 bs)) (at78 bs) (Scalar.g-room 𝓤 H A W E G4 3 q15 (Local.room-whole 𝓤 H A W (Declared.row network-proofs-Degrees·.the-type) q15 Path.refl)) d78
 
-          d80 : Typed.Typed 𝓤 H A 𝓣 E G0 b68 Δ0 (at80 bs)
-          d80 = Typed.s-seq 𝓤 H A W 𝓣 E G0 G2 b0 b67 Δ0 (Typed.pass T0 T2 (s0 bs)) (at79 bs) (LocalCopy.t-val-copy 𝓤 H A W E 𝓣 (λ ρ. Unit) G0 1 5 (Declared.row network-proofs-Nodes·.the-type) q2 q2 q26 q26 (λ x. x) (λ x. x) (λ x. x) Path.refl (Own.told-none 𝓤 H A (G0 .slots)) (Yields.yields-copy 𝓤 H A W (λ ρ. Unit) (Declared.row network-proofs-Nodes·.the-type) Path.refl (Copies.cStruct network-proofs-Nodes·.the-type network-proofs-Nodes-Laws·.the-laws network-proofs-Nodes-Laws·.the-copy .copy 𝓤 H A W) q26 (λ x. x) (λ x. x) (λ ρ told. Local.mem-whole 𝓤 H A W (Declared.row network-proofs-Nodes·.the-type) ρ) λ ρ told. Local.whole-mem 𝓤 H A W (Declared.row network-proofs-Nodes·.the-type) ρ) (TReads.room-gone 𝓤 H A q2) (Yields.makes-mem 𝓤 H A W (λ ρ. Unit) (Declared.row network-proofs-Nodes·.the-type) Path.refl q26 (λ x. x) λ ρ told. Local.whole-mem 𝓤 H A W (Declared.row network-proofs-Nodes·.the-type) ρ) Path.refl Path.refl) d79
+          d80 : Typed.Typed 𝓤 H A 𝓣 E G3 b69 Δ0 (at80 bs)
+          d80 = Typed.s-seq 𝓤 H A W 𝓣 E G3 G4 b1 b68 Δ0 (Typed.pass T3 T4 (s2 bs)) (at79 bs) (LocalCopy.t-val-copy 𝓤 H A W E 𝓣 (λ ρ. Unit) G3 3 6 (Declared.row network-proofs-Degrees·.the-type) q15 q15 q26 q26 (λ x. x) (λ x. x) (λ x. x) Path.refl (Own.told-none 𝓤 H A (G3 .slots)) (Yields.yields-copy 𝓤 H A W (λ ρ. Unit) (Declared.row network-proofs-Degrees·.the-type) Path.refl (Copies.cStruct network-proofs-Degrees·.the-type network-proofs-Degrees-Laws·.the-laws network-proofs-Degrees-Laws·.the-copy .copy 𝓤 H A W) q26 (λ x. x) (λ x. x) (λ ρ told. Local.mem-whole 𝓤 H A W (Declared.row network-proofs-Degrees·.the-type) ρ) λ ρ told. Local.whole-mem 𝓤 H A W (Declared.row network-proofs-Degrees·.the-type) ρ) (TReads.room-gone 𝓤 H A q15) (Yields.makes-mem 𝓤 H A W (λ ρ. Unit) (Declared.row network-proofs-Degrees·.the-type) Path.refl q26 (λ x. x) λ ρ told. Local.whole-mem 𝓤 H A W (Declared.row network-proofs-Degrees·.the-type) ρ) Path.refl Path.refl) d79
 
-          pub typed : Typed.Typed 𝓤 H A 𝓣 E (Function.Γin 1 ps r xs m κs qs) b68 (Function.Δret 1 ps r xs m κs qs) (Φ bs)
-          typed = d80
+          d81 : Typed.Typed 𝓤 H A 𝓣 E G2 b69 Δ0 (at81 bs)
+          d81 = Typed.g-pre 𝓤 H A W 𝓣 E G2 G3 b69 Δ0 (Typed.pass T2 T3 (s1 bs)) (at80 bs) (Scalar.g-room 𝓤 H A W E G2 1 q2 (Local.room-whole 𝓤 H A W (Declared.row network-proofs-Nodes·.the-type) q2 Path.refl)) d80
+
+          d82 : Typed.Typed 𝓤 H A 𝓣 E G0 b70 Δ0 (at82 bs)
+          d82 = Typed.s-seq 𝓤 H A W 𝓣 E G0 G2 b0 b69 Δ0 (Typed.pass T0 T2 (s0 bs)) (at81 bs) (LocalCopy.t-val-copy 𝓤 H A W E 𝓣 (λ ρ. Unit) G0 1 5 (Declared.row network-proofs-Nodes·.the-type) q2 q2 q27 q27 (λ x. x) (λ x. x) (λ x. x) Path.refl (Own.told-none 𝓤 H A (G0 .slots)) (Yields.yields-copy 𝓤 H A W (λ ρ. Unit) (Declared.row network-proofs-Nodes·.the-type) Path.refl (Copies.cStruct network-proofs-Nodes·.the-type network-proofs-Nodes-Laws·.the-laws network-proofs-Nodes-Laws·.the-copy .copy 𝓤 H A W) q27 (λ x. x) (λ x. x) (λ ρ told. Local.mem-whole 𝓤 H A W (Declared.row network-proofs-Nodes·.the-type) ρ) λ ρ told. Local.whole-mem 𝓤 H A W (Declared.row network-proofs-Nodes·.the-type) ρ) (TReads.room-gone 𝓤 H A q2) (Yields.makes-mem 𝓤 H A W (λ ρ. Unit) (Declared.row network-proofs-Nodes·.the-type) Path.refl q27 (λ x. x) λ ρ told. Local.whole-mem 𝓤 H A W (Declared.row network-proofs-Nodes·.the-type) ρ) Path.refl Path.refl) d81
+
+          pub typed : Typed.Typed 𝓤 H A 𝓣 E (Function.Γin 1 ps r xs m κs qs) b70 (Function.Δret 1 ps r xs m κs qs) (Φ bs)
+          typed = d82
 
       module _ (κs : Lifetimes.Lfts 1) where
         pub record Args : Type 0 where
@@ -1869,7 +1915,7 @@ module _ (claims· : Claims) where
       m7 = λ before given. s6 (before .blocks) (m6 before given)
 
       abbrev W1 : (before : Start) → (given : s4 (before .blocks) .gives (m4 (before .κs) (before .args) (before .blocks))) → Typed.Want O1
-      W1 = λ before given. Typed.wantNext T9 O0 (at72 (before .blocks) (W0 (before .κs) (before .args) (before .blocks))) (W0 (before .κs) (before .args) (before .blocks))
+      W1 = λ before given. Typed.wantNext T9 O0 (at74 (before .blocks) (W0 (before .κs) (before .args) (before .blocks))) (W0 (before .κs) (before .args) (before .blocks))
 
       abbrev W2 : (before : Start) → (given : s4 (before .blocks) .gives (m4 (before .κs) (before .args) (before .blocks))) → Typed.Want O2
       W2 = λ before given. Typed.inBlock O1 (W1 before given)
@@ -1878,10 +1924,10 @@ module _ (claims· : Claims) where
       Need-loop-holds = (c : After-asks-of) → Inv·0 (Row.get 2 (T8 .locals) (m7 (c .before) (After-asks-of·gave c)) .now) (Row.get 4 (T8 .locals) (m7 (c .before) (After-asks-of·gave c))) (Row.get 5 (T8 .locals) (m7 (c .before) (After-asks-of·gave c))) (Row.get 6 (T8 .locals) (m7 (c .before) (After-asks-of·gave c))) (Row.get 7 (T8 .locals) (m7 (c .before) (After-asks-of·gave c))) (Row.get 8 (T8 .locals) (m7 (c .before) (After-asks-of·gave c))) (Row.get 9 (T8 .locals) (m7 (c .before) (After-asks-of·gave c))) (Row.get 9 (T8 .locals) (m7 (c .before) (After-asks-of·gave c)))
 
       abbrev pub m8 : (before : After-asks-of) → (i : Rows.sc-here (Row.sInt Syntax.w64) .Mod) → Typed.Mo T8
-      m8 = λ before i. Row.set 9 q37 i (T8 .locals) (m7 (before .before) (After-asks-of·gave before))
+      m8 = λ before i. Row.set 9 q38 i (T8 .locals) (m7 (before .before) (After-asks-of·gave before))
 
       abbrev W3 : (before : After-asks-of) → (i : Rows.sc-here (Row.sInt Syntax.w64) .Mod) → Typed.Want O3
-      W3 = λ before i. Typed.inLoop T8 O2 (Typed.Round T8 O2 put0 (λ u vs. Inv·0 (Row.get 2 (T8 .locals) u .now) (Row.get 4 (T8 .locals) u) (Row.get 5 (T8 .locals) u) (Row.get 6 (T8 .locals) u) (Row.get 7 (T8 .locals) u) (Row.get 8 (T8 .locals) u) (Row.get 9 (T8 .locals) u) vs) (λ u vs. μ·0 (Row.get 2 (T8 .locals) u .now) (Row.get 4 (T8 .locals) u) (Row.get 5 (T8 .locals) u) (Row.get 6 (T8 .locals) u) (Row.get 7 (T8 .locals) u) (Row.get 8 (T8 .locals) u) (Row.get 9 (T8 .locals) u) vs) (at65 (before .before .blocks)) (m7 (before .before) (After-asks-of·gave before)) i) (W2 (before .before) (After-asks-of·gave before))
+      W3 = λ before i. Typed.inLoop T8 O2 (Typed.Round T8 O2 put0 (λ u vs. Inv·0 (Row.get 2 (T8 .locals) u .now) (Row.get 4 (T8 .locals) u) (Row.get 5 (T8 .locals) u) (Row.get 6 (T8 .locals) u) (Row.get 7 (T8 .locals) u) (Row.get 8 (T8 .locals) u) (Row.get 9 (T8 .locals) u) vs) (λ u vs. μ·0 (Row.get 2 (T8 .locals) u .now) (Row.get 4 (T8 .locals) u) (Row.get 5 (T8 .locals) u) (Row.get 6 (T8 .locals) u) (Row.get 7 (T8 .locals) u) (Row.get 8 (T8 .locals) u) (Row.get 9 (T8 .locals) u) vs) (at67 (before .before .blocks)) (m7 (before .before) (After-asks-of·gave before)) i) (W2 (before .before) (After-asks-of·gave before))
 
       abbrev pub m9 : (before : After-asks-of) → (i : Rows.sc-here (Row.sInt Syntax.w64) .Mod) → Typed.Mo T10
       m9 = λ before i. s7 (before .before .blocks) (m8 before i)
@@ -1890,7 +1936,7 @@ module _ (claims· : Claims) where
       m10 = λ before i. s8 (before .before .blocks) .next (m9 before i)
 
       abbrev W4 : (before : After-asks-of) → (i : Rows.sc-here (Row.sInt Syntax.w64) .Mod) → Typed.Want O4
-      W4 = λ before i. Typed.wantNext T12 O3 (at62 (before .before .blocks) (W3 before i)) (W3 before i)
+      W4 = λ before i. Typed.wantNext T12 O3 (at64 (before .before .blocks) (W3 before i)) (W3 before i)
 
       abbrev pub m11 : (before : After-asks-of) → (i : Rows.sc-here (Row.sInt Syntax.w64) .Mod) → Typed.Mo T13
       m11 = λ before i. s9 (before .before .blocks) (m10 before i)
@@ -2014,7 +2060,7 @@ module _ (claims· : Claims) where
       After-has-degree·gave = λ c. Called.given ps·1 r·1 (claims· .3) T30 (KBool.bAt 13 λ x. x, (Num.vAt 19 λ x. x, (Num.vAt 8 λ x. x, tt))) (m28 (c .before .before) (c .before .has-degree-arg2 .given)) (c .has-degree)
 
       abbrev W5 : (before : After-has-degree-arg2) → (given : s27 (before .before .before .before .before .before .blocks) .gives (m28 (before .before) (before .has-degree-arg2 .given))) → Typed.Want O5
-      W5 = λ before given. Typed.wantNext T32 O3 (at48 (before .before .before .before .before .before .blocks) (W3 (before .before .before .before .before) (before .before .before .before .loop .i))) (W3 (before .before .before .before .before) (before .before .before .before .loop .i))
+      W5 = λ before given. Typed.wantNext T32 O3 (at50 (before .before .before .before .before .before .blocks) (W3 (before .before .before .before .before) (before .before .before .before .loop .i))) (W3 (before .before .before .before .before) (before .before .before .before .loop .i))
 
       abbrev pub m30 : (before : After-has-degree-arg2) → (given : s27 (before .before .before .before .before .before .blocks) .gives (m28 (before .before) (before .has-degree-arg2 .given))) → Typed.Mo T33
       m30 = λ before given. s28 (before .before .before .before .before .before .blocks) (m29 before given)
@@ -2127,86 +2173,100 @@ module _ (claims· : Claims) where
         pub before : After-gather
         pub at-node-arg : After-at-node-arg·own before
 
-      abbrev pub Need-at-node-requires : Type 0
-      Need-at-node-requires = (c : After-at-node-arg) → s43 (c .before .before .before .before .before .before .before .before .before .before .before .before .blocks) .asks (m44 (c .before) (c .at-node-arg .given))
-
       abbrev pub m45 : (before : After-at-node-arg) → (given : s43 (before .before .before .before .before .before .before .before .before .before .before .before .before .blocks) .gives (m44 (before .before) (before .at-node-arg .given))) → Typed.Mo T48
       m45 = λ before given. s43 (before .before .before .before .before .before .before .before .before .before .before .before .before .blocks) .next (m44 (before .before) (before .at-node-arg .given)) given
 
       module _ (before· : After-at-node-arg) where
+        pub record After-at-node-arg2·own : Type 0 where
+          pub given : s43 (before· .before .before .before .before .before .before .before .before .before .before .before .before .blocks) .gives (m44 (before· .before) (before· .at-node-arg .given))
+
+      pub record After-at-node-arg2 : Type 0 where
+        pub before : After-at-node-arg
+        pub at-node-arg2 : After-at-node-arg2·own before
+
+      abbrev pub Need-at-node-requires : Type 0
+      Need-at-node-requires = (c : After-at-node-arg2) → s44 (c .before .before .before .before .before .before .before .before .before .before .before .before .before .blocks) .asks (m45 (c .before) (c .at-node-arg2 .given))
+
+      abbrev pub m46 : (before : After-at-node-arg2) → (given : s44 (before .before .before .before .before .before .before .before .before .before .before .before .before .before .blocks) .gives (m45 (before .before) (before .at-node-arg2 .given))) → Typed.Mo T49
+      m46 = λ before given. s44 (before .before .before .before .before .before .before .before .before .before .before .before .before .before .blocks) .next (m45 (before .before) (before .at-node-arg2 .given)) given
+
+      module _ (before· : After-at-node-arg2) where
         abbrev pub After-at-node·own : Type 0
-        After-at-node·own = Called.Called ps·4 r·4 (claims· .9) T47 (record { pos = 25; st = L.[]; d = 0; at = λ x. x }, (Num.vAt 4 λ x. x, (Num.vAt 9 λ x. x, (Num.vAt 8 λ x. x, (record { pos = 10; st = L.[]; d = 0; at = λ x. x }, tt))))) (m44 (before· .before) (before· .at-node-arg .given))
+        After-at-node·own = Called.Called ps·4 r·4 (claims· .9) T48 (record { pos = 25; st = L.[]; d = 0; at = λ x. x }, (record { pos = 26; st = L.[]; d = 0; at = λ x. x }, (Num.vAt 4 λ x. x, (Num.vAt 9 λ x. x, (Num.vAt 8 λ x. x, (record { pos = 10; st = L.[]; d = 0; at = λ x. x }, tt)))))) (m45 (before· .before) (before· .at-node-arg2 .given))
 
       pub record After-at-node : Type 0 where
-        pub before : After-at-node-arg
+        pub before : After-at-node-arg2
         pub at-node : After-at-node·own before
 
-      abbrev pub After-at-node·gave : (c : After-at-node) → s43 (c .before .before .before .before .before .before .before .before .before .before .before .before .before .blocks) .gives (m44 (c .before .before) (c .before .at-node-arg .given))
-      After-at-node·gave = λ c. Called.given ps·4 r·4 (claims· .9) T47 (record { pos = 25; st = L.[]; d = 0; at = λ x. x }, (Num.vAt 4 λ x. x, (Num.vAt 9 λ x. x, (Num.vAt 8 λ x. x, (record { pos = 10; st = L.[]; d = 0; at = λ x. x }, tt))))) (m44 (c .before .before) (c .before .at-node-arg .given)) (c .at-node)
+      abbrev pub After-at-node·gave : (c : After-at-node) → s44 (c .before .before .before .before .before .before .before .before .before .before .before .before .before .before .blocks) .gives (m45 (c .before .before) (c .before .at-node-arg2 .given))
+      After-at-node·gave = λ c. Called.given ps·4 r·4 (claims· .9) T48 (record { pos = 25; st = L.[]; d = 0; at = λ x. x }, (record { pos = 26; st = L.[]; d = 0; at = λ x. x }, (Num.vAt 4 λ x. x, (Num.vAt 9 λ x. x, (Num.vAt 8 λ x. x, (record { pos = 10; st = L.[]; d = 0; at = λ x. x }, tt)))))) (m45 (c .before .before) (c .before .at-node-arg2 .given)) (c .at-node)
 
-      abbrev pub m46 : (before : After-at-node-arg) → (given : s43 (before .before .before .before .before .before .before .before .before .before .before .before .before .blocks) .gives (m44 (before .before) (before .at-node-arg .given))) → Typed.Mo T49
-      m46 = λ before given. s44 (before .before .before .before .before .before .before .before .before .before .before .before .before .blocks) (m45 before given)
+      abbrev pub m47 : (before : After-at-node-arg2) → (given : s44 (before .before .before .before .before .before .before .before .before .before .before .before .before .before .blocks) .gives (m45 (before .before) (before .at-node-arg2 .given))) → Typed.Mo T50
+      m47 = λ before given. s45 (before .before .before .before .before .before .before .before .before .before .before .before .before .before .blocks) (m46 before given)
 
-      abbrev pub m47 : (before : After-at-node-arg) → (given : s43 (before .before .before .before .before .before .before .before .before .before .before .before .before .blocks) .gives (m44 (before .before) (before .at-node-arg .given))) → Typed.Mo T50
-      m47 = λ before given. s45 (before .before .before .before .before .before .before .before .before .before .before .before .before .blocks) (m46 before given)
+      abbrev pub m48 : (before : After-at-node-arg2) → (given : s44 (before .before .before .before .before .before .before .before .before .before .before .before .before .before .blocks) .gives (m45 (before .before) (before .at-node-arg2 .given))) → Typed.Mo T51
+      m48 = λ before given. s46 (before .before .before .before .before .before .before .before .before .before .before .before .before .before .blocks) (m47 before given)
 
-      abbrev pub m48 : (before : After-at-node-arg) → (given : s43 (before .before .before .before .before .before .before .before .before .before .before .before .before .blocks) .gives (m44 (before .before) (before .at-node-arg .given))) → Typed.Mo T51
-      m48 = λ before given. s46 (before .before .before .before .before .before .before .before .before .before .before .before .before .blocks) (m47 before given)
+      abbrev pub m49 : (before : After-at-node-arg2) → (given : s44 (before .before .before .before .before .before .before .before .before .before .before .before .before .before .blocks) .gives (m45 (before .before) (before .at-node-arg2 .given))) → Typed.Mo T52
+      m49 = λ before given. s47 (before .before .before .before .before .before .before .before .before .before .before .before .before .before .blocks) (m48 before given)
 
-      abbrev pub m49 : (before : After-at-node) → Typed.Mo T52
-      m49 = λ before. s47 (before .before .before .before .before .before .before .before .before .before .before .before .before .before .blocks) (m48 (before .before) (After-at-node·gave before))
-
-      abbrev pub m50 : (before : After-at-node) → Typed.Mo T53
-      m50 = λ before. s48 (before .before .before .before .before .before .before .before .before .before .before .before .before .before .blocks) (m49 before)
+      abbrev pub m50 : (before : After-at-node-arg2) → (given : s44 (before .before .before .before .before .before .before .before .before .before .before .before .before .before .blocks) .gives (m45 (before .before) (before .at-node-arg2 .given))) → Typed.Mo T53
+      m50 = λ before given. s48 (before .before .before .before .before .before .before .before .before .before .before .before .before .before .blocks) (m49 before given)
 
       abbrev pub m51 : (before : After-at-node) → Typed.Mo T54
-      m51 = λ before. s49 (before .before .before .before .before .before .before .before .before .before .before .before .before .before .blocks) (m50 before)
+      m51 = λ before. s49 (before .before .before .before .before .before .before .before .before .before .before .before .before .before .before .blocks) (m50 (before .before) (After-at-node·gave before))
 
       abbrev pub m52 : (before : After-at-node) → Typed.Mo T55
-      m52 = λ before. s50 (before .before .before .before .before .before .before .before .before .before .before .before .before .before .blocks) (m51 before)
+      m52 = λ before. s50 (before .before .before .before .before .before .before .before .before .before .before .before .before .before .before .blocks) (m51 before)
 
       abbrev pub m53 : (before : After-at-node) → Typed.Mo T56
-      m53 = λ before. s51 (before .before .before .before .before .before .before .before .before .before .before .before .before .before .blocks) (m52 before)
+      m53 = λ before. s51 (before .before .before .before .before .before .before .before .before .before .before .before .before .before .before .blocks) (m52 before)
 
       abbrev pub m54 : (before : After-at-node) → Typed.Mo T57
-      m54 = λ before. s52 (before .before .before .before .before .before .before .before .before .before .before .before .before .before .blocks) (m53 before)
+      m54 = λ before. s52 (before .before .before .before .before .before .before .before .before .before .before .before .before .before .before .blocks) (m53 before)
 
       abbrev pub m55 : (before : After-at-node) → Typed.Mo T58
-      m55 = λ before. s53 (before .before .before .before .before .before .before .before .before .before .before .before .before .before .blocks) (m54 before)
+      m55 = λ before. s53 (before .before .before .before .before .before .before .before .before .before .before .before .before .before .before .blocks) (m54 before)
 
       abbrev pub m56 : (before : After-at-node) → Typed.Mo T59
-      m56 = λ before. s54 (before .before .before .before .before .before .before .before .before .before .before .before .before .before .blocks) (m55 before)
+      m56 = λ before. s54 (before .before .before .before .before .before .before .before .before .before .before .before .before .before .before .blocks) (m55 before)
 
       abbrev pub m57 : (before : After-at-node) → Typed.Mo T60
-      m57 = λ before. s55 (before .before .before .before .before .before .before .before .before .before .before .before .before .before .blocks) (m56 before)
+      m57 = λ before. s55 (before .before .before .before .before .before .before .before .before .before .before .before .before .before .before .blocks) (m56 before)
+
+      abbrev pub m58 : (before : After-at-node) → Typed.Mo T61
+      m58 = λ before. s56 (before .before .before .before .before .before .before .before .before .before .before .before .before .before .before .blocks) (m57 before)
+
+      abbrev pub m59 : (before : After-at-node) → Typed.Mo T62
+      m59 = λ before. s57 (before .before .before .before .before .before .before .before .before .before .before .before .before .before .before .blocks) (m58 before)
 
       module _ (before· : After-at-node) where
         pub record Then3·own : Type 0 where
-          pub taken : Path._≡_ (Row.get 26 (T51 .locals) (m48 (before· .before) (After-at-node·gave before·))) Bool.true
+          pub taken : Path._≡_ (Row.get 27 (T53 .locals) (m50 (before· .before) (After-at-node·gave before·))) Bool.true
 
       pub record Then3 : Type 0 where
         pub before : After-at-node
         pub if3 : Then3·own before
 
       abbrev pub Need-returns : Type 0
-      Need-returns = (c : Then3) → Post· (c .before .before .before .before .before .before .before .before .before .before .before .before .before .before .κs) (dens (c .before .before .before .before .before .before .before .before .before .before .before .before .before .before .κs) (c .before .before .before .before .before .before .before .before .before .before .before .before .before .before .args)) (Function.resV r (c .before .before .before .before .before .before .before .before .before .before .before .before .before .before .κs) (m57 (c .before) .0)) (Clauses.atExit (FnKinds.endedOf 1 ps r) (c .before .before .before .before .before .before .before .before .before .before .before .before .before .before .κs) (dens (c .before .before .before .before .before .before .before .before .before .before .before .before .before .before .κs) (c .before .before .before .before .before .before .before .before .before .before .before .before .before .before .args)) (Enter.lastsP (c .before .before .before .before .before .before .before .before .before .before .before .before .before .before .κs) 1 ps xs (dens (c .before .before .before .before .before .before .before .before .before .before .before .before .before .before .κs) (c .before .before .before .before .before .before .before .before .before .before .before .before .before .before .args)) (m57 (c .before) .1)))
+      Need-returns = (c : Then3) → Post· (c .before .before .before .before .before .before .before .before .before .before .before .before .before .before .before .κs) (dens (c .before .before .before .before .before .before .before .before .before .before .before .before .before .before .before .κs) (c .before .before .before .before .before .before .before .before .before .before .before .before .before .before .before .args)) (Function.resV r (c .before .before .before .before .before .before .before .before .before .before .before .before .before .before .before .κs) (m59 (c .before) .0)) (Clauses.atExit (FnKinds.endedOf 1 ps r) (c .before .before .before .before .before .before .before .before .before .before .before .before .before .before .before .κs) (dens (c .before .before .before .before .before .before .before .before .before .before .before .before .before .before .before .κs) (c .before .before .before .before .before .before .before .before .before .before .before .before .before .before .before .args)) (Enter.lastsP (c .before .before .before .before .before .before .before .before .before .before .before .before .before .before .before .κs) 1 ps xs (dens (c .before .before .before .before .before .before .before .before .before .before .before .before .before .before .before .κs) (c .before .before .before .before .before .before .before .before .before .before .before .before .before .before .before .args)) (m59 (c .before) .1)))
 
-      abbrev pub m58 : (before : After-at-node) → Typed.Mo T61
-      m58 = λ before. s56 (before .before .before .before .before .before .before .before .before .before .before .before .before .before .blocks) (m48 (before .before) (After-at-node·gave before))
+      abbrev pub m60 : (before : After-at-node) → Typed.Mo T63
+      m60 = λ before. s58 (before .before .before .before .before .before .before .before .before .before .before .before .before .before .before .blocks) (m50 (before .before) (After-at-node·gave before))
 
-      abbrev pub m59 : (before : After-at-node) → Typed.Mo T62
-      m59 = λ before. s57 (before .before .before .before .before .before .before .before .before .before .before .before .before .before .blocks) (m58 before)
+      abbrev pub m61 : (before : After-at-node) → Typed.Mo T64
+      m61 = λ before. s59 (before .before .before .before .before .before .before .before .before .before .before .before .before .before .before .blocks) (m60 before)
 
       module _ (before· : After-at-node) where
         pub record Else3·own : Type 0 where
-          pub left : Path._≡_ (Row.get 26 (T51 .locals) (m48 (before· .before) (After-at-node·gave before·))) Bool.false
+          pub left : Path._≡_ (Row.get 27 (T53 .locals) (m50 (before· .before) (After-at-node·gave before·))) Bool.false
 
       pub record Else3 : Type 0 where
         pub before : After-at-node
         pub if3 : Else3·own before
 
-      abbrev pub m60 : (before : After-may-apply) → Typed.Mo T63
-      m60 = λ before. s58 (before .before .before .before .before .before .before .before .before .before .blocks) (m41 (before .before) (After-may-apply·gave before))
+      abbrev pub m62 : (before : After-may-apply) → Typed.Mo T65
+      m62 = λ before. s60 (before .before .before .before .before .before .before .before .before .before .blocks) (m41 (before .before) (After-may-apply·gave before))
 
       module _ (before· : After-may-apply) where
         pub record Else2·own : Type 0 where
@@ -2216,8 +2276,8 @@ module _ (claims· : Claims) where
         pub before : After-may-apply
         pub if2 : Else2·own before
 
-      abbrev pub m61 : (before : After-has-degree) → Typed.Mo T64
-      m61 = λ before. s59 (before .before .before .before .before .before .before .blocks) (m31 (before .before) (After-has-degree·gave before))
+      abbrev pub m63 : (before : After-has-degree) → Typed.Mo T66
+      m63 = λ before. s61 (before .before .before .before .before .before .before .blocks) (m31 (before .before) (After-has-degree·gave before))
 
       module _ (before· : After-has-degree) where
         pub record Else1·own : Type 0 where
@@ -2227,34 +2287,34 @@ module _ (claims· : Claims) where
         pub before : After-has-degree
         pub if1 : Else1·own before
 
-      abbrev pub m62 : (before : After-has-degree) → Typed.Mo T32
-      m62 = λ before. Row.set 26 q43 tt (Row.setRow 25 q5 (Row.setRow 24 q9 (Row.setRow 23 q49 (Row.setRow 22 q48 (Row.setRow 21 q31 (Row.setRow 20 q42 (Row.setRow 14 q41 (Row.setRow 11 (11, Rows.any-gone (Syntax.tyStruct (L._∷_ 114 (L._∷_ 117 (L._∷_ 108 (L._∷_ 101 (L._∷_ 115 (L._∷_ 58 (L._∷_ 58 (L._∷_ 102 (L._∷_ 111 (L._∷_ 117 (L._∷_ 110 (L._∷_ 100 (L._∷_ 58 (L._∷_ 58 (L._∷_ 70 (L._∷_ 111 (L._∷_ 117 (L._∷_ 110 (L._∷_ 100 L.[]))))))))))))))))))) (Syntax.tcons Syntax.tyBool (Syntax.tcons Syntax.tyBool (Syntax.tcons (Syntax.tyStruct (L._∷_ 115 (L._∷_ 116 (L._∷_ 101 (L._∷_ 112 (L._∷_ 58 (L._∷_ 58 (L._∷_ 83 (L._∷_ 116 (L._∷_ 101 (L._∷_ 112 L.[])))))))))) (Syntax.tcons (Syntax.tyInt Syntax.w64) (Syntax.tcons (Syntax.tyInt Syntax.w64) (Syntax.tcons (Syntax.tyStruct (L._∷_ 115 (L._∷_ 116 (L._∷_ 101 (L._∷_ 112 (L._∷_ 58 (L._∷_ 58 (L._∷_ 67 (L._∷_ 104 (L._∷_ 97 (L._∷_ 110 (L._∷_ 103 (L._∷_ 101 L.[])))))))))))) (Syntax.tcons (Syntax.tyStruct (L._∷_ 110 (L._∷_ 101 (L._∷_ 116 (L._∷_ 119 (L._∷_ 111 (L._∷_ 114 (L._∷_ 107 (L._∷_ 58 (L._∷_ 58 (L._∷_ 69 (L._∷_ 100 (L._∷_ 105 (L._∷_ 116 L.[]))))))))))))) (Syntax.tcons q11 (Syntax.tcons q11 (Syntax.tcons q11 (Syntax.tcons q11 (Syntax.tcons q3 (Syntax.tcons q3 (Syntax.tcons (Syntax.tyInt Syntax.w64) Syntax.tnil)))))))) (Syntax.tcons (Syntax.tyStruct (L._∷_ 115 (L._∷_ 116 (L._∷_ 101 (L._∷_ 112 (L._∷_ 58 (L._∷_ 58 (L._∷_ 79 (L._∷_ 108 (L._∷_ 100 L.[]))))))))) (Syntax.tcons (Syntax.tyInt Syntax.w64) (Syntax.tcons q10 (Syntax.tcons q11 (Syntax.tcons q11 (Syntax.tcons q11 (Syntax.tcons q11 (Syntax.tcons q7 Syntax.tnil)))))))) Syntax.tnil))) Syntax.tnil)))) Syntax.tnil))))) (Row.setRow 10 (10, Rows.any-gone (Syntax.tyStruct (L._∷_ 115 (L._∷_ 116 (L._∷_ 101 (L._∷_ 112 (L._∷_ 58 (L._∷_ 58 (L._∷_ 65 (L._∷_ 114 (L._∷_ 111 (L._∷_ 117 (L._∷_ 110 (L._∷_ 100 L.[])))))))))))) (Syntax.tcons q11 (Syntax.tcons q11 (Syntax.tcons q11 (Syntax.tcons q11 Syntax.tnil)))))) (T34 .locals)))))))))) (Row.set 25 q5 tt (Row.setRow 24 q9 (Row.setRow 23 q49 (Row.setRow 22 q48 (Row.setRow 21 q31 (Row.setRow 20 q42 (Row.setRow 14 q41 (Row.setRow 11 (11, Rows.any-gone (Syntax.tyStruct (L._∷_ 114 (L._∷_ 117 (L._∷_ 108 (L._∷_ 101 (L._∷_ 115 (L._∷_ 58 (L._∷_ 58 (L._∷_ 102 (L._∷_ 111 (L._∷_ 117 (L._∷_ 110 (L._∷_ 100 (L._∷_ 58 (L._∷_ 58 (L._∷_ 70 (L._∷_ 111 (L._∷_ 117 (L._∷_ 110 (L._∷_ 100 L.[]))))))))))))))))))) (Syntax.tcons Syntax.tyBool (Syntax.tcons Syntax.tyBool (Syntax.tcons (Syntax.tyStruct (L._∷_ 115 (L._∷_ 116 (L._∷_ 101 (L._∷_ 112 (L._∷_ 58 (L._∷_ 58 (L._∷_ 83 (L._∷_ 116 (L._∷_ 101 (L._∷_ 112 L.[])))))))))) (Syntax.tcons (Syntax.tyInt Syntax.w64) (Syntax.tcons (Syntax.tyInt Syntax.w64) (Syntax.tcons (Syntax.tyStruct (L._∷_ 115 (L._∷_ 116 (L._∷_ 101 (L._∷_ 112 (L._∷_ 58 (L._∷_ 58 (L._∷_ 67 (L._∷_ 104 (L._∷_ 97 (L._∷_ 110 (L._∷_ 103 (L._∷_ 101 L.[])))))))))))) (Syntax.tcons (Syntax.tyStruct (L._∷_ 110 (L._∷_ 101 (L._∷_ 116 (L._∷_ 119 (L._∷_ 111 (L._∷_ 114 (L._∷_ 107 (L._∷_ 58 (L._∷_ 58 (L._∷_ 69 (L._∷_ 100 (L._∷_ 105 (L._∷_ 116 L.[]))))))))))))) (Syntax.tcons q11 (Syntax.tcons q11 (Syntax.tcons q11 (Syntax.tcons q11 (Syntax.tcons q3 (Syntax.tcons q3 (Syntax.tcons (Syntax.tyInt Syntax.w64) Syntax.tnil)))))))) (Syntax.tcons (Syntax.tyStruct (L._∷_ 115 (L._∷_ 116 (L._∷_ 101 (L._∷_ 112 (L._∷_ 58 (L._∷_ 58 (L._∷_ 79 (L._∷_ 108 (L._∷_ 100 L.[]))))))))) (Syntax.tcons (Syntax.tyInt Syntax.w64) (Syntax.tcons q10 (Syntax.tcons q11 (Syntax.tcons q11 (Syntax.tcons q11 (Syntax.tcons q11 (Syntax.tcons q7 Syntax.tnil)))))))) Syntax.tnil))) Syntax.tnil)))) Syntax.tnil))))) (Row.setRow 10 (10, Rows.any-gone (Syntax.tyStruct (L._∷_ 115 (L._∷_ 116 (L._∷_ 101 (L._∷_ 112 (L._∷_ 58 (L._∷_ 58 (L._∷_ 65 (L._∷_ 114 (L._∷_ 111 (L._∷_ 117 (L._∷_ 110 (L._∷_ 100 L.[])))))))))))) (Syntax.tcons q11 (Syntax.tcons q11 (Syntax.tcons q11 (Syntax.tcons q11 Syntax.tnil)))))) (T34 .locals))))))))) (Row.set 24 q9 tt (Row.setRow 23 q49 (Row.setRow 22 q48 (Row.setRow 21 q31 (Row.setRow 20 q42 (Row.setRow 14 q41 (Row.setRow 11 (11, Rows.any-gone (Syntax.tyStruct (L._∷_ 114 (L._∷_ 117 (L._∷_ 108 (L._∷_ 101 (L._∷_ 115 (L._∷_ 58 (L._∷_ 58 (L._∷_ 102 (L._∷_ 111 (L._∷_ 117 (L._∷_ 110 (L._∷_ 100 (L._∷_ 58 (L._∷_ 58 (L._∷_ 70 (L._∷_ 111 (L._∷_ 117 (L._∷_ 110 (L._∷_ 100 L.[]))))))))))))))))))) (Syntax.tcons Syntax.tyBool (Syntax.tcons Syntax.tyBool (Syntax.tcons (Syntax.tyStruct (L._∷_ 115 (L._∷_ 116 (L._∷_ 101 (L._∷_ 112 (L._∷_ 58 (L._∷_ 58 (L._∷_ 83 (L._∷_ 116 (L._∷_ 101 (L._∷_ 112 L.[])))))))))) (Syntax.tcons (Syntax.tyInt Syntax.w64) (Syntax.tcons (Syntax.tyInt Syntax.w64) (Syntax.tcons (Syntax.tyStruct (L._∷_ 115 (L._∷_ 116 (L._∷_ 101 (L._∷_ 112 (L._∷_ 58 (L._∷_ 58 (L._∷_ 67 (L._∷_ 104 (L._∷_ 97 (L._∷_ 110 (L._∷_ 103 (L._∷_ 101 L.[])))))))))))) (Syntax.tcons (Syntax.tyStruct (L._∷_ 110 (L._∷_ 101 (L._∷_ 116 (L._∷_ 119 (L._∷_ 111 (L._∷_ 114 (L._∷_ 107 (L._∷_ 58 (L._∷_ 58 (L._∷_ 69 (L._∷_ 100 (L._∷_ 105 (L._∷_ 116 L.[]))))))))))))) (Syntax.tcons q11 (Syntax.tcons q11 (Syntax.tcons q11 (Syntax.tcons q11 (Syntax.tcons q3 (Syntax.tcons q3 (Syntax.tcons (Syntax.tyInt Syntax.w64) Syntax.tnil)))))))) (Syntax.tcons (Syntax.tyStruct (L._∷_ 115 (L._∷_ 116 (L._∷_ 101 (L._∷_ 112 (L._∷_ 58 (L._∷_ 58 (L._∷_ 79 (L._∷_ 108 (L._∷_ 100 L.[]))))))))) (Syntax.tcons (Syntax.tyInt Syntax.w64) (Syntax.tcons q10 (Syntax.tcons q11 (Syntax.tcons q11 (Syntax.tcons q11 (Syntax.tcons q11 (Syntax.tcons q7 Syntax.tnil)))))))) Syntax.tnil))) Syntax.tnil)))) Syntax.tnil))))) (Row.setRow 10 (10, Rows.any-gone (Syntax.tyStruct (L._∷_ 115 (L._∷_ 116 (L._∷_ 101 (L._∷_ 112 (L._∷_ 58 (L._∷_ 58 (L._∷_ 65 (L._∷_ 114 (L._∷_ 111 (L._∷_ 117 (L._∷_ 110 (L._∷_ 100 L.[])))))))))))) (Syntax.tcons q11 (Syntax.tcons q11 (Syntax.tcons q11 (Syntax.tcons q11 Syntax.tnil)))))) (T34 .locals)))))))) (Row.set 23 q49 tt (Row.setRow 22 q48 (Row.setRow 21 q31 (Row.setRow 20 q42 (Row.setRow 14 q41 (Row.setRow 11 (11, Rows.any-gone (Syntax.tyStruct (L._∷_ 114 (L._∷_ 117 (L._∷_ 108 (L._∷_ 101 (L._∷_ 115 (L._∷_ 58 (L._∷_ 58 (L._∷_ 102 (L._∷_ 111 (L._∷_ 117 (L._∷_ 110 (L._∷_ 100 (L._∷_ 58 (L._∷_ 58 (L._∷_ 70 (L._∷_ 111 (L._∷_ 117 (L._∷_ 110 (L._∷_ 100 L.[]))))))))))))))))))) (Syntax.tcons Syntax.tyBool (Syntax.tcons Syntax.tyBool (Syntax.tcons (Syntax.tyStruct (L._∷_ 115 (L._∷_ 116 (L._∷_ 101 (L._∷_ 112 (L._∷_ 58 (L._∷_ 58 (L._∷_ 83 (L._∷_ 116 (L._∷_ 101 (L._∷_ 112 L.[])))))))))) (Syntax.tcons (Syntax.tyInt Syntax.w64) (Syntax.tcons (Syntax.tyInt Syntax.w64) (Syntax.tcons (Syntax.tyStruct (L._∷_ 115 (L._∷_ 116 (L._∷_ 101 (L._∷_ 112 (L._∷_ 58 (L._∷_ 58 (L._∷_ 67 (L._∷_ 104 (L._∷_ 97 (L._∷_ 110 (L._∷_ 103 (L._∷_ 101 L.[])))))))))))) (Syntax.tcons (Syntax.tyStruct (L._∷_ 110 (L._∷_ 101 (L._∷_ 116 (L._∷_ 119 (L._∷_ 111 (L._∷_ 114 (L._∷_ 107 (L._∷_ 58 (L._∷_ 58 (L._∷_ 69 (L._∷_ 100 (L._∷_ 105 (L._∷_ 116 L.[]))))))))))))) (Syntax.tcons q11 (Syntax.tcons q11 (Syntax.tcons q11 (Syntax.tcons q11 (Syntax.tcons q3 (Syntax.tcons q3 (Syntax.tcons (Syntax.tyInt Syntax.w64) Syntax.tnil)))))))) (Syntax.tcons (Syntax.tyStruct (L._∷_ 115 (L._∷_ 116 (L._∷_ 101 (L._∷_ 112 (L._∷_ 58 (L._∷_ 58 (L._∷_ 79 (L._∷_ 108 (L._∷_ 100 L.[]))))))))) (Syntax.tcons (Syntax.tyInt Syntax.w64) (Syntax.tcons q10 (Syntax.tcons q11 (Syntax.tcons q11 (Syntax.tcons q11 (Syntax.tcons q11 (Syntax.tcons q7 Syntax.tnil)))))))) Syntax.tnil))) Syntax.tnil)))) Syntax.tnil))))) (Row.setRow 10 (10, Rows.any-gone (Syntax.tyStruct (L._∷_ 115 (L._∷_ 116 (L._∷_ 101 (L._∷_ 112 (L._∷_ 58 (L._∷_ 58 (L._∷_ 65 (L._∷_ 114 (L._∷_ 111 (L._∷_ 117 (L._∷_ 110 (L._∷_ 100 L.[])))))))))))) (Syntax.tcons q11 (Syntax.tcons q11 (Syntax.tcons q11 (Syntax.tcons q11 Syntax.tnil)))))) (T34 .locals))))))) (Row.set 22 q48 tt (Row.setRow 21 q31 (Row.setRow 20 q42 (Row.setRow 14 q41 (Row.setRow 11 (11, Rows.any-gone (Syntax.tyStruct (L._∷_ 114 (L._∷_ 117 (L._∷_ 108 (L._∷_ 101 (L._∷_ 115 (L._∷_ 58 (L._∷_ 58 (L._∷_ 102 (L._∷_ 111 (L._∷_ 117 (L._∷_ 110 (L._∷_ 100 (L._∷_ 58 (L._∷_ 58 (L._∷_ 70 (L._∷_ 111 (L._∷_ 117 (L._∷_ 110 (L._∷_ 100 L.[]))))))))))))))))))) (Syntax.tcons Syntax.tyBool (Syntax.tcons Syntax.tyBool (Syntax.tcons (Syntax.tyStruct (L._∷_ 115 (L._∷_ 116 (L._∷_ 101 (L._∷_ 112 (L._∷_ 58 (L._∷_ 58 (L._∷_ 83 (L._∷_ 116 (L._∷_ 101 (L._∷_ 112 L.[])))))))))) (Syntax.tcons (Syntax.tyInt Syntax.w64) (Syntax.tcons (Syntax.tyInt Syntax.w64) (Syntax.tcons (Syntax.tyStruct (L._∷_ 115 (L._∷_ 116 (L._∷_ 101 (L._∷_ 112 (L._∷_ 58 (L._∷_ 58 (L._∷_ 67 (L._∷_ 104 (L._∷_ 97 (L._∷_ 110 (L._∷_ 103 (L._∷_ 101 L.[])))))))))))) (Syntax.tcons (Syntax.tyStruct (L._∷_ 110 (L._∷_ 101 (L._∷_ 116 (L._∷_ 119 (L._∷_ 111 (L._∷_ 114 (L._∷_ 107 (L._∷_ 58 (L._∷_ 58 (L._∷_ 69 (L._∷_ 100 (L._∷_ 105 (L._∷_ 116 L.[]))))))))))))) (Syntax.tcons q11 (Syntax.tcons q11 (Syntax.tcons q11 (Syntax.tcons q11 (Syntax.tcons q3 (Syntax.tcons q3 (Syntax.tcons (Syntax.tyInt Syntax.w64) Syntax.tnil)))))))) (Syntax.tcons (Syntax.tyStruct (L._∷_ 115 (L._∷_ 116 (L._∷_ 101 (L._∷_ 112 (L._∷_ 58 (L._∷_ 58 (L._∷_ 79 (L._∷_ 108 (L._∷_ 100 L.[]))))))))) (Syntax.tcons (Syntax.tyInt Syntax.w64) (Syntax.tcons q10 (Syntax.tcons q11 (Syntax.tcons q11 (Syntax.tcons q11 (Syntax.tcons q11 (Syntax.tcons q7 Syntax.tnil)))))))) Syntax.tnil))) Syntax.tnil)))) Syntax.tnil))))) (Row.setRow 10 (10, Rows.any-gone (Syntax.tyStruct (L._∷_ 115 (L._∷_ 116 (L._∷_ 101 (L._∷_ 112 (L._∷_ 58 (L._∷_ 58 (L._∷_ 65 (L._∷_ 114 (L._∷_ 111 (L._∷_ 117 (L._∷_ 110 (L._∷_ 100 L.[])))))))))))) (Syntax.tcons q11 (Syntax.tcons q11 (Syntax.tcons q11 (Syntax.tcons q11 Syntax.tnil)))))) (T34 .locals)))))) (Row.set 21 q31 tt (Row.setRow 20 q42 (Row.setRow 14 q41 (Row.setRow 11 (11, Rows.any-gone (Syntax.tyStruct (L._∷_ 114 (L._∷_ 117 (L._∷_ 108 (L._∷_ 101 (L._∷_ 115 (L._∷_ 58 (L._∷_ 58 (L._∷_ 102 (L._∷_ 111 (L._∷_ 117 (L._∷_ 110 (L._∷_ 100 (L._∷_ 58 (L._∷_ 58 (L._∷_ 70 (L._∷_ 111 (L._∷_ 117 (L._∷_ 110 (L._∷_ 100 L.[]))))))))))))))))))) (Syntax.tcons Syntax.tyBool (Syntax.tcons Syntax.tyBool (Syntax.tcons (Syntax.tyStruct (L._∷_ 115 (L._∷_ 116 (L._∷_ 101 (L._∷_ 112 (L._∷_ 58 (L._∷_ 58 (L._∷_ 83 (L._∷_ 116 (L._∷_ 101 (L._∷_ 112 L.[])))))))))) (Syntax.tcons (Syntax.tyInt Syntax.w64) (Syntax.tcons (Syntax.tyInt Syntax.w64) (Syntax.tcons (Syntax.tyStruct (L._∷_ 115 (L._∷_ 116 (L._∷_ 101 (L._∷_ 112 (L._∷_ 58 (L._∷_ 58 (L._∷_ 67 (L._∷_ 104 (L._∷_ 97 (L._∷_ 110 (L._∷_ 103 (L._∷_ 101 L.[])))))))))))) (Syntax.tcons (Syntax.tyStruct (L._∷_ 110 (L._∷_ 101 (L._∷_ 116 (L._∷_ 119 (L._∷_ 111 (L._∷_ 114 (L._∷_ 107 (L._∷_ 58 (L._∷_ 58 (L._∷_ 69 (L._∷_ 100 (L._∷_ 105 (L._∷_ 116 L.[]))))))))))))) (Syntax.tcons q11 (Syntax.tcons q11 (Syntax.tcons q11 (Syntax.tcons q11 (Syntax.tcons q3 (Syntax.tcons q3 (Syntax.tcons (Syntax.tyInt Syntax.w64) Syntax.tnil)))))))) (Syntax.tcons (Syntax.tyStruct (L._∷_ 115 (L._∷_ 116 (L._∷_ 101 (L._∷_ 112 (L._∷_ 58 (L._∷_ 58 (L._∷_ 79 (L._∷_ 108 (L._∷_ 100 L.[]))))))))) (Syntax.tcons (Syntax.tyInt Syntax.w64) (Syntax.tcons q10 (Syntax.tcons q11 (Syntax.tcons q11 (Syntax.tcons q11 (Syntax.tcons q11 (Syntax.tcons q7 Syntax.tnil)))))))) Syntax.tnil))) Syntax.tnil)))) Syntax.tnil))))) (Row.setRow 10 (10, Rows.any-gone (Syntax.tyStruct (L._∷_ 115 (L._∷_ 116 (L._∷_ 101 (L._∷_ 112 (L._∷_ 58 (L._∷_ 58 (L._∷_ 65 (L._∷_ 114 (L._∷_ 111 (L._∷_ 117 (L._∷_ 110 (L._∷_ 100 L.[])))))))))))) (Syntax.tcons q11 (Syntax.tcons q11 (Syntax.tcons q11 (Syntax.tcons q11 Syntax.tnil)))))) (T34 .locals))))) (Row.set 20 q42 tt (Row.setRow 14 q41 (Row.setRow 11 (11, Rows.any-gone (Syntax.tyStruct (L._∷_ 114 (L._∷_ 117 (L._∷_ 108 (L._∷_ 101 (L._∷_ 115 (L._∷_ 58 (L._∷_ 58 (L._∷_ 102 (L._∷_ 111 (L._∷_ 117 (L._∷_ 110 (L._∷_ 100 (L._∷_ 58 (L._∷_ 58 (L._∷_ 70 (L._∷_ 111 (L._∷_ 117 (L._∷_ 110 (L._∷_ 100 L.[]))))))))))))))))))) (Syntax.tcons Syntax.tyBool (Syntax.tcons Syntax.tyBool (Syntax.tcons (Syntax.tyStruct (L._∷_ 115 (L._∷_ 116 (L._∷_ 101 (L._∷_ 112 (L._∷_ 58 (L._∷_ 58 (L._∷_ 83 (L._∷_ 116 (L._∷_ 101 (L._∷_ 112 L.[])))))))))) (Syntax.tcons (Syntax.tyInt Syntax.w64) (Syntax.tcons (Syntax.tyInt Syntax.w64) (Syntax.tcons (Syntax.tyStruct (L._∷_ 115 (L._∷_ 116 (L._∷_ 101 (L._∷_ 112 (L._∷_ 58 (L._∷_ 58 (L._∷_ 67 (L._∷_ 104 (L._∷_ 97 (L._∷_ 110 (L._∷_ 103 (L._∷_ 101 L.[])))))))))))) (Syntax.tcons (Syntax.tyStruct (L._∷_ 110 (L._∷_ 101 (L._∷_ 116 (L._∷_ 119 (L._∷_ 111 (L._∷_ 114 (L._∷_ 107 (L._∷_ 58 (L._∷_ 58 (L._∷_ 69 (L._∷_ 100 (L._∷_ 105 (L._∷_ 116 L.[]))))))))))))) (Syntax.tcons q11 (Syntax.tcons q11 (Syntax.tcons q11 (Syntax.tcons q11 (Syntax.tcons q3 (Syntax.tcons q3 (Syntax.tcons (Syntax.tyInt Syntax.w64) Syntax.tnil)))))))) (Syntax.tcons (Syntax.tyStruct (L._∷_ 115 (L._∷_ 116 (L._∷_ 101 (L._∷_ 112 (L._∷_ 58 (L._∷_ 58 (L._∷_ 79 (L._∷_ 108 (L._∷_ 100 L.[]))))))))) (Syntax.tcons (Syntax.tyInt Syntax.w64) (Syntax.tcons q10 (Syntax.tcons q11 (Syntax.tcons q11 (Syntax.tcons q11 (Syntax.tcons q11 (Syntax.tcons q7 Syntax.tnil)))))))) Syntax.tnil))) Syntax.tnil)))) Syntax.tnil))))) (Row.setRow 10 (10, Rows.any-gone (Syntax.tyStruct (L._∷_ 115 (L._∷_ 116 (L._∷_ 101 (L._∷_ 112 (L._∷_ 58 (L._∷_ 58 (L._∷_ 65 (L._∷_ 114 (L._∷_ 111 (L._∷_ 117 (L._∷_ 110 (L._∷_ 100 L.[])))))))))))) (Syntax.tcons q11 (Syntax.tcons q11 (Syntax.tcons q11 (Syntax.tcons q11 Syntax.tnil)))))) (T34 .locals)))) (Row.set 14 q41 tt (Row.setRow 11 (11, Rows.any-gone (Syntax.tyStruct (L._∷_ 114 (L._∷_ 117 (L._∷_ 108 (L._∷_ 101 (L._∷_ 115 (L._∷_ 58 (L._∷_ 58 (L._∷_ 102 (L._∷_ 111 (L._∷_ 117 (L._∷_ 110 (L._∷_ 100 (L._∷_ 58 (L._∷_ 58 (L._∷_ 70 (L._∷_ 111 (L._∷_ 117 (L._∷_ 110 (L._∷_ 100 L.[]))))))))))))))))))) (Syntax.tcons Syntax.tyBool (Syntax.tcons Syntax.tyBool (Syntax.tcons (Syntax.tyStruct (L._∷_ 115 (L._∷_ 116 (L._∷_ 101 (L._∷_ 112 (L._∷_ 58 (L._∷_ 58 (L._∷_ 83 (L._∷_ 116 (L._∷_ 101 (L._∷_ 112 L.[])))))))))) (Syntax.tcons (Syntax.tyInt Syntax.w64) (Syntax.tcons (Syntax.tyInt Syntax.w64) (Syntax.tcons (Syntax.tyStruct (L._∷_ 115 (L._∷_ 116 (L._∷_ 101 (L._∷_ 112 (L._∷_ 58 (L._∷_ 58 (L._∷_ 67 (L._∷_ 104 (L._∷_ 97 (L._∷_ 110 (L._∷_ 103 (L._∷_ 101 L.[])))))))))))) (Syntax.tcons (Syntax.tyStruct (L._∷_ 110 (L._∷_ 101 (L._∷_ 116 (L._∷_ 119 (L._∷_ 111 (L._∷_ 114 (L._∷_ 107 (L._∷_ 58 (L._∷_ 58 (L._∷_ 69 (L._∷_ 100 (L._∷_ 105 (L._∷_ 116 L.[]))))))))))))) (Syntax.tcons q11 (Syntax.tcons q11 (Syntax.tcons q11 (Syntax.tcons q11 (Syntax.tcons q3 (Syntax.tcons q3 (Syntax.tcons (Syntax.tyInt Syntax.w64) Syntax.tnil)))))))) (Syntax.tcons (Syntax.tyStruct (L._∷_ 115 (L._∷_ 116 (L._∷_ 101 (L._∷_ 112 (L._∷_ 58 (L._∷_ 58 (L._∷_ 79 (L._∷_ 108 (L._∷_ 100 L.[]))))))))) (Syntax.tcons (Syntax.tyInt Syntax.w64) (Syntax.tcons q10 (Syntax.tcons q11 (Syntax.tcons q11 (Syntax.tcons q11 (Syntax.tcons q11 (Syntax.tcons q7 Syntax.tnil)))))))) Syntax.tnil))) Syntax.tnil)))) Syntax.tnil))))) (Row.setRow 10 (10, Rows.any-gone (Syntax.tyStruct (L._∷_ 115 (L._∷_ 116 (L._∷_ 101 (L._∷_ 112 (L._∷_ 58 (L._∷_ 58 (L._∷_ 65 (L._∷_ 114 (L._∷_ 111 (L._∷_ 117 (L._∷_ 110 (L._∷_ 100 L.[])))))))))))) (Syntax.tcons q11 (Syntax.tcons q11 (Syntax.tcons q11 (Syntax.tcons q11 Syntax.tnil)))))) (T34 .locals))) (Row.set 11 (11, Rows.any-gone (Syntax.tyStruct (L._∷_ 114 (L._∷_ 117 (L._∷_ 108 (L._∷_ 101 (L._∷_ 115 (L._∷_ 58 (L._∷_ 58 (L._∷_ 102 (L._∷_ 111 (L._∷_ 117 (L._∷_ 110 (L._∷_ 100 (L._∷_ 58 (L._∷_ 58 (L._∷_ 70 (L._∷_ 111 (L._∷_ 117 (L._∷_ 110 (L._∷_ 100 L.[]))))))))))))))))))) (Syntax.tcons Syntax.tyBool (Syntax.tcons Syntax.tyBool (Syntax.tcons (Syntax.tyStruct (L._∷_ 115 (L._∷_ 116 (L._∷_ 101 (L._∷_ 112 (L._∷_ 58 (L._∷_ 58 (L._∷_ 83 (L._∷_ 116 (L._∷_ 101 (L._∷_ 112 L.[])))))))))) (Syntax.tcons (Syntax.tyInt Syntax.w64) (Syntax.tcons (Syntax.tyInt Syntax.w64) (Syntax.tcons (Syntax.tyStruct (L._∷_ 115 (L._∷_ 116 (L._∷_ 101 (L._∷_ 112 (L._∷_ 58 (L._∷_ 58 (L._∷_ 67 (L._∷_ 104 (L._∷_ 97 (L._∷_ 110 (L._∷_ 103 (L._∷_ 101 L.[])))))))))))) (Syntax.tcons (Syntax.tyStruct (L._∷_ 110 (L._∷_ 101 (L._∷_ 116 (L._∷_ 119 (L._∷_ 111 (L._∷_ 114 (L._∷_ 107 (L._∷_ 58 (L._∷_ 58 (L._∷_ 69 (L._∷_ 100 (L._∷_ 105 (L._∷_ 116 L.[]))))))))))))) (Syntax.tcons q11 (Syntax.tcons q11 (Syntax.tcons q11 (Syntax.tcons q11 (Syntax.tcons q3 (Syntax.tcons q3 (Syntax.tcons (Syntax.tyInt Syntax.w64) Syntax.tnil)))))))) (Syntax.tcons (Syntax.tyStruct (L._∷_ 115 (L._∷_ 116 (L._∷_ 101 (L._∷_ 112 (L._∷_ 58 (L._∷_ 58 (L._∷_ 79 (L._∷_ 108 (L._∷_ 100 L.[]))))))))) (Syntax.tcons (Syntax.tyInt Syntax.w64) (Syntax.tcons q10 (Syntax.tcons q11 (Syntax.tcons q11 (Syntax.tcons q11 (Syntax.tcons q11 (Syntax.tcons q7 Syntax.tnil)))))))) Syntax.tnil))) Syntax.tnil)))) Syntax.tnil))))) tt (Row.setRow 10 (10, Rows.any-gone (Syntax.tyStruct (L._∷_ 115 (L._∷_ 116 (L._∷_ 101 (L._∷_ 112 (L._∷_ 58 (L._∷_ 58 (L._∷_ 65 (L._∷_ 114 (L._∷_ 111 (L._∷_ 117 (L._∷_ 110 (L._∷_ 100 L.[])))))))))))) (Syntax.tcons q11 (Syntax.tcons q11 (Syntax.tcons q11 (Syntax.tcons q11 Syntax.tnil)))))) (T34 .locals)) (Row.set 10 (10, Rows.any-gone (Syntax.tyStruct (L._∷_ 115 (L._∷_ 116 (L._∷_ 101 (L._∷_ 112 (L._∷_ 58 (L._∷_ 58 (L._∷_ 65 (L._∷_ 114 (L._∷_ 111 (L._∷_ 117 (L._∷_ 110 (L._∷_ 100 L.[])))))))))))) (Syntax.tcons q11 (Syntax.tcons q11 (Syntax.tcons q11 (Syntax.tcons q11 Syntax.tnil)))))) tt (T34 .locals) (m31 (before .before) (After-has-degree·gave before)))))))))))
+      abbrev pub m64 : (before : After-has-degree) → Typed.Mo T32
+      m64 = λ before. Row.set 27 q44 tt (Row.setRow 26 q5 (Row.setRow 25 q10 (Row.setRow 24 q9 (Row.setRow 23 q50 (Row.setRow 22 q49 (Row.setRow 21 q32 (Row.setRow 20 q43 (Row.setRow 14 q42 (Row.setRow 11 (11, Rows.any-gone (Syntax.tyStruct (L._∷_ 114 (L._∷_ 117 (L._∷_ 108 (L._∷_ 101 (L._∷_ 115 (L._∷_ 58 (L._∷_ 58 (L._∷_ 102 (L._∷_ 111 (L._∷_ 117 (L._∷_ 110 (L._∷_ 100 (L._∷_ 58 (L._∷_ 58 (L._∷_ 70 (L._∷_ 111 (L._∷_ 117 (L._∷_ 110 (L._∷_ 100 L.[]))))))))))))))))))) (Syntax.tcons Syntax.tyBool (Syntax.tcons Syntax.tyBool (Syntax.tcons (Syntax.tyStruct (L._∷_ 115 (L._∷_ 116 (L._∷_ 101 (L._∷_ 112 (L._∷_ 58 (L._∷_ 58 (L._∷_ 83 (L._∷_ 116 (L._∷_ 101 (L._∷_ 112 L.[])))))))))) (Syntax.tcons (Syntax.tyInt Syntax.w64) (Syntax.tcons (Syntax.tyInt Syntax.w64) (Syntax.tcons (Syntax.tyStruct (L._∷_ 115 (L._∷_ 116 (L._∷_ 101 (L._∷_ 112 (L._∷_ 58 (L._∷_ 58 (L._∷_ 67 (L._∷_ 104 (L._∷_ 97 (L._∷_ 110 (L._∷_ 103 (L._∷_ 101 L.[])))))))))))) (Syntax.tcons (Syntax.tyStruct (L._∷_ 110 (L._∷_ 101 (L._∷_ 116 (L._∷_ 119 (L._∷_ 111 (L._∷_ 114 (L._∷_ 107 (L._∷_ 58 (L._∷_ 58 (L._∷_ 69 (L._∷_ 100 (L._∷_ 105 (L._∷_ 116 L.[]))))))))))))) (Syntax.tcons q12 (Syntax.tcons q12 (Syntax.tcons q12 (Syntax.tcons q12 (Syntax.tcons q3 (Syntax.tcons q3 (Syntax.tcons (Syntax.tyInt Syntax.w64) (Syntax.tcons q11 Syntax.tnil))))))))) (Syntax.tcons (Syntax.tyStruct (L._∷_ 115 (L._∷_ 116 (L._∷_ 101 (L._∷_ 112 (L._∷_ 58 (L._∷_ 58 (L._∷_ 79 (L._∷_ 108 (L._∷_ 100 L.[]))))))))) (Syntax.tcons (Syntax.tyInt Syntax.w64) (Syntax.tcons q11 (Syntax.tcons q12 (Syntax.tcons q12 (Syntax.tcons q12 (Syntax.tcons q12 (Syntax.tcons q7 Syntax.tnil)))))))) Syntax.tnil))) Syntax.tnil)))) Syntax.tnil))))) (Row.setRow 10 (10, Rows.any-gone (Syntax.tyStruct (L._∷_ 115 (L._∷_ 116 (L._∷_ 101 (L._∷_ 112 (L._∷_ 58 (L._∷_ 58 (L._∷_ 65 (L._∷_ 114 (L._∷_ 111 (L._∷_ 117 (L._∷_ 110 (L._∷_ 100 L.[])))))))))))) (Syntax.tcons q12 (Syntax.tcons q12 (Syntax.tcons q12 (Syntax.tcons q12 Syntax.tnil)))))) (T34 .locals))))))))))) (Row.set 26 q5 tt (Row.setRow 25 q10 (Row.setRow 24 q9 (Row.setRow 23 q50 (Row.setRow 22 q49 (Row.setRow 21 q32 (Row.setRow 20 q43 (Row.setRow 14 q42 (Row.setRow 11 (11, Rows.any-gone (Syntax.tyStruct (L._∷_ 114 (L._∷_ 117 (L._∷_ 108 (L._∷_ 101 (L._∷_ 115 (L._∷_ 58 (L._∷_ 58 (L._∷_ 102 (L._∷_ 111 (L._∷_ 117 (L._∷_ 110 (L._∷_ 100 (L._∷_ 58 (L._∷_ 58 (L._∷_ 70 (L._∷_ 111 (L._∷_ 117 (L._∷_ 110 (L._∷_ 100 L.[]))))))))))))))))))) (Syntax.tcons Syntax.tyBool (Syntax.tcons Syntax.tyBool (Syntax.tcons (Syntax.tyStruct (L._∷_ 115 (L._∷_ 116 (L._∷_ 101 (L._∷_ 112 (L._∷_ 58 (L._∷_ 58 (L._∷_ 83 (L._∷_ 116 (L._∷_ 101 (L._∷_ 112 L.[])))))))))) (Syntax.tcons (Syntax.tyInt Syntax.w64) (Syntax.tcons (Syntax.tyInt Syntax.w64) (Syntax.tcons (Syntax.tyStruct (L._∷_ 115 (L._∷_ 116 (L._∷_ 101 (L._∷_ 112 (L._∷_ 58 (L._∷_ 58 (L._∷_ 67 (L._∷_ 104 (L._∷_ 97 (L._∷_ 110 (L._∷_ 103 (L._∷_ 101 L.[])))))))))))) (Syntax.tcons (Syntax.tyStruct (L._∷_ 110 (L._∷_ 101 (L._∷_ 116 (L._∷_ 119 (L._∷_ 111 (L._∷_ 114 (L._∷_ 107 (L._∷_ 58 (L._∷_ 58 (L._∷_ 69 (L._∷_ 100 (L._∷_ 105 (L._∷_ 116 L.[]))))))))))))) (Syntax.tcons q12 (Syntax.tcons q12 (Syntax.tcons q12 (Syntax.tcons q12 (Syntax.tcons q3 (Syntax.tcons q3 (Syntax.tcons (Syntax.tyInt Syntax.w64) (Syntax.tcons q11 Syntax.tnil))))))))) (Syntax.tcons (Syntax.tyStruct (L._∷_ 115 (L._∷_ 116 (L._∷_ 101 (L._∷_ 112 (L._∷_ 58 (L._∷_ 58 (L._∷_ 79 (L._∷_ 108 (L._∷_ 100 L.[]))))))))) (Syntax.tcons (Syntax.tyInt Syntax.w64) (Syntax.tcons q11 (Syntax.tcons q12 (Syntax.tcons q12 (Syntax.tcons q12 (Syntax.tcons q12 (Syntax.tcons q7 Syntax.tnil)))))))) Syntax.tnil))) Syntax.tnil)))) Syntax.tnil))))) (Row.setRow 10 (10, Rows.any-gone (Syntax.tyStruct (L._∷_ 115 (L._∷_ 116 (L._∷_ 101 (L._∷_ 112 (L._∷_ 58 (L._∷_ 58 (L._∷_ 65 (L._∷_ 114 (L._∷_ 111 (L._∷_ 117 (L._∷_ 110 (L._∷_ 100 L.[])))))))))))) (Syntax.tcons q12 (Syntax.tcons q12 (Syntax.tcons q12 (Syntax.tcons q12 Syntax.tnil)))))) (T34 .locals)))))))))) (Row.set 25 q10 tt (Row.setRow 24 q9 (Row.setRow 23 q50 (Row.setRow 22 q49 (Row.setRow 21 q32 (Row.setRow 20 q43 (Row.setRow 14 q42 (Row.setRow 11 (11, Rows.any-gone (Syntax.tyStruct (L._∷_ 114 (L._∷_ 117 (L._∷_ 108 (L._∷_ 101 (L._∷_ 115 (L._∷_ 58 (L._∷_ 58 (L._∷_ 102 (L._∷_ 111 (L._∷_ 117 (L._∷_ 110 (L._∷_ 100 (L._∷_ 58 (L._∷_ 58 (L._∷_ 70 (L._∷_ 111 (L._∷_ 117 (L._∷_ 110 (L._∷_ 100 L.[]))))))))))))))))))) (Syntax.tcons Syntax.tyBool (Syntax.tcons Syntax.tyBool (Syntax.tcons (Syntax.tyStruct (L._∷_ 115 (L._∷_ 116 (L._∷_ 101 (L._∷_ 112 (L._∷_ 58 (L._∷_ 58 (L._∷_ 83 (L._∷_ 116 (L._∷_ 101 (L._∷_ 112 L.[])))))))))) (Syntax.tcons (Syntax.tyInt Syntax.w64) (Syntax.tcons (Syntax.tyInt Syntax.w64) (Syntax.tcons (Syntax.tyStruct (L._∷_ 115 (L._∷_ 116 (L._∷_ 101 (L._∷_ 112 (L._∷_ 58 (L._∷_ 58 (L._∷_ 67 (L._∷_ 104 (L._∷_ 97 (L._∷_ 110 (L._∷_ 103 (L._∷_ 101 L.[])))))))))))) (Syntax.tcons (Syntax.tyStruct (L._∷_ 110 (L._∷_ 101 (L._∷_ 116 (L._∷_ 119 (L._∷_ 111 (L._∷_ 114 (L._∷_ 107 (L._∷_ 58 (L._∷_ 58 (L._∷_ 69 (L._∷_ 100 (L._∷_ 105 (L._∷_ 116 L.[]))))))))))))) (Syntax.tcons q12 (Syntax.tcons q12 (Syntax.tcons q12 (Syntax.tcons q12 (Syntax.tcons q3 (Syntax.tcons q3 (Syntax.tcons (Syntax.tyInt Syntax.w64) (Syntax.tcons q11 Syntax.tnil))))))))) (Syntax.tcons (Syntax.tyStruct (L._∷_ 115 (L._∷_ 116 (L._∷_ 101 (L._∷_ 112 (L._∷_ 58 (L._∷_ 58 (L._∷_ 79 (L._∷_ 108 (L._∷_ 100 L.[]))))))))) (Syntax.tcons (Syntax.tyInt Syntax.w64) (Syntax.tcons q11 (Syntax.tcons q12 (Syntax.tcons q12 (Syntax.tcons q12 (Syntax.tcons q12 (Syntax.tcons q7 Syntax.tnil)))))))) Syntax.tnil))) Syntax.tnil)))) Syntax.tnil))))) (Row.setRow 10 (10, Rows.any-gone (Syntax.tyStruct (L._∷_ 115 (L._∷_ 116 (L._∷_ 101 (L._∷_ 112 (L._∷_ 58 (L._∷_ 58 (L._∷_ 65 (L._∷_ 114 (L._∷_ 111 (L._∷_ 117 (L._∷_ 110 (L._∷_ 100 L.[])))))))))))) (Syntax.tcons q12 (Syntax.tcons q12 (Syntax.tcons q12 (Syntax.tcons q12 Syntax.tnil)))))) (T34 .locals))))))))) (Row.set 24 q9 tt (Row.setRow 23 q50 (Row.setRow 22 q49 (Row.setRow 21 q32 (Row.setRow 20 q43 (Row.setRow 14 q42 (Row.setRow 11 (11, Rows.any-gone (Syntax.tyStruct (L._∷_ 114 (L._∷_ 117 (L._∷_ 108 (L._∷_ 101 (L._∷_ 115 (L._∷_ 58 (L._∷_ 58 (L._∷_ 102 (L._∷_ 111 (L._∷_ 117 (L._∷_ 110 (L._∷_ 100 (L._∷_ 58 (L._∷_ 58 (L._∷_ 70 (L._∷_ 111 (L._∷_ 117 (L._∷_ 110 (L._∷_ 100 L.[]))))))))))))))))))) (Syntax.tcons Syntax.tyBool (Syntax.tcons Syntax.tyBool (Syntax.tcons (Syntax.tyStruct (L._∷_ 115 (L._∷_ 116 (L._∷_ 101 (L._∷_ 112 (L._∷_ 58 (L._∷_ 58 (L._∷_ 83 (L._∷_ 116 (L._∷_ 101 (L._∷_ 112 L.[])))))))))) (Syntax.tcons (Syntax.tyInt Syntax.w64) (Syntax.tcons (Syntax.tyInt Syntax.w64) (Syntax.tcons (Syntax.tyStruct (L._∷_ 115 (L._∷_ 116 (L._∷_ 101 (L._∷_ 112 (L._∷_ 58 (L._∷_ 58 (L._∷_ 67 (L._∷_ 104 (L._∷_ 97 (L._∷_ 110 (L._∷_ 103 (L._∷_ 101 L.[])))))))))))) (Syntax.tcons (Syntax.tyStruct (L._∷_ 110 (L._∷_ 101 (L._∷_ 116 (L._∷_ 119 (L._∷_ 111 (L._∷_ 114 (L._∷_ 107 (L._∷_ 58 (L._∷_ 58 (L._∷_ 69 (L._∷_ 100 (L._∷_ 105 (L._∷_ 116 L.[]))))))))))))) (Syntax.tcons q12 (Syntax.tcons q12 (Syntax.tcons q12 (Syntax.tcons q12 (Syntax.tcons q3 (Syntax.tcons q3 (Syntax.tcons (Syntax.tyInt Syntax.w64) (Syntax.tcons q11 Syntax.tnil))))))))) (Syntax.tcons (Syntax.tyStruct (L._∷_ 115 (L._∷_ 116 (L._∷_ 101 (L._∷_ 112 (L._∷_ 58 (L._∷_ 58 (L._∷_ 79 (L._∷_ 108 (L._∷_ 100 L.[]))))))))) (Syntax.tcons (Syntax.tyInt Syntax.w64) (Syntax.tcons q11 (Syntax.tcons q12 (Syntax.tcons q12 (Syntax.tcons q12 (Syntax.tcons q12 (Syntax.tcons q7 Syntax.tnil)))))))) Syntax.tnil))) Syntax.tnil)))) Syntax.tnil))))) (Row.setRow 10 (10, Rows.any-gone (Syntax.tyStruct (L._∷_ 115 (L._∷_ 116 (L._∷_ 101 (L._∷_ 112 (L._∷_ 58 (L._∷_ 58 (L._∷_ 65 (L._∷_ 114 (L._∷_ 111 (L._∷_ 117 (L._∷_ 110 (L._∷_ 100 L.[])))))))))))) (Syntax.tcons q12 (Syntax.tcons q12 (Syntax.tcons q12 (Syntax.tcons q12 Syntax.tnil)))))) (T34 .locals)))))))) (Row.set 23 q50 tt (Row.setRow 22 q49 (Row.setRow 21 q32 (Row.setRow 20 q43 (Row.setRow 14 q42 (Row.setRow 11 (11, Rows.any-gone (Syntax.tyStruct (L._∷_ 114 (L._∷_ 117 (L._∷_ 108 (L._∷_ 101 (L._∷_ 115 (L._∷_ 58 (L._∷_ 58 (L._∷_ 102 (L._∷_ 111 (L._∷_ 117 (L._∷_ 110 (L._∷_ 100 (L._∷_ 58 (L._∷_ 58 (L._∷_ 70 (L._∷_ 111 (L._∷_ 117 (L._∷_ 110 (L._∷_ 100 L.[]))))))))))))))))))) (Syntax.tcons Syntax.tyBool (Syntax.tcons Syntax.tyBool (Syntax.tcons (Syntax.tyStruct (L._∷_ 115 (L._∷_ 116 (L._∷_ 101 (L._∷_ 112 (L._∷_ 58 (L._∷_ 58 (L._∷_ 83 (L._∷_ 116 (L._∷_ 101 (L._∷_ 112 L.[])))))))))) (Syntax.tcons (Syntax.tyInt Syntax.w64) (Syntax.tcons (Syntax.tyInt Syntax.w64) (Syntax.tcons (Syntax.tyStruct (L._∷_ 115 (L._∷_ 116 (L._∷_ 101 (L._∷_ 112 (L._∷_ 58 (L._∷_ 58 (L._∷_ 67 (L._∷_ 104 (L._∷_ 97 (L._∷_ 110 (L._∷_ 103 (L._∷_ 101 L.[])))))))))))) (Syntax.tcons (Syntax.tyStruct (L._∷_ 110 (L._∷_ 101 (L._∷_ 116 (L._∷_ 119 (L._∷_ 111 (L._∷_ 114 (L._∷_ 107 (L._∷_ 58 (L._∷_ 58 (L._∷_ 69 (L._∷_ 100 (L._∷_ 105 (L._∷_ 116 L.[]))))))))))))) (Syntax.tcons q12 (Syntax.tcons q12 (Syntax.tcons q12 (Syntax.tcons q12 (Syntax.tcons q3 (Syntax.tcons q3 (Syntax.tcons (Syntax.tyInt Syntax.w64) (Syntax.tcons q11 Syntax.tnil))))))))) (Syntax.tcons (Syntax.tyStruct (L._∷_ 115 (L._∷_ 116 (L._∷_ 101 (L._∷_ 112 (L._∷_ 58 (L._∷_ 58 (L._∷_ 79 (L._∷_ 108 (L._∷_ 100 L.[]))))))))) (Syntax.tcons (Syntax.tyInt Syntax.w64) (Syntax.tcons q11 (Syntax.tcons q12 (Syntax.tcons q12 (Syntax.tcons q12 (Syntax.tcons q12 (Syntax.tcons q7 Syntax.tnil)))))))) Syntax.tnil))) Syntax.tnil)))) Syntax.tnil))))) (Row.setRow 10 (10, Rows.any-gone (Syntax.tyStruct (L._∷_ 115 (L._∷_ 116 (L._∷_ 101 (L._∷_ 112 (L._∷_ 58 (L._∷_ 58 (L._∷_ 65 (L._∷_ 114 (L._∷_ 111 (L._∷_ 117 (L._∷_ 110 (L._∷_ 100 L.[])))))))))))) (Syntax.tcons q12 (Syntax.tcons q12 (Syntax.tcons q12 (Syntax.tcons q12 Syntax.tnil)))))) (T34 .locals))))))) (Row.set 22 q49 tt (Row.setRow 21 q32 (Row.setRow 20 q43 (Row.setRow 14 q42 (Row.setRow 11 (11, Rows.any-gone (Syntax.tyStruct (L._∷_ 114 (L._∷_ 117 (L._∷_ 108 (L._∷_ 101 (L._∷_ 115 (L._∷_ 58 (L._∷_ 58 (L._∷_ 102 (L._∷_ 111 (L._∷_ 117 (L._∷_ 110 (L._∷_ 100 (L._∷_ 58 (L._∷_ 58 (L._∷_ 70 (L._∷_ 111 (L._∷_ 117 (L._∷_ 110 (L._∷_ 100 L.[]))))))))))))))))))) (Syntax.tcons Syntax.tyBool (Syntax.tcons Syntax.tyBool (Syntax.tcons (Syntax.tyStruct (L._∷_ 115 (L._∷_ 116 (L._∷_ 101 (L._∷_ 112 (L._∷_ 58 (L._∷_ 58 (L._∷_ 83 (L._∷_ 116 (L._∷_ 101 (L._∷_ 112 L.[])))))))))) (Syntax.tcons (Syntax.tyInt Syntax.w64) (Syntax.tcons (Syntax.tyInt Syntax.w64) (Syntax.tcons (Syntax.tyStruct (L._∷_ 115 (L._∷_ 116 (L._∷_ 101 (L._∷_ 112 (L._∷_ 58 (L._∷_ 58 (L._∷_ 67 (L._∷_ 104 (L._∷_ 97 (L._∷_ 110 (L._∷_ 103 (L._∷_ 101 L.[])))))))))))) (Syntax.tcons (Syntax.tyStruct (L._∷_ 110 (L._∷_ 101 (L._∷_ 116 (L._∷_ 119 (L._∷_ 111 (L._∷_ 114 (L._∷_ 107 (L._∷_ 58 (L._∷_ 58 (L._∷_ 69 (L._∷_ 100 (L._∷_ 105 (L._∷_ 116 L.[]))))))))))))) (Syntax.tcons q12 (Syntax.tcons q12 (Syntax.tcons q12 (Syntax.tcons q12 (Syntax.tcons q3 (Syntax.tcons q3 (Syntax.tcons (Syntax.tyInt Syntax.w64) (Syntax.tcons q11 Syntax.tnil))))))))) (Syntax.tcons (Syntax.tyStruct (L._∷_ 115 (L._∷_ 116 (L._∷_ 101 (L._∷_ 112 (L._∷_ 58 (L._∷_ 58 (L._∷_ 79 (L._∷_ 108 (L._∷_ 100 L.[]))))))))) (Syntax.tcons (Syntax.tyInt Syntax.w64) (Syntax.tcons q11 (Syntax.tcons q12 (Syntax.tcons q12 (Syntax.tcons q12 (Syntax.tcons q12 (Syntax.tcons q7 Syntax.tnil)))))))) Syntax.tnil))) Syntax.tnil)))) Syntax.tnil))))) (Row.setRow 10 (10, Rows.any-gone (Syntax.tyStruct (L._∷_ 115 (L._∷_ 116 (L._∷_ 101 (L._∷_ 112 (L._∷_ 58 (L._∷_ 58 (L._∷_ 65 (L._∷_ 114 (L._∷_ 111 (L._∷_ 117 (L._∷_ 110 (L._∷_ 100 L.[])))))))))))) (Syntax.tcons q12 (Syntax.tcons q12 (Syntax.tcons q12 (Syntax.tcons q12 Syntax.tnil)))))) (T34 .locals)))))) (Row.set 21 q32 tt (Row.setRow 20 q43 (Row.setRow 14 q42 (Row.setRow 11 (11, Rows.any-gone (Syntax.tyStruct (L._∷_ 114 (L._∷_ 117 (L._∷_ 108 (L._∷_ 101 (L._∷_ 115 (L._∷_ 58 (L._∷_ 58 (L._∷_ 102 (L._∷_ 111 (L._∷_ 117 (L._∷_ 110 (L._∷_ 100 (L._∷_ 58 (L._∷_ 58 (L._∷_ 70 (L._∷_ 111 (L._∷_ 117 (L._∷_ 110 (L._∷_ 100 L.[]))))))))))))))))))) (Syntax.tcons Syntax.tyBool (Syntax.tcons Syntax.tyBool (Syntax.tcons (Syntax.tyStruct (L._∷_ 115 (L._∷_ 116 (L._∷_ 101 (L._∷_ 112 (L._∷_ 58 (L._∷_ 58 (L._∷_ 83 (L._∷_ 116 (L._∷_ 101 (L._∷_ 112 L.[])))))))))) (Syntax.tcons (Syntax.tyInt Syntax.w64) (Syntax.tcons (Syntax.tyInt Syntax.w64) (Syntax.tcons (Syntax.tyStruct (L._∷_ 115 (L._∷_ 116 (L._∷_ 101 (L._∷_ 112 (L._∷_ 58 (L._∷_ 58 (L._∷_ 67 (L._∷_ 104 (L._∷_ 97 (L._∷_ 110 (L._∷_ 103 (L._∷_ 101 L.[])))))))))))) (Syntax.tcons (Syntax.tyStruct (L._∷_ 110 (L._∷_ 101 (L._∷_ 116 (L._∷_ 119 (L._∷_ 111 (L._∷_ 114 (L._∷_ 107 (L._∷_ 58 (L._∷_ 58 (L._∷_ 69 (L._∷_ 100 (L._∷_ 105 (L._∷_ 116 L.[]))))))))))))) (Syntax.tcons q12 (Syntax.tcons q12 (Syntax.tcons q12 (Syntax.tcons q12 (Syntax.tcons q3 (Syntax.tcons q3 (Syntax.tcons (Syntax.tyInt Syntax.w64) (Syntax.tcons q11 Syntax.tnil))))))))) (Syntax.tcons (Syntax.tyStruct (L._∷_ 115 (L._∷_ 116 (L._∷_ 101 (L._∷_ 112 (L._∷_ 58 (L._∷_ 58 (L._∷_ 79 (L._∷_ 108 (L._∷_ 100 L.[]))))))))) (Syntax.tcons (Syntax.tyInt Syntax.w64) (Syntax.tcons q11 (Syntax.tcons q12 (Syntax.tcons q12 (Syntax.tcons q12 (Syntax.tcons q12 (Syntax.tcons q7 Syntax.tnil)))))))) Syntax.tnil))) Syntax.tnil)))) Syntax.tnil))))) (Row.setRow 10 (10, Rows.any-gone (Syntax.tyStruct (L._∷_ 115 (L._∷_ 116 (L._∷_ 101 (L._∷_ 112 (L._∷_ 58 (L._∷_ 58 (L._∷_ 65 (L._∷_ 114 (L._∷_ 111 (L._∷_ 117 (L._∷_ 110 (L._∷_ 100 L.[])))))))))))) (Syntax.tcons q12 (Syntax.tcons q12 (Syntax.tcons q12 (Syntax.tcons q12 Syntax.tnil)))))) (T34 .locals))))) (Row.set 20 q43 tt (Row.setRow 14 q42 (Row.setRow 11 (11, Rows.any-gone (Syntax.tyStruct (L._∷_ 114 (L._∷_ 117 (L._∷_ 108 (L._∷_ 101 (L._∷_ 115 (L._∷_ 58 (L._∷_ 58 (L._∷_ 102 (L._∷_ 111 (L._∷_ 117 (L._∷_ 110 (L._∷_ 100 (L._∷_ 58 (L._∷_ 58 (L._∷_ 70 (L._∷_ 111 (L._∷_ 117 (L._∷_ 110 (L._∷_ 100 L.[]))))))))))))))))))) (Syntax.tcons Syntax.tyBool (Syntax.tcons Syntax.tyBool (Syntax.tcons (Syntax.tyStruct (L._∷_ 115 (L._∷_ 116 (L._∷_ 101 (L._∷_ 112 (L._∷_ 58 (L._∷_ 58 (L._∷_ 83 (L._∷_ 116 (L._∷_ 101 (L._∷_ 112 L.[])))))))))) (Syntax.tcons (Syntax.tyInt Syntax.w64) (Syntax.tcons (Syntax.tyInt Syntax.w64) (Syntax.tcons (Syntax.tyStruct (L._∷_ 115 (L._∷_ 116 (L._∷_ 101 (L._∷_ 112 (L._∷_ 58 (L._∷_ 58 (L._∷_ 67 (L._∷_ 104 (L._∷_ 97 (L._∷_ 110 (L._∷_ 103 (L._∷_ 101 L.[])))))))))))) (Syntax.tcons (Syntax.tyStruct (L._∷_ 110 (L._∷_ 101 (L._∷_ 116 (L._∷_ 119 (L._∷_ 111 (L._∷_ 114 (L._∷_ 107 (L._∷_ 58 (L._∷_ 58 (L._∷_ 69 (L._∷_ 100 (L._∷_ 105 (L._∷_ 116 L.[]))))))))))))) (Syntax.tcons q12 (Syntax.tcons q12 (Syntax.tcons q12 (Syntax.tcons q12 (Syntax.tcons q3 (Syntax.tcons q3 (Syntax.tcons (Syntax.tyInt Syntax.w64) (Syntax.tcons q11 Syntax.tnil))))))))) (Syntax.tcons (Syntax.tyStruct (L._∷_ 115 (L._∷_ 116 (L._∷_ 101 (L._∷_ 112 (L._∷_ 58 (L._∷_ 58 (L._∷_ 79 (L._∷_ 108 (L._∷_ 100 L.[]))))))))) (Syntax.tcons (Syntax.tyInt Syntax.w64) (Syntax.tcons q11 (Syntax.tcons q12 (Syntax.tcons q12 (Syntax.tcons q12 (Syntax.tcons q12 (Syntax.tcons q7 Syntax.tnil)))))))) Syntax.tnil))) Syntax.tnil)))) Syntax.tnil))))) (Row.setRow 10 (10, Rows.any-gone (Syntax.tyStruct (L._∷_ 115 (L._∷_ 116 (L._∷_ 101 (L._∷_ 112 (L._∷_ 58 (L._∷_ 58 (L._∷_ 65 (L._∷_ 114 (L._∷_ 111 (L._∷_ 117 (L._∷_ 110 (L._∷_ 100 L.[])))))))))))) (Syntax.tcons q12 (Syntax.tcons q12 (Syntax.tcons q12 (Syntax.tcons q12 Syntax.tnil)))))) (T34 .locals)))) (Row.set 14 q42 tt (Row.setRow 11 (11, Rows.any-gone (Syntax.tyStruct (L._∷_ 114 (L._∷_ 117 (L._∷_ 108 (L._∷_ 101 (L._∷_ 115 (L._∷_ 58 (L._∷_ 58 (L._∷_ 102 (L._∷_ 111 (L._∷_ 117 (L._∷_ 110 (L._∷_ 100 (L._∷_ 58 (L._∷_ 58 (L._∷_ 70 (L._∷_ 111 (L._∷_ 117 (L._∷_ 110 (L._∷_ 100 L.[]))))))))))))))))))) (Syntax.tcons Syntax.tyBool (Syntax.tcons Syntax.tyBool (Syntax.tcons (Syntax.tyStruct (L._∷_ 115 (L._∷_ 116 (L._∷_ 101 (L._∷_ 112 (L._∷_ 58 (L._∷_ 58 (L._∷_ 83 (L._∷_ 116 (L._∷_ 101 (L._∷_ 112 L.[])))))))))) (Syntax.tcons (Syntax.tyInt Syntax.w64) (Syntax.tcons (Syntax.tyInt Syntax.w64) (Syntax.tcons (Syntax.tyStruct (L._∷_ 115 (L._∷_ 116 (L._∷_ 101 (L._∷_ 112 (L._∷_ 58 (L._∷_ 58 (L._∷_ 67 (L._∷_ 104 (L._∷_ 97 (L._∷_ 110 (L._∷_ 103 (L._∷_ 101 L.[])))))))))))) (Syntax.tcons (Syntax.tyStruct (L._∷_ 110 (L._∷_ 101 (L._∷_ 116 (L._∷_ 119 (L._∷_ 111 (L._∷_ 114 (L._∷_ 107 (L._∷_ 58 (L._∷_ 58 (L._∷_ 69 (L._∷_ 100 (L._∷_ 105 (L._∷_ 116 L.[]))))))))))))) (Syntax.tcons q12 (Syntax.tcons q12 (Syntax.tcons q12 (Syntax.tcons q12 (Syntax.tcons q3 (Syntax.tcons q3 (Syntax.tcons (Syntax.tyInt Syntax.w64) (Syntax.tcons q11 Syntax.tnil))))))))) (Syntax.tcons (Syntax.tyStruct (L._∷_ 115 (L._∷_ 116 (L._∷_ 101 (L._∷_ 112 (L._∷_ 58 (L._∷_ 58 (L._∷_ 79 (L._∷_ 108 (L._∷_ 100 L.[]))))))))) (Syntax.tcons (Syntax.tyInt Syntax.w64) (Syntax.tcons q11 (Syntax.tcons q12 (Syntax.tcons q12 (Syntax.tcons q12 (Syntax.tcons q12 (Syntax.tcons q7 Syntax.tnil)))))))) Syntax.tnil))) Syntax.tnil)))) Syntax.tnil))))) (Row.setRow 10 (10, Rows.any-gone (Syntax.tyStruct (L._∷_ 115 (L._∷_ 116 (L._∷_ 101 (L._∷_ 112 (L._∷_ 58 (L._∷_ 58 (L._∷_ 65 (L._∷_ 114 (L._∷_ 111 (L._∷_ 117 (L._∷_ 110 (L._∷_ 100 L.[])))))))))))) (Syntax.tcons q12 (Syntax.tcons q12 (Syntax.tcons q12 (Syntax.tcons q12 Syntax.tnil)))))) (T34 .locals))) (Row.set 11 (11, Rows.any-gone (Syntax.tyStruct (L._∷_ 114 (L._∷_ 117 (L._∷_ 108 (L._∷_ 101 (L._∷_ 115 (L._∷_ 58 (L._∷_ 58 (L._∷_ 102 (L._∷_ 111 (L._∷_ 117 (L._∷_ 110 (L._∷_ 100 (L._∷_ 58 (L._∷_ 58 (L._∷_ 70 (L._∷_ 111 (L._∷_ 117 (L._∷_ 110 (L._∷_ 100 L.[]))))))))))))))))))) (Syntax.tcons Syntax.tyBool (Syntax.tcons Syntax.tyBool (Syntax.tcons (Syntax.tyStruct (L._∷_ 115 (L._∷_ 116 (L._∷_ 101 (L._∷_ 112 (L._∷_ 58 (L._∷_ 58 (L._∷_ 83 (L._∷_ 116 (L._∷_ 101 (L._∷_ 112 L.[])))))))))) (Syntax.tcons (Syntax.tyInt Syntax.w64) (Syntax.tcons (Syntax.tyInt Syntax.w64) (Syntax.tcons (Syntax.tyStruct (L._∷_ 115 (L._∷_ 116 (L._∷_ 101 (L._∷_ 112 (L._∷_ 58 (L._∷_ 58 (L._∷_ 67 (L._∷_ 104 (L._∷_ 97 (L._∷_ 110 (L._∷_ 103 (L._∷_ 101 L.[])))))))))))) (Syntax.tcons (Syntax.tyStruct (L._∷_ 110 (L._∷_ 101 (L._∷_ 116 (L._∷_ 119 (L._∷_ 111 (L._∷_ 114 (L._∷_ 107 (L._∷_ 58 (L._∷_ 58 (L._∷_ 69 (L._∷_ 100 (L._∷_ 105 (L._∷_ 116 L.[]))))))))))))) (Syntax.tcons q12 (Syntax.tcons q12 (Syntax.tcons q12 (Syntax.tcons q12 (Syntax.tcons q3 (Syntax.tcons q3 (Syntax.tcons (Syntax.tyInt Syntax.w64) (Syntax.tcons q11 Syntax.tnil))))))))) (Syntax.tcons (Syntax.tyStruct (L._∷_ 115 (L._∷_ 116 (L._∷_ 101 (L._∷_ 112 (L._∷_ 58 (L._∷_ 58 (L._∷_ 79 (L._∷_ 108 (L._∷_ 100 L.[]))))))))) (Syntax.tcons (Syntax.tyInt Syntax.w64) (Syntax.tcons q11 (Syntax.tcons q12 (Syntax.tcons q12 (Syntax.tcons q12 (Syntax.tcons q12 (Syntax.tcons q7 Syntax.tnil)))))))) Syntax.tnil))) Syntax.tnil)))) Syntax.tnil))))) tt (Row.setRow 10 (10, Rows.any-gone (Syntax.tyStruct (L._∷_ 115 (L._∷_ 116 (L._∷_ 101 (L._∷_ 112 (L._∷_ 58 (L._∷_ 58 (L._∷_ 65 (L._∷_ 114 (L._∷_ 111 (L._∷_ 117 (L._∷_ 110 (L._∷_ 100 L.[])))))))))))) (Syntax.tcons q12 (Syntax.tcons q12 (Syntax.tcons q12 (Syntax.tcons q12 Syntax.tnil)))))) (T34 .locals)) (Row.set 10 (10, Rows.any-gone (Syntax.tyStruct (L._∷_ 115 (L._∷_ 116 (L._∷_ 101 (L._∷_ 112 (L._∷_ 58 (L._∷_ 58 (L._∷_ 65 (L._∷_ 114 (L._∷_ 111 (L._∷_ 117 (L._∷_ 110 (L._∷_ 100 L.[])))))))))))) (Syntax.tcons q12 (Syntax.tcons q12 (Syntax.tcons q12 (Syntax.tcons q12 Syntax.tnil)))))) tt (T34 .locals) (m31 (before .before) (After-has-degree·gave before))))))))))))
 
       module _ (before· : After-has-degree) where
         pub record Joined1·own : Type 0 where
-          pub came : Logic._⊎_ ((if1 : Then1·own before·) × (may-apply-arg : After-may-apply-arg·own record { before = before·; if1 = if1 }) × (may-apply : After-may-apply·own record { before = record { before = before·; if1 = if1 }; may-apply-arg = may-apply-arg }) × (if2 : Then2·own record { before = record { before = record { before = before·; if1 = if1 }; may-apply-arg = may-apply-arg }; may-apply = may-apply }) × (gather : After-gather·own record { before = record { before = record { before = record { before = before·; if1 = if1 }; may-apply-arg = may-apply-arg }; may-apply = may-apply }; if2 = if2 }) × (at-node-arg : After-at-node-arg·own record { before = record { before = record { before = record { before = record { before = before·; if1 = if1 }; may-apply-arg = may-apply-arg }; may-apply = may-apply }; if2 = if2 }; gather = gather }) × (at-node : After-at-node·own record { before = record { before = record { before = record { before = record { before = record { before = before·; if1 = if1 }; may-apply-arg = may-apply-arg }; may-apply = may-apply }; if2 = if2 }; gather = gather }; at-node-arg = at-node-arg }) × Else3·own record { before = record { before = record { before = record { before = record { before = record { before = record { before = before·; if1 = if1 }; may-apply-arg = may-apply-arg }; may-apply = may-apply }; if2 = if2 }; gather = gather }; at-node-arg = at-node-arg }; at-node = at-node }) (Logic._⊎_ ((if1 : Then1·own before·) × (may-apply-arg : After-may-apply-arg·own record { before = before·; if1 = if1 }) × (may-apply : After-may-apply·own record { before = record { before = before·; if1 = if1 }; may-apply-arg = may-apply-arg }) × Else2·own record { before = record { before = record { before = before·; if1 = if1 }; may-apply-arg = may-apply-arg }; may-apply = may-apply }) (Else1·own before·))
+          pub came : Logic._⊎_ ((if1 : Then1·own before·) × (may-apply-arg : After-may-apply-arg·own record { before = before·; if1 = if1 }) × (may-apply : After-may-apply·own record { before = record { before = before·; if1 = if1 }; may-apply-arg = may-apply-arg }) × (if2 : Then2·own record { before = record { before = record { before = before·; if1 = if1 }; may-apply-arg = may-apply-arg }; may-apply = may-apply }) × (gather : After-gather·own record { before = record { before = record { before = record { before = before·; if1 = if1 }; may-apply-arg = may-apply-arg }; may-apply = may-apply }; if2 = if2 }) × (at-node-arg : After-at-node-arg·own record { before = record { before = record { before = record { before = record { before = before·; if1 = if1 }; may-apply-arg = may-apply-arg }; may-apply = may-apply }; if2 = if2 }; gather = gather }) × (at-node-arg2 : After-at-node-arg2·own record { before = record { before = record { before = record { before = record { before = record { before = before·; if1 = if1 }; may-apply-arg = may-apply-arg }; may-apply = may-apply }; if2 = if2 }; gather = gather }; at-node-arg = at-node-arg }) × (at-node : After-at-node·own record { before = record { before = record { before = record { before = record { before = record { before = record { before = before·; if1 = if1 }; may-apply-arg = may-apply-arg }; may-apply = may-apply }; if2 = if2 }; gather = gather }; at-node-arg = at-node-arg }; at-node-arg2 = at-node-arg2 }) × Else3·own record { before = record { before = record { before = record { before = record { before = record { before = record { before = record { before = before·; if1 = if1 }; may-apply-arg = may-apply-arg }; may-apply = may-apply }; if2 = if2 }; gather = gather }; at-node-arg = at-node-arg }; at-node-arg2 = at-node-arg2 }; at-node = at-node }) (Logic._⊎_ ((if1 : Then1·own before·) × (may-apply-arg : After-may-apply-arg·own record { before = before·; if1 = if1 }) × (may-apply : After-may-apply·own record { before = record { before = before·; if1 = if1 }; may-apply-arg = may-apply-arg }) × Else2·own record { before = record { before = record { before = before·; if1 = if1 }; may-apply-arg = may-apply-arg }; may-apply = may-apply }) (Else1·own before·))
 
       pub record Joined1 : Type 0 where
         pub before : After-has-degree
         pub if1 : Joined1·own before
 
       abbrev pub Need-add-i : Type 0
-      Need-add-i = (c : Joined1) → s60 (c .before .before .before .before .before .before .before .blocks) .asks (m62 (c .before))
+      Need-add-i = (c : Joined1) → s62 (c .before .before .before .before .before .before .before .blocks) .asks (m64 (c .before))
 
-      abbrev pub m63 : (before : After-has-degree) → Typed.Mo T65
-      m63 = λ before. s60 (before .before .before .before .before .before .before .blocks) .next (m62 before)
+      abbrev pub m65 : (before : After-has-degree) → Typed.Mo T67
+      m65 = λ before. s62 (before .before .before .before .before .before .before .blocks) .next (m64 before)
 
       abbrev pub Need-loop-less : Type 0
-      Need-loop-less = (c : Joined1) → Nat._<_ (μ·0 (Row.get 2 (T8 .locals) (m7 (c .before .before .before .before .before .before .before) (After-asks-of·gave (c .before .before .before .before .before .before))) .now) (Row.get 4 (T8 .locals) (m7 (c .before .before .before .before .before .before .before) (After-asks-of·gave (c .before .before .before .before .before .before)))) (Row.get 5 (T8 .locals) (m7 (c .before .before .before .before .before .before .before) (After-asks-of·gave (c .before .before .before .before .before .before)))) (Row.get 6 (T8 .locals) (m7 (c .before .before .before .before .before .before .before) (After-asks-of·gave (c .before .before .before .before .before .before)))) (Row.get 7 (T8 .locals) (m7 (c .before .before .before .before .before .before .before) (After-asks-of·gave (c .before .before .before .before .before .before)))) (Row.get 8 (T8 .locals) (m7 (c .before .before .before .before .before .before .before) (After-asks-of·gave (c .before .before .before .before .before .before)))) (Row.get 9 (T8 .locals) (m7 (c .before .before .before .before .before .before .before) (After-asks-of·gave (c .before .before .before .before .before .before)))) (Row.get 9 (T8 .locals) (m63 (c .before)))) (μ·0 (Row.get 2 (T8 .locals) (m7 (c .before .before .before .before .before .before .before) (After-asks-of·gave (c .before .before .before .before .before .before))) .now) (Row.get 4 (T8 .locals) (m7 (c .before .before .before .before .before .before .before) (After-asks-of·gave (c .before .before .before .before .before .before)))) (Row.get 5 (T8 .locals) (m7 (c .before .before .before .before .before .before .before) (After-asks-of·gave (c .before .before .before .before .before .before)))) (Row.get 6 (T8 .locals) (m7 (c .before .before .before .before .before .before .before) (After-asks-of·gave (c .before .before .before .before .before .before)))) (Row.get 7 (T8 .locals) (m7 (c .before .before .before .before .before .before .before) (After-asks-of·gave (c .before .before .before .before .before .before)))) (Row.get 8 (T8 .locals) (m7 (c .before .before .before .before .before .before .before) (After-asks-of·gave (c .before .before .before .before .before .before)))) (Row.get 9 (T8 .locals) (m7 (c .before .before .before .before .before .before .before) (After-asks-of·gave (c .before .before .before .before .before .before)))) (c .before .before .before .before .before .loop .i))
+      Need-loop-less = (c : Joined1) → Nat._<_ (μ·0 (Row.get 2 (T8 .locals) (m7 (c .before .before .before .before .before .before .before) (After-asks-of·gave (c .before .before .before .before .before .before))) .now) (Row.get 4 (T8 .locals) (m7 (c .before .before .before .before .before .before .before) (After-asks-of·gave (c .before .before .before .before .before .before)))) (Row.get 5 (T8 .locals) (m7 (c .before .before .before .before .before .before .before) (After-asks-of·gave (c .before .before .before .before .before .before)))) (Row.get 6 (T8 .locals) (m7 (c .before .before .before .before .before .before .before) (After-asks-of·gave (c .before .before .before .before .before .before)))) (Row.get 7 (T8 .locals) (m7 (c .before .before .before .before .before .before .before) (After-asks-of·gave (c .before .before .before .before .before .before)))) (Row.get 8 (T8 .locals) (m7 (c .before .before .before .before .before .before .before) (After-asks-of·gave (c .before .before .before .before .before .before)))) (Row.get 9 (T8 .locals) (m7 (c .before .before .before .before .before .before .before) (After-asks-of·gave (c .before .before .before .before .before .before)))) (Row.get 9 (T8 .locals) (m65 (c .before)))) (μ·0 (Row.get 2 (T8 .locals) (m7 (c .before .before .before .before .before .before .before) (After-asks-of·gave (c .before .before .before .before .before .before))) .now) (Row.get 4 (T8 .locals) (m7 (c .before .before .before .before .before .before .before) (After-asks-of·gave (c .before .before .before .before .before .before)))) (Row.get 5 (T8 .locals) (m7 (c .before .before .before .before .before .before .before) (After-asks-of·gave (c .before .before .before .before .before .before)))) (Row.get 6 (T8 .locals) (m7 (c .before .before .before .before .before .before .before) (After-asks-of·gave (c .before .before .before .before .before .before)))) (Row.get 7 (T8 .locals) (m7 (c .before .before .before .before .before .before .before) (After-asks-of·gave (c .before .before .before .before .before .before)))) (Row.get 8 (T8 .locals) (m7 (c .before .before .before .before .before .before .before) (After-asks-of·gave (c .before .before .before .before .before .before)))) (Row.get 9 (T8 .locals) (m7 (c .before .before .before .before .before .before .before) (After-asks-of·gave (c .before .before .before .before .before .before)))) (c .before .before .before .before .before .loop .i))
 
       abbrev pub Need-loop-again : Type 0
-      Need-loop-again = (c : Joined1) → Inv·0 (Row.get 2 (T8 .locals) (m7 (c .before .before .before .before .before .before .before) (After-asks-of·gave (c .before .before .before .before .before .before))) .now) (Row.get 4 (T8 .locals) (m7 (c .before .before .before .before .before .before .before) (After-asks-of·gave (c .before .before .before .before .before .before)))) (Row.get 5 (T8 .locals) (m7 (c .before .before .before .before .before .before .before) (After-asks-of·gave (c .before .before .before .before .before .before)))) (Row.get 6 (T8 .locals) (m7 (c .before .before .before .before .before .before .before) (After-asks-of·gave (c .before .before .before .before .before .before)))) (Row.get 7 (T8 .locals) (m7 (c .before .before .before .before .before .before .before) (After-asks-of·gave (c .before .before .before .before .before .before)))) (Row.get 8 (T8 .locals) (m7 (c .before .before .before .before .before .before .before) (After-asks-of·gave (c .before .before .before .before .before .before)))) (Row.get 9 (T8 .locals) (m7 (c .before .before .before .before .before .before .before) (After-asks-of·gave (c .before .before .before .before .before .before)))) (Row.get 9 (T8 .locals) (m63 (c .before)))
+      Need-loop-again = (c : Joined1) → Inv·0 (Row.get 2 (T8 .locals) (m7 (c .before .before .before .before .before .before .before) (After-asks-of·gave (c .before .before .before .before .before .before))) .now) (Row.get 4 (T8 .locals) (m7 (c .before .before .before .before .before .before .before) (After-asks-of·gave (c .before .before .before .before .before .before)))) (Row.get 5 (T8 .locals) (m7 (c .before .before .before .before .before .before .before) (After-asks-of·gave (c .before .before .before .before .before .before)))) (Row.get 6 (T8 .locals) (m7 (c .before .before .before .before .before .before .before) (After-asks-of·gave (c .before .before .before .before .before .before)))) (Row.get 7 (T8 .locals) (m7 (c .before .before .before .before .before .before .before) (After-asks-of·gave (c .before .before .before .before .before .before)))) (Row.get 8 (T8 .locals) (m7 (c .before .before .before .before .before .before .before) (After-asks-of·gave (c .before .before .before .before .before .before)))) (Row.get 9 (T8 .locals) (m7 (c .before .before .before .before .before .before .before) (After-asks-of·gave (c .before .before .before .before .before .before)))) (Row.get 9 (T8 .locals) (m65 (c .before)))
 
       abbrev pub Need-nothing-requires : Type 0
-      Need-nothing-requires = (c : After-loop) → s61 (c .before .before .before .blocks) .asks (m16 (c .before))
+      Need-nothing-requires = (c : After-loop) → s63 (c .before .before .before .blocks) .asks (m16 (c .before))
 
-      abbrev pub m64 : (before : After-loop) → (given : s61 (before .before .before .before .blocks) .gives (m16 (before .before))) → Typed.Mo T66
-      m64 = λ before given. s61 (before .before .before .before .blocks) .next (m16 (before .before)) given
+      abbrev pub m66 : (before : After-loop) → (given : s63 (before .before .before .before .blocks) .gives (m16 (before .before))) → Typed.Mo T68
+      m66 = λ before given. s63 (before .before .before .before .blocks) .next (m16 (before .before)) given
 
       module _ (before· : After-loop) where
         abbrev pub After-nothing·own : Type 0
@@ -2264,45 +2324,45 @@ module _ (claims· : Claims) where
         pub before : After-loop
         pub nothing : After-nothing·own before
 
-      abbrev pub After-nothing·gave : (c : After-nothing) → s61 (c .before .before .before .before .blocks) .gives (m16 (c .before .before))
+      abbrev pub After-nothing·gave : (c : After-nothing) → s63 (c .before .before .before .before .blocks) .gives (m16 (c .before .before))
       After-nothing·gave = λ c. Called.given ps·5 r·5 (claims· .11) T9 tt (m16 (c .before .before)) (c .nothing)
 
-      abbrev pub m65 : (before : After-loop) → (given : s61 (before .before .before .before .blocks) .gives (m16 (before .before))) → Typed.Mo T67
-      m65 = λ before given. s62 (before .before .before .before .blocks) (m64 before given)
-
-      abbrev pub m66 : (before : After-loop) → (given : s61 (before .before .before .before .blocks) .gives (m16 (before .before))) → Typed.Mo T68
-      m66 = λ before given. s63 (before .before .before .before .blocks) (m65 before given)
-
-      abbrev pub m67 : (before : After-loop) → (given : s61 (before .before .before .before .blocks) .gives (m16 (before .before))) → Typed.Mo T69
+      abbrev pub m67 : (before : After-loop) → (given : s63 (before .before .before .before .blocks) .gives (m16 (before .before))) → Typed.Mo T69
       m67 = λ before given. s64 (before .before .before .before .blocks) (m66 before given)
 
+      abbrev pub m68 : (before : After-loop) → (given : s63 (before .before .before .before .blocks) .gives (m16 (before .before))) → Typed.Mo T70
+      m68 = λ before given. s65 (before .before .before .before .blocks) (m67 before given)
+
+      abbrev pub m69 : (before : After-loop) → (given : s63 (before .before .before .before .blocks) .gives (m16 (before .before))) → Typed.Mo T71
+      m69 = λ before given. s66 (before .before .before .before .blocks) (m68 before given)
+
       abbrev pub Need-returns-2 : Type 0
-      Need-returns-2 = (c : After-nothing) → Post· (c .before .before .before .before .κs) (dens (c .before .before .before .before .κs) (c .before .before .before .before .args)) (Function.resV r (c .before .before .before .before .κs) (m67 (c .before) (After-nothing·gave c) .0)) (Clauses.atExit (FnKinds.endedOf 1 ps r) (c .before .before .before .before .κs) (dens (c .before .before .before .before .κs) (c .before .before .before .before .args)) (Enter.lastsP (c .before .before .before .before .κs) 1 ps xs (dens (c .before .before .before .before .κs) (c .before .before .before .before .args)) (m67 (c .before) (After-nothing·gave c) .1)))
+      Need-returns-2 = (c : After-nothing) → Post· (c .before .before .before .before .κs) (dens (c .before .before .before .before .κs) (c .before .before .before .before .args)) (Function.resV r (c .before .before .before .before .κs) (m69 (c .before) (After-nothing·gave c) .0)) (Clauses.atExit (FnKinds.endedOf 1 ps r) (c .before .before .before .before .κs) (dens (c .before .before .before .before .κs) (c .before .before .before .before .args)) (Enter.lastsP (c .before .before .before .before .κs) 1 ps xs (dens (c .before .before .before .before .κs) (c .before .before .before .before .args)) (m69 (c .before) (After-nothing·gave c) .1)))
 
       module _ (asks-of-requires : Need-asks-of-requires) (loop-holds : Need-loop-holds) (element-copy-out-has-degree : Need-element-copy-out-has-degree) (mul-has-degree : Need-mul-has-degree) (element-copy-out-has-degree-2 : Need-element-copy-out-has-degree-2) (has-degree-requires : Need-has-degree-requires) (mul-may-apply : Need-mul-may-apply) (element-copy-out-may-apply : Need-element-copy-out-may-apply) (may-apply-requires : Need-may-apply-requires) (gather-requires : Need-gather-requires) (at-node-requires : Need-at-node-requires) (returns : Need-returns) (add-i : Need-add-i) (loop-less : Need-loop-less) (loop-again : Need-loop-again) (nothing-requires : Need-nothing-requires) (returns-2 : Need-returns-2) where
-        lay11 : (c : After-nothing) → at71 (c .before .before .before .before .blocks) (W0 (c .before .before .before .before .κs) (c .before .before .before .before .args) (c .before .before .before .before .blocks)) (m64 (c .before) (After-nothing·gave c))
+        lay11 : (c : After-nothing) → at73 (c .before .before .before .before .blocks) (W0 (c .before .before .before .before .κs) (c .before .before .before .before .args) (c .before .before .before .before .blocks)) (m66 (c .before) (After-nothing·gave c))
         lay11 = λ c. ((tt, (Path.refl, (tt, (tt, tt)))), returns-2 record { before = c .before; nothing = c .nothing })
 
-        lay10 : (c : After-loop) → at72 (c .before .before .before .blocks) (W0 (c .before .before .before .κs) (c .before .before .before .args) (c .before .before .before .blocks)) (m16 (c .before))
+        lay10 : (c : After-loop) → at74 (c .before .before .before .blocks) (W0 (c .before .before .before .κs) (c .before .before .before .args) (c .before .before .before .blocks)) (m16 (c .before))
         lay10 = λ c. (nothing-requires record { before = c .before; loop-test = c .loop-test }, λ g. lay11 record { before = record { before = c .before; loop-test = c .loop-test }; nothing = Called.called ps·5 r·5 (claims· .11) T9 tt (m16 (c .before)) g })
 
-        lay9 : (c : Joined1) → at48 (c .before .before .before .before .before .before .before .blocks) (W3 (c .before .before .before .before .before .before) (c .before .before .before .before .before .loop .i)) (m62 (c .before))
-        unfolding at48
-        lay9 = λ c. (add-i record { before = c .before; if1 = c .if1 }, (μ·0 (Row.get 2 (T8 .locals) (m7 (c .before .before .before .before .before .before .before) (After-asks-of·gave (c .before .before .before .before .before .before))) .now) (Row.get 4 (T8 .locals) (m7 (c .before .before .before .before .before .before .before) (After-asks-of·gave (c .before .before .before .before .before .before)))) (Row.get 5 (T8 .locals) (m7 (c .before .before .before .before .before .before .before) (After-asks-of·gave (c .before .before .before .before .before .before)))) (Row.get 6 (T8 .locals) (m7 (c .before .before .before .before .before .before .before) (After-asks-of·gave (c .before .before .before .before .before .before)))) (Row.get 7 (T8 .locals) (m7 (c .before .before .before .before .before .before .before) (After-asks-of·gave (c .before .before .before .before .before .before)))) (Row.get 8 (T8 .locals) (m7 (c .before .before .before .before .before .before .before) (After-asks-of·gave (c .before .before .before .before .before .before)))) (Row.get 9 (T8 .locals) (m7 (c .before .before .before .before .before .before .before) (After-asks-of·gave (c .before .before .before .before .before .before)))) (Row.get 9 (T8 .locals) (m63 (c .before))), loop-less record { before = c .before; if1 = c .if1 }, (Row.get 9 (T8 .locals) (m63 (c .before)), Path.refl {a = m63 (c .before)}, loop-again record { before = c .before; if1 = c .if1 }, Path.refl {a = μ·0 (Row.get 2 (T8 .locals) (m7 (c .before .before .before .before .before .before .before) (After-asks-of·gave (c .before .before .before .before .before .before))) .now) (Row.get 4 (T8 .locals) (m7 (c .before .before .before .before .before .before .before) (After-asks-of·gave (c .before .before .before .before .before .before)))) (Row.get 5 (T8 .locals) (m7 (c .before .before .before .before .before .before .before) (After-asks-of·gave (c .before .before .before .before .before .before)))) (Row.get 6 (T8 .locals) (m7 (c .before .before .before .before .before .before .before) (After-asks-of·gave (c .before .before .before .before .before .before)))) (Row.get 7 (T8 .locals) (m7 (c .before .before .before .before .before .before .before) (After-asks-of·gave (c .before .before .before .before .before .before)))) (Row.get 8 (T8 .locals) (m7 (c .before .before .before .before .before .before .before) (After-asks-of·gave (c .before .before .before .before .before .before)))) (Row.get 9 (T8 .locals) (m7 (c .before .before .before .before .before .before .before) (After-asks-of·gave (c .before .before .before .before .before .before)))) (Row.get 9 (T8 .locals) (m63 (c .before)))})))
+        lay9 : (c : Joined1) → at50 (c .before .before .before .before .before .before .before .blocks) (W3 (c .before .before .before .before .before .before) (c .before .before .before .before .before .loop .i)) (m64 (c .before))
+        unfolding at50
+        lay9 = λ c. (add-i record { before = c .before; if1 = c .if1 }, (μ·0 (Row.get 2 (T8 .locals) (m7 (c .before .before .before .before .before .before .before) (After-asks-of·gave (c .before .before .before .before .before .before))) .now) (Row.get 4 (T8 .locals) (m7 (c .before .before .before .before .before .before .before) (After-asks-of·gave (c .before .before .before .before .before .before)))) (Row.get 5 (T8 .locals) (m7 (c .before .before .before .before .before .before .before) (After-asks-of·gave (c .before .before .before .before .before .before)))) (Row.get 6 (T8 .locals) (m7 (c .before .before .before .before .before .before .before) (After-asks-of·gave (c .before .before .before .before .before .before)))) (Row.get 7 (T8 .locals) (m7 (c .before .before .before .before .before .before .before) (After-asks-of·gave (c .before .before .before .before .before .before)))) (Row.get 8 (T8 .locals) (m7 (c .before .before .before .before .before .before .before) (After-asks-of·gave (c .before .before .before .before .before .before)))) (Row.get 9 (T8 .locals) (m7 (c .before .before .before .before .before .before .before) (After-asks-of·gave (c .before .before .before .before .before .before)))) (Row.get 9 (T8 .locals) (m65 (c .before))), loop-less record { before = c .before; if1 = c .if1 }, (Row.get 9 (T8 .locals) (m65 (c .before)), Path.refl {a = m65 (c .before)}, loop-again record { before = c .before; if1 = c .if1 }, Path.refl {a = μ·0 (Row.get 2 (T8 .locals) (m7 (c .before .before .before .before .before .before .before) (After-asks-of·gave (c .before .before .before .before .before .before))) .now) (Row.get 4 (T8 .locals) (m7 (c .before .before .before .before .before .before .before) (After-asks-of·gave (c .before .before .before .before .before .before)))) (Row.get 5 (T8 .locals) (m7 (c .before .before .before .before .before .before .before) (After-asks-of·gave (c .before .before .before .before .before .before)))) (Row.get 6 (T8 .locals) (m7 (c .before .before .before .before .before .before .before) (After-asks-of·gave (c .before .before .before .before .before .before)))) (Row.get 7 (T8 .locals) (m7 (c .before .before .before .before .before .before .before) (After-asks-of·gave (c .before .before .before .before .before .before)))) (Row.get 8 (T8 .locals) (m7 (c .before .before .before .before .before .before .before) (After-asks-of·gave (c .before .before .before .before .before .before)))) (Row.get 9 (T8 .locals) (m7 (c .before .before .before .before .before .before .before) (After-asks-of·gave (c .before .before .before .before .before .before)))) (Row.get 9 (T8 .locals) (m65 (c .before)))})))
 
-        lay8 : (c : After-at-node) → at25 (c .before .before .before .before .before .before .before .before .before .before .before .before .before .blocks) (W5 (c .before .before .before .before .before .before .before .before) (After-has-degree·gave (c .before .before .before .before .before .before .before))) (m45 (c .before) (After-at-node·gave c))
-        lay8 = λ c. (λ taken. ((tt, (Path.refl, (tt, (tt, tt)))), returns record { before = record { before = c .before; at-node = c .at-node }; if3 = record { taken = taken } }), λ left. lay9 record { before = record { before = c .before .before .before .before .before .before .before .before; has-degree = c .before .before .before .before .before .before .before .has-degree }; if1 = record { came = Logic.inl (c .before .before .before .before .before .before .if1, c .before .before .before .before .before .may-apply-arg, c .before .before .before .before .may-apply, c .before .before .before .if2, c .before .before .gather, c .before .at-node-arg, c .at-node, record { left = left }) } })
+        lay8 : (c : After-at-node) → at26 (c .before .before .before .before .before .before .before .before .before .before .before .before .before .before .blocks) (W5 (c .before .before .before .before .before .before .before .before .before) (After-has-degree·gave (c .before .before .before .before .before .before .before .before))) (m46 (c .before) (After-at-node·gave c))
+        lay8 = λ c. (λ taken. ((tt, (Path.refl, (tt, (tt, tt)))), returns record { before = record { before = c .before; at-node = c .at-node }; if3 = record { taken = taken } }), λ left. lay9 record { before = record { before = c .before .before .before .before .before .before .before .before .before; has-degree = c .before .before .before .before .before .before .before .before .has-degree }; if1 = record { came = Logic.inl (c .before .before .before .before .before .before .before .if1, c .before .before .before .before .before .before .may-apply-arg, c .before .before .before .before .before .may-apply, c .before .before .before .before .if2, c .before .before .before .gather, c .before .before .at-node-arg, c .before .at-node-arg2, c .at-node, record { left = left }) } })
 
-        lay7 : (c : After-gather) → at27 (c .before .before .before .before .before .before .before .before .before .before .before .blocks) (W5 (c .before .before .before .before .before .before) (After-has-degree·gave (c .before .before .before .before .before))) (m43 (c .before) (After-gather·gave c))
-        lay7 = λ c. (tt, λ g. (at-node-requires record { before = record { before = c .before; gather = c .gather }; at-node-arg = record { given = g } }, λ g'. lay8 record { before = record { before = record { before = c .before; gather = c .gather }; at-node-arg = record { given = g } }; at-node = Called.called ps·4 r·4 (claims· .9) T47 (record { pos = 25; st = L.[]; d = 0; at = λ x. x }, (Num.vAt 4 λ x. x, (Num.vAt 9 λ x. x, (Num.vAt 8 λ x. x, (record { pos = 10; st = L.[]; d = 0; at = λ x. x }, tt))))) (m44 record { before = c .before; gather = c .gather } g) g' }))
+        lay7 : (c : After-gather) → at29 (c .before .before .before .before .before .before .before .before .before .before .before .blocks) (W5 (c .before .before .before .before .before .before) (After-has-degree·gave (c .before .before .before .before .before))) (m43 (c .before) (After-gather·gave c))
+        lay7 = λ c. (tt, λ g. (tt, λ g'. (at-node-requires record { before = record { before = record { before = c .before; gather = c .gather }; at-node-arg = record { given = g } }; at-node-arg2 = record { given = g' } }, λ g''. lay8 record { before = record { before = record { before = record { before = c .before; gather = c .gather }; at-node-arg = record { given = g } }; at-node-arg2 = record { given = g' } }; at-node = Called.called ps·4 r·4 (claims· .9) T48 (record { pos = 25; st = L.[]; d = 0; at = λ x. x }, (record { pos = 26; st = L.[]; d = 0; at = λ x. x }, (Num.vAt 4 λ x. x, (Num.vAt 9 λ x. x, (Num.vAt 8 λ x. x, (record { pos = 10; st = L.[]; d = 0; at = λ x. x }, tt)))))) (m45 record { before = record { before = c .before; gather = c .gather }; at-node-arg = record { given = g } } g') g'' })))
 
-        lay6 : (c : After-may-apply) → at33 (c .before .before .before .before .before .before .before .before .before .blocks) (W5 (c .before .before .before .before) (After-has-degree·gave (c .before .before .before))) (m40 (c .before) (After-may-apply·gave c))
+        lay6 : (c : After-may-apply) → at35 (c .before .before .before .before .before .before .before .before .before .blocks) (W5 (c .before .before .before .before) (After-has-degree·gave (c .before .before .before))) (m40 (c .before) (After-may-apply·gave c))
         lay6 = λ c. (λ taken. (gather-requires record { before = record { before = c .before; may-apply = c .may-apply }; if2 = record { taken = taken } }, λ g. lay7 record { before = record { before = record { before = c .before; may-apply = c .may-apply }; if2 = record { taken = taken } }; gather = Called.called ps·3 r·3 (claims· .7) T45 (record { pos = 2; ty = Syntax.tyRef (Syntax.named 0) Syntax.imm Rec.named; ref = λ x. x }, (Num.vAt 9 λ x. x, (Num.vAt 8 λ x. x, tt))) (m42 record { before = c .before; may-apply = c .may-apply }) g }), λ left. lay9 record { before = record { before = c .before .before .before .before; has-degree = c .before .before .before .has-degree }; if1 = record { came = Logic.inr (Logic.inl (c .before .before .if1, c .before .may-apply-arg, c .may-apply, record { left = left })) } })
 
-        lay5 : (c : After-has-degree) → at49 (c .before .before .before .before .before .before .blocks) (W3 (c .before .before .before .before .before) (c .before .before .before .before .loop .i)) (m29 (c .before) (After-has-degree·gave c))
+        lay5 : (c : After-has-degree) → at51 (c .before .before .before .before .before .before .blocks) (W3 (c .before .before .before .before .before) (c .before .before .before .before .loop .i)) (m29 (c .before) (After-has-degree·gave c))
         lay5 = λ c. (λ taken. (mul-may-apply record { before = record { before = c .before; has-degree = c .has-degree }; if1 = record { taken = taken } }, (tt, ((Path.refl, Path.refl, element-copy-out-may-apply record { before = record { before = c .before; has-degree = c .has-degree }; if1 = record { taken = taken } }), λ g. (may-apply-requires record { before = record { before = record { before = c .before; has-degree = c .has-degree }; if1 = record { taken = taken } }; may-apply-arg = record { given = g } }, λ g'. lay6 record { before = record { before = record { before = record { before = c .before; has-degree = c .has-degree }; if1 = record { taken = taken } }; may-apply-arg = record { given = g } }; may-apply = Called.called ps·2 r·2 (claims· .5) T42 (record { pos = 7; st = L.[]; d = 0; at = λ x. x }, (record { pos = 24; st = L.[]; d = 0; at = λ x. x }, tt)) (m39 record { before = record { before = c .before; has-degree = c .has-degree }; if1 = record { taken = taken } } g) g' })))), λ left. lay9 record { before = record { before = c .before; has-degree = c .has-degree }; if1 = record { came = Logic.inr (Logic.inr record { left = left }) } })
 
-        lay4 : (c : In-loop) → at62 (c .before .before .before .blocks) (W3 (c .before .before) (c .before .loop .i)) (m12 (c .before))
+        lay4 : (c : In-loop) → at64 (c .before .before .before .blocks) (W3 (c .before .before) (c .before .loop .i)) (m12 (c .before))
         lay4 = λ c. (tt, ((Path.refl, Path.refl, element-copy-out-has-degree record { before = c .before; loop-test = c .loop-test }), λ g. (mul-has-degree record { before = record { before = c .before; loop-test = c .loop-test }; has-degree-arg = record { given = g } }, (tt, ((Path.refl, Path.refl, element-copy-out-has-degree-2 record { before = record { before = c .before; loop-test = c .loop-test }; has-degree-arg = record { given = g } }), λ g'. (has-degree-requires record { before = record { before = record { before = c .before; loop-test = c .loop-test }; has-degree-arg = record { given = g } }; has-degree-arg2 = record { given = g' } }, λ g''. lay5 record { before = record { before = record { before = record { before = c .before; loop-test = c .loop-test }; has-degree-arg = record { given = g } }; has-degree-arg2 = record { given = g' } }; has-degree = Called.called ps·1 r·1 (claims· .3) T30 (KBool.bAt 13 λ x. x, (Num.vAt 19 λ x. x, (Num.vAt 8 λ x. x, tt))) (m28 record { before = record { before = c .before; loop-test = c .loop-test }; has-degree-arg = record { given = g } } g') g'' }))))))
 
         lay3 : (c : After-loop) → at6 (c .before .before .before .blocks) (W4 (c .before .before) (c .before .loop .i)) (m11 (c .before .before) (c .before .loop .i))
@@ -2311,10 +2371,10 @@ module _ (claims· : Claims) where
         lay2 : (c : In-loop) → at1 (c .before .before .before .blocks) (W4 (c .before .before) (c .before .loop .i)) (m11 (c .before .before) (c .before .loop .i))
         lay2 = λ c. lay4 record { before = c .before; loop-test = c .loop-test }
 
-        lay1 : (c : After-asks-of) → at75 (c .before .blocks) (W0 (c .before .κs) (c .before .args) (c .before .blocks)) (m5 (c .before) (After-asks-of·gave c))
+        lay1 : (c : After-asks-of) → at77 (c .before .blocks) (W0 (c .before .κs) (c .before .args) (c .before .blocks)) (m5 (c .before) (After-asks-of·gave c))
         lay1 = λ c. ((Row.get 9 (T8 .locals) (m7 (c .before) (After-asks-of·gave c)), Path.refl {a = m7 (c .before) (After-asks-of·gave c)}, loop-holds record { before = c .before; asks-of = c .asks-of }), λ vs inv. (tt, (λ taken. lay2 record { before = record { before = record { before = c .before; asks-of = c .asks-of }; loop = record { i = vs; inv = inv } }; loop-test = record { taken = Tests.leb-true (Row.get 9 (T10 .locals) (m9 record { before = c .before; asks-of = c .asks-of } vs)) (Row.get 12 (T10 .locals) (m9 record { before = c .before; asks-of = c .asks-of } vs)) taken } }, λ left. lay3 record { before = record { before = record { before = c .before; asks-of = c .asks-of }; loop = record { i = vs; inv = inv } }; loop-test = record { left = Tests.leb-false (Row.get 9 (T10 .locals) (m9 record { before = c .before; asks-of = c .asks-of } vs)) (Row.get 12 (T10 .locals) (m9 record { before = c .before; asks-of = c .asks-of } vs)) left } })))
 
-        pub laid : (c : Start) → at80 (c .blocks) (W0 (c .κs) (c .args) (c .blocks)) (m0 (c .κs) (c .args) (c .blocks))
+        pub laid : (c : Start) → at82 (c .blocks) (W0 (c .κs) (c .args) (c .blocks)) (m0 (c .κs) (c .args) (c .blocks))
         laid = λ c. (asks-of-requires c, λ g. lay1 record { before = c; asks-of = Called.called ps·0 r·0 (claims· .1) T5 (Num.vAt 4 λ x. x, tt) (m4 (c .κs) (c .args) (c .blocks)) g })
 
         module _ (κs : Lifetimes.Lfts 1) (qs : Lifetimes.Shares 1) where

@@ -164,7 +164,7 @@ abbrev pub q1 : Syntax.Ty
 q1 = Syntax.tyStruct (L._∷_ 110 (L._∷_ 101 (L._∷_ 116 (L._∷_ 119 (L._∷_ 111 (L._∷_ 114 (L._∷_ 107 (L._∷_ 58 (L._∷_ 58 (L._∷_ 83 (L._∷_ 117 (L._∷_ 112 (L._∷_ 112 (L._∷_ 108 (L._∷_ 121 (L._∷_ 85 (L._∷_ 112 (L._∷_ 100 (L._∷_ 97 (L._∷_ 116 (L._∷_ 101 L.[]))))))))))))))))))))) (Syntax.tcons (Syntax.tyInt Syntax.w64) (Syntax.tcons q4 Syntax.tnil))
 
 abbrev pub q0 : Syntax.Ty
-q0 = Syntax.tyStruct (L._∷_ 110 (L._∷_ 101 (L._∷_ 116 (L._∷_ 119 (L._∷_ 111 (L._∷_ 114 (L._∷_ 107 (L._∷_ 58 (L._∷_ 58 (L._∷_ 78 (L._∷_ 111 (L._∷_ 100 (L._∷_ 101 (L._∷_ 115 L.[])))))))))))))) (Syntax.tcons (Syntax.tyInt Syntax.w64) (Syntax.tcons (Syntax.tyInt Syntax.w64) (Syntax.tcons (Syntax.tyArray Syntax.tyBool 33) (Syntax.tcons (Syntax.tyArray q4 33) Syntax.tnil))))
+q0 = Syntax.tyStruct (L._∷_ 110 (L._∷_ 101 (L._∷_ 116 (L._∷_ 119 (L._∷_ 111 (L._∷_ 114 (L._∷_ 107 (L._∷_ 58 (L._∷_ 58 (L._∷_ 78 (L._∷_ 111 (L._∷_ 100 (L._∷_ 101 (L._∷_ 115 L.[])))))))))))))) (Syntax.tcons (Syntax.tyInt Syntax.w64) (Syntax.tcons (Syntax.tyInt Syntax.w64) (Syntax.tcons q4 (Syntax.tcons (Syntax.tyArray Syntax.tyBool 33) (Syntax.tcons (Syntax.tyArray q4 33) Syntax.tnil)))))
 
 abbrev pub ps : L.List (FnKinds.PK 2)
 ps = L._∷_ (Value.pVal record { ty = Declared.row Progress·.the-type; one = Path.refl; val = StructLaws.val Progress·.the-type Progress-Laws·.the-laws; tells = StructLaws.tells Progress·.the-type Progress-Laws·.the-laws; still = StructLaws.still Progress·.the-type Progress-Laws·.the-copy Exit.yes; row = Rows.whole (Declared.row Progress·.the-type); rd = λ x. x; mk = λ x. x } λ M 𝓤 H A W. record { copies = StructLaws.copy Progress·.the-type Progress-Laws·.the-copy 𝓤 H A W; lawful = StructLaws.lawful Progress·.the-type Progress-Laws·.the-laws 𝓤 H A W; makes = StructLaws.makes Progress·.the-type Progress-Laws·.the-plain 𝓤 H A; in-mem = Local.mem-whole 𝓤 H A W (Declared.row Progress·.the-type); of-mem = Local.whole-mem 𝓤 H A W (Declared.row Progress·.the-type) }) (L._∷_ (MutSlice.pMutS (Signed.SInt Syntax.w32) 0 tt) (L._∷_ (MutSlice.pMutS Rec.row 1 tt) L.[]))
@@ -173,7 +173,7 @@ abbrev pub r : FnKinds.RK 2
 r = Value.rVal record { ty = Declared.row Progress·.the-type; one = Path.refl; val = StructLaws.val Progress·.the-type Progress-Laws·.the-laws; tells = StructLaws.tells Progress·.the-type Progress-Laws·.the-laws; still = StructLaws.still Progress·.the-type Progress-Laws·.the-copy Exit.yes; row = Rows.whole (Declared.row Progress·.the-type); rd = λ x. x; mk = λ x. x } λ M 𝓤 H A W. record { copies = StructLaws.copy Progress·.the-type Progress-Laws·.the-copy 𝓤 H A W; lawful = StructLaws.lawful Progress·.the-type Progress-Laws·.the-laws 𝓤 H A W; makes = StructLaws.makes Progress·.the-type Progress-Laws·.the-plain 𝓤 H A; in-mem = Local.mem-whole 𝓤 H A W (Declared.row Progress·.the-type); of-mem = Local.whole-mem 𝓤 H A W (Declared.row Progress·.the-type) }
 
 abbrev pub xs : L.List Syntax.Ty
-xs = L._∷_ (Syntax.tyStruct (L._∷_ 114 (L._∷_ 117 (L._∷_ 108 (L._∷_ 101 (L._∷_ 115 (L._∷_ 58 (L._∷_ 58 (L._∷_ 116 (L._∷_ 114 (L._∷_ 105 (L._∷_ 101 (L._∷_ 100 (L._∷_ 58 (L._∷_ 58 (L._∷_ 76 (L._∷_ 111 (L._∷_ 111 (L._∷_ 107 (L._∷_ 101 (L._∷_ 100 L.[])))))))))))))))))))) (Syntax.tcons (Syntax.tyStruct (L._∷_ 114 (L._∷_ 117 (L._∷_ 108 (L._∷_ 101 (L._∷_ 115 (L._∷_ 58 (L._∷_ 58 (L._∷_ 102 (L._∷_ 111 (L._∷_ 117 (L._∷_ 110 (L._∷_ 100 (L._∷_ 58 (L._∷_ 58 (L._∷_ 70 (L._∷_ 111 (L._∷_ 117 (L._∷_ 110 (L._∷_ 100 L.[]))))))))))))))))))) (Syntax.tcons Syntax.tyBool (Syntax.tcons Syntax.tyBool (Syntax.tcons (Syntax.tyStruct (L._∷_ 115 (L._∷_ 116 (L._∷_ 101 (L._∷_ 112 (L._∷_ 58 (L._∷_ 58 (L._∷_ 83 (L._∷_ 116 (L._∷_ 101 (L._∷_ 112 L.[])))))))))) (Syntax.tcons (Syntax.tyInt Syntax.w64) (Syntax.tcons (Syntax.tyInt Syntax.w64) (Syntax.tcons (Syntax.tyStruct (L._∷_ 115 (L._∷_ 116 (L._∷_ 101 (L._∷_ 112 (L._∷_ 58 (L._∷_ 58 (L._∷_ 67 (L._∷_ 104 (L._∷_ 97 (L._∷_ 110 (L._∷_ 103 (L._∷_ 101 L.[])))))))))))) (Syntax.tcons (Syntax.tyStruct (L._∷_ 110 (L._∷_ 101 (L._∷_ 116 (L._∷_ 119 (L._∷_ 111 (L._∷_ 114 (L._∷_ 107 (L._∷_ 58 (L._∷_ 58 (L._∷_ 69 (L._∷_ 100 (L._∷_ 105 (L._∷_ 116 L.[]))))))))))))) (Syntax.tcons q5 (Syntax.tcons q5 (Syntax.tcons q5 (Syntax.tcons q5 (Syntax.tcons q1 (Syntax.tcons q1 (Syntax.tcons (Syntax.tyInt Syntax.w64) Syntax.tnil)))))))) (Syntax.tcons (Syntax.tyStruct (L._∷_ 115 (L._∷_ 116 (L._∷_ 101 (L._∷_ 112 (L._∷_ 58 (L._∷_ 58 (L._∷_ 79 (L._∷_ 108 (L._∷_ 100 L.[]))))))))) (Syntax.tcons (Syntax.tyInt Syntax.w64) (Syntax.tcons q4 (Syntax.tcons q5 (Syntax.tcons q5 (Syntax.tcons q5 (Syntax.tcons q5 (Syntax.tcons q2 Syntax.tnil)))))))) Syntax.tnil))) Syntax.tnil)))) Syntax.tnil)))) (Syntax.tcons q3 Syntax.tnil))) (L._∷_ q29 (L._∷_ q10 (L._∷_ (Syntax.tyInt Syntax.w8) (L._∷_ Syntax.tyUnit (L._∷_ q30 (L._∷_ q11 (L._∷_ (Syntax.tyStruct (L._∷_ 110 (L._∷_ 101 (L._∷_ 116 (L._∷_ 119 (L._∷_ 111 (L._∷_ 114 (L._∷_ 107 (L._∷_ 58 (L._∷_ 58 (L._∷_ 69 (L._∷_ 100 (L._∷_ 105 (L._∷_ 116 L.[]))))))))))))) (Syntax.tcons q5 (Syntax.tcons q5 (Syntax.tcons q5 (Syntax.tcons q5 (Syntax.tcons q1 (Syntax.tcons q1 (Syntax.tcons (Syntax.tyInt Syntax.w64) Syntax.tnil)))))))) (L._∷_ q26 (L._∷_ q9 L.[])))))))))
+xs = L._∷_ (Syntax.tyStruct (L._∷_ 114 (L._∷_ 117 (L._∷_ 108 (L._∷_ 101 (L._∷_ 115 (L._∷_ 58 (L._∷_ 58 (L._∷_ 116 (L._∷_ 114 (L._∷_ 105 (L._∷_ 101 (L._∷_ 100 (L._∷_ 58 (L._∷_ 58 (L._∷_ 76 (L._∷_ 111 (L._∷_ 111 (L._∷_ 107 (L._∷_ 101 (L._∷_ 100 L.[])))))))))))))))))))) (Syntax.tcons (Syntax.tyStruct (L._∷_ 114 (L._∷_ 117 (L._∷_ 108 (L._∷_ 101 (L._∷_ 115 (L._∷_ 58 (L._∷_ 58 (L._∷_ 102 (L._∷_ 111 (L._∷_ 117 (L._∷_ 110 (L._∷_ 100 (L._∷_ 58 (L._∷_ 58 (L._∷_ 70 (L._∷_ 111 (L._∷_ 117 (L._∷_ 110 (L._∷_ 100 L.[]))))))))))))))))))) (Syntax.tcons Syntax.tyBool (Syntax.tcons Syntax.tyBool (Syntax.tcons (Syntax.tyStruct (L._∷_ 115 (L._∷_ 116 (L._∷_ 101 (L._∷_ 112 (L._∷_ 58 (L._∷_ 58 (L._∷_ 83 (L._∷_ 116 (L._∷_ 101 (L._∷_ 112 L.[])))))))))) (Syntax.tcons (Syntax.tyInt Syntax.w64) (Syntax.tcons (Syntax.tyInt Syntax.w64) (Syntax.tcons (Syntax.tyStruct (L._∷_ 115 (L._∷_ 116 (L._∷_ 101 (L._∷_ 112 (L._∷_ 58 (L._∷_ 58 (L._∷_ 67 (L._∷_ 104 (L._∷_ 97 (L._∷_ 110 (L._∷_ 103 (L._∷_ 101 L.[])))))))))))) (Syntax.tcons (Syntax.tyStruct (L._∷_ 110 (L._∷_ 101 (L._∷_ 116 (L._∷_ 119 (L._∷_ 111 (L._∷_ 114 (L._∷_ 107 (L._∷_ 58 (L._∷_ 58 (L._∷_ 69 (L._∷_ 100 (L._∷_ 105 (L._∷_ 116 L.[]))))))))))))) (Syntax.tcons q5 (Syntax.tcons q5 (Syntax.tcons q5 (Syntax.tcons q5 (Syntax.tcons q1 (Syntax.tcons q1 (Syntax.tcons (Syntax.tyInt Syntax.w64) (Syntax.tcons q4 Syntax.tnil))))))))) (Syntax.tcons (Syntax.tyStruct (L._∷_ 115 (L._∷_ 116 (L._∷_ 101 (L._∷_ 112 (L._∷_ 58 (L._∷_ 58 (L._∷_ 79 (L._∷_ 108 (L._∷_ 100 L.[]))))))))) (Syntax.tcons (Syntax.tyInt Syntax.w64) (Syntax.tcons q4 (Syntax.tcons q5 (Syntax.tcons q5 (Syntax.tcons q5 (Syntax.tcons q5 (Syntax.tcons q2 Syntax.tnil)))))))) Syntax.tnil))) Syntax.tnil)))) Syntax.tnil)))) (Syntax.tcons q3 Syntax.tnil))) (L._∷_ q29 (L._∷_ q10 (L._∷_ (Syntax.tyInt Syntax.w8) (L._∷_ Syntax.tyUnit (L._∷_ q30 (L._∷_ q11 (L._∷_ (Syntax.tyStruct (L._∷_ 110 (L._∷_ 101 (L._∷_ 116 (L._∷_ 119 (L._∷_ 111 (L._∷_ 114 (L._∷_ 107 (L._∷_ 58 (L._∷_ 58 (L._∷_ 69 (L._∷_ 100 (L._∷_ 105 (L._∷_ 116 L.[]))))))))))))) (Syntax.tcons q5 (Syntax.tcons q5 (Syntax.tcons q5 (Syntax.tcons q5 (Syntax.tcons q1 (Syntax.tcons q1 (Syntax.tcons (Syntax.tyInt Syntax.w64) (Syntax.tcons q4 Syntax.tnil))))))))) (L._∷_ q26 (L._∷_ q9 L.[])))))))))
 
 abbrev pub m : Nat.ℕ
 m = 3
@@ -299,37 +299,37 @@ abbrev pub Claims : Type 1
 Claims = FnKinds.In 0 ps·0 × FnKinds.Out 0 ps·0 r·0 × FnKinds.In 1 ps·1 × FnKinds.Out 1 ps·1 r·1 × FnKinds.In 0 ps·2 × FnKinds.Out 0 ps·2 r·2 × FnKinds.In 1 ps·3 × FnKinds.Out 1 ps·3 r·3 × FnKinds.In 1 ps·4 × FnKinds.Out 1 ps·4 r·4 × FnKinds.In 0 ps·5 × FnKinds.Out 0 ps·5 r·5
 
 abbrev pub t0 : L.List Row.Entry
-t0 = L._∷_ (0, Rows.any-gone (Syntax.tyStruct (L._∷_ 115 (L._∷_ 101 (L._∷_ 97 (L._∷_ 114 (L._∷_ 99 (L._∷_ 104 (L._∷_ 58 (L._∷_ 58 (L._∷_ 80 (L._∷_ 114 (L._∷_ 111 (L._∷_ 103 (L._∷_ 114 (L._∷_ 101 (L._∷_ 115 (L._∷_ 115 L.[])))))))))))))))) (Syntax.tcons q0 (Syntax.tcons (Syntax.tyInt Syntax.w64) (Syntax.tcons q3 (Syntax.tcons Syntax.tyBool (Syntax.tcons Syntax.tyBool (Syntax.tcons (Syntax.tyInt Syntax.w64) (Syntax.tcons (Syntax.tyInt Syntax.w64) Syntax.tnil))))))))) (L._∷_ q31 (L._∷_ q13 (L._∷_ q18 (L._∷_ (4, Rows.any-gone (Syntax.tyStruct (L._∷_ 114 (L._∷_ 117 (L._∷_ 108 (L._∷_ 101 (L._∷_ 115 (L._∷_ 58 (L._∷_ 58 (L._∷_ 116 (L._∷_ 114 (L._∷_ 105 (L._∷_ 101 (L._∷_ 100 (L._∷_ 58 (L._∷_ 58 (L._∷_ 76 (L._∷_ 111 (L._∷_ 111 (L._∷_ 107 (L._∷_ 101 (L._∷_ 100 L.[])))))))))))))))))))) (Syntax.tcons (Syntax.tyStruct (L._∷_ 114 (L._∷_ 117 (L._∷_ 108 (L._∷_ 101 (L._∷_ 115 (L._∷_ 58 (L._∷_ 58 (L._∷_ 102 (L._∷_ 111 (L._∷_ 117 (L._∷_ 110 (L._∷_ 100 (L._∷_ 58 (L._∷_ 58 (L._∷_ 70 (L._∷_ 111 (L._∷_ 117 (L._∷_ 110 (L._∷_ 100 L.[]))))))))))))))))))) (Syntax.tcons Syntax.tyBool (Syntax.tcons Syntax.tyBool (Syntax.tcons (Syntax.tyStruct (L._∷_ 115 (L._∷_ 116 (L._∷_ 101 (L._∷_ 112 (L._∷_ 58 (L._∷_ 58 (L._∷_ 83 (L._∷_ 116 (L._∷_ 101 (L._∷_ 112 L.[])))))))))) (Syntax.tcons (Syntax.tyInt Syntax.w64) (Syntax.tcons (Syntax.tyInt Syntax.w64) (Syntax.tcons (Syntax.tyStruct (L._∷_ 115 (L._∷_ 116 (L._∷_ 101 (L._∷_ 112 (L._∷_ 58 (L._∷_ 58 (L._∷_ 67 (L._∷_ 104 (L._∷_ 97 (L._∷_ 110 (L._∷_ 103 (L._∷_ 101 L.[])))))))))))) (Syntax.tcons (Syntax.tyStruct (L._∷_ 110 (L._∷_ 101 (L._∷_ 116 (L._∷_ 119 (L._∷_ 111 (L._∷_ 114 (L._∷_ 107 (L._∷_ 58 (L._∷_ 58 (L._∷_ 69 (L._∷_ 100 (L._∷_ 105 (L._∷_ 116 L.[]))))))))))))) (Syntax.tcons q5 (Syntax.tcons q5 (Syntax.tcons q5 (Syntax.tcons q5 (Syntax.tcons q1 (Syntax.tcons q1 (Syntax.tcons (Syntax.tyInt Syntax.w64) Syntax.tnil)))))))) (Syntax.tcons (Syntax.tyStruct (L._∷_ 115 (L._∷_ 116 (L._∷_ 101 (L._∷_ 112 (L._∷_ 58 (L._∷_ 58 (L._∷_ 79 (L._∷_ 108 (L._∷_ 100 L.[]))))))))) (Syntax.tcons (Syntax.tyInt Syntax.w64) (Syntax.tcons q4 (Syntax.tcons q5 (Syntax.tcons q5 (Syntax.tcons q5 (Syntax.tcons q5 (Syntax.tcons q2 Syntax.tnil)))))))) Syntax.tnil))) Syntax.tnil)))) Syntax.tnil)))) (Syntax.tcons q3 Syntax.tnil)))) (L._∷_ q23 (L._∷_ q8 (L._∷_ q33 (L._∷_ q35 (L._∷_ q24 (L._∷_ q7 (L._∷_ (11, Rows.any-gone (Syntax.tyStruct (L._∷_ 110 (L._∷_ 101 (L._∷_ 116 (L._∷_ 119 (L._∷_ 111 (L._∷_ 114 (L._∷_ 107 (L._∷_ 58 (L._∷_ 58 (L._∷_ 69 (L._∷_ 100 (L._∷_ 105 (L._∷_ 116 L.[]))))))))))))) (Syntax.tcons q5 (Syntax.tcons q5 (Syntax.tcons q5 (Syntax.tcons q5 (Syntax.tcons q1 (Syntax.tcons q1 (Syntax.tcons (Syntax.tyInt Syntax.w64) Syntax.tnil))))))))) (L._∷_ q17 (L._∷_ q6 L.[])))))))))))))
+t0 = L._∷_ (0, Rows.any-gone (Syntax.tyStruct (L._∷_ 115 (L._∷_ 101 (L._∷_ 97 (L._∷_ 114 (L._∷_ 99 (L._∷_ 104 (L._∷_ 58 (L._∷_ 58 (L._∷_ 80 (L._∷_ 114 (L._∷_ 111 (L._∷_ 103 (L._∷_ 114 (L._∷_ 101 (L._∷_ 115 (L._∷_ 115 L.[])))))))))))))))) (Syntax.tcons q0 (Syntax.tcons (Syntax.tyInt Syntax.w64) (Syntax.tcons q3 (Syntax.tcons Syntax.tyBool (Syntax.tcons Syntax.tyBool (Syntax.tcons (Syntax.tyInt Syntax.w64) (Syntax.tcons (Syntax.tyInt Syntax.w64) Syntax.tnil))))))))) (L._∷_ q31 (L._∷_ q13 (L._∷_ q18 (L._∷_ (4, Rows.any-gone (Syntax.tyStruct (L._∷_ 114 (L._∷_ 117 (L._∷_ 108 (L._∷_ 101 (L._∷_ 115 (L._∷_ 58 (L._∷_ 58 (L._∷_ 116 (L._∷_ 114 (L._∷_ 105 (L._∷_ 101 (L._∷_ 100 (L._∷_ 58 (L._∷_ 58 (L._∷_ 76 (L._∷_ 111 (L._∷_ 111 (L._∷_ 107 (L._∷_ 101 (L._∷_ 100 L.[])))))))))))))))))))) (Syntax.tcons (Syntax.tyStruct (L._∷_ 114 (L._∷_ 117 (L._∷_ 108 (L._∷_ 101 (L._∷_ 115 (L._∷_ 58 (L._∷_ 58 (L._∷_ 102 (L._∷_ 111 (L._∷_ 117 (L._∷_ 110 (L._∷_ 100 (L._∷_ 58 (L._∷_ 58 (L._∷_ 70 (L._∷_ 111 (L._∷_ 117 (L._∷_ 110 (L._∷_ 100 L.[]))))))))))))))))))) (Syntax.tcons Syntax.tyBool (Syntax.tcons Syntax.tyBool (Syntax.tcons (Syntax.tyStruct (L._∷_ 115 (L._∷_ 116 (L._∷_ 101 (L._∷_ 112 (L._∷_ 58 (L._∷_ 58 (L._∷_ 83 (L._∷_ 116 (L._∷_ 101 (L._∷_ 112 L.[])))))))))) (Syntax.tcons (Syntax.tyInt Syntax.w64) (Syntax.tcons (Syntax.tyInt Syntax.w64) (Syntax.tcons (Syntax.tyStruct (L._∷_ 115 (L._∷_ 116 (L._∷_ 101 (L._∷_ 112 (L._∷_ 58 (L._∷_ 58 (L._∷_ 67 (L._∷_ 104 (L._∷_ 97 (L._∷_ 110 (L._∷_ 103 (L._∷_ 101 L.[])))))))))))) (Syntax.tcons (Syntax.tyStruct (L._∷_ 110 (L._∷_ 101 (L._∷_ 116 (L._∷_ 119 (L._∷_ 111 (L._∷_ 114 (L._∷_ 107 (L._∷_ 58 (L._∷_ 58 (L._∷_ 69 (L._∷_ 100 (L._∷_ 105 (L._∷_ 116 L.[]))))))))))))) (Syntax.tcons q5 (Syntax.tcons q5 (Syntax.tcons q5 (Syntax.tcons q5 (Syntax.tcons q1 (Syntax.tcons q1 (Syntax.tcons (Syntax.tyInt Syntax.w64) (Syntax.tcons q4 Syntax.tnil))))))))) (Syntax.tcons (Syntax.tyStruct (L._∷_ 115 (L._∷_ 116 (L._∷_ 101 (L._∷_ 112 (L._∷_ 58 (L._∷_ 58 (L._∷_ 79 (L._∷_ 108 (L._∷_ 100 L.[]))))))))) (Syntax.tcons (Syntax.tyInt Syntax.w64) (Syntax.tcons q4 (Syntax.tcons q5 (Syntax.tcons q5 (Syntax.tcons q5 (Syntax.tcons q5 (Syntax.tcons q2 Syntax.tnil)))))))) Syntax.tnil))) Syntax.tnil)))) Syntax.tnil)))) (Syntax.tcons q3 Syntax.tnil)))) (L._∷_ q23 (L._∷_ q8 (L._∷_ q33 (L._∷_ q35 (L._∷_ q24 (L._∷_ q7 (L._∷_ (11, Rows.any-gone (Syntax.tyStruct (L._∷_ 110 (L._∷_ 101 (L._∷_ 116 (L._∷_ 119 (L._∷_ 111 (L._∷_ 114 (L._∷_ 107 (L._∷_ 58 (L._∷_ 58 (L._∷_ 69 (L._∷_ 100 (L._∷_ 105 (L._∷_ 116 L.[]))))))))))))) (Syntax.tcons q5 (Syntax.tcons q5 (Syntax.tcons q5 (Syntax.tcons q5 (Syntax.tcons q1 (Syntax.tcons q1 (Syntax.tcons (Syntax.tyInt Syntax.w64) (Syntax.tcons q4 Syntax.tnil)))))))))) (L._∷_ q17 (L._∷_ q6 L.[])))))))))))))
 
 abbrev pub t1 : L.List Row.Entry
-t1 = L._∷_ (0, Rows.whole (Declared.row Progress·.the-type)) (L._∷_ (1, Rows.any-gone (Syntax.tyStruct (L._∷_ 115 (L._∷_ 101 (L._∷_ 97 (L._∷_ 114 (L._∷_ 99 (L._∷_ 104 (L._∷_ 58 (L._∷_ 58 (L._∷_ 80 (L._∷_ 114 (L._∷_ 111 (L._∷_ 103 (L._∷_ 114 (L._∷_ 101 (L._∷_ 115 (L._∷_ 115 L.[])))))))))))))))) (Syntax.tcons q0 (Syntax.tcons (Syntax.tyInt Syntax.w64) (Syntax.tcons q3 (Syntax.tcons Syntax.tyBool (Syntax.tcons Syntax.tyBool (Syntax.tcons (Syntax.tyInt Syntax.w64) (Syntax.tcons (Syntax.tyInt Syntax.w64) Syntax.tnil))))))))) (L._∷_ q13 (L._∷_ q18 (L._∷_ (4, Rows.any-gone (Syntax.tyStruct (L._∷_ 114 (L._∷_ 117 (L._∷_ 108 (L._∷_ 101 (L._∷_ 115 (L._∷_ 58 (L._∷_ 58 (L._∷_ 116 (L._∷_ 114 (L._∷_ 105 (L._∷_ 101 (L._∷_ 100 (L._∷_ 58 (L._∷_ 58 (L._∷_ 76 (L._∷_ 111 (L._∷_ 111 (L._∷_ 107 (L._∷_ 101 (L._∷_ 100 L.[])))))))))))))))))))) (Syntax.tcons (Syntax.tyStruct (L._∷_ 114 (L._∷_ 117 (L._∷_ 108 (L._∷_ 101 (L._∷_ 115 (L._∷_ 58 (L._∷_ 58 (L._∷_ 102 (L._∷_ 111 (L._∷_ 117 (L._∷_ 110 (L._∷_ 100 (L._∷_ 58 (L._∷_ 58 (L._∷_ 70 (L._∷_ 111 (L._∷_ 117 (L._∷_ 110 (L._∷_ 100 L.[]))))))))))))))))))) (Syntax.tcons Syntax.tyBool (Syntax.tcons Syntax.tyBool (Syntax.tcons (Syntax.tyStruct (L._∷_ 115 (L._∷_ 116 (L._∷_ 101 (L._∷_ 112 (L._∷_ 58 (L._∷_ 58 (L._∷_ 83 (L._∷_ 116 (L._∷_ 101 (L._∷_ 112 L.[])))))))))) (Syntax.tcons (Syntax.tyInt Syntax.w64) (Syntax.tcons (Syntax.tyInt Syntax.w64) (Syntax.tcons (Syntax.tyStruct (L._∷_ 115 (L._∷_ 116 (L._∷_ 101 (L._∷_ 112 (L._∷_ 58 (L._∷_ 58 (L._∷_ 67 (L._∷_ 104 (L._∷_ 97 (L._∷_ 110 (L._∷_ 103 (L._∷_ 101 L.[])))))))))))) (Syntax.tcons (Syntax.tyStruct (L._∷_ 110 (L._∷_ 101 (L._∷_ 116 (L._∷_ 119 (L._∷_ 111 (L._∷_ 114 (L._∷_ 107 (L._∷_ 58 (L._∷_ 58 (L._∷_ 69 (L._∷_ 100 (L._∷_ 105 (L._∷_ 116 L.[]))))))))))))) (Syntax.tcons q5 (Syntax.tcons q5 (Syntax.tcons q5 (Syntax.tcons q5 (Syntax.tcons q1 (Syntax.tcons q1 (Syntax.tcons (Syntax.tyInt Syntax.w64) Syntax.tnil)))))))) (Syntax.tcons (Syntax.tyStruct (L._∷_ 115 (L._∷_ 116 (L._∷_ 101 (L._∷_ 112 (L._∷_ 58 (L._∷_ 58 (L._∷_ 79 (L._∷_ 108 (L._∷_ 100 L.[]))))))))) (Syntax.tcons (Syntax.tyInt Syntax.w64) (Syntax.tcons q4 (Syntax.tcons q5 (Syntax.tcons q5 (Syntax.tcons q5 (Syntax.tcons q5 (Syntax.tcons q2 Syntax.tnil)))))))) Syntax.tnil))) Syntax.tnil)))) Syntax.tnil)))) (Syntax.tcons q3 Syntax.tnil)))) (L._∷_ q23 (L._∷_ q8 (L._∷_ q33 (L._∷_ q35 (L._∷_ q24 (L._∷_ q7 (L._∷_ (11, Rows.any-gone (Syntax.tyStruct (L._∷_ 110 (L._∷_ 101 (L._∷_ 116 (L._∷_ 119 (L._∷_ 111 (L._∷_ 114 (L._∷_ 107 (L._∷_ 58 (L._∷_ 58 (L._∷_ 69 (L._∷_ 100 (L._∷_ 105 (L._∷_ 116 L.[]))))))))))))) (Syntax.tcons q5 (Syntax.tcons q5 (Syntax.tcons q5 (Syntax.tcons q5 (Syntax.tcons q1 (Syntax.tcons q1 (Syntax.tcons (Syntax.tyInt Syntax.w64) Syntax.tnil))))))))) (L._∷_ q17 (L._∷_ q6 L.[])))))))))))))
+t1 = L._∷_ (0, Rows.whole (Declared.row Progress·.the-type)) (L._∷_ (1, Rows.any-gone (Syntax.tyStruct (L._∷_ 115 (L._∷_ 101 (L._∷_ 97 (L._∷_ 114 (L._∷_ 99 (L._∷_ 104 (L._∷_ 58 (L._∷_ 58 (L._∷_ 80 (L._∷_ 114 (L._∷_ 111 (L._∷_ 103 (L._∷_ 114 (L._∷_ 101 (L._∷_ 115 (L._∷_ 115 L.[])))))))))))))))) (Syntax.tcons q0 (Syntax.tcons (Syntax.tyInt Syntax.w64) (Syntax.tcons q3 (Syntax.tcons Syntax.tyBool (Syntax.tcons Syntax.tyBool (Syntax.tcons (Syntax.tyInt Syntax.w64) (Syntax.tcons (Syntax.tyInt Syntax.w64) Syntax.tnil))))))))) (L._∷_ q13 (L._∷_ q18 (L._∷_ (4, Rows.any-gone (Syntax.tyStruct (L._∷_ 114 (L._∷_ 117 (L._∷_ 108 (L._∷_ 101 (L._∷_ 115 (L._∷_ 58 (L._∷_ 58 (L._∷_ 116 (L._∷_ 114 (L._∷_ 105 (L._∷_ 101 (L._∷_ 100 (L._∷_ 58 (L._∷_ 58 (L._∷_ 76 (L._∷_ 111 (L._∷_ 111 (L._∷_ 107 (L._∷_ 101 (L._∷_ 100 L.[])))))))))))))))))))) (Syntax.tcons (Syntax.tyStruct (L._∷_ 114 (L._∷_ 117 (L._∷_ 108 (L._∷_ 101 (L._∷_ 115 (L._∷_ 58 (L._∷_ 58 (L._∷_ 102 (L._∷_ 111 (L._∷_ 117 (L._∷_ 110 (L._∷_ 100 (L._∷_ 58 (L._∷_ 58 (L._∷_ 70 (L._∷_ 111 (L._∷_ 117 (L._∷_ 110 (L._∷_ 100 L.[]))))))))))))))))))) (Syntax.tcons Syntax.tyBool (Syntax.tcons Syntax.tyBool (Syntax.tcons (Syntax.tyStruct (L._∷_ 115 (L._∷_ 116 (L._∷_ 101 (L._∷_ 112 (L._∷_ 58 (L._∷_ 58 (L._∷_ 83 (L._∷_ 116 (L._∷_ 101 (L._∷_ 112 L.[])))))))))) (Syntax.tcons (Syntax.tyInt Syntax.w64) (Syntax.tcons (Syntax.tyInt Syntax.w64) (Syntax.tcons (Syntax.tyStruct (L._∷_ 115 (L._∷_ 116 (L._∷_ 101 (L._∷_ 112 (L._∷_ 58 (L._∷_ 58 (L._∷_ 67 (L._∷_ 104 (L._∷_ 97 (L._∷_ 110 (L._∷_ 103 (L._∷_ 101 L.[])))))))))))) (Syntax.tcons (Syntax.tyStruct (L._∷_ 110 (L._∷_ 101 (L._∷_ 116 (L._∷_ 119 (L._∷_ 111 (L._∷_ 114 (L._∷_ 107 (L._∷_ 58 (L._∷_ 58 (L._∷_ 69 (L._∷_ 100 (L._∷_ 105 (L._∷_ 116 L.[]))))))))))))) (Syntax.tcons q5 (Syntax.tcons q5 (Syntax.tcons q5 (Syntax.tcons q5 (Syntax.tcons q1 (Syntax.tcons q1 (Syntax.tcons (Syntax.tyInt Syntax.w64) (Syntax.tcons q4 Syntax.tnil))))))))) (Syntax.tcons (Syntax.tyStruct (L._∷_ 115 (L._∷_ 116 (L._∷_ 101 (L._∷_ 112 (L._∷_ 58 (L._∷_ 58 (L._∷_ 79 (L._∷_ 108 (L._∷_ 100 L.[]))))))))) (Syntax.tcons (Syntax.tyInt Syntax.w64) (Syntax.tcons q4 (Syntax.tcons q5 (Syntax.tcons q5 (Syntax.tcons q5 (Syntax.tcons q5 (Syntax.tcons q2 Syntax.tnil)))))))) Syntax.tnil))) Syntax.tnil)))) Syntax.tnil)))) (Syntax.tcons q3 Syntax.tnil)))) (L._∷_ q23 (L._∷_ q8 (L._∷_ q33 (L._∷_ q35 (L._∷_ q24 (L._∷_ q7 (L._∷_ (11, Rows.any-gone (Syntax.tyStruct (L._∷_ 110 (L._∷_ 101 (L._∷_ 116 (L._∷_ 119 (L._∷_ 111 (L._∷_ 114 (L._∷_ 107 (L._∷_ 58 (L._∷_ 58 (L._∷_ 69 (L._∷_ 100 (L._∷_ 105 (L._∷_ 116 L.[]))))))))))))) (Syntax.tcons q5 (Syntax.tcons q5 (Syntax.tcons q5 (Syntax.tcons q5 (Syntax.tcons q1 (Syntax.tcons q1 (Syntax.tcons (Syntax.tyInt Syntax.w64) (Syntax.tcons q4 Syntax.tnil)))))))))) (L._∷_ q17 (L._∷_ q6 L.[])))))))))))))
 
 abbrev pub t2 : L.List Row.Entry
-t2 = L._∷_ (0, Rows.any-gone (Syntax.tyStruct (L._∷_ 115 (L._∷_ 101 (L._∷_ 97 (L._∷_ 114 (L._∷_ 99 (L._∷_ 104 (L._∷_ 58 (L._∷_ 58 (L._∷_ 80 (L._∷_ 114 (L._∷_ 111 (L._∷_ 103 (L._∷_ 114 (L._∷_ 101 (L._∷_ 115 (L._∷_ 115 L.[])))))))))))))))) (Syntax.tcons q0 (Syntax.tcons (Syntax.tyInt Syntax.w64) (Syntax.tcons q3 (Syntax.tcons Syntax.tyBool (Syntax.tcons Syntax.tyBool (Syntax.tcons (Syntax.tyInt Syntax.w64) (Syntax.tcons (Syntax.tyInt Syntax.w64) Syntax.tnil))))))))) (L._∷_ q31 (L._∷_ q13 (L._∷_ q15 (L._∷_ (4, Rows.any-gone (Syntax.tyStruct (L._∷_ 114 (L._∷_ 117 (L._∷_ 108 (L._∷_ 101 (L._∷_ 115 (L._∷_ 58 (L._∷_ 58 (L._∷_ 116 (L._∷_ 114 (L._∷_ 105 (L._∷_ 101 (L._∷_ 100 (L._∷_ 58 (L._∷_ 58 (L._∷_ 76 (L._∷_ 111 (L._∷_ 111 (L._∷_ 107 (L._∷_ 101 (L._∷_ 100 L.[])))))))))))))))))))) (Syntax.tcons (Syntax.tyStruct (L._∷_ 114 (L._∷_ 117 (L._∷_ 108 (L._∷_ 101 (L._∷_ 115 (L._∷_ 58 (L._∷_ 58 (L._∷_ 102 (L._∷_ 111 (L._∷_ 117 (L._∷_ 110 (L._∷_ 100 (L._∷_ 58 (L._∷_ 58 (L._∷_ 70 (L._∷_ 111 (L._∷_ 117 (L._∷_ 110 (L._∷_ 100 L.[]))))))))))))))))))) (Syntax.tcons Syntax.tyBool (Syntax.tcons Syntax.tyBool (Syntax.tcons (Syntax.tyStruct (L._∷_ 115 (L._∷_ 116 (L._∷_ 101 (L._∷_ 112 (L._∷_ 58 (L._∷_ 58 (L._∷_ 83 (L._∷_ 116 (L._∷_ 101 (L._∷_ 112 L.[])))))))))) (Syntax.tcons (Syntax.tyInt Syntax.w64) (Syntax.tcons (Syntax.tyInt Syntax.w64) (Syntax.tcons (Syntax.tyStruct (L._∷_ 115 (L._∷_ 116 (L._∷_ 101 (L._∷_ 112 (L._∷_ 58 (L._∷_ 58 (L._∷_ 67 (L._∷_ 104 (L._∷_ 97 (L._∷_ 110 (L._∷_ 103 (L._∷_ 101 L.[])))))))))))) (Syntax.tcons (Syntax.tyStruct (L._∷_ 110 (L._∷_ 101 (L._∷_ 116 (L._∷_ 119 (L._∷_ 111 (L._∷_ 114 (L._∷_ 107 (L._∷_ 58 (L._∷_ 58 (L._∷_ 69 (L._∷_ 100 (L._∷_ 105 (L._∷_ 116 L.[]))))))))))))) (Syntax.tcons q5 (Syntax.tcons q5 (Syntax.tcons q5 (Syntax.tcons q5 (Syntax.tcons q1 (Syntax.tcons q1 (Syntax.tcons (Syntax.tyInt Syntax.w64) Syntax.tnil)))))))) (Syntax.tcons (Syntax.tyStruct (L._∷_ 115 (L._∷_ 116 (L._∷_ 101 (L._∷_ 112 (L._∷_ 58 (L._∷_ 58 (L._∷_ 79 (L._∷_ 108 (L._∷_ 100 L.[]))))))))) (Syntax.tcons (Syntax.tyInt Syntax.w64) (Syntax.tcons q4 (Syntax.tcons q5 (Syntax.tcons q5 (Syntax.tcons q5 (Syntax.tcons q5 (Syntax.tcons q2 Syntax.tnil)))))))) Syntax.tnil))) Syntax.tnil)))) Syntax.tnil)))) (Syntax.tcons q3 Syntax.tnil)))) (L._∷_ (5, Relend.ssptr Rec.row q29 2) (L._∷_ q8 (L._∷_ q33 (L._∷_ q35 (L._∷_ q24 (L._∷_ q7 (L._∷_ (11, Rows.any-gone (Syntax.tyStruct (L._∷_ 110 (L._∷_ 101 (L._∷_ 116 (L._∷_ 119 (L._∷_ 111 (L._∷_ 114 (L._∷_ 107 (L._∷_ 58 (L._∷_ 58 (L._∷_ 69 (L._∷_ 100 (L._∷_ 105 (L._∷_ 116 L.[]))))))))))))) (Syntax.tcons q5 (Syntax.tcons q5 (Syntax.tcons q5 (Syntax.tcons q5 (Syntax.tcons q1 (Syntax.tcons q1 (Syntax.tcons (Syntax.tyInt Syntax.w64) Syntax.tnil))))))))) (L._∷_ q17 (L._∷_ q6 L.[])))))))))))))
+t2 = L._∷_ (0, Rows.any-gone (Syntax.tyStruct (L._∷_ 115 (L._∷_ 101 (L._∷_ 97 (L._∷_ 114 (L._∷_ 99 (L._∷_ 104 (L._∷_ 58 (L._∷_ 58 (L._∷_ 80 (L._∷_ 114 (L._∷_ 111 (L._∷_ 103 (L._∷_ 114 (L._∷_ 101 (L._∷_ 115 (L._∷_ 115 L.[])))))))))))))))) (Syntax.tcons q0 (Syntax.tcons (Syntax.tyInt Syntax.w64) (Syntax.tcons q3 (Syntax.tcons Syntax.tyBool (Syntax.tcons Syntax.tyBool (Syntax.tcons (Syntax.tyInt Syntax.w64) (Syntax.tcons (Syntax.tyInt Syntax.w64) Syntax.tnil))))))))) (L._∷_ q31 (L._∷_ q13 (L._∷_ q15 (L._∷_ (4, Rows.any-gone (Syntax.tyStruct (L._∷_ 114 (L._∷_ 117 (L._∷_ 108 (L._∷_ 101 (L._∷_ 115 (L._∷_ 58 (L._∷_ 58 (L._∷_ 116 (L._∷_ 114 (L._∷_ 105 (L._∷_ 101 (L._∷_ 100 (L._∷_ 58 (L._∷_ 58 (L._∷_ 76 (L._∷_ 111 (L._∷_ 111 (L._∷_ 107 (L._∷_ 101 (L._∷_ 100 L.[])))))))))))))))))))) (Syntax.tcons (Syntax.tyStruct (L._∷_ 114 (L._∷_ 117 (L._∷_ 108 (L._∷_ 101 (L._∷_ 115 (L._∷_ 58 (L._∷_ 58 (L._∷_ 102 (L._∷_ 111 (L._∷_ 117 (L._∷_ 110 (L._∷_ 100 (L._∷_ 58 (L._∷_ 58 (L._∷_ 70 (L._∷_ 111 (L._∷_ 117 (L._∷_ 110 (L._∷_ 100 L.[]))))))))))))))))))) (Syntax.tcons Syntax.tyBool (Syntax.tcons Syntax.tyBool (Syntax.tcons (Syntax.tyStruct (L._∷_ 115 (L._∷_ 116 (L._∷_ 101 (L._∷_ 112 (L._∷_ 58 (L._∷_ 58 (L._∷_ 83 (L._∷_ 116 (L._∷_ 101 (L._∷_ 112 L.[])))))))))) (Syntax.tcons (Syntax.tyInt Syntax.w64) (Syntax.tcons (Syntax.tyInt Syntax.w64) (Syntax.tcons (Syntax.tyStruct (L._∷_ 115 (L._∷_ 116 (L._∷_ 101 (L._∷_ 112 (L._∷_ 58 (L._∷_ 58 (L._∷_ 67 (L._∷_ 104 (L._∷_ 97 (L._∷_ 110 (L._∷_ 103 (L._∷_ 101 L.[])))))))))))) (Syntax.tcons (Syntax.tyStruct (L._∷_ 110 (L._∷_ 101 (L._∷_ 116 (L._∷_ 119 (L._∷_ 111 (L._∷_ 114 (L._∷_ 107 (L._∷_ 58 (L._∷_ 58 (L._∷_ 69 (L._∷_ 100 (L._∷_ 105 (L._∷_ 116 L.[]))))))))))))) (Syntax.tcons q5 (Syntax.tcons q5 (Syntax.tcons q5 (Syntax.tcons q5 (Syntax.tcons q1 (Syntax.tcons q1 (Syntax.tcons (Syntax.tyInt Syntax.w64) (Syntax.tcons q4 Syntax.tnil))))))))) (Syntax.tcons (Syntax.tyStruct (L._∷_ 115 (L._∷_ 116 (L._∷_ 101 (L._∷_ 112 (L._∷_ 58 (L._∷_ 58 (L._∷_ 79 (L._∷_ 108 (L._∷_ 100 L.[]))))))))) (Syntax.tcons (Syntax.tyInt Syntax.w64) (Syntax.tcons q4 (Syntax.tcons q5 (Syntax.tcons q5 (Syntax.tcons q5 (Syntax.tcons q5 (Syntax.tcons q2 Syntax.tnil)))))))) Syntax.tnil))) Syntax.tnil)))) Syntax.tnil)))) (Syntax.tcons q3 Syntax.tnil)))) (L._∷_ (5, Relend.ssptr Rec.row q29 2) (L._∷_ q8 (L._∷_ q33 (L._∷_ q35 (L._∷_ q24 (L._∷_ q7 (L._∷_ (11, Rows.any-gone (Syntax.tyStruct (L._∷_ 110 (L._∷_ 101 (L._∷_ 116 (L._∷_ 119 (L._∷_ 111 (L._∷_ 114 (L._∷_ 107 (L._∷_ 58 (L._∷_ 58 (L._∷_ 69 (L._∷_ 100 (L._∷_ 105 (L._∷_ 116 L.[]))))))))))))) (Syntax.tcons q5 (Syntax.tcons q5 (Syntax.tcons q5 (Syntax.tcons q5 (Syntax.tcons q1 (Syntax.tcons q1 (Syntax.tcons (Syntax.tyInt Syntax.w64) (Syntax.tcons q4 Syntax.tnil)))))))))) (L._∷_ q17 (L._∷_ q6 L.[])))))))))))))
 
 abbrev pub t3 : L.List Row.Entry
-t3 = L._∷_ (0, Rows.any-gone (Syntax.tyStruct (L._∷_ 115 (L._∷_ 101 (L._∷_ 97 (L._∷_ 114 (L._∷_ 99 (L._∷_ 104 (L._∷_ 58 (L._∷_ 58 (L._∷_ 80 (L._∷_ 114 (L._∷_ 111 (L._∷_ 103 (L._∷_ 114 (L._∷_ 101 (L._∷_ 115 (L._∷_ 115 L.[])))))))))))))))) (Syntax.tcons q0 (Syntax.tcons (Syntax.tyInt Syntax.w64) (Syntax.tcons q3 (Syntax.tcons Syntax.tyBool (Syntax.tcons Syntax.tyBool (Syntax.tcons (Syntax.tyInt Syntax.w64) (Syntax.tcons (Syntax.tyInt Syntax.w64) Syntax.tnil))))))))) (L._∷_ q31 (L._∷_ q13 (L._∷_ q15 (L._∷_ (4, Rows.any-gone (Syntax.tyStruct (L._∷_ 114 (L._∷_ 117 (L._∷_ 108 (L._∷_ 101 (L._∷_ 115 (L._∷_ 58 (L._∷_ 58 (L._∷_ 116 (L._∷_ 114 (L._∷_ 105 (L._∷_ 101 (L._∷_ 100 (L._∷_ 58 (L._∷_ 58 (L._∷_ 76 (L._∷_ 111 (L._∷_ 111 (L._∷_ 107 (L._∷_ 101 (L._∷_ 100 L.[])))))))))))))))))))) (Syntax.tcons (Syntax.tyStruct (L._∷_ 114 (L._∷_ 117 (L._∷_ 108 (L._∷_ 101 (L._∷_ 115 (L._∷_ 58 (L._∷_ 58 (L._∷_ 102 (L._∷_ 111 (L._∷_ 117 (L._∷_ 110 (L._∷_ 100 (L._∷_ 58 (L._∷_ 58 (L._∷_ 70 (L._∷_ 111 (L._∷_ 117 (L._∷_ 110 (L._∷_ 100 L.[]))))))))))))))))))) (Syntax.tcons Syntax.tyBool (Syntax.tcons Syntax.tyBool (Syntax.tcons (Syntax.tyStruct (L._∷_ 115 (L._∷_ 116 (L._∷_ 101 (L._∷_ 112 (L._∷_ 58 (L._∷_ 58 (L._∷_ 83 (L._∷_ 116 (L._∷_ 101 (L._∷_ 112 L.[])))))))))) (Syntax.tcons (Syntax.tyInt Syntax.w64) (Syntax.tcons (Syntax.tyInt Syntax.w64) (Syntax.tcons (Syntax.tyStruct (L._∷_ 115 (L._∷_ 116 (L._∷_ 101 (L._∷_ 112 (L._∷_ 58 (L._∷_ 58 (L._∷_ 67 (L._∷_ 104 (L._∷_ 97 (L._∷_ 110 (L._∷_ 103 (L._∷_ 101 L.[])))))))))))) (Syntax.tcons (Syntax.tyStruct (L._∷_ 110 (L._∷_ 101 (L._∷_ 116 (L._∷_ 119 (L._∷_ 111 (L._∷_ 114 (L._∷_ 107 (L._∷_ 58 (L._∷_ 58 (L._∷_ 69 (L._∷_ 100 (L._∷_ 105 (L._∷_ 116 L.[]))))))))))))) (Syntax.tcons q5 (Syntax.tcons q5 (Syntax.tcons q5 (Syntax.tcons q5 (Syntax.tcons q1 (Syntax.tcons q1 (Syntax.tcons (Syntax.tyInt Syntax.w64) Syntax.tnil)))))))) (Syntax.tcons (Syntax.tyStruct (L._∷_ 115 (L._∷_ 116 (L._∷_ 101 (L._∷_ 112 (L._∷_ 58 (L._∷_ 58 (L._∷_ 79 (L._∷_ 108 (L._∷_ 100 L.[]))))))))) (Syntax.tcons (Syntax.tyInt Syntax.w64) (Syntax.tcons q4 (Syntax.tcons q5 (Syntax.tcons q5 (Syntax.tcons q5 (Syntax.tcons q5 (Syntax.tcons q2 Syntax.tnil)))))))) Syntax.tnil))) Syntax.tnil)))) Syntax.tnil)))) (Syntax.tcons q3 Syntax.tnil)))) (L._∷_ q23 (L._∷_ q19 (L._∷_ q33 (L._∷_ q35 (L._∷_ q24 (L._∷_ q7 (L._∷_ (11, Rows.any-gone (Syntax.tyStruct (L._∷_ 110 (L._∷_ 101 (L._∷_ 116 (L._∷_ 119 (L._∷_ 111 (L._∷_ 114 (L._∷_ 107 (L._∷_ 58 (L._∷_ 58 (L._∷_ 69 (L._∷_ 100 (L._∷_ 105 (L._∷_ 116 L.[]))))))))))))) (Syntax.tcons q5 (Syntax.tcons q5 (Syntax.tcons q5 (Syntax.tcons q5 (Syntax.tcons q1 (Syntax.tcons q1 (Syntax.tcons (Syntax.tyInt Syntax.w64) Syntax.tnil))))))))) (L._∷_ q17 (L._∷_ q6 L.[])))))))))))))
+t3 = L._∷_ (0, Rows.any-gone (Syntax.tyStruct (L._∷_ 115 (L._∷_ 101 (L._∷_ 97 (L._∷_ 114 (L._∷_ 99 (L._∷_ 104 (L._∷_ 58 (L._∷_ 58 (L._∷_ 80 (L._∷_ 114 (L._∷_ 111 (L._∷_ 103 (L._∷_ 114 (L._∷_ 101 (L._∷_ 115 (L._∷_ 115 L.[])))))))))))))))) (Syntax.tcons q0 (Syntax.tcons (Syntax.tyInt Syntax.w64) (Syntax.tcons q3 (Syntax.tcons Syntax.tyBool (Syntax.tcons Syntax.tyBool (Syntax.tcons (Syntax.tyInt Syntax.w64) (Syntax.tcons (Syntax.tyInt Syntax.w64) Syntax.tnil))))))))) (L._∷_ q31 (L._∷_ q13 (L._∷_ q15 (L._∷_ (4, Rows.any-gone (Syntax.tyStruct (L._∷_ 114 (L._∷_ 117 (L._∷_ 108 (L._∷_ 101 (L._∷_ 115 (L._∷_ 58 (L._∷_ 58 (L._∷_ 116 (L._∷_ 114 (L._∷_ 105 (L._∷_ 101 (L._∷_ 100 (L._∷_ 58 (L._∷_ 58 (L._∷_ 76 (L._∷_ 111 (L._∷_ 111 (L._∷_ 107 (L._∷_ 101 (L._∷_ 100 L.[])))))))))))))))))))) (Syntax.tcons (Syntax.tyStruct (L._∷_ 114 (L._∷_ 117 (L._∷_ 108 (L._∷_ 101 (L._∷_ 115 (L._∷_ 58 (L._∷_ 58 (L._∷_ 102 (L._∷_ 111 (L._∷_ 117 (L._∷_ 110 (L._∷_ 100 (L._∷_ 58 (L._∷_ 58 (L._∷_ 70 (L._∷_ 111 (L._∷_ 117 (L._∷_ 110 (L._∷_ 100 L.[]))))))))))))))))))) (Syntax.tcons Syntax.tyBool (Syntax.tcons Syntax.tyBool (Syntax.tcons (Syntax.tyStruct (L._∷_ 115 (L._∷_ 116 (L._∷_ 101 (L._∷_ 112 (L._∷_ 58 (L._∷_ 58 (L._∷_ 83 (L._∷_ 116 (L._∷_ 101 (L._∷_ 112 L.[])))))))))) (Syntax.tcons (Syntax.tyInt Syntax.w64) (Syntax.tcons (Syntax.tyInt Syntax.w64) (Syntax.tcons (Syntax.tyStruct (L._∷_ 115 (L._∷_ 116 (L._∷_ 101 (L._∷_ 112 (L._∷_ 58 (L._∷_ 58 (L._∷_ 67 (L._∷_ 104 (L._∷_ 97 (L._∷_ 110 (L._∷_ 103 (L._∷_ 101 L.[])))))))))))) (Syntax.tcons (Syntax.tyStruct (L._∷_ 110 (L._∷_ 101 (L._∷_ 116 (L._∷_ 119 (L._∷_ 111 (L._∷_ 114 (L._∷_ 107 (L._∷_ 58 (L._∷_ 58 (L._∷_ 69 (L._∷_ 100 (L._∷_ 105 (L._∷_ 116 L.[]))))))))))))) (Syntax.tcons q5 (Syntax.tcons q5 (Syntax.tcons q5 (Syntax.tcons q5 (Syntax.tcons q1 (Syntax.tcons q1 (Syntax.tcons (Syntax.tyInt Syntax.w64) (Syntax.tcons q4 Syntax.tnil))))))))) (Syntax.tcons (Syntax.tyStruct (L._∷_ 115 (L._∷_ 116 (L._∷_ 101 (L._∷_ 112 (L._∷_ 58 (L._∷_ 58 (L._∷_ 79 (L._∷_ 108 (L._∷_ 100 L.[]))))))))) (Syntax.tcons (Syntax.tyInt Syntax.w64) (Syntax.tcons q4 (Syntax.tcons q5 (Syntax.tcons q5 (Syntax.tcons q5 (Syntax.tcons q5 (Syntax.tcons q2 Syntax.tnil)))))))) Syntax.tnil))) Syntax.tnil)))) Syntax.tnil)))) (Syntax.tcons q3 Syntax.tnil)))) (L._∷_ q23 (L._∷_ q19 (L._∷_ q33 (L._∷_ q35 (L._∷_ q24 (L._∷_ q7 (L._∷_ (11, Rows.any-gone (Syntax.tyStruct (L._∷_ 110 (L._∷_ 101 (L._∷_ 116 (L._∷_ 119 (L._∷_ 111 (L._∷_ 114 (L._∷_ 107 (L._∷_ 58 (L._∷_ 58 (L._∷_ 69 (L._∷_ 100 (L._∷_ 105 (L._∷_ 116 L.[]))))))))))))) (Syntax.tcons q5 (Syntax.tcons q5 (Syntax.tcons q5 (Syntax.tcons q5 (Syntax.tcons q1 (Syntax.tcons q1 (Syntax.tcons (Syntax.tyInt Syntax.w64) (Syntax.tcons q4 Syntax.tnil)))))))))) (L._∷_ q17 (L._∷_ q6 L.[])))))))))))))
 
 abbrev pub t4 : L.List Row.Entry
-t4 = L._∷_ (0, Rows.any-gone (Syntax.tyStruct (L._∷_ 115 (L._∷_ 101 (L._∷_ 97 (L._∷_ 114 (L._∷_ 99 (L._∷_ 104 (L._∷_ 58 (L._∷_ 58 (L._∷_ 80 (L._∷_ 114 (L._∷_ 111 (L._∷_ 103 (L._∷_ 114 (L._∷_ 101 (L._∷_ 115 (L._∷_ 115 L.[])))))))))))))))) (Syntax.tcons q0 (Syntax.tcons (Syntax.tyInt Syntax.w64) (Syntax.tcons q3 (Syntax.tcons Syntax.tyBool (Syntax.tcons Syntax.tyBool (Syntax.tcons (Syntax.tyInt Syntax.w64) (Syntax.tcons (Syntax.tyInt Syntax.w64) Syntax.tnil))))))))) (L._∷_ q31 (L._∷_ q13 (L._∷_ q15 (L._∷_ (4, Rows.any-gone (Syntax.tyStruct (L._∷_ 114 (L._∷_ 117 (L._∷_ 108 (L._∷_ 101 (L._∷_ 115 (L._∷_ 58 (L._∷_ 58 (L._∷_ 116 (L._∷_ 114 (L._∷_ 105 (L._∷_ 101 (L._∷_ 100 (L._∷_ 58 (L._∷_ 58 (L._∷_ 76 (L._∷_ 111 (L._∷_ 111 (L._∷_ 107 (L._∷_ 101 (L._∷_ 100 L.[])))))))))))))))))))) (Syntax.tcons (Syntax.tyStruct (L._∷_ 114 (L._∷_ 117 (L._∷_ 108 (L._∷_ 101 (L._∷_ 115 (L._∷_ 58 (L._∷_ 58 (L._∷_ 102 (L._∷_ 111 (L._∷_ 117 (L._∷_ 110 (L._∷_ 100 (L._∷_ 58 (L._∷_ 58 (L._∷_ 70 (L._∷_ 111 (L._∷_ 117 (L._∷_ 110 (L._∷_ 100 L.[]))))))))))))))))))) (Syntax.tcons Syntax.tyBool (Syntax.tcons Syntax.tyBool (Syntax.tcons (Syntax.tyStruct (L._∷_ 115 (L._∷_ 116 (L._∷_ 101 (L._∷_ 112 (L._∷_ 58 (L._∷_ 58 (L._∷_ 83 (L._∷_ 116 (L._∷_ 101 (L._∷_ 112 L.[])))))))))) (Syntax.tcons (Syntax.tyInt Syntax.w64) (Syntax.tcons (Syntax.tyInt Syntax.w64) (Syntax.tcons (Syntax.tyStruct (L._∷_ 115 (L._∷_ 116 (L._∷_ 101 (L._∷_ 112 (L._∷_ 58 (L._∷_ 58 (L._∷_ 67 (L._∷_ 104 (L._∷_ 97 (L._∷_ 110 (L._∷_ 103 (L._∷_ 101 L.[])))))))))))) (Syntax.tcons (Syntax.tyStruct (L._∷_ 110 (L._∷_ 101 (L._∷_ 116 (L._∷_ 119 (L._∷_ 111 (L._∷_ 114 (L._∷_ 107 (L._∷_ 58 (L._∷_ 58 (L._∷_ 69 (L._∷_ 100 (L._∷_ 105 (L._∷_ 116 L.[]))))))))))))) (Syntax.tcons q5 (Syntax.tcons q5 (Syntax.tcons q5 (Syntax.tcons q5 (Syntax.tcons q1 (Syntax.tcons q1 (Syntax.tcons (Syntax.tyInt Syntax.w64) Syntax.tnil)))))))) (Syntax.tcons (Syntax.tyStruct (L._∷_ 115 (L._∷_ 116 (L._∷_ 101 (L._∷_ 112 (L._∷_ 58 (L._∷_ 58 (L._∷_ 79 (L._∷_ 108 (L._∷_ 100 L.[]))))))))) (Syntax.tcons (Syntax.tyInt Syntax.w64) (Syntax.tcons q4 (Syntax.tcons q5 (Syntax.tcons q5 (Syntax.tcons q5 (Syntax.tcons q5 (Syntax.tcons q2 Syntax.tnil)))))))) Syntax.tnil))) Syntax.tnil)))) Syntax.tnil)))) (Syntax.tcons q3 Syntax.tnil)))) (L._∷_ q23 (L._∷_ q19 (L._∷_ q34 (L._∷_ q35 (L._∷_ q24 (L._∷_ q7 (L._∷_ (11, Rows.any-gone (Syntax.tyStruct (L._∷_ 110 (L._∷_ 101 (L._∷_ 116 (L._∷_ 119 (L._∷_ 111 (L._∷_ 114 (L._∷_ 107 (L._∷_ 58 (L._∷_ 58 (L._∷_ 69 (L._∷_ 100 (L._∷_ 105 (L._∷_ 116 L.[]))))))))))))) (Syntax.tcons q5 (Syntax.tcons q5 (Syntax.tcons q5 (Syntax.tcons q5 (Syntax.tcons q1 (Syntax.tcons q1 (Syntax.tcons (Syntax.tyInt Syntax.w64) Syntax.tnil))))))))) (L._∷_ q17 (L._∷_ q6 L.[])))))))))))))
+t4 = L._∷_ (0, Rows.any-gone (Syntax.tyStruct (L._∷_ 115 (L._∷_ 101 (L._∷_ 97 (L._∷_ 114 (L._∷_ 99 (L._∷_ 104 (L._∷_ 58 (L._∷_ 58 (L._∷_ 80 (L._∷_ 114 (L._∷_ 111 (L._∷_ 103 (L._∷_ 114 (L._∷_ 101 (L._∷_ 115 (L._∷_ 115 L.[])))))))))))))))) (Syntax.tcons q0 (Syntax.tcons (Syntax.tyInt Syntax.w64) (Syntax.tcons q3 (Syntax.tcons Syntax.tyBool (Syntax.tcons Syntax.tyBool (Syntax.tcons (Syntax.tyInt Syntax.w64) (Syntax.tcons (Syntax.tyInt Syntax.w64) Syntax.tnil))))))))) (L._∷_ q31 (L._∷_ q13 (L._∷_ q15 (L._∷_ (4, Rows.any-gone (Syntax.tyStruct (L._∷_ 114 (L._∷_ 117 (L._∷_ 108 (L._∷_ 101 (L._∷_ 115 (L._∷_ 58 (L._∷_ 58 (L._∷_ 116 (L._∷_ 114 (L._∷_ 105 (L._∷_ 101 (L._∷_ 100 (L._∷_ 58 (L._∷_ 58 (L._∷_ 76 (L._∷_ 111 (L._∷_ 111 (L._∷_ 107 (L._∷_ 101 (L._∷_ 100 L.[])))))))))))))))))))) (Syntax.tcons (Syntax.tyStruct (L._∷_ 114 (L._∷_ 117 (L._∷_ 108 (L._∷_ 101 (L._∷_ 115 (L._∷_ 58 (L._∷_ 58 (L._∷_ 102 (L._∷_ 111 (L._∷_ 117 (L._∷_ 110 (L._∷_ 100 (L._∷_ 58 (L._∷_ 58 (L._∷_ 70 (L._∷_ 111 (L._∷_ 117 (L._∷_ 110 (L._∷_ 100 L.[]))))))))))))))))))) (Syntax.tcons Syntax.tyBool (Syntax.tcons Syntax.tyBool (Syntax.tcons (Syntax.tyStruct (L._∷_ 115 (L._∷_ 116 (L._∷_ 101 (L._∷_ 112 (L._∷_ 58 (L._∷_ 58 (L._∷_ 83 (L._∷_ 116 (L._∷_ 101 (L._∷_ 112 L.[])))))))))) (Syntax.tcons (Syntax.tyInt Syntax.w64) (Syntax.tcons (Syntax.tyInt Syntax.w64) (Syntax.tcons (Syntax.tyStruct (L._∷_ 115 (L._∷_ 116 (L._∷_ 101 (L._∷_ 112 (L._∷_ 58 (L._∷_ 58 (L._∷_ 67 (L._∷_ 104 (L._∷_ 97 (L._∷_ 110 (L._∷_ 103 (L._∷_ 101 L.[])))))))))))) (Syntax.tcons (Syntax.tyStruct (L._∷_ 110 (L._∷_ 101 (L._∷_ 116 (L._∷_ 119 (L._∷_ 111 (L._∷_ 114 (L._∷_ 107 (L._∷_ 58 (L._∷_ 58 (L._∷_ 69 (L._∷_ 100 (L._∷_ 105 (L._∷_ 116 L.[]))))))))))))) (Syntax.tcons q5 (Syntax.tcons q5 (Syntax.tcons q5 (Syntax.tcons q5 (Syntax.tcons q1 (Syntax.tcons q1 (Syntax.tcons (Syntax.tyInt Syntax.w64) (Syntax.tcons q4 Syntax.tnil))))))))) (Syntax.tcons (Syntax.tyStruct (L._∷_ 115 (L._∷_ 116 (L._∷_ 101 (L._∷_ 112 (L._∷_ 58 (L._∷_ 58 (L._∷_ 79 (L._∷_ 108 (L._∷_ 100 L.[]))))))))) (Syntax.tcons (Syntax.tyInt Syntax.w64) (Syntax.tcons q4 (Syntax.tcons q5 (Syntax.tcons q5 (Syntax.tcons q5 (Syntax.tcons q5 (Syntax.tcons q2 Syntax.tnil)))))))) Syntax.tnil))) Syntax.tnil)))) Syntax.tnil)))) (Syntax.tcons q3 Syntax.tnil)))) (L._∷_ q23 (L._∷_ q19 (L._∷_ q34 (L._∷_ q35 (L._∷_ q24 (L._∷_ q7 (L._∷_ (11, Rows.any-gone (Syntax.tyStruct (L._∷_ 110 (L._∷_ 101 (L._∷_ 116 (L._∷_ 119 (L._∷_ 111 (L._∷_ 114 (L._∷_ 107 (L._∷_ 58 (L._∷_ 58 (L._∷_ 69 (L._∷_ 100 (L._∷_ 105 (L._∷_ 116 L.[]))))))))))))) (Syntax.tcons q5 (Syntax.tcons q5 (Syntax.tcons q5 (Syntax.tcons q5 (Syntax.tcons q1 (Syntax.tcons q1 (Syntax.tcons (Syntax.tyInt Syntax.w64) (Syntax.tcons q4 Syntax.tnil)))))))))) (L._∷_ q17 (L._∷_ q6 L.[])))))))))))))
 
 abbrev pub t5 : L.List Row.Entry
-t5 = L._∷_ (0, Rows.any-gone (Syntax.tyStruct (L._∷_ 115 (L._∷_ 101 (L._∷_ 97 (L._∷_ 114 (L._∷_ 99 (L._∷_ 104 (L._∷_ 58 (L._∷_ 58 (L._∷_ 80 (L._∷_ 114 (L._∷_ 111 (L._∷_ 103 (L._∷_ 114 (L._∷_ 101 (L._∷_ 115 (L._∷_ 115 L.[])))))))))))))))) (Syntax.tcons q0 (Syntax.tcons (Syntax.tyInt Syntax.w64) (Syntax.tcons q3 (Syntax.tcons Syntax.tyBool (Syntax.tcons Syntax.tyBool (Syntax.tcons (Syntax.tyInt Syntax.w64) (Syntax.tcons (Syntax.tyInt Syntax.w64) Syntax.tnil))))))))) (L._∷_ q31 (L._∷_ q13 (L._∷_ q15 (L._∷_ q25 (L._∷_ q23 (L._∷_ q19 (L._∷_ q34 (L._∷_ q35 (L._∷_ q24 (L._∷_ q7 (L._∷_ (11, Rows.any-gone (Syntax.tyStruct (L._∷_ 110 (L._∷_ 101 (L._∷_ 116 (L._∷_ 119 (L._∷_ 111 (L._∷_ 114 (L._∷_ 107 (L._∷_ 58 (L._∷_ 58 (L._∷_ 69 (L._∷_ 100 (L._∷_ 105 (L._∷_ 116 L.[]))))))))))))) (Syntax.tcons q5 (Syntax.tcons q5 (Syntax.tcons q5 (Syntax.tcons q5 (Syntax.tcons q1 (Syntax.tcons q1 (Syntax.tcons (Syntax.tyInt Syntax.w64) Syntax.tnil))))))))) (L._∷_ q17 (L._∷_ q6 L.[])))))))))))))
+t5 = L._∷_ (0, Rows.any-gone (Syntax.tyStruct (L._∷_ 115 (L._∷_ 101 (L._∷_ 97 (L._∷_ 114 (L._∷_ 99 (L._∷_ 104 (L._∷_ 58 (L._∷_ 58 (L._∷_ 80 (L._∷_ 114 (L._∷_ 111 (L._∷_ 103 (L._∷_ 114 (L._∷_ 101 (L._∷_ 115 (L._∷_ 115 L.[])))))))))))))))) (Syntax.tcons q0 (Syntax.tcons (Syntax.tyInt Syntax.w64) (Syntax.tcons q3 (Syntax.tcons Syntax.tyBool (Syntax.tcons Syntax.tyBool (Syntax.tcons (Syntax.tyInt Syntax.w64) (Syntax.tcons (Syntax.tyInt Syntax.w64) Syntax.tnil))))))))) (L._∷_ q31 (L._∷_ q13 (L._∷_ q15 (L._∷_ q25 (L._∷_ q23 (L._∷_ q19 (L._∷_ q34 (L._∷_ q35 (L._∷_ q24 (L._∷_ q7 (L._∷_ (11, Rows.any-gone (Syntax.tyStruct (L._∷_ 110 (L._∷_ 101 (L._∷_ 116 (L._∷_ 119 (L._∷_ 111 (L._∷_ 114 (L._∷_ 107 (L._∷_ 58 (L._∷_ 58 (L._∷_ 69 (L._∷_ 100 (L._∷_ 105 (L._∷_ 116 L.[]))))))))))))) (Syntax.tcons q5 (Syntax.tcons q5 (Syntax.tcons q5 (Syntax.tcons q5 (Syntax.tcons q1 (Syntax.tcons q1 (Syntax.tcons (Syntax.tyInt Syntax.w64) (Syntax.tcons q4 Syntax.tnil)))))))))) (L._∷_ q17 (L._∷_ q6 L.[])))))))))))))
 
 abbrev pub t6 : L.List Row.Entry
-t6 = L._∷_ (0, Rows.any-gone (Syntax.tyStruct (L._∷_ 115 (L._∷_ 101 (L._∷_ 97 (L._∷_ 114 (L._∷_ 99 (L._∷_ 104 (L._∷_ 58 (L._∷_ 58 (L._∷_ 80 (L._∷_ 114 (L._∷_ 111 (L._∷_ 103 (L._∷_ 114 (L._∷_ 101 (L._∷_ 115 (L._∷_ 115 L.[])))))))))))))))) (Syntax.tcons q0 (Syntax.tcons (Syntax.tyInt Syntax.w64) (Syntax.tcons q3 (Syntax.tcons Syntax.tyBool (Syntax.tcons Syntax.tyBool (Syntax.tcons (Syntax.tyInt Syntax.w64) (Syntax.tcons (Syntax.tyInt Syntax.w64) Syntax.tnil))))))))) (L._∷_ q31 (L._∷_ q13 (L._∷_ q15 (L._∷_ q25 (L._∷_ q23 (L._∷_ q8 (L._∷_ q34 (L._∷_ q35 (L._∷_ q24 (L._∷_ q7 (L._∷_ (11, Rows.any-gone (Syntax.tyStruct (L._∷_ 110 (L._∷_ 101 (L._∷_ 116 (L._∷_ 119 (L._∷_ 111 (L._∷_ 114 (L._∷_ 107 (L._∷_ 58 (L._∷_ 58 (L._∷_ 69 (L._∷_ 100 (L._∷_ 105 (L._∷_ 116 L.[]))))))))))))) (Syntax.tcons q5 (Syntax.tcons q5 (Syntax.tcons q5 (Syntax.tcons q5 (Syntax.tcons q1 (Syntax.tcons q1 (Syntax.tcons (Syntax.tyInt Syntax.w64) Syntax.tnil))))))))) (L._∷_ q17 (L._∷_ q6 L.[])))))))))))))
+t6 = L._∷_ (0, Rows.any-gone (Syntax.tyStruct (L._∷_ 115 (L._∷_ 101 (L._∷_ 97 (L._∷_ 114 (L._∷_ 99 (L._∷_ 104 (L._∷_ 58 (L._∷_ 58 (L._∷_ 80 (L._∷_ 114 (L._∷_ 111 (L._∷_ 103 (L._∷_ 114 (L._∷_ 101 (L._∷_ 115 (L._∷_ 115 L.[])))))))))))))))) (Syntax.tcons q0 (Syntax.tcons (Syntax.tyInt Syntax.w64) (Syntax.tcons q3 (Syntax.tcons Syntax.tyBool (Syntax.tcons Syntax.tyBool (Syntax.tcons (Syntax.tyInt Syntax.w64) (Syntax.tcons (Syntax.tyInt Syntax.w64) Syntax.tnil))))))))) (L._∷_ q31 (L._∷_ q13 (L._∷_ q15 (L._∷_ q25 (L._∷_ q23 (L._∷_ q8 (L._∷_ q34 (L._∷_ q35 (L._∷_ q24 (L._∷_ q7 (L._∷_ (11, Rows.any-gone (Syntax.tyStruct (L._∷_ 110 (L._∷_ 101 (L._∷_ 116 (L._∷_ 119 (L._∷_ 111 (L._∷_ 114 (L._∷_ 107 (L._∷_ 58 (L._∷_ 58 (L._∷_ 69 (L._∷_ 100 (L._∷_ 105 (L._∷_ 116 L.[]))))))))))))) (Syntax.tcons q5 (Syntax.tcons q5 (Syntax.tcons q5 (Syntax.tcons q5 (Syntax.tcons q1 (Syntax.tcons q1 (Syntax.tcons (Syntax.tyInt Syntax.w64) (Syntax.tcons q4 Syntax.tnil)))))))))) (L._∷_ q17 (L._∷_ q6 L.[])))))))))))))
 
 abbrev pub t7 : L.List Row.Entry
-t7 = L._∷_ (0, Rows.any-gone (Syntax.tyStruct (L._∷_ 115 (L._∷_ 101 (L._∷_ 97 (L._∷_ 114 (L._∷_ 99 (L._∷_ 104 (L._∷_ 58 (L._∷_ 58 (L._∷_ 80 (L._∷_ 114 (L._∷_ 111 (L._∷_ 103 (L._∷_ 114 (L._∷_ 101 (L._∷_ 115 (L._∷_ 115 L.[])))))))))))))))) (Syntax.tcons q0 (Syntax.tcons (Syntax.tyInt Syntax.w64) (Syntax.tcons q3 (Syntax.tcons Syntax.tyBool (Syntax.tcons Syntax.tyBool (Syntax.tcons (Syntax.tyInt Syntax.w64) (Syntax.tcons (Syntax.tyInt Syntax.w64) Syntax.tnil))))))))) (L._∷_ q31 (L._∷_ q13 (L._∷_ q15 (L._∷_ q25 (L._∷_ q23 (L._∷_ q8 (L._∷_ q33 (L._∷_ q35 (L._∷_ q24 (L._∷_ q7 (L._∷_ (11, Rows.any-gone (Syntax.tyStruct (L._∷_ 110 (L._∷_ 101 (L._∷_ 116 (L._∷_ 119 (L._∷_ 111 (L._∷_ 114 (L._∷_ 107 (L._∷_ 58 (L._∷_ 58 (L._∷_ 69 (L._∷_ 100 (L._∷_ 105 (L._∷_ 116 L.[]))))))))))))) (Syntax.tcons q5 (Syntax.tcons q5 (Syntax.tcons q5 (Syntax.tcons q5 (Syntax.tcons q1 (Syntax.tcons q1 (Syntax.tcons (Syntax.tyInt Syntax.w64) Syntax.tnil))))))))) (L._∷_ q17 (L._∷_ q6 L.[])))))))))))))
+t7 = L._∷_ (0, Rows.any-gone (Syntax.tyStruct (L._∷_ 115 (L._∷_ 101 (L._∷_ 97 (L._∷_ 114 (L._∷_ 99 (L._∷_ 104 (L._∷_ 58 (L._∷_ 58 (L._∷_ 80 (L._∷_ 114 (L._∷_ 111 (L._∷_ 103 (L._∷_ 114 (L._∷_ 101 (L._∷_ 115 (L._∷_ 115 L.[])))))))))))))))) (Syntax.tcons q0 (Syntax.tcons (Syntax.tyInt Syntax.w64) (Syntax.tcons q3 (Syntax.tcons Syntax.tyBool (Syntax.tcons Syntax.tyBool (Syntax.tcons (Syntax.tyInt Syntax.w64) (Syntax.tcons (Syntax.tyInt Syntax.w64) Syntax.tnil))))))))) (L._∷_ q31 (L._∷_ q13 (L._∷_ q15 (L._∷_ q25 (L._∷_ q23 (L._∷_ q8 (L._∷_ q33 (L._∷_ q35 (L._∷_ q24 (L._∷_ q7 (L._∷_ (11, Rows.any-gone (Syntax.tyStruct (L._∷_ 110 (L._∷_ 101 (L._∷_ 116 (L._∷_ 119 (L._∷_ 111 (L._∷_ 114 (L._∷_ 107 (L._∷_ 58 (L._∷_ 58 (L._∷_ 69 (L._∷_ 100 (L._∷_ 105 (L._∷_ 116 L.[]))))))))))))) (Syntax.tcons q5 (Syntax.tcons q5 (Syntax.tcons q5 (Syntax.tcons q5 (Syntax.tcons q1 (Syntax.tcons q1 (Syntax.tcons (Syntax.tyInt Syntax.w64) (Syntax.tcons q4 Syntax.tnil)))))))))) (L._∷_ q17 (L._∷_ q6 L.[])))))))))))))
 
 abbrev pub t8 : L.List Row.Entry
-t8 = L._∷_ (0, Rows.any-gone (Syntax.tyStruct (L._∷_ 115 (L._∷_ 101 (L._∷_ 97 (L._∷_ 114 (L._∷_ 99 (L._∷_ 104 (L._∷_ 58 (L._∷_ 58 (L._∷_ 80 (L._∷_ 114 (L._∷_ 111 (L._∷_ 103 (L._∷_ 114 (L._∷_ 101 (L._∷_ 115 (L._∷_ 115 L.[])))))))))))))))) (Syntax.tcons q0 (Syntax.tcons (Syntax.tyInt Syntax.w64) (Syntax.tcons q3 (Syntax.tcons Syntax.tyBool (Syntax.tcons Syntax.tyBool (Syntax.tcons (Syntax.tyInt Syntax.w64) (Syntax.tcons (Syntax.tyInt Syntax.w64) Syntax.tnil))))))))) (L._∷_ q31 (L._∷_ q13 (L._∷_ q18 (L._∷_ q25 (L._∷_ q23 (L._∷_ q8 (L._∷_ q33 (L._∷_ q35 (L._∷_ q24 (L._∷_ q7 (L._∷_ (11, Rows.any-gone (Syntax.tyStruct (L._∷_ 110 (L._∷_ 101 (L._∷_ 116 (L._∷_ 119 (L._∷_ 111 (L._∷_ 114 (L._∷_ 107 (L._∷_ 58 (L._∷_ 58 (L._∷_ 69 (L._∷_ 100 (L._∷_ 105 (L._∷_ 116 L.[]))))))))))))) (Syntax.tcons q5 (Syntax.tcons q5 (Syntax.tcons q5 (Syntax.tcons q5 (Syntax.tcons q1 (Syntax.tcons q1 (Syntax.tcons (Syntax.tyInt Syntax.w64) Syntax.tnil))))))))) (L._∷_ q17 (L._∷_ q6 L.[])))))))))))))
+t8 = L._∷_ (0, Rows.any-gone (Syntax.tyStruct (L._∷_ 115 (L._∷_ 101 (L._∷_ 97 (L._∷_ 114 (L._∷_ 99 (L._∷_ 104 (L._∷_ 58 (L._∷_ 58 (L._∷_ 80 (L._∷_ 114 (L._∷_ 111 (L._∷_ 103 (L._∷_ 114 (L._∷_ 101 (L._∷_ 115 (L._∷_ 115 L.[])))))))))))))))) (Syntax.tcons q0 (Syntax.tcons (Syntax.tyInt Syntax.w64) (Syntax.tcons q3 (Syntax.tcons Syntax.tyBool (Syntax.tcons Syntax.tyBool (Syntax.tcons (Syntax.tyInt Syntax.w64) (Syntax.tcons (Syntax.tyInt Syntax.w64) Syntax.tnil))))))))) (L._∷_ q31 (L._∷_ q13 (L._∷_ q18 (L._∷_ q25 (L._∷_ q23 (L._∷_ q8 (L._∷_ q33 (L._∷_ q35 (L._∷_ q24 (L._∷_ q7 (L._∷_ (11, Rows.any-gone (Syntax.tyStruct (L._∷_ 110 (L._∷_ 101 (L._∷_ 116 (L._∷_ 119 (L._∷_ 111 (L._∷_ 114 (L._∷_ 107 (L._∷_ 58 (L._∷_ 58 (L._∷_ 69 (L._∷_ 100 (L._∷_ 105 (L._∷_ 116 L.[]))))))))))))) (Syntax.tcons q5 (Syntax.tcons q5 (Syntax.tcons q5 (Syntax.tcons q5 (Syntax.tcons q1 (Syntax.tcons q1 (Syntax.tcons (Syntax.tyInt Syntax.w64) (Syntax.tcons q4 Syntax.tnil)))))))))) (L._∷_ q17 (L._∷_ q6 L.[])))))))))))))
 
 abbrev pub t9 : L.List Row.Entry
-t9 = L._∷_ (0, Rows.any-gone (Syntax.tyStruct (L._∷_ 115 (L._∷_ 101 (L._∷_ 97 (L._∷_ 114 (L._∷_ 99 (L._∷_ 104 (L._∷_ 58 (L._∷_ 58 (L._∷_ 80 (L._∷_ 114 (L._∷_ 111 (L._∷_ 103 (L._∷_ 114 (L._∷_ 101 (L._∷_ 115 (L._∷_ 115 L.[])))))))))))))))) (Syntax.tcons q0 (Syntax.tcons (Syntax.tyInt Syntax.w64) (Syntax.tcons q3 (Syntax.tcons Syntax.tyBool (Syntax.tcons Syntax.tyBool (Syntax.tcons (Syntax.tyInt Syntax.w64) (Syntax.tcons (Syntax.tyInt Syntax.w64) Syntax.tnil))))))))) (L._∷_ q31 (L._∷_ q13 (L._∷_ q16 (L._∷_ q25 (L._∷_ q23 (L._∷_ q8 (L._∷_ q33 (L._∷_ q35 (L._∷_ (9, Relend.msptr Rec.row q30 3) (L._∷_ q7 (L._∷_ (11, Rows.any-gone (Syntax.tyStruct (L._∷_ 110 (L._∷_ 101 (L._∷_ 116 (L._∷_ 119 (L._∷_ 111 (L._∷_ 114 (L._∷_ 107 (L._∷_ 58 (L._∷_ 58 (L._∷_ 69 (L._∷_ 100 (L._∷_ 105 (L._∷_ 116 L.[]))))))))))))) (Syntax.tcons q5 (Syntax.tcons q5 (Syntax.tcons q5 (Syntax.tcons q5 (Syntax.tcons q1 (Syntax.tcons q1 (Syntax.tcons (Syntax.tyInt Syntax.w64) Syntax.tnil))))))))) (L._∷_ q17 (L._∷_ q6 L.[])))))))))))))
+t9 = L._∷_ (0, Rows.any-gone (Syntax.tyStruct (L._∷_ 115 (L._∷_ 101 (L._∷_ 97 (L._∷_ 114 (L._∷_ 99 (L._∷_ 104 (L._∷_ 58 (L._∷_ 58 (L._∷_ 80 (L._∷_ 114 (L._∷_ 111 (L._∷_ 103 (L._∷_ 114 (L._∷_ 101 (L._∷_ 115 (L._∷_ 115 L.[])))))))))))))))) (Syntax.tcons q0 (Syntax.tcons (Syntax.tyInt Syntax.w64) (Syntax.tcons q3 (Syntax.tcons Syntax.tyBool (Syntax.tcons Syntax.tyBool (Syntax.tcons (Syntax.tyInt Syntax.w64) (Syntax.tcons (Syntax.tyInt Syntax.w64) Syntax.tnil))))))))) (L._∷_ q31 (L._∷_ q13 (L._∷_ q16 (L._∷_ q25 (L._∷_ q23 (L._∷_ q8 (L._∷_ q33 (L._∷_ q35 (L._∷_ (9, Relend.msptr Rec.row q30 3) (L._∷_ q7 (L._∷_ (11, Rows.any-gone (Syntax.tyStruct (L._∷_ 110 (L._∷_ 101 (L._∷_ 116 (L._∷_ 119 (L._∷_ 111 (L._∷_ 114 (L._∷_ 107 (L._∷_ 58 (L._∷_ 58 (L._∷_ 69 (L._∷_ 100 (L._∷_ 105 (L._∷_ 116 L.[]))))))))))))) (Syntax.tcons q5 (Syntax.tcons q5 (Syntax.tcons q5 (Syntax.tcons q5 (Syntax.tcons q1 (Syntax.tcons q1 (Syntax.tcons (Syntax.tyInt Syntax.w64) (Syntax.tcons q4 Syntax.tnil)))))))))) (L._∷_ q17 (L._∷_ q6 L.[])))))))))))))
 
 abbrev pub t10 : L.List Row.Entry
-t10 = L._∷_ (0, Rows.any-gone (Syntax.tyStruct (L._∷_ 115 (L._∷_ 101 (L._∷_ 97 (L._∷_ 114 (L._∷_ 99 (L._∷_ 104 (L._∷_ 58 (L._∷_ 58 (L._∷_ 80 (L._∷_ 114 (L._∷_ 111 (L._∷_ 103 (L._∷_ 114 (L._∷_ 101 (L._∷_ 115 (L._∷_ 115 L.[])))))))))))))))) (Syntax.tcons q0 (Syntax.tcons (Syntax.tyInt Syntax.w64) (Syntax.tcons q3 (Syntax.tcons Syntax.tyBool (Syntax.tcons Syntax.tyBool (Syntax.tcons (Syntax.tyInt Syntax.w64) (Syntax.tcons (Syntax.tyInt Syntax.w64) Syntax.tnil))))))))) (L._∷_ q31 (L._∷_ q13 (L._∷_ q16 (L._∷_ q25 (L._∷_ q23 (L._∷_ q8 (L._∷_ q33 (L._∷_ q35 (L._∷_ q24 (L._∷_ q20 (L._∷_ (11, Rows.any-gone (Syntax.tyStruct (L._∷_ 110 (L._∷_ 101 (L._∷_ 116 (L._∷_ 119 (L._∷_ 111 (L._∷_ 114 (L._∷_ 107 (L._∷_ 58 (L._∷_ 58 (L._∷_ 69 (L._∷_ 100 (L._∷_ 105 (L._∷_ 116 L.[]))))))))))))) (Syntax.tcons q5 (Syntax.tcons q5 (Syntax.tcons q5 (Syntax.tcons q5 (Syntax.tcons q1 (Syntax.tcons q1 (Syntax.tcons (Syntax.tyInt Syntax.w64) Syntax.tnil))))))))) (L._∷_ q17 (L._∷_ q6 L.[])))))))))))))
+t10 = L._∷_ (0, Rows.any-gone (Syntax.tyStruct (L._∷_ 115 (L._∷_ 101 (L._∷_ 97 (L._∷_ 114 (L._∷_ 99 (L._∷_ 104 (L._∷_ 58 (L._∷_ 58 (L._∷_ 80 (L._∷_ 114 (L._∷_ 111 (L._∷_ 103 (L._∷_ 114 (L._∷_ 101 (L._∷_ 115 (L._∷_ 115 L.[])))))))))))))))) (Syntax.tcons q0 (Syntax.tcons (Syntax.tyInt Syntax.w64) (Syntax.tcons q3 (Syntax.tcons Syntax.tyBool (Syntax.tcons Syntax.tyBool (Syntax.tcons (Syntax.tyInt Syntax.w64) (Syntax.tcons (Syntax.tyInt Syntax.w64) Syntax.tnil))))))))) (L._∷_ q31 (L._∷_ q13 (L._∷_ q16 (L._∷_ q25 (L._∷_ q23 (L._∷_ q8 (L._∷_ q33 (L._∷_ q35 (L._∷_ q24 (L._∷_ q20 (L._∷_ (11, Rows.any-gone (Syntax.tyStruct (L._∷_ 110 (L._∷_ 101 (L._∷_ 116 (L._∷_ 119 (L._∷_ 111 (L._∷_ 114 (L._∷_ 107 (L._∷_ 58 (L._∷_ 58 (L._∷_ 69 (L._∷_ 100 (L._∷_ 105 (L._∷_ 116 L.[]))))))))))))) (Syntax.tcons q5 (Syntax.tcons q5 (Syntax.tcons q5 (Syntax.tcons q5 (Syntax.tcons q1 (Syntax.tcons q1 (Syntax.tcons (Syntax.tyInt Syntax.w64) (Syntax.tcons q4 Syntax.tnil)))))))))) (L._∷_ q17 (L._∷_ q6 L.[])))))))))))))
 
 abbrev pub t11 : L.List Row.Entry
 t11 = L._∷_ (0, Rows.any-gone (Syntax.tyStruct (L._∷_ 115 (L._∷_ 101 (L._∷_ 97 (L._∷_ 114 (L._∷_ 99 (L._∷_ 104 (L._∷_ 58 (L._∷_ 58 (L._∷_ 80 (L._∷_ 114 (L._∷_ 111 (L._∷_ 103 (L._∷_ 114 (L._∷_ 101 (L._∷_ 115 (L._∷_ 115 L.[])))))))))))))))) (Syntax.tcons q0 (Syntax.tcons (Syntax.tyInt Syntax.w64) (Syntax.tcons q3 (Syntax.tcons Syntax.tyBool (Syntax.tcons Syntax.tyBool (Syntax.tcons (Syntax.tyInt Syntax.w64) (Syntax.tcons (Syntax.tyInt Syntax.w64) Syntax.tnil))))))))) (L._∷_ q31 (L._∷_ q13 (L._∷_ q16 (L._∷_ q25 (L._∷_ q23 (L._∷_ q8 (L._∷_ q33 (L._∷_ q35 (L._∷_ q24 (L._∷_ q20 (L._∷_ q27 (L._∷_ q17 (L._∷_ q6 L.[])))))))))))))
@@ -341,25 +341,25 @@ abbrev pub t13 : L.List Row.Entry
 t13 = L._∷_ (0, Rows.any-gone (Syntax.tyStruct (L._∷_ 115 (L._∷_ 101 (L._∷_ 97 (L._∷_ 114 (L._∷_ 99 (L._∷_ 104 (L._∷_ 58 (L._∷_ 58 (L._∷_ 80 (L._∷_ 114 (L._∷_ 111 (L._∷_ 103 (L._∷_ 114 (L._∷_ 101 (L._∷_ 115 (L._∷_ 115 L.[])))))))))))))))) (Syntax.tcons q0 (Syntax.tcons (Syntax.tyInt Syntax.w64) (Syntax.tcons q3 (Syntax.tcons Syntax.tyBool (Syntax.tcons Syntax.tyBool (Syntax.tcons (Syntax.tyInt Syntax.w64) (Syntax.tcons (Syntax.tyInt Syntax.w64) Syntax.tnil))))))))) (L._∷_ q31 (L._∷_ q13 (L._∷_ q16 (L._∷_ q25 (L._∷_ q23 (L._∷_ q8 (L._∷_ q33 (L._∷_ q35 (L._∷_ q24 (L._∷_ q21 (L._∷_ q27 (L._∷_ q17 (L._∷_ q6 L.[])))))))))))))
 
 abbrev pub t14 : L.List Row.Entry
-t14 = L._∷_ (0, Rows.any-gone (Syntax.tyStruct (L._∷_ 115 (L._∷_ 101 (L._∷_ 97 (L._∷_ 114 (L._∷_ 99 (L._∷_ 104 (L._∷_ 58 (L._∷_ 58 (L._∷_ 80 (L._∷_ 114 (L._∷_ 111 (L._∷_ 103 (L._∷_ 114 (L._∷_ 101 (L._∷_ 115 (L._∷_ 115 L.[])))))))))))))))) (Syntax.tcons q0 (Syntax.tcons (Syntax.tyInt Syntax.w64) (Syntax.tcons q3 (Syntax.tcons Syntax.tyBool (Syntax.tcons Syntax.tyBool (Syntax.tcons (Syntax.tyInt Syntax.w64) (Syntax.tcons (Syntax.tyInt Syntax.w64) Syntax.tnil))))))))) (L._∷_ q31 (L._∷_ q13 (L._∷_ q16 (L._∷_ q25 (L._∷_ q23 (L._∷_ q8 (L._∷_ q33 (L._∷_ q35 (L._∷_ q24 (L._∷_ q21 (L._∷_ (11, Rows.any-gone (Syntax.tyStruct (L._∷_ 110 (L._∷_ 101 (L._∷_ 116 (L._∷_ 119 (L._∷_ 111 (L._∷_ 114 (L._∷_ 107 (L._∷_ 58 (L._∷_ 58 (L._∷_ 69 (L._∷_ 100 (L._∷_ 105 (L._∷_ 116 L.[]))))))))))))) (Syntax.tcons q5 (Syntax.tcons q5 (Syntax.tcons q5 (Syntax.tcons q5 (Syntax.tcons q1 (Syntax.tcons q1 (Syntax.tcons (Syntax.tyInt Syntax.w64) Syntax.tnil))))))))) (L._∷_ q17 (L._∷_ q6 L.[])))))))))))))
+t14 = L._∷_ (0, Rows.any-gone (Syntax.tyStruct (L._∷_ 115 (L._∷_ 101 (L._∷_ 97 (L._∷_ 114 (L._∷_ 99 (L._∷_ 104 (L._∷_ 58 (L._∷_ 58 (L._∷_ 80 (L._∷_ 114 (L._∷_ 111 (L._∷_ 103 (L._∷_ 114 (L._∷_ 101 (L._∷_ 115 (L._∷_ 115 L.[])))))))))))))))) (Syntax.tcons q0 (Syntax.tcons (Syntax.tyInt Syntax.w64) (Syntax.tcons q3 (Syntax.tcons Syntax.tyBool (Syntax.tcons Syntax.tyBool (Syntax.tcons (Syntax.tyInt Syntax.w64) (Syntax.tcons (Syntax.tyInt Syntax.w64) Syntax.tnil))))))))) (L._∷_ q31 (L._∷_ q13 (L._∷_ q16 (L._∷_ q25 (L._∷_ q23 (L._∷_ q8 (L._∷_ q33 (L._∷_ q35 (L._∷_ q24 (L._∷_ q21 (L._∷_ (11, Rows.any-gone (Syntax.tyStruct (L._∷_ 110 (L._∷_ 101 (L._∷_ 116 (L._∷_ 119 (L._∷_ 111 (L._∷_ 114 (L._∷_ 107 (L._∷_ 58 (L._∷_ 58 (L._∷_ 69 (L._∷_ 100 (L._∷_ 105 (L._∷_ 116 L.[]))))))))))))) (Syntax.tcons q5 (Syntax.tcons q5 (Syntax.tcons q5 (Syntax.tcons q5 (Syntax.tcons q1 (Syntax.tcons q1 (Syntax.tcons (Syntax.tyInt Syntax.w64) (Syntax.tcons q4 Syntax.tnil)))))))))) (L._∷_ q17 (L._∷_ q6 L.[])))))))))))))
 
 abbrev pub t15 : L.List Row.Entry
-t15 = L._∷_ (0, Rows.any-gone (Syntax.tyStruct (L._∷_ 115 (L._∷_ 101 (L._∷_ 97 (L._∷_ 114 (L._∷_ 99 (L._∷_ 104 (L._∷_ 58 (L._∷_ 58 (L._∷_ 80 (L._∷_ 114 (L._∷_ 111 (L._∷_ 103 (L._∷_ 114 (L._∷_ 101 (L._∷_ 115 (L._∷_ 115 L.[])))))))))))))))) (Syntax.tcons q0 (Syntax.tcons (Syntax.tyInt Syntax.w64) (Syntax.tcons q3 (Syntax.tcons Syntax.tyBool (Syntax.tcons Syntax.tyBool (Syntax.tcons (Syntax.tyInt Syntax.w64) (Syntax.tcons (Syntax.tyInt Syntax.w64) Syntax.tnil))))))))) (L._∷_ q31 (L._∷_ q12 (L._∷_ q18 (L._∷_ q25 (L._∷_ q23 (L._∷_ q8 (L._∷_ q33 (L._∷_ q35 (L._∷_ q24 (L._∷_ q7 (L._∷_ (11, Rows.any-gone (Syntax.tyStruct (L._∷_ 110 (L._∷_ 101 (L._∷_ 116 (L._∷_ 119 (L._∷_ 111 (L._∷_ 114 (L._∷_ 107 (L._∷_ 58 (L._∷_ 58 (L._∷_ 69 (L._∷_ 100 (L._∷_ 105 (L._∷_ 116 L.[]))))))))))))) (Syntax.tcons q5 (Syntax.tcons q5 (Syntax.tcons q5 (Syntax.tcons q5 (Syntax.tcons q1 (Syntax.tcons q1 (Syntax.tcons (Syntax.tyInt Syntax.w64) Syntax.tnil))))))))) (L._∷_ (12, Relend.msptr (Signed.SInt Syntax.w32) q26 4) (L._∷_ q6 L.[])))))))))))))
+t15 = L._∷_ (0, Rows.any-gone (Syntax.tyStruct (L._∷_ 115 (L._∷_ 101 (L._∷_ 97 (L._∷_ 114 (L._∷_ 99 (L._∷_ 104 (L._∷_ 58 (L._∷_ 58 (L._∷_ 80 (L._∷_ 114 (L._∷_ 111 (L._∷_ 103 (L._∷_ 114 (L._∷_ 101 (L._∷_ 115 (L._∷_ 115 L.[])))))))))))))))) (Syntax.tcons q0 (Syntax.tcons (Syntax.tyInt Syntax.w64) (Syntax.tcons q3 (Syntax.tcons Syntax.tyBool (Syntax.tcons Syntax.tyBool (Syntax.tcons (Syntax.tyInt Syntax.w64) (Syntax.tcons (Syntax.tyInt Syntax.w64) Syntax.tnil))))))))) (L._∷_ q31 (L._∷_ q12 (L._∷_ q18 (L._∷_ q25 (L._∷_ q23 (L._∷_ q8 (L._∷_ q33 (L._∷_ q35 (L._∷_ q24 (L._∷_ q7 (L._∷_ (11, Rows.any-gone (Syntax.tyStruct (L._∷_ 110 (L._∷_ 101 (L._∷_ 116 (L._∷_ 119 (L._∷_ 111 (L._∷_ 114 (L._∷_ 107 (L._∷_ 58 (L._∷_ 58 (L._∷_ 69 (L._∷_ 100 (L._∷_ 105 (L._∷_ 116 L.[]))))))))))))) (Syntax.tcons q5 (Syntax.tcons q5 (Syntax.tcons q5 (Syntax.tcons q5 (Syntax.tcons q1 (Syntax.tcons q1 (Syntax.tcons (Syntax.tyInt Syntax.w64) (Syntax.tcons q4 Syntax.tnil)))))))))) (L._∷_ (12, Relend.msptr (Signed.SInt Syntax.w32) q26 4) (L._∷_ q6 L.[])))))))))))))
 
 abbrev pub t16 : L.List Row.Entry
-t16 = L._∷_ (0, Rows.any-gone (Syntax.tyStruct (L._∷_ 115 (L._∷_ 101 (L._∷_ 97 (L._∷_ 114 (L._∷_ 99 (L._∷_ 104 (L._∷_ 58 (L._∷_ 58 (L._∷_ 80 (L._∷_ 114 (L._∷_ 111 (L._∷_ 103 (L._∷_ 114 (L._∷_ 101 (L._∷_ 115 (L._∷_ 115 L.[])))))))))))))))) (Syntax.tcons q0 (Syntax.tcons (Syntax.tyInt Syntax.w64) (Syntax.tcons q3 (Syntax.tcons Syntax.tyBool (Syntax.tcons Syntax.tyBool (Syntax.tcons (Syntax.tyInt Syntax.w64) (Syntax.tcons (Syntax.tyInt Syntax.w64) Syntax.tnil))))))))) (L._∷_ q31 (L._∷_ q12 (L._∷_ q18 (L._∷_ q25 (L._∷_ q23 (L._∷_ q8 (L._∷_ q33 (L._∷_ q35 (L._∷_ q24 (L._∷_ q7 (L._∷_ (11, Rows.any-gone (Syntax.tyStruct (L._∷_ 110 (L._∷_ 101 (L._∷_ 116 (L._∷_ 119 (L._∷_ 111 (L._∷_ 114 (L._∷_ 107 (L._∷_ 58 (L._∷_ 58 (L._∷_ 69 (L._∷_ 100 (L._∷_ 105 (L._∷_ 116 L.[]))))))))))))) (Syntax.tcons q5 (Syntax.tcons q5 (Syntax.tcons q5 (Syntax.tcons q5 (Syntax.tcons q1 (Syntax.tcons q1 (Syntax.tcons (Syntax.tyInt Syntax.w64) Syntax.tnil))))))))) (L._∷_ q17 (L._∷_ (13, Mut.mslice (Signed.SInt Syntax.w32) q26 4) L.[])))))))))))))
+t16 = L._∷_ (0, Rows.any-gone (Syntax.tyStruct (L._∷_ 115 (L._∷_ 101 (L._∷_ 97 (L._∷_ 114 (L._∷_ 99 (L._∷_ 104 (L._∷_ 58 (L._∷_ 58 (L._∷_ 80 (L._∷_ 114 (L._∷_ 111 (L._∷_ 103 (L._∷_ 114 (L._∷_ 101 (L._∷_ 115 (L._∷_ 115 L.[])))))))))))))))) (Syntax.tcons q0 (Syntax.tcons (Syntax.tyInt Syntax.w64) (Syntax.tcons q3 (Syntax.tcons Syntax.tyBool (Syntax.tcons Syntax.tyBool (Syntax.tcons (Syntax.tyInt Syntax.w64) (Syntax.tcons (Syntax.tyInt Syntax.w64) Syntax.tnil))))))))) (L._∷_ q31 (L._∷_ q12 (L._∷_ q18 (L._∷_ q25 (L._∷_ q23 (L._∷_ q8 (L._∷_ q33 (L._∷_ q35 (L._∷_ q24 (L._∷_ q7 (L._∷_ (11, Rows.any-gone (Syntax.tyStruct (L._∷_ 110 (L._∷_ 101 (L._∷_ 116 (L._∷_ 119 (L._∷_ 111 (L._∷_ 114 (L._∷_ 107 (L._∷_ 58 (L._∷_ 58 (L._∷_ 69 (L._∷_ 100 (L._∷_ 105 (L._∷_ 116 L.[]))))))))))))) (Syntax.tcons q5 (Syntax.tcons q5 (Syntax.tcons q5 (Syntax.tcons q5 (Syntax.tcons q1 (Syntax.tcons q1 (Syntax.tcons (Syntax.tyInt Syntax.w64) (Syntax.tcons q4 Syntax.tnil)))))))))) (L._∷_ q17 (L._∷_ (13, Mut.mslice (Signed.SInt Syntax.w32) q26 4) L.[])))))))))))))
 
 abbrev pub t17 : L.List Row.Entry
-t17 = L._∷_ (0, Rows.any-gone (Syntax.tyStruct (L._∷_ 115 (L._∷_ 101 (L._∷_ 97 (L._∷_ 114 (L._∷_ 99 (L._∷_ 104 (L._∷_ 58 (L._∷_ 58 (L._∷_ 80 (L._∷_ 114 (L._∷_ 111 (L._∷_ 103 (L._∷_ 114 (L._∷_ 101 (L._∷_ 115 (L._∷_ 115 L.[])))))))))))))))) (Syntax.tcons q0 (Syntax.tcons (Syntax.tyInt Syntax.w64) (Syntax.tcons q3 (Syntax.tcons Syntax.tyBool (Syntax.tcons Syntax.tyBool (Syntax.tcons (Syntax.tyInt Syntax.w64) (Syntax.tcons (Syntax.tyInt Syntax.w64) Syntax.tnil))))))))) (L._∷_ q31 (L._∷_ q12 (L._∷_ q18 (L._∷_ q25 (L._∷_ q23 (L._∷_ q8 (L._∷_ q33 (L._∷_ (8, Rows.sc-here Row.sUnit) (L._∷_ q24 (L._∷_ q7 (L._∷_ (11, Rows.any-gone (Syntax.tyStruct (L._∷_ 110 (L._∷_ 101 (L._∷_ 116 (L._∷_ 119 (L._∷_ 111 (L._∷_ 114 (L._∷_ 107 (L._∷_ 58 (L._∷_ 58 (L._∷_ 69 (L._∷_ 100 (L._∷_ 105 (L._∷_ 116 L.[]))))))))))))) (Syntax.tcons q5 (Syntax.tcons q5 (Syntax.tcons q5 (Syntax.tcons q5 (Syntax.tcons q1 (Syntax.tcons q1 (Syntax.tcons (Syntax.tyInt Syntax.w64) Syntax.tnil))))))))) (L._∷_ q17 (L._∷_ q14 L.[])))))))))))))
+t17 = L._∷_ (0, Rows.any-gone (Syntax.tyStruct (L._∷_ 115 (L._∷_ 101 (L._∷_ 97 (L._∷_ 114 (L._∷_ 99 (L._∷_ 104 (L._∷_ 58 (L._∷_ 58 (L._∷_ 80 (L._∷_ 114 (L._∷_ 111 (L._∷_ 103 (L._∷_ 114 (L._∷_ 101 (L._∷_ 115 (L._∷_ 115 L.[])))))))))))))))) (Syntax.tcons q0 (Syntax.tcons (Syntax.tyInt Syntax.w64) (Syntax.tcons q3 (Syntax.tcons Syntax.tyBool (Syntax.tcons Syntax.tyBool (Syntax.tcons (Syntax.tyInt Syntax.w64) (Syntax.tcons (Syntax.tyInt Syntax.w64) Syntax.tnil))))))))) (L._∷_ q31 (L._∷_ q12 (L._∷_ q18 (L._∷_ q25 (L._∷_ q23 (L._∷_ q8 (L._∷_ q33 (L._∷_ (8, Rows.sc-here Row.sUnit) (L._∷_ q24 (L._∷_ q7 (L._∷_ (11, Rows.any-gone (Syntax.tyStruct (L._∷_ 110 (L._∷_ 101 (L._∷_ 116 (L._∷_ 119 (L._∷_ 111 (L._∷_ 114 (L._∷_ 107 (L._∷_ 58 (L._∷_ 58 (L._∷_ 69 (L._∷_ 100 (L._∷_ 105 (L._∷_ 116 L.[]))))))))))))) (Syntax.tcons q5 (Syntax.tcons q5 (Syntax.tcons q5 (Syntax.tcons q5 (Syntax.tcons q1 (Syntax.tcons q1 (Syntax.tcons (Syntax.tyInt Syntax.w64) (Syntax.tcons q4 Syntax.tnil)))))))))) (L._∷_ q17 (L._∷_ q14 L.[])))))))))))))
 
 abbrev pub t18 : L.List Row.Entry
-t18 = L._∷_ (0, Rows.any-gone (Syntax.tyStruct (L._∷_ 115 (L._∷_ 101 (L._∷_ 97 (L._∷_ 114 (L._∷_ 99 (L._∷_ 104 (L._∷_ 58 (L._∷_ 58 (L._∷_ 80 (L._∷_ 114 (L._∷_ 111 (L._∷_ 103 (L._∷_ 114 (L._∷_ 101 (L._∷_ 115 (L._∷_ 115 L.[])))))))))))))))) (Syntax.tcons q0 (Syntax.tcons (Syntax.tyInt Syntax.w64) (Syntax.tcons q3 (Syntax.tcons Syntax.tyBool (Syntax.tcons Syntax.tyBool (Syntax.tcons (Syntax.tyInt Syntax.w64) (Syntax.tcons (Syntax.tyInt Syntax.w64) Syntax.tnil))))))))) (L._∷_ q31 (L._∷_ q12 (L._∷_ q18 (L._∷_ q25 (L._∷_ q23 (L._∷_ q8 (L._∷_ q33 (L._∷_ q35 (L._∷_ q24 (L._∷_ q7 (L._∷_ (11, Rows.any-gone (Syntax.tyStruct (L._∷_ 110 (L._∷_ 101 (L._∷_ 116 (L._∷_ 119 (L._∷_ 111 (L._∷_ 114 (L._∷_ 107 (L._∷_ 58 (L._∷_ 58 (L._∷_ 69 (L._∷_ 100 (L._∷_ 105 (L._∷_ 116 L.[]))))))))))))) (Syntax.tcons q5 (Syntax.tcons q5 (Syntax.tcons q5 (Syntax.tcons q5 (Syntax.tcons q1 (Syntax.tcons q1 (Syntax.tcons (Syntax.tyInt Syntax.w64) Syntax.tnil))))))))) (L._∷_ q17 (L._∷_ q14 L.[])))))))))))))
+t18 = L._∷_ (0, Rows.any-gone (Syntax.tyStruct (L._∷_ 115 (L._∷_ 101 (L._∷_ 97 (L._∷_ 114 (L._∷_ 99 (L._∷_ 104 (L._∷_ 58 (L._∷_ 58 (L._∷_ 80 (L._∷_ 114 (L._∷_ 111 (L._∷_ 103 (L._∷_ 114 (L._∷_ 101 (L._∷_ 115 (L._∷_ 115 L.[])))))))))))))))) (Syntax.tcons q0 (Syntax.tcons (Syntax.tyInt Syntax.w64) (Syntax.tcons q3 (Syntax.tcons Syntax.tyBool (Syntax.tcons Syntax.tyBool (Syntax.tcons (Syntax.tyInt Syntax.w64) (Syntax.tcons (Syntax.tyInt Syntax.w64) Syntax.tnil))))))))) (L._∷_ q31 (L._∷_ q12 (L._∷_ q18 (L._∷_ q25 (L._∷_ q23 (L._∷_ q8 (L._∷_ q33 (L._∷_ q35 (L._∷_ q24 (L._∷_ q7 (L._∷_ (11, Rows.any-gone (Syntax.tyStruct (L._∷_ 110 (L._∷_ 101 (L._∷_ 116 (L._∷_ 119 (L._∷_ 111 (L._∷_ 114 (L._∷_ 107 (L._∷_ 58 (L._∷_ 58 (L._∷_ 69 (L._∷_ 100 (L._∷_ 105 (L._∷_ 116 L.[]))))))))))))) (Syntax.tcons q5 (Syntax.tcons q5 (Syntax.tcons q5 (Syntax.tcons q5 (Syntax.tcons q1 (Syntax.tcons q1 (Syntax.tcons (Syntax.tyInt Syntax.w64) (Syntax.tcons q4 Syntax.tnil)))))))))) (L._∷_ q17 (L._∷_ q14 L.[])))))))))))))
 
 abbrev pub t19 : L.List Row.Entry
-t19 = L._∷_ (0, Rows.whole (Declared.row Progress·.the-type)) (L._∷_ q31 (L._∷_ q13 (L._∷_ q18 (L._∷_ q25 (L._∷_ q23 (L._∷_ q8 (L._∷_ q33 (L._∷_ q35 (L._∷_ q24 (L._∷_ q7 (L._∷_ (11, Rows.any-gone (Syntax.tyStruct (L._∷_ 110 (L._∷_ 101 (L._∷_ 116 (L._∷_ 119 (L._∷_ 111 (L._∷_ 114 (L._∷_ 107 (L._∷_ 58 (L._∷_ 58 (L._∷_ 69 (L._∷_ 100 (L._∷_ 105 (L._∷_ 116 L.[]))))))))))))) (Syntax.tcons q5 (Syntax.tcons q5 (Syntax.tcons q5 (Syntax.tcons q5 (Syntax.tcons q1 (Syntax.tcons q1 (Syntax.tcons (Syntax.tyInt Syntax.w64) Syntax.tnil))))))))) (L._∷_ q17 (L._∷_ q6 L.[])))))))))))))
+t19 = L._∷_ (0, Rows.whole (Declared.row Progress·.the-type)) (L._∷_ q31 (L._∷_ q13 (L._∷_ q18 (L._∷_ q25 (L._∷_ q23 (L._∷_ q8 (L._∷_ q33 (L._∷_ q35 (L._∷_ q24 (L._∷_ q7 (L._∷_ (11, Rows.any-gone (Syntax.tyStruct (L._∷_ 110 (L._∷_ 101 (L._∷_ 116 (L._∷_ 119 (L._∷_ 111 (L._∷_ 114 (L._∷_ 107 (L._∷_ 58 (L._∷_ 58 (L._∷_ 69 (L._∷_ 100 (L._∷_ 105 (L._∷_ 116 L.[]))))))))))))) (Syntax.tcons q5 (Syntax.tcons q5 (Syntax.tcons q5 (Syntax.tcons q5 (Syntax.tcons q1 (Syntax.tcons q1 (Syntax.tcons (Syntax.tyInt Syntax.w64) (Syntax.tcons q4 Syntax.tnil)))))))))) (L._∷_ q17 (L._∷_ q6 L.[])))))))))))))
 
 abbrev pub t20 : L.List Row.Entry
-t20 = L._∷_ (0, Rows.whole (Declared.row Progress·.the-type)) (L._∷_ (1, Rows.any-gone (Syntax.tyStruct (L._∷_ 115 (L._∷_ 101 (L._∷_ 97 (L._∷_ 114 (L._∷_ 99 (L._∷_ 104 (L._∷_ 58 (L._∷_ 58 (L._∷_ 80 (L._∷_ 114 (L._∷_ 111 (L._∷_ 103 (L._∷_ 114 (L._∷_ 101 (L._∷_ 115 (L._∷_ 115 L.[])))))))))))))))) (Syntax.tcons q0 (Syntax.tcons (Syntax.tyInt Syntax.w64) (Syntax.tcons q3 (Syntax.tcons Syntax.tyBool (Syntax.tcons Syntax.tyBool (Syntax.tcons (Syntax.tyInt Syntax.w64) (Syntax.tcons (Syntax.tyInt Syntax.w64) Syntax.tnil))))))))) (L._∷_ q13 (L._∷_ q18 (L._∷_ q25 (L._∷_ q23 (L._∷_ q8 (L._∷_ q33 (L._∷_ q35 (L._∷_ q24 (L._∷_ q7 (L._∷_ (11, Rows.any-gone (Syntax.tyStruct (L._∷_ 110 (L._∷_ 101 (L._∷_ 116 (L._∷_ 119 (L._∷_ 111 (L._∷_ 114 (L._∷_ 107 (L._∷_ 58 (L._∷_ 58 (L._∷_ 69 (L._∷_ 100 (L._∷_ 105 (L._∷_ 116 L.[]))))))))))))) (Syntax.tcons q5 (Syntax.tcons q5 (Syntax.tcons q5 (Syntax.tcons q5 (Syntax.tcons q1 (Syntax.tcons q1 (Syntax.tcons (Syntax.tyInt Syntax.w64) Syntax.tnil))))))))) (L._∷_ q17 (L._∷_ q6 L.[])))))))))))))
+t20 = L._∷_ (0, Rows.whole (Declared.row Progress·.the-type)) (L._∷_ (1, Rows.any-gone (Syntax.tyStruct (L._∷_ 115 (L._∷_ 101 (L._∷_ 97 (L._∷_ 114 (L._∷_ 99 (L._∷_ 104 (L._∷_ 58 (L._∷_ 58 (L._∷_ 80 (L._∷_ 114 (L._∷_ 111 (L._∷_ 103 (L._∷_ 114 (L._∷_ 101 (L._∷_ 115 (L._∷_ 115 L.[])))))))))))))))) (Syntax.tcons q0 (Syntax.tcons (Syntax.tyInt Syntax.w64) (Syntax.tcons q3 (Syntax.tcons Syntax.tyBool (Syntax.tcons Syntax.tyBool (Syntax.tcons (Syntax.tyInt Syntax.w64) (Syntax.tcons (Syntax.tyInt Syntax.w64) Syntax.tnil))))))))) (L._∷_ q13 (L._∷_ q18 (L._∷_ q25 (L._∷_ q23 (L._∷_ q8 (L._∷_ q33 (L._∷_ q35 (L._∷_ q24 (L._∷_ q7 (L._∷_ (11, Rows.any-gone (Syntax.tyStruct (L._∷_ 110 (L._∷_ 101 (L._∷_ 116 (L._∷_ 119 (L._∷_ 111 (L._∷_ 114 (L._∷_ 107 (L._∷_ 58 (L._∷_ 58 (L._∷_ 69 (L._∷_ 100 (L._∷_ 105 (L._∷_ 116 L.[]))))))))))))) (Syntax.tcons q5 (Syntax.tcons q5 (Syntax.tcons q5 (Syntax.tcons q5 (Syntax.tcons q1 (Syntax.tcons q1 (Syntax.tcons (Syntax.tyInt Syntax.w64) (Syntax.tcons q4 Syntax.tnil)))))))))) (L._∷_ q17 (L._∷_ q6 L.[])))))))))))))
 
 abbrev pub T0 : Row.Cx
 T0 = record { locals = t0; slots = L.[] }
@@ -447,7 +447,7 @@ module _ (claims· : Claims) where
   s3 = Call.callB ps·0 r·0 (claims· .0) (claims· .1) T4 (record { pos = 1; st = L.[]; d = 0; at = λ x. x }, tt) 7 L.[] (Syntax.tyInt Syntax.w8)
 
   abbrev s4 : Typed.Both T5 T6
-  s4 = Call.callB ps·1 r·1 (claims· .2) (claims· .3) T5 (record { pos = 1; st = L._∷_ (Syntax.field 0) L.[]; d = 0; at = λ x. Progress·.struct .as-values x .0 }, (record { pos = 6; ty = Syntax.tyRef Syntax.erased Syntax.imm Rec.named; ref = λ x. x }, (record { pos = 1; st = L._∷_ (Syntax.field 2) L.[]; d = 328; at = λ x. Progress·.struct .as-values x .1 .1 .0 }, (Num.vAt 7 λ x. x, tt)))) 4 (L._∷_ 2 L.[]) (Syntax.tyStruct (L._∷_ 114 (L._∷_ 117 (L._∷_ 108 (L._∷_ 101 (L._∷_ 115 (L._∷_ 58 (L._∷_ 58 (L._∷_ 116 (L._∷_ 114 (L._∷_ 105 (L._∷_ 101 (L._∷_ 100 (L._∷_ 58 (L._∷_ 58 (L._∷_ 76 (L._∷_ 111 (L._∷_ 111 (L._∷_ 107 (L._∷_ 101 (L._∷_ 100 L.[])))))))))))))))))))) (Syntax.tcons (Syntax.tyStruct (L._∷_ 114 (L._∷_ 117 (L._∷_ 108 (L._∷_ 101 (L._∷_ 115 (L._∷_ 58 (L._∷_ 58 (L._∷_ 102 (L._∷_ 111 (L._∷_ 117 (L._∷_ 110 (L._∷_ 100 (L._∷_ 58 (L._∷_ 58 (L._∷_ 70 (L._∷_ 111 (L._∷_ 117 (L._∷_ 110 (L._∷_ 100 L.[]))))))))))))))))))) (Syntax.tcons Syntax.tyBool (Syntax.tcons Syntax.tyBool (Syntax.tcons (Syntax.tyStruct (L._∷_ 115 (L._∷_ 116 (L._∷_ 101 (L._∷_ 112 (L._∷_ 58 (L._∷_ 58 (L._∷_ 83 (L._∷_ 116 (L._∷_ 101 (L._∷_ 112 L.[])))))))))) (Syntax.tcons (Syntax.tyInt Syntax.w64) (Syntax.tcons (Syntax.tyInt Syntax.w64) (Syntax.tcons (Syntax.tyStruct (L._∷_ 115 (L._∷_ 116 (L._∷_ 101 (L._∷_ 112 (L._∷_ 58 (L._∷_ 58 (L._∷_ 67 (L._∷_ 104 (L._∷_ 97 (L._∷_ 110 (L._∷_ 103 (L._∷_ 101 L.[])))))))))))) (Syntax.tcons (Syntax.tyStruct (L._∷_ 110 (L._∷_ 101 (L._∷_ 116 (L._∷_ 119 (L._∷_ 111 (L._∷_ 114 (L._∷_ 107 (L._∷_ 58 (L._∷_ 58 (L._∷_ 69 (L._∷_ 100 (L._∷_ 105 (L._∷_ 116 L.[]))))))))))))) (Syntax.tcons q5 (Syntax.tcons q5 (Syntax.tcons q5 (Syntax.tcons q5 (Syntax.tcons q1 (Syntax.tcons q1 (Syntax.tcons (Syntax.tyInt Syntax.w64) Syntax.tnil)))))))) (Syntax.tcons (Syntax.tyStruct (L._∷_ 115 (L._∷_ 116 (L._∷_ 101 (L._∷_ 112 (L._∷_ 58 (L._∷_ 58 (L._∷_ 79 (L._∷_ 108 (L._∷_ 100 L.[]))))))))) (Syntax.tcons (Syntax.tyInt Syntax.w64) (Syntax.tcons q4 (Syntax.tcons q5 (Syntax.tcons q5 (Syntax.tcons q5 (Syntax.tcons q5 (Syntax.tcons q2 Syntax.tnil)))))))) Syntax.tnil))) Syntax.tnil)))) Syntax.tnil)))) (Syntax.tcons q3 Syntax.tnil)))
+  s4 = Call.callB ps·1 r·1 (claims· .2) (claims· .3) T5 (record { pos = 1; st = L._∷_ (Syntax.field 0) L.[]; d = 0; at = λ x. Progress·.struct .as-values x .0 }, (record { pos = 6; ty = Syntax.tyRef Syntax.erased Syntax.imm Rec.named; ref = λ x. x }, (record { pos = 1; st = L._∷_ (Syntax.field 2) L.[]; d = 336; at = λ x. Progress·.struct .as-values x .1 .1 .0 }, (Num.vAt 7 λ x. x, tt)))) 4 (L._∷_ 2 L.[]) (Syntax.tyStruct (L._∷_ 114 (L._∷_ 117 (L._∷_ 108 (L._∷_ 101 (L._∷_ 115 (L._∷_ 58 (L._∷_ 58 (L._∷_ 116 (L._∷_ 114 (L._∷_ 105 (L._∷_ 101 (L._∷_ 100 (L._∷_ 58 (L._∷_ 58 (L._∷_ 76 (L._∷_ 111 (L._∷_ 111 (L._∷_ 107 (L._∷_ 101 (L._∷_ 100 L.[])))))))))))))))))))) (Syntax.tcons (Syntax.tyStruct (L._∷_ 114 (L._∷_ 117 (L._∷_ 108 (L._∷_ 101 (L._∷_ 115 (L._∷_ 58 (L._∷_ 58 (L._∷_ 102 (L._∷_ 111 (L._∷_ 117 (L._∷_ 110 (L._∷_ 100 (L._∷_ 58 (L._∷_ 58 (L._∷_ 70 (L._∷_ 111 (L._∷_ 117 (L._∷_ 110 (L._∷_ 100 L.[]))))))))))))))))))) (Syntax.tcons Syntax.tyBool (Syntax.tcons Syntax.tyBool (Syntax.tcons (Syntax.tyStruct (L._∷_ 115 (L._∷_ 116 (L._∷_ 101 (L._∷_ 112 (L._∷_ 58 (L._∷_ 58 (L._∷_ 83 (L._∷_ 116 (L._∷_ 101 (L._∷_ 112 L.[])))))))))) (Syntax.tcons (Syntax.tyInt Syntax.w64) (Syntax.tcons (Syntax.tyInt Syntax.w64) (Syntax.tcons (Syntax.tyStruct (L._∷_ 115 (L._∷_ 116 (L._∷_ 101 (L._∷_ 112 (L._∷_ 58 (L._∷_ 58 (L._∷_ 67 (L._∷_ 104 (L._∷_ 97 (L._∷_ 110 (L._∷_ 103 (L._∷_ 101 L.[])))))))))))) (Syntax.tcons (Syntax.tyStruct (L._∷_ 110 (L._∷_ 101 (L._∷_ 116 (L._∷_ 119 (L._∷_ 111 (L._∷_ 114 (L._∷_ 107 (L._∷_ 58 (L._∷_ 58 (L._∷_ 69 (L._∷_ 100 (L._∷_ 105 (L._∷_ 116 L.[]))))))))))))) (Syntax.tcons q5 (Syntax.tcons q5 (Syntax.tcons q5 (Syntax.tcons q5 (Syntax.tcons q1 (Syntax.tcons q1 (Syntax.tcons (Syntax.tyInt Syntax.w64) (Syntax.tcons q4 Syntax.tnil))))))))) (Syntax.tcons (Syntax.tyStruct (L._∷_ 115 (L._∷_ 116 (L._∷_ 101 (L._∷_ 112 (L._∷_ 58 (L._∷_ 58 (L._∷_ 79 (L._∷_ 108 (L._∷_ 100 L.[]))))))))) (Syntax.tcons (Syntax.tyInt Syntax.w64) (Syntax.tcons q4 (Syntax.tcons q5 (Syntax.tcons q5 (Syntax.tcons q5 (Syntax.tcons q5 (Syntax.tcons q2 Syntax.tnil)))))))) Syntax.tnil))) Syntax.tnil)))) Syntax.tnil)))) (Syntax.tcons q3 Syntax.tnil)))
 
   abbrev s5 : Typed.Mo T6 → Typed.Mo T7
   s5 = Scalar.n-room T6 6 q10
@@ -465,7 +465,7 @@ module _ (claims· : Claims) where
   s12 = Relend.k-sl-aggregate Rec.row (Relend.asMut Rec.row) T13 9 10 3 q30 q30 (λ x. x) (Scalar.oFld 3 (L._∷_ (Syntax.field 1) L.[]) (Syntax.tyInt Syntax.w64) 8 λ v. Shared.lenV (v .0))
 
   abbrev s13 : Typed.Both T14 T15
-  s13 = Call.callB ps·2 r·2 (claims· .4) (claims· .5) T14 (record { pos = 4; st = L.[]; d = 0; at = λ x. x }, tt) 11 L.[] (Syntax.tyStruct (L._∷_ 110 (L._∷_ 101 (L._∷_ 116 (L._∷_ 119 (L._∷_ 111 (L._∷_ 114 (L._∷_ 107 (L._∷_ 58 (L._∷_ 58 (L._∷_ 69 (L._∷_ 100 (L._∷_ 105 (L._∷_ 116 L.[]))))))))))))) (Syntax.tcons q5 (Syntax.tcons q5 (Syntax.tcons q5 (Syntax.tcons q5 (Syntax.tcons q1 (Syntax.tcons q1 (Syntax.tcons (Syntax.tyInt Syntax.w64) Syntax.tnil))))))))
+  s13 = Call.callB ps·2 r·2 (claims· .4) (claims· .5) T14 (record { pos = 4; st = L.[]; d = 0; at = λ x. x }, tt) 11 L.[] (Syntax.tyStruct (L._∷_ 110 (L._∷_ 101 (L._∷_ 116 (L._∷_ 119 (L._∷_ 111 (L._∷_ 114 (L._∷_ 107 (L._∷_ 58 (L._∷_ 58 (L._∷_ 69 (L._∷_ 100 (L._∷_ 105 (L._∷_ 116 L.[]))))))))))))) (Syntax.tcons q5 (Syntax.tcons q5 (Syntax.tcons q5 (Syntax.tcons q5 (Syntax.tcons q1 (Syntax.tcons q1 (Syntax.tcons (Syntax.tyInt Syntax.w64) (Syntax.tcons q4 Syntax.tnil)))))))))
 
   abbrev s14 : Typed.Both T15 T16
   s14 = Call.callB ps·3 r·3 (claims· .6) (claims· .7) T15 (record { pos = 10; ty = Syntax.tyRef Syntax.erased Syntax.mut Rec.named; ref = λ x. x }, (record { pos = 11; st = L.[]; d = 0; at = λ x. x }, tt)) 8 (L._∷_ 3 L.[]) Syntax.tyUnit
@@ -474,7 +474,7 @@ module _ (claims· : Claims) where
   s15 = Scalar.n-room T16 8 Syntax.tyUnit
 
   abbrev s16 : Typed.Mo T17 → Typed.Mo T18
-  s16 = Scalar.n-room T17 11 (Syntax.tyStruct (L._∷_ 110 (L._∷_ 101 (L._∷_ 116 (L._∷_ 119 (L._∷_ 111 (L._∷_ 114 (L._∷_ 107 (L._∷_ 58 (L._∷_ 58 (L._∷_ 69 (L._∷_ 100 (L._∷_ 105 (L._∷_ 116 L.[]))))))))))))) (Syntax.tcons q5 (Syntax.tcons q5 (Syntax.tcons q5 (Syntax.tcons q5 (Syntax.tcons q1 (Syntax.tcons q1 (Syntax.tcons (Syntax.tyInt Syntax.w64) Syntax.tnil))))))))
+  s16 = Scalar.n-room T17 11 (Syntax.tyStruct (L._∷_ 110 (L._∷_ 101 (L._∷_ 116 (L._∷_ 119 (L._∷_ 111 (L._∷_ 114 (L._∷_ 107 (L._∷_ 58 (L._∷_ 58 (L._∷_ 69 (L._∷_ 100 (L._∷_ 105 (L._∷_ 116 L.[]))))))))))))) (Syntax.tcons q5 (Syntax.tcons q5 (Syntax.tcons q5 (Syntax.tcons q5 (Syntax.tcons q1 (Syntax.tcons q1 (Syntax.tcons (Syntax.tyInt Syntax.w64) (Syntax.tcons q4 Syntax.tnil)))))))))
 
   abbrev s18 : Typed.Both T18 T20
   s18 = Relend.k-back-sl Rec.row T18 10 3 1 3 q28 q30 Row.off (λ x. x) λ x. x
@@ -486,7 +486,7 @@ module _ (claims· : Claims) where
   s22 = Relend.k-sl-aggregate (Signed.SInt Syntax.w32) (Relend.asMut (Signed.SInt Syntax.w32)) T23 12 13 4 q26 q26 (λ x. x) (Scalar.oFld 2 (L._∷_ (Syntax.field 1) L.[]) (Syntax.tyInt Syntax.w64) 8 λ v. Shared.lenV (v .0))
 
   abbrev s23 : Typed.Both T24 T25
-  s23 = Call.callB ps·4 r·4 (claims· .8) (claims· .9) T24 (record { pos = 13; ty = Syntax.tyRef Syntax.erased Syntax.mut (Syntax.tyInt Syntax.w32); ref = λ x. x }, (Num.vFld 1 (L._∷_ (Syntax.field 1) L.[]) 320 λ x. Progress·.struct .as-values x .1 .0, (record { pos = 4; st = L.[]; d = 0; at = λ x. x }, tt))) 8 (L._∷_ 4 L.[]) Syntax.tyUnit
+  s23 = Call.callB ps·4 r·4 (claims· .8) (claims· .9) T24 (record { pos = 13; ty = Syntax.tyRef Syntax.erased Syntax.mut (Syntax.tyInt Syntax.w32); ref = λ x. x }, (Num.vFld 1 (L._∷_ (Syntax.field 1) L.[]) 328 λ x. Progress·.struct .as-values x .1 .0, (record { pos = 4; st = L.[]; d = 0; at = λ x. x }, tt))) 8 (L._∷_ 4 L.[]) Syntax.tyUnit
 
   abbrev s24 : Typed.Mo T25 → Typed.Mo T26
   s24 = Scalar.n-room T25 8 Syntax.tyUnit
@@ -501,7 +501,7 @@ module _ (claims· : Claims) where
   s29 = Scalar.n-room T30 1 (Syntax.tyStruct (L._∷_ 115 (L._∷_ 101 (L._∷_ 97 (L._∷_ 114 (L._∷_ 99 (L._∷_ 104 (L._∷_ 58 (L._∷_ 58 (L._∷_ 80 (L._∷_ 114 (L._∷_ 111 (L._∷_ 103 (L._∷_ 114 (L._∷_ 101 (L._∷_ 115 (L._∷_ 115 L.[])))))))))))))))) (Syntax.tcons q0 (Syntax.tcons (Syntax.tyInt Syntax.w64) (Syntax.tcons q3 (Syntax.tcons Syntax.tyBool (Syntax.tcons Syntax.tyBool (Syntax.tcons (Syntax.tyInt Syntax.w64) (Syntax.tcons (Syntax.tyInt Syntax.w64) Syntax.tnil))))))))
 
   abbrev s30 : Typed.Mo T31 → Typed.Mo T32
-  s30 = Scalar.n-room T31 4 (Syntax.tyStruct (L._∷_ 114 (L._∷_ 117 (L._∷_ 108 (L._∷_ 101 (L._∷_ 115 (L._∷_ 58 (L._∷_ 58 (L._∷_ 116 (L._∷_ 114 (L._∷_ 105 (L._∷_ 101 (L._∷_ 100 (L._∷_ 58 (L._∷_ 58 (L._∷_ 76 (L._∷_ 111 (L._∷_ 111 (L._∷_ 107 (L._∷_ 101 (L._∷_ 100 L.[])))))))))))))))))))) (Syntax.tcons (Syntax.tyStruct (L._∷_ 114 (L._∷_ 117 (L._∷_ 108 (L._∷_ 101 (L._∷_ 115 (L._∷_ 58 (L._∷_ 58 (L._∷_ 102 (L._∷_ 111 (L._∷_ 117 (L._∷_ 110 (L._∷_ 100 (L._∷_ 58 (L._∷_ 58 (L._∷_ 70 (L._∷_ 111 (L._∷_ 117 (L._∷_ 110 (L._∷_ 100 L.[]))))))))))))))))))) (Syntax.tcons Syntax.tyBool (Syntax.tcons Syntax.tyBool (Syntax.tcons (Syntax.tyStruct (L._∷_ 115 (L._∷_ 116 (L._∷_ 101 (L._∷_ 112 (L._∷_ 58 (L._∷_ 58 (L._∷_ 83 (L._∷_ 116 (L._∷_ 101 (L._∷_ 112 L.[])))))))))) (Syntax.tcons (Syntax.tyInt Syntax.w64) (Syntax.tcons (Syntax.tyInt Syntax.w64) (Syntax.tcons (Syntax.tyStruct (L._∷_ 115 (L._∷_ 116 (L._∷_ 101 (L._∷_ 112 (L._∷_ 58 (L._∷_ 58 (L._∷_ 67 (L._∷_ 104 (L._∷_ 97 (L._∷_ 110 (L._∷_ 103 (L._∷_ 101 L.[])))))))))))) (Syntax.tcons (Syntax.tyStruct (L._∷_ 110 (L._∷_ 101 (L._∷_ 116 (L._∷_ 119 (L._∷_ 111 (L._∷_ 114 (L._∷_ 107 (L._∷_ 58 (L._∷_ 58 (L._∷_ 69 (L._∷_ 100 (L._∷_ 105 (L._∷_ 116 L.[]))))))))))))) (Syntax.tcons q5 (Syntax.tcons q5 (Syntax.tcons q5 (Syntax.tcons q5 (Syntax.tcons q1 (Syntax.tcons q1 (Syntax.tcons (Syntax.tyInt Syntax.w64) Syntax.tnil)))))))) (Syntax.tcons (Syntax.tyStruct (L._∷_ 115 (L._∷_ 116 (L._∷_ 101 (L._∷_ 112 (L._∷_ 58 (L._∷_ 58 (L._∷_ 79 (L._∷_ 108 (L._∷_ 100 L.[]))))))))) (Syntax.tcons (Syntax.tyInt Syntax.w64) (Syntax.tcons q4 (Syntax.tcons q5 (Syntax.tcons q5 (Syntax.tcons q5 (Syntax.tcons q5 (Syntax.tcons q2 Syntax.tnil)))))))) Syntax.tnil))) Syntax.tnil)))) Syntax.tnil)))) (Syntax.tcons q3 Syntax.tnil)))
+  s30 = Scalar.n-room T31 4 (Syntax.tyStruct (L._∷_ 114 (L._∷_ 117 (L._∷_ 108 (L._∷_ 101 (L._∷_ 115 (L._∷_ 58 (L._∷_ 58 (L._∷_ 116 (L._∷_ 114 (L._∷_ 105 (L._∷_ 101 (L._∷_ 100 (L._∷_ 58 (L._∷_ 58 (L._∷_ 76 (L._∷_ 111 (L._∷_ 111 (L._∷_ 107 (L._∷_ 101 (L._∷_ 100 L.[])))))))))))))))))))) (Syntax.tcons (Syntax.tyStruct (L._∷_ 114 (L._∷_ 117 (L._∷_ 108 (L._∷_ 101 (L._∷_ 115 (L._∷_ 58 (L._∷_ 58 (L._∷_ 102 (L._∷_ 111 (L._∷_ 117 (L._∷_ 110 (L._∷_ 100 (L._∷_ 58 (L._∷_ 58 (L._∷_ 70 (L._∷_ 111 (L._∷_ 117 (L._∷_ 110 (L._∷_ 100 L.[]))))))))))))))))))) (Syntax.tcons Syntax.tyBool (Syntax.tcons Syntax.tyBool (Syntax.tcons (Syntax.tyStruct (L._∷_ 115 (L._∷_ 116 (L._∷_ 101 (L._∷_ 112 (L._∷_ 58 (L._∷_ 58 (L._∷_ 83 (L._∷_ 116 (L._∷_ 101 (L._∷_ 112 L.[])))))))))) (Syntax.tcons (Syntax.tyInt Syntax.w64) (Syntax.tcons (Syntax.tyInt Syntax.w64) (Syntax.tcons (Syntax.tyStruct (L._∷_ 115 (L._∷_ 116 (L._∷_ 101 (L._∷_ 112 (L._∷_ 58 (L._∷_ 58 (L._∷_ 67 (L._∷_ 104 (L._∷_ 97 (L._∷_ 110 (L._∷_ 103 (L._∷_ 101 L.[])))))))))))) (Syntax.tcons (Syntax.tyStruct (L._∷_ 110 (L._∷_ 101 (L._∷_ 116 (L._∷_ 119 (L._∷_ 111 (L._∷_ 114 (L._∷_ 107 (L._∷_ 58 (L._∷_ 58 (L._∷_ 69 (L._∷_ 100 (L._∷_ 105 (L._∷_ 116 L.[]))))))))))))) (Syntax.tcons q5 (Syntax.tcons q5 (Syntax.tcons q5 (Syntax.tcons q5 (Syntax.tcons q1 (Syntax.tcons q1 (Syntax.tcons (Syntax.tyInt Syntax.w64) (Syntax.tcons q4 Syntax.tnil))))))))) (Syntax.tcons (Syntax.tyStruct (L._∷_ 115 (L._∷_ 116 (L._∷_ 101 (L._∷_ 112 (L._∷_ 58 (L._∷_ 58 (L._∷_ 79 (L._∷_ 108 (L._∷_ 100 L.[]))))))))) (Syntax.tcons (Syntax.tyInt Syntax.w64) (Syntax.tcons q4 (Syntax.tcons q5 (Syntax.tcons q5 (Syntax.tcons q5 (Syntax.tcons q5 (Syntax.tcons q2 Syntax.tnil)))))))) Syntax.tnil))) Syntax.tnil)))) Syntax.tnil)))) (Syntax.tcons q3 Syntax.tnil)))
 
   module _ (Pre· : (κs : Lifetimes.Lfts 2) → FnKinds.Dens κs ps → Type 0) (Post· : (κs : Lifetimes.Lfts 2) → (a : FnKinds.Dens κs ps) → FnKinds.Plain 2 ps r κs) where
     module _ (M : Type 1) where
@@ -614,28 +614,28 @@ module _ (claims· : Claims) where
 
       module _ (κs : Lifetimes.Lfts 2) (qs : Lifetimes.Shares 2) where
         abbrev g2 : L.List Row.Entry
-        g2 = L._∷_ (0, Rows.any-gone (Syntax.tyStruct (L._∷_ 115 (L._∷_ 101 (L._∷_ 97 (L._∷_ 114 (L._∷_ 99 (L._∷_ 104 (L._∷_ 58 (L._∷_ 58 (L._∷_ 80 (L._∷_ 114 (L._∷_ 111 (L._∷_ 103 (L._∷_ 114 (L._∷_ 101 (L._∷_ 115 (L._∷_ 115 L.[])))))))))))))))) (Syntax.tcons q0 (Syntax.tcons (Syntax.tyInt Syntax.w64) (Syntax.tcons q3 (Syntax.tcons Syntax.tyBool (Syntax.tcons Syntax.tyBool (Syntax.tcons (Syntax.tyInt Syntax.w64) (Syntax.tcons (Syntax.tyInt Syntax.w64) Syntax.tnil))))))))) (L._∷_ q31 (L._∷_ q13 (L._∷_ (3, Reshare.mslice-owedS Rec.row q28 1 2 (Row.lease (κs .1 .0) (qs .1 .0))) (L._∷_ (4, Rows.any-gone (Syntax.tyStruct (L._∷_ 114 (L._∷_ 117 (L._∷_ 108 (L._∷_ 101 (L._∷_ 115 (L._∷_ 58 (L._∷_ 58 (L._∷_ 116 (L._∷_ 114 (L._∷_ 105 (L._∷_ 101 (L._∷_ 100 (L._∷_ 58 (L._∷_ 58 (L._∷_ 76 (L._∷_ 111 (L._∷_ 111 (L._∷_ 107 (L._∷_ 101 (L._∷_ 100 L.[])))))))))))))))))))) (Syntax.tcons (Syntax.tyStruct (L._∷_ 114 (L._∷_ 117 (L._∷_ 108 (L._∷_ 101 (L._∷_ 115 (L._∷_ 58 (L._∷_ 58 (L._∷_ 102 (L._∷_ 111 (L._∷_ 117 (L._∷_ 110 (L._∷_ 100 (L._∷_ 58 (L._∷_ 58 (L._∷_ 70 (L._∷_ 111 (L._∷_ 117 (L._∷_ 110 (L._∷_ 100 L.[]))))))))))))))))))) (Syntax.tcons Syntax.tyBool (Syntax.tcons Syntax.tyBool (Syntax.tcons (Syntax.tyStruct (L._∷_ 115 (L._∷_ 116 (L._∷_ 101 (L._∷_ 112 (L._∷_ 58 (L._∷_ 58 (L._∷_ 83 (L._∷_ 116 (L._∷_ 101 (L._∷_ 112 L.[])))))))))) (Syntax.tcons (Syntax.tyInt Syntax.w64) (Syntax.tcons (Syntax.tyInt Syntax.w64) (Syntax.tcons (Syntax.tyStruct (L._∷_ 115 (L._∷_ 116 (L._∷_ 101 (L._∷_ 112 (L._∷_ 58 (L._∷_ 58 (L._∷_ 67 (L._∷_ 104 (L._∷_ 97 (L._∷_ 110 (L._∷_ 103 (L._∷_ 101 L.[])))))))))))) (Syntax.tcons (Syntax.tyStruct (L._∷_ 110 (L._∷_ 101 (L._∷_ 116 (L._∷_ 119 (L._∷_ 111 (L._∷_ 114 (L._∷_ 107 (L._∷_ 58 (L._∷_ 58 (L._∷_ 69 (L._∷_ 100 (L._∷_ 105 (L._∷_ 116 L.[]))))))))))))) (Syntax.tcons q5 (Syntax.tcons q5 (Syntax.tcons q5 (Syntax.tcons q5 (Syntax.tcons q1 (Syntax.tcons q1 (Syntax.tcons (Syntax.tyInt Syntax.w64) Syntax.tnil)))))))) (Syntax.tcons (Syntax.tyStruct (L._∷_ 115 (L._∷_ 116 (L._∷_ 101 (L._∷_ 112 (L._∷_ 58 (L._∷_ 58 (L._∷_ 79 (L._∷_ 108 (L._∷_ 100 L.[]))))))))) (Syntax.tcons (Syntax.tyInt Syntax.w64) (Syntax.tcons q4 (Syntax.tcons q5 (Syntax.tcons q5 (Syntax.tcons q5 (Syntax.tcons q5 (Syntax.tcons q2 Syntax.tnil)))))))) Syntax.tnil))) Syntax.tnil)))) Syntax.tnil)))) (Syntax.tcons q3 Syntax.tnil)))) (L._∷_ (5, Relend.ssptr Rec.row q29 2) (L._∷_ q8 (L._∷_ q33 (L._∷_ q35 (L._∷_ q24 (L._∷_ q7 (L._∷_ (11, Rows.any-gone (Syntax.tyStruct (L._∷_ 110 (L._∷_ 101 (L._∷_ 116 (L._∷_ 119 (L._∷_ 111 (L._∷_ 114 (L._∷_ 107 (L._∷_ 58 (L._∷_ 58 (L._∷_ 69 (L._∷_ 100 (L._∷_ 105 (L._∷_ 116 L.[]))))))))))))) (Syntax.tcons q5 (Syntax.tcons q5 (Syntax.tcons q5 (Syntax.tcons q5 (Syntax.tcons q1 (Syntax.tcons q1 (Syntax.tcons (Syntax.tyInt Syntax.w64) Syntax.tnil))))))))) (L._∷_ q17 (L._∷_ q6 L.[])))))))))))))
+        g2 = L._∷_ (0, Rows.any-gone (Syntax.tyStruct (L._∷_ 115 (L._∷_ 101 (L._∷_ 97 (L._∷_ 114 (L._∷_ 99 (L._∷_ 104 (L._∷_ 58 (L._∷_ 58 (L._∷_ 80 (L._∷_ 114 (L._∷_ 111 (L._∷_ 103 (L._∷_ 114 (L._∷_ 101 (L._∷_ 115 (L._∷_ 115 L.[])))))))))))))))) (Syntax.tcons q0 (Syntax.tcons (Syntax.tyInt Syntax.w64) (Syntax.tcons q3 (Syntax.tcons Syntax.tyBool (Syntax.tcons Syntax.tyBool (Syntax.tcons (Syntax.tyInt Syntax.w64) (Syntax.tcons (Syntax.tyInt Syntax.w64) Syntax.tnil))))))))) (L._∷_ q31 (L._∷_ q13 (L._∷_ (3, Reshare.mslice-owedS Rec.row q28 1 2 (Row.lease (κs .1 .0) (qs .1 .0))) (L._∷_ (4, Rows.any-gone (Syntax.tyStruct (L._∷_ 114 (L._∷_ 117 (L._∷_ 108 (L._∷_ 101 (L._∷_ 115 (L._∷_ 58 (L._∷_ 58 (L._∷_ 116 (L._∷_ 114 (L._∷_ 105 (L._∷_ 101 (L._∷_ 100 (L._∷_ 58 (L._∷_ 58 (L._∷_ 76 (L._∷_ 111 (L._∷_ 111 (L._∷_ 107 (L._∷_ 101 (L._∷_ 100 L.[])))))))))))))))))))) (Syntax.tcons (Syntax.tyStruct (L._∷_ 114 (L._∷_ 117 (L._∷_ 108 (L._∷_ 101 (L._∷_ 115 (L._∷_ 58 (L._∷_ 58 (L._∷_ 102 (L._∷_ 111 (L._∷_ 117 (L._∷_ 110 (L._∷_ 100 (L._∷_ 58 (L._∷_ 58 (L._∷_ 70 (L._∷_ 111 (L._∷_ 117 (L._∷_ 110 (L._∷_ 100 L.[]))))))))))))))))))) (Syntax.tcons Syntax.tyBool (Syntax.tcons Syntax.tyBool (Syntax.tcons (Syntax.tyStruct (L._∷_ 115 (L._∷_ 116 (L._∷_ 101 (L._∷_ 112 (L._∷_ 58 (L._∷_ 58 (L._∷_ 83 (L._∷_ 116 (L._∷_ 101 (L._∷_ 112 L.[])))))))))) (Syntax.tcons (Syntax.tyInt Syntax.w64) (Syntax.tcons (Syntax.tyInt Syntax.w64) (Syntax.tcons (Syntax.tyStruct (L._∷_ 115 (L._∷_ 116 (L._∷_ 101 (L._∷_ 112 (L._∷_ 58 (L._∷_ 58 (L._∷_ 67 (L._∷_ 104 (L._∷_ 97 (L._∷_ 110 (L._∷_ 103 (L._∷_ 101 L.[])))))))))))) (Syntax.tcons (Syntax.tyStruct (L._∷_ 110 (L._∷_ 101 (L._∷_ 116 (L._∷_ 119 (L._∷_ 111 (L._∷_ 114 (L._∷_ 107 (L._∷_ 58 (L._∷_ 58 (L._∷_ 69 (L._∷_ 100 (L._∷_ 105 (L._∷_ 116 L.[]))))))))))))) (Syntax.tcons q5 (Syntax.tcons q5 (Syntax.tcons q5 (Syntax.tcons q5 (Syntax.tcons q1 (Syntax.tcons q1 (Syntax.tcons (Syntax.tyInt Syntax.w64) (Syntax.tcons q4 Syntax.tnil))))))))) (Syntax.tcons (Syntax.tyStruct (L._∷_ 115 (L._∷_ 116 (L._∷_ 101 (L._∷_ 112 (L._∷_ 58 (L._∷_ 58 (L._∷_ 79 (L._∷_ 108 (L._∷_ 100 L.[]))))))))) (Syntax.tcons (Syntax.tyInt Syntax.w64) (Syntax.tcons q4 (Syntax.tcons q5 (Syntax.tcons q5 (Syntax.tcons q5 (Syntax.tcons q5 (Syntax.tcons q2 Syntax.tnil)))))))) Syntax.tnil))) Syntax.tnil)))) Syntax.tnil)))) (Syntax.tcons q3 Syntax.tnil)))) (L._∷_ (5, Relend.ssptr Rec.row q29 2) (L._∷_ q8 (L._∷_ q33 (L._∷_ q35 (L._∷_ q24 (L._∷_ q7 (L._∷_ (11, Rows.any-gone (Syntax.tyStruct (L._∷_ 110 (L._∷_ 101 (L._∷_ 116 (L._∷_ 119 (L._∷_ 111 (L._∷_ 114 (L._∷_ 107 (L._∷_ 58 (L._∷_ 58 (L._∷_ 69 (L._∷_ 100 (L._∷_ 105 (L._∷_ 116 L.[]))))))))))))) (Syntax.tcons q5 (Syntax.tcons q5 (Syntax.tcons q5 (Syntax.tcons q5 (Syntax.tcons q1 (Syntax.tcons q1 (Syntax.tcons (Syntax.tyInt Syntax.w64) (Syntax.tcons q4 Syntax.tnil)))))))))) (L._∷_ q17 (L._∷_ q6 L.[])))))))))))))
 
         abbrev g3 : L.List Row.Entry
-        g3 = L._∷_ (0, Rows.any-gone (Syntax.tyStruct (L._∷_ 115 (L._∷_ 101 (L._∷_ 97 (L._∷_ 114 (L._∷_ 99 (L._∷_ 104 (L._∷_ 58 (L._∷_ 58 (L._∷_ 80 (L._∷_ 114 (L._∷_ 111 (L._∷_ 103 (L._∷_ 114 (L._∷_ 101 (L._∷_ 115 (L._∷_ 115 L.[])))))))))))))))) (Syntax.tcons q0 (Syntax.tcons (Syntax.tyInt Syntax.w64) (Syntax.tcons q3 (Syntax.tcons Syntax.tyBool (Syntax.tcons Syntax.tyBool (Syntax.tcons (Syntax.tyInt Syntax.w64) (Syntax.tcons (Syntax.tyInt Syntax.w64) Syntax.tnil))))))))) (L._∷_ q31 (L._∷_ q13 (L._∷_ (3, Reshare.mslice-owedS Rec.row q28 1 2 (Row.lease (κs .1 .0) (qs .1 .0))) (L._∷_ (4, Rows.any-gone (Syntax.tyStruct (L._∷_ 114 (L._∷_ 117 (L._∷_ 108 (L._∷_ 101 (L._∷_ 115 (L._∷_ 58 (L._∷_ 58 (L._∷_ 116 (L._∷_ 114 (L._∷_ 105 (L._∷_ 101 (L._∷_ 100 (L._∷_ 58 (L._∷_ 58 (L._∷_ 76 (L._∷_ 111 (L._∷_ 111 (L._∷_ 107 (L._∷_ 101 (L._∷_ 100 L.[])))))))))))))))))))) (Syntax.tcons (Syntax.tyStruct (L._∷_ 114 (L._∷_ 117 (L._∷_ 108 (L._∷_ 101 (L._∷_ 115 (L._∷_ 58 (L._∷_ 58 (L._∷_ 102 (L._∷_ 111 (L._∷_ 117 (L._∷_ 110 (L._∷_ 100 (L._∷_ 58 (L._∷_ 58 (L._∷_ 70 (L._∷_ 111 (L._∷_ 117 (L._∷_ 110 (L._∷_ 100 L.[]))))))))))))))))))) (Syntax.tcons Syntax.tyBool (Syntax.tcons Syntax.tyBool (Syntax.tcons (Syntax.tyStruct (L._∷_ 115 (L._∷_ 116 (L._∷_ 101 (L._∷_ 112 (L._∷_ 58 (L._∷_ 58 (L._∷_ 83 (L._∷_ 116 (L._∷_ 101 (L._∷_ 112 L.[])))))))))) (Syntax.tcons (Syntax.tyInt Syntax.w64) (Syntax.tcons (Syntax.tyInt Syntax.w64) (Syntax.tcons (Syntax.tyStruct (L._∷_ 115 (L._∷_ 116 (L._∷_ 101 (L._∷_ 112 (L._∷_ 58 (L._∷_ 58 (L._∷_ 67 (L._∷_ 104 (L._∷_ 97 (L._∷_ 110 (L._∷_ 103 (L._∷_ 101 L.[])))))))))))) (Syntax.tcons (Syntax.tyStruct (L._∷_ 110 (L._∷_ 101 (L._∷_ 116 (L._∷_ 119 (L._∷_ 111 (L._∷_ 114 (L._∷_ 107 (L._∷_ 58 (L._∷_ 58 (L._∷_ 69 (L._∷_ 100 (L._∷_ 105 (L._∷_ 116 L.[]))))))))))))) (Syntax.tcons q5 (Syntax.tcons q5 (Syntax.tcons q5 (Syntax.tcons q5 (Syntax.tcons q1 (Syntax.tcons q1 (Syntax.tcons (Syntax.tyInt Syntax.w64) Syntax.tnil)))))))) (Syntax.tcons (Syntax.tyStruct (L._∷_ 115 (L._∷_ 116 (L._∷_ 101 (L._∷_ 112 (L._∷_ 58 (L._∷_ 58 (L._∷_ 79 (L._∷_ 108 (L._∷_ 100 L.[]))))))))) (Syntax.tcons (Syntax.tyInt Syntax.w64) (Syntax.tcons q4 (Syntax.tcons q5 (Syntax.tcons q5 (Syntax.tcons q5 (Syntax.tcons q5 (Syntax.tcons q2 Syntax.tnil)))))))) Syntax.tnil))) Syntax.tnil)))) Syntax.tnil)))) (Syntax.tcons q3 Syntax.tnil)))) (L._∷_ q23 (L._∷_ q19 (L._∷_ q33 (L._∷_ q35 (L._∷_ q24 (L._∷_ q7 (L._∷_ (11, Rows.any-gone (Syntax.tyStruct (L._∷_ 110 (L._∷_ 101 (L._∷_ 116 (L._∷_ 119 (L._∷_ 111 (L._∷_ 114 (L._∷_ 107 (L._∷_ 58 (L._∷_ 58 (L._∷_ 69 (L._∷_ 100 (L._∷_ 105 (L._∷_ 116 L.[]))))))))))))) (Syntax.tcons q5 (Syntax.tcons q5 (Syntax.tcons q5 (Syntax.tcons q5 (Syntax.tcons q1 (Syntax.tcons q1 (Syntax.tcons (Syntax.tyInt Syntax.w64) Syntax.tnil))))))))) (L._∷_ q17 (L._∷_ q6 L.[])))))))))))))
+        g3 = L._∷_ (0, Rows.any-gone (Syntax.tyStruct (L._∷_ 115 (L._∷_ 101 (L._∷_ 97 (L._∷_ 114 (L._∷_ 99 (L._∷_ 104 (L._∷_ 58 (L._∷_ 58 (L._∷_ 80 (L._∷_ 114 (L._∷_ 111 (L._∷_ 103 (L._∷_ 114 (L._∷_ 101 (L._∷_ 115 (L._∷_ 115 L.[])))))))))))))))) (Syntax.tcons q0 (Syntax.tcons (Syntax.tyInt Syntax.w64) (Syntax.tcons q3 (Syntax.tcons Syntax.tyBool (Syntax.tcons Syntax.tyBool (Syntax.tcons (Syntax.tyInt Syntax.w64) (Syntax.tcons (Syntax.tyInt Syntax.w64) Syntax.tnil))))))))) (L._∷_ q31 (L._∷_ q13 (L._∷_ (3, Reshare.mslice-owedS Rec.row q28 1 2 (Row.lease (κs .1 .0) (qs .1 .0))) (L._∷_ (4, Rows.any-gone (Syntax.tyStruct (L._∷_ 114 (L._∷_ 117 (L._∷_ 108 (L._∷_ 101 (L._∷_ 115 (L._∷_ 58 (L._∷_ 58 (L._∷_ 116 (L._∷_ 114 (L._∷_ 105 (L._∷_ 101 (L._∷_ 100 (L._∷_ 58 (L._∷_ 58 (L._∷_ 76 (L._∷_ 111 (L._∷_ 111 (L._∷_ 107 (L._∷_ 101 (L._∷_ 100 L.[])))))))))))))))))))) (Syntax.tcons (Syntax.tyStruct (L._∷_ 114 (L._∷_ 117 (L._∷_ 108 (L._∷_ 101 (L._∷_ 115 (L._∷_ 58 (L._∷_ 58 (L._∷_ 102 (L._∷_ 111 (L._∷_ 117 (L._∷_ 110 (L._∷_ 100 (L._∷_ 58 (L._∷_ 58 (L._∷_ 70 (L._∷_ 111 (L._∷_ 117 (L._∷_ 110 (L._∷_ 100 L.[]))))))))))))))))))) (Syntax.tcons Syntax.tyBool (Syntax.tcons Syntax.tyBool (Syntax.tcons (Syntax.tyStruct (L._∷_ 115 (L._∷_ 116 (L._∷_ 101 (L._∷_ 112 (L._∷_ 58 (L._∷_ 58 (L._∷_ 83 (L._∷_ 116 (L._∷_ 101 (L._∷_ 112 L.[])))))))))) (Syntax.tcons (Syntax.tyInt Syntax.w64) (Syntax.tcons (Syntax.tyInt Syntax.w64) (Syntax.tcons (Syntax.tyStruct (L._∷_ 115 (L._∷_ 116 (L._∷_ 101 (L._∷_ 112 (L._∷_ 58 (L._∷_ 58 (L._∷_ 67 (L._∷_ 104 (L._∷_ 97 (L._∷_ 110 (L._∷_ 103 (L._∷_ 101 L.[])))))))))))) (Syntax.tcons (Syntax.tyStruct (L._∷_ 110 (L._∷_ 101 (L._∷_ 116 (L._∷_ 119 (L._∷_ 111 (L._∷_ 114 (L._∷_ 107 (L._∷_ 58 (L._∷_ 58 (L._∷_ 69 (L._∷_ 100 (L._∷_ 105 (L._∷_ 116 L.[]))))))))))))) (Syntax.tcons q5 (Syntax.tcons q5 (Syntax.tcons q5 (Syntax.tcons q5 (Syntax.tcons q1 (Syntax.tcons q1 (Syntax.tcons (Syntax.tyInt Syntax.w64) (Syntax.tcons q4 Syntax.tnil))))))))) (Syntax.tcons (Syntax.tyStruct (L._∷_ 115 (L._∷_ 116 (L._∷_ 101 (L._∷_ 112 (L._∷_ 58 (L._∷_ 58 (L._∷_ 79 (L._∷_ 108 (L._∷_ 100 L.[]))))))))) (Syntax.tcons (Syntax.tyInt Syntax.w64) (Syntax.tcons q4 (Syntax.tcons q5 (Syntax.tcons q5 (Syntax.tcons q5 (Syntax.tcons q5 (Syntax.tcons q2 Syntax.tnil)))))))) Syntax.tnil))) Syntax.tnil)))) Syntax.tnil)))) (Syntax.tcons q3 Syntax.tnil)))) (L._∷_ q23 (L._∷_ q19 (L._∷_ q33 (L._∷_ q35 (L._∷_ q24 (L._∷_ q7 (L._∷_ (11, Rows.any-gone (Syntax.tyStruct (L._∷_ 110 (L._∷_ 101 (L._∷_ 116 (L._∷_ 119 (L._∷_ 111 (L._∷_ 114 (L._∷_ 107 (L._∷_ 58 (L._∷_ 58 (L._∷_ 69 (L._∷_ 100 (L._∷_ 105 (L._∷_ 116 L.[]))))))))))))) (Syntax.tcons q5 (Syntax.tcons q5 (Syntax.tcons q5 (Syntax.tcons q5 (Syntax.tcons q1 (Syntax.tcons q1 (Syntax.tcons (Syntax.tyInt Syntax.w64) (Syntax.tcons q4 Syntax.tnil)))))))))) (L._∷_ q17 (L._∷_ q6 L.[])))))))))))))
 
         abbrev g4 : L.List Row.Entry
-        g4 = L._∷_ (0, Rows.any-gone (Syntax.tyStruct (L._∷_ 115 (L._∷_ 101 (L._∷_ 97 (L._∷_ 114 (L._∷_ 99 (L._∷_ 104 (L._∷_ 58 (L._∷_ 58 (L._∷_ 80 (L._∷_ 114 (L._∷_ 111 (L._∷_ 103 (L._∷_ 114 (L._∷_ 101 (L._∷_ 115 (L._∷_ 115 L.[])))))))))))))))) (Syntax.tcons q0 (Syntax.tcons (Syntax.tyInt Syntax.w64) (Syntax.tcons q3 (Syntax.tcons Syntax.tyBool (Syntax.tcons Syntax.tyBool (Syntax.tcons (Syntax.tyInt Syntax.w64) (Syntax.tcons (Syntax.tyInt Syntax.w64) Syntax.tnil))))))))) (L._∷_ q31 (L._∷_ q13 (L._∷_ (3, Reshare.mslice-owedS Rec.row q28 1 2 (Row.lease (κs .1 .0) (qs .1 .0))) (L._∷_ (4, Rows.any-gone (Syntax.tyStruct (L._∷_ 114 (L._∷_ 117 (L._∷_ 108 (L._∷_ 101 (L._∷_ 115 (L._∷_ 58 (L._∷_ 58 (L._∷_ 116 (L._∷_ 114 (L._∷_ 105 (L._∷_ 101 (L._∷_ 100 (L._∷_ 58 (L._∷_ 58 (L._∷_ 76 (L._∷_ 111 (L._∷_ 111 (L._∷_ 107 (L._∷_ 101 (L._∷_ 100 L.[])))))))))))))))))))) (Syntax.tcons (Syntax.tyStruct (L._∷_ 114 (L._∷_ 117 (L._∷_ 108 (L._∷_ 101 (L._∷_ 115 (L._∷_ 58 (L._∷_ 58 (L._∷_ 102 (L._∷_ 111 (L._∷_ 117 (L._∷_ 110 (L._∷_ 100 (L._∷_ 58 (L._∷_ 58 (L._∷_ 70 (L._∷_ 111 (L._∷_ 117 (L._∷_ 110 (L._∷_ 100 L.[]))))))))))))))))))) (Syntax.tcons Syntax.tyBool (Syntax.tcons Syntax.tyBool (Syntax.tcons (Syntax.tyStruct (L._∷_ 115 (L._∷_ 116 (L._∷_ 101 (L._∷_ 112 (L._∷_ 58 (L._∷_ 58 (L._∷_ 83 (L._∷_ 116 (L._∷_ 101 (L._∷_ 112 L.[])))))))))) (Syntax.tcons (Syntax.tyInt Syntax.w64) (Syntax.tcons (Syntax.tyInt Syntax.w64) (Syntax.tcons (Syntax.tyStruct (L._∷_ 115 (L._∷_ 116 (L._∷_ 101 (L._∷_ 112 (L._∷_ 58 (L._∷_ 58 (L._∷_ 67 (L._∷_ 104 (L._∷_ 97 (L._∷_ 110 (L._∷_ 103 (L._∷_ 101 L.[])))))))))))) (Syntax.tcons (Syntax.tyStruct (L._∷_ 110 (L._∷_ 101 (L._∷_ 116 (L._∷_ 119 (L._∷_ 111 (L._∷_ 114 (L._∷_ 107 (L._∷_ 58 (L._∷_ 58 (L._∷_ 69 (L._∷_ 100 (L._∷_ 105 (L._∷_ 116 L.[]))))))))))))) (Syntax.tcons q5 (Syntax.tcons q5 (Syntax.tcons q5 (Syntax.tcons q5 (Syntax.tcons q1 (Syntax.tcons q1 (Syntax.tcons (Syntax.tyInt Syntax.w64) Syntax.tnil)))))))) (Syntax.tcons (Syntax.tyStruct (L._∷_ 115 (L._∷_ 116 (L._∷_ 101 (L._∷_ 112 (L._∷_ 58 (L._∷_ 58 (L._∷_ 79 (L._∷_ 108 (L._∷_ 100 L.[]))))))))) (Syntax.tcons (Syntax.tyInt Syntax.w64) (Syntax.tcons q4 (Syntax.tcons q5 (Syntax.tcons q5 (Syntax.tcons q5 (Syntax.tcons q5 (Syntax.tcons q2 Syntax.tnil)))))))) Syntax.tnil))) Syntax.tnil)))) Syntax.tnil)))) (Syntax.tcons q3 Syntax.tnil)))) (L._∷_ q23 (L._∷_ q19 (L._∷_ q34 (L._∷_ q35 (L._∷_ q24 (L._∷_ q7 (L._∷_ (11, Rows.any-gone (Syntax.tyStruct (L._∷_ 110 (L._∷_ 101 (L._∷_ 116 (L._∷_ 119 (L._∷_ 111 (L._∷_ 114 (L._∷_ 107 (L._∷_ 58 (L._∷_ 58 (L._∷_ 69 (L._∷_ 100 (L._∷_ 105 (L._∷_ 116 L.[]))))))))))))) (Syntax.tcons q5 (Syntax.tcons q5 (Syntax.tcons q5 (Syntax.tcons q5 (Syntax.tcons q1 (Syntax.tcons q1 (Syntax.tcons (Syntax.tyInt Syntax.w64) Syntax.tnil))))))))) (L._∷_ q17 (L._∷_ q6 L.[])))))))))))))
+        g4 = L._∷_ (0, Rows.any-gone (Syntax.tyStruct (L._∷_ 115 (L._∷_ 101 (L._∷_ 97 (L._∷_ 114 (L._∷_ 99 (L._∷_ 104 (L._∷_ 58 (L._∷_ 58 (L._∷_ 80 (L._∷_ 114 (L._∷_ 111 (L._∷_ 103 (L._∷_ 114 (L._∷_ 101 (L._∷_ 115 (L._∷_ 115 L.[])))))))))))))))) (Syntax.tcons q0 (Syntax.tcons (Syntax.tyInt Syntax.w64) (Syntax.tcons q3 (Syntax.tcons Syntax.tyBool (Syntax.tcons Syntax.tyBool (Syntax.tcons (Syntax.tyInt Syntax.w64) (Syntax.tcons (Syntax.tyInt Syntax.w64) Syntax.tnil))))))))) (L._∷_ q31 (L._∷_ q13 (L._∷_ (3, Reshare.mslice-owedS Rec.row q28 1 2 (Row.lease (κs .1 .0) (qs .1 .0))) (L._∷_ (4, Rows.any-gone (Syntax.tyStruct (L._∷_ 114 (L._∷_ 117 (L._∷_ 108 (L._∷_ 101 (L._∷_ 115 (L._∷_ 58 (L._∷_ 58 (L._∷_ 116 (L._∷_ 114 (L._∷_ 105 (L._∷_ 101 (L._∷_ 100 (L._∷_ 58 (L._∷_ 58 (L._∷_ 76 (L._∷_ 111 (L._∷_ 111 (L._∷_ 107 (L._∷_ 101 (L._∷_ 100 L.[])))))))))))))))))))) (Syntax.tcons (Syntax.tyStruct (L._∷_ 114 (L._∷_ 117 (L._∷_ 108 (L._∷_ 101 (L._∷_ 115 (L._∷_ 58 (L._∷_ 58 (L._∷_ 102 (L._∷_ 111 (L._∷_ 117 (L._∷_ 110 (L._∷_ 100 (L._∷_ 58 (L._∷_ 58 (L._∷_ 70 (L._∷_ 111 (L._∷_ 117 (L._∷_ 110 (L._∷_ 100 L.[]))))))))))))))))))) (Syntax.tcons Syntax.tyBool (Syntax.tcons Syntax.tyBool (Syntax.tcons (Syntax.tyStruct (L._∷_ 115 (L._∷_ 116 (L._∷_ 101 (L._∷_ 112 (L._∷_ 58 (L._∷_ 58 (L._∷_ 83 (L._∷_ 116 (L._∷_ 101 (L._∷_ 112 L.[])))))))))) (Syntax.tcons (Syntax.tyInt Syntax.w64) (Syntax.tcons (Syntax.tyInt Syntax.w64) (Syntax.tcons (Syntax.tyStruct (L._∷_ 115 (L._∷_ 116 (L._∷_ 101 (L._∷_ 112 (L._∷_ 58 (L._∷_ 58 (L._∷_ 67 (L._∷_ 104 (L._∷_ 97 (L._∷_ 110 (L._∷_ 103 (L._∷_ 101 L.[])))))))))))) (Syntax.tcons (Syntax.tyStruct (L._∷_ 110 (L._∷_ 101 (L._∷_ 116 (L._∷_ 119 (L._∷_ 111 (L._∷_ 114 (L._∷_ 107 (L._∷_ 58 (L._∷_ 58 (L._∷_ 69 (L._∷_ 100 (L._∷_ 105 (L._∷_ 116 L.[]))))))))))))) (Syntax.tcons q5 (Syntax.tcons q5 (Syntax.tcons q5 (Syntax.tcons q5 (Syntax.tcons q1 (Syntax.tcons q1 (Syntax.tcons (Syntax.tyInt Syntax.w64) (Syntax.tcons q4 Syntax.tnil))))))))) (Syntax.tcons (Syntax.tyStruct (L._∷_ 115 (L._∷_ 116 (L._∷_ 101 (L._∷_ 112 (L._∷_ 58 (L._∷_ 58 (L._∷_ 79 (L._∷_ 108 (L._∷_ 100 L.[]))))))))) (Syntax.tcons (Syntax.tyInt Syntax.w64) (Syntax.tcons q4 (Syntax.tcons q5 (Syntax.tcons q5 (Syntax.tcons q5 (Syntax.tcons q5 (Syntax.tcons q2 Syntax.tnil)))))))) Syntax.tnil))) Syntax.tnil)))) Syntax.tnil)))) (Syntax.tcons q3 Syntax.tnil)))) (L._∷_ q23 (L._∷_ q19 (L._∷_ q34 (L._∷_ q35 (L._∷_ q24 (L._∷_ q7 (L._∷_ (11, Rows.any-gone (Syntax.tyStruct (L._∷_ 110 (L._∷_ 101 (L._∷_ 116 (L._∷_ 119 (L._∷_ 111 (L._∷_ 114 (L._∷_ 107 (L._∷_ 58 (L._∷_ 58 (L._∷_ 69 (L._∷_ 100 (L._∷_ 105 (L._∷_ 116 L.[]))))))))))))) (Syntax.tcons q5 (Syntax.tcons q5 (Syntax.tcons q5 (Syntax.tcons q5 (Syntax.tcons q1 (Syntax.tcons q1 (Syntax.tcons (Syntax.tyInt Syntax.w64) (Syntax.tcons q4 Syntax.tnil)))))))))) (L._∷_ q17 (L._∷_ q6 L.[])))))))))))))
 
         abbrev g5 : L.List Row.Entry
-        g5 = L._∷_ (0, Rows.any-gone (Syntax.tyStruct (L._∷_ 115 (L._∷_ 101 (L._∷_ 97 (L._∷_ 114 (L._∷_ 99 (L._∷_ 104 (L._∷_ 58 (L._∷_ 58 (L._∷_ 80 (L._∷_ 114 (L._∷_ 111 (L._∷_ 103 (L._∷_ 114 (L._∷_ 101 (L._∷_ 115 (L._∷_ 115 L.[])))))))))))))))) (Syntax.tcons q0 (Syntax.tcons (Syntax.tyInt Syntax.w64) (Syntax.tcons q3 (Syntax.tcons Syntax.tyBool (Syntax.tcons Syntax.tyBool (Syntax.tcons (Syntax.tyInt Syntax.w64) (Syntax.tcons (Syntax.tyInt Syntax.w64) Syntax.tnil))))))))) (L._∷_ q31 (L._∷_ q13 (L._∷_ (3, Reshare.mslice-owedS Rec.row q28 1 2 (Row.lease (κs .1 .0) (qs .1 .0))) (L._∷_ q25 (L._∷_ q23 (L._∷_ q19 (L._∷_ q34 (L._∷_ q35 (L._∷_ q24 (L._∷_ q7 (L._∷_ (11, Rows.any-gone (Syntax.tyStruct (L._∷_ 110 (L._∷_ 101 (L._∷_ 116 (L._∷_ 119 (L._∷_ 111 (L._∷_ 114 (L._∷_ 107 (L._∷_ 58 (L._∷_ 58 (L._∷_ 69 (L._∷_ 100 (L._∷_ 105 (L._∷_ 116 L.[]))))))))))))) (Syntax.tcons q5 (Syntax.tcons q5 (Syntax.tcons q5 (Syntax.tcons q5 (Syntax.tcons q1 (Syntax.tcons q1 (Syntax.tcons (Syntax.tyInt Syntax.w64) Syntax.tnil))))))))) (L._∷_ q17 (L._∷_ q6 L.[])))))))))))))
+        g5 = L._∷_ (0, Rows.any-gone (Syntax.tyStruct (L._∷_ 115 (L._∷_ 101 (L._∷_ 97 (L._∷_ 114 (L._∷_ 99 (L._∷_ 104 (L._∷_ 58 (L._∷_ 58 (L._∷_ 80 (L._∷_ 114 (L._∷_ 111 (L._∷_ 103 (L._∷_ 114 (L._∷_ 101 (L._∷_ 115 (L._∷_ 115 L.[])))))))))))))))) (Syntax.tcons q0 (Syntax.tcons (Syntax.tyInt Syntax.w64) (Syntax.tcons q3 (Syntax.tcons Syntax.tyBool (Syntax.tcons Syntax.tyBool (Syntax.tcons (Syntax.tyInt Syntax.w64) (Syntax.tcons (Syntax.tyInt Syntax.w64) Syntax.tnil))))))))) (L._∷_ q31 (L._∷_ q13 (L._∷_ (3, Reshare.mslice-owedS Rec.row q28 1 2 (Row.lease (κs .1 .0) (qs .1 .0))) (L._∷_ q25 (L._∷_ q23 (L._∷_ q19 (L._∷_ q34 (L._∷_ q35 (L._∷_ q24 (L._∷_ q7 (L._∷_ (11, Rows.any-gone (Syntax.tyStruct (L._∷_ 110 (L._∷_ 101 (L._∷_ 116 (L._∷_ 119 (L._∷_ 111 (L._∷_ 114 (L._∷_ 107 (L._∷_ 58 (L._∷_ 58 (L._∷_ 69 (L._∷_ 100 (L._∷_ 105 (L._∷_ 116 L.[]))))))))))))) (Syntax.tcons q5 (Syntax.tcons q5 (Syntax.tcons q5 (Syntax.tcons q5 (Syntax.tcons q1 (Syntax.tcons q1 (Syntax.tcons (Syntax.tyInt Syntax.w64) (Syntax.tcons q4 Syntax.tnil)))))))))) (L._∷_ q17 (L._∷_ q6 L.[])))))))))))))
 
         abbrev g6 : L.List Row.Entry
-        g6 = L._∷_ (0, Rows.any-gone (Syntax.tyStruct (L._∷_ 115 (L._∷_ 101 (L._∷_ 97 (L._∷_ 114 (L._∷_ 99 (L._∷_ 104 (L._∷_ 58 (L._∷_ 58 (L._∷_ 80 (L._∷_ 114 (L._∷_ 111 (L._∷_ 103 (L._∷_ 114 (L._∷_ 101 (L._∷_ 115 (L._∷_ 115 L.[])))))))))))))))) (Syntax.tcons q0 (Syntax.tcons (Syntax.tyInt Syntax.w64) (Syntax.tcons q3 (Syntax.tcons Syntax.tyBool (Syntax.tcons Syntax.tyBool (Syntax.tcons (Syntax.tyInt Syntax.w64) (Syntax.tcons (Syntax.tyInt Syntax.w64) Syntax.tnil))))))))) (L._∷_ q31 (L._∷_ q13 (L._∷_ (3, Reshare.mslice-owedS Rec.row q28 1 2 (Row.lease (κs .1 .0) (qs .1 .0))) (L._∷_ q25 (L._∷_ q23 (L._∷_ q8 (L._∷_ q34 (L._∷_ q35 (L._∷_ q24 (L._∷_ q7 (L._∷_ (11, Rows.any-gone (Syntax.tyStruct (L._∷_ 110 (L._∷_ 101 (L._∷_ 116 (L._∷_ 119 (L._∷_ 111 (L._∷_ 114 (L._∷_ 107 (L._∷_ 58 (L._∷_ 58 (L._∷_ 69 (L._∷_ 100 (L._∷_ 105 (L._∷_ 116 L.[]))))))))))))) (Syntax.tcons q5 (Syntax.tcons q5 (Syntax.tcons q5 (Syntax.tcons q5 (Syntax.tcons q1 (Syntax.tcons q1 (Syntax.tcons (Syntax.tyInt Syntax.w64) Syntax.tnil))))))))) (L._∷_ q17 (L._∷_ q6 L.[])))))))))))))
+        g6 = L._∷_ (0, Rows.any-gone (Syntax.tyStruct (L._∷_ 115 (L._∷_ 101 (L._∷_ 97 (L._∷_ 114 (L._∷_ 99 (L._∷_ 104 (L._∷_ 58 (L._∷_ 58 (L._∷_ 80 (L._∷_ 114 (L._∷_ 111 (L._∷_ 103 (L._∷_ 114 (L._∷_ 101 (L._∷_ 115 (L._∷_ 115 L.[])))))))))))))))) (Syntax.tcons q0 (Syntax.tcons (Syntax.tyInt Syntax.w64) (Syntax.tcons q3 (Syntax.tcons Syntax.tyBool (Syntax.tcons Syntax.tyBool (Syntax.tcons (Syntax.tyInt Syntax.w64) (Syntax.tcons (Syntax.tyInt Syntax.w64) Syntax.tnil))))))))) (L._∷_ q31 (L._∷_ q13 (L._∷_ (3, Reshare.mslice-owedS Rec.row q28 1 2 (Row.lease (κs .1 .0) (qs .1 .0))) (L._∷_ q25 (L._∷_ q23 (L._∷_ q8 (L._∷_ q34 (L._∷_ q35 (L._∷_ q24 (L._∷_ q7 (L._∷_ (11, Rows.any-gone (Syntax.tyStruct (L._∷_ 110 (L._∷_ 101 (L._∷_ 116 (L._∷_ 119 (L._∷_ 111 (L._∷_ 114 (L._∷_ 107 (L._∷_ 58 (L._∷_ 58 (L._∷_ 69 (L._∷_ 100 (L._∷_ 105 (L._∷_ 116 L.[]))))))))))))) (Syntax.tcons q5 (Syntax.tcons q5 (Syntax.tcons q5 (Syntax.tcons q5 (Syntax.tcons q1 (Syntax.tcons q1 (Syntax.tcons (Syntax.tyInt Syntax.w64) (Syntax.tcons q4 Syntax.tnil)))))))))) (L._∷_ q17 (L._∷_ q6 L.[])))))))))))))
 
         abbrev g7 : L.List Row.Entry
-        g7 = L._∷_ (0, Rows.any-gone (Syntax.tyStruct (L._∷_ 115 (L._∷_ 101 (L._∷_ 97 (L._∷_ 114 (L._∷_ 99 (L._∷_ 104 (L._∷_ 58 (L._∷_ 58 (L._∷_ 80 (L._∷_ 114 (L._∷_ 111 (L._∷_ 103 (L._∷_ 114 (L._∷_ 101 (L._∷_ 115 (L._∷_ 115 L.[])))))))))))))))) (Syntax.tcons q0 (Syntax.tcons (Syntax.tyInt Syntax.w64) (Syntax.tcons q3 (Syntax.tcons Syntax.tyBool (Syntax.tcons Syntax.tyBool (Syntax.tcons (Syntax.tyInt Syntax.w64) (Syntax.tcons (Syntax.tyInt Syntax.w64) Syntax.tnil))))))))) (L._∷_ q31 (L._∷_ q13 (L._∷_ (3, Reshare.mslice-owedS Rec.row q28 1 2 (Row.lease (κs .1 .0) (qs .1 .0))) (L._∷_ q25 (L._∷_ q23 (L._∷_ q8 (L._∷_ q33 (L._∷_ q35 (L._∷_ q24 (L._∷_ q7 (L._∷_ (11, Rows.any-gone (Syntax.tyStruct (L._∷_ 110 (L._∷_ 101 (L._∷_ 116 (L._∷_ 119 (L._∷_ 111 (L._∷_ 114 (L._∷_ 107 (L._∷_ 58 (L._∷_ 58 (L._∷_ 69 (L._∷_ 100 (L._∷_ 105 (L._∷_ 116 L.[]))))))))))))) (Syntax.tcons q5 (Syntax.tcons q5 (Syntax.tcons q5 (Syntax.tcons q5 (Syntax.tcons q1 (Syntax.tcons q1 (Syntax.tcons (Syntax.tyInt Syntax.w64) Syntax.tnil))))))))) (L._∷_ q17 (L._∷_ q6 L.[])))))))))))))
+        g7 = L._∷_ (0, Rows.any-gone (Syntax.tyStruct (L._∷_ 115 (L._∷_ 101 (L._∷_ 97 (L._∷_ 114 (L._∷_ 99 (L._∷_ 104 (L._∷_ 58 (L._∷_ 58 (L._∷_ 80 (L._∷_ 114 (L._∷_ 111 (L._∷_ 103 (L._∷_ 114 (L._∷_ 101 (L._∷_ 115 (L._∷_ 115 L.[])))))))))))))))) (Syntax.tcons q0 (Syntax.tcons (Syntax.tyInt Syntax.w64) (Syntax.tcons q3 (Syntax.tcons Syntax.tyBool (Syntax.tcons Syntax.tyBool (Syntax.tcons (Syntax.tyInt Syntax.w64) (Syntax.tcons (Syntax.tyInt Syntax.w64) Syntax.tnil))))))))) (L._∷_ q31 (L._∷_ q13 (L._∷_ (3, Reshare.mslice-owedS Rec.row q28 1 2 (Row.lease (κs .1 .0) (qs .1 .0))) (L._∷_ q25 (L._∷_ q23 (L._∷_ q8 (L._∷_ q33 (L._∷_ q35 (L._∷_ q24 (L._∷_ q7 (L._∷_ (11, Rows.any-gone (Syntax.tyStruct (L._∷_ 110 (L._∷_ 101 (L._∷_ 116 (L._∷_ 119 (L._∷_ 111 (L._∷_ 114 (L._∷_ 107 (L._∷_ 58 (L._∷_ 58 (L._∷_ 69 (L._∷_ 100 (L._∷_ 105 (L._∷_ 116 L.[]))))))))))))) (Syntax.tcons q5 (Syntax.tcons q5 (Syntax.tcons q5 (Syntax.tcons q5 (Syntax.tcons q1 (Syntax.tcons q1 (Syntax.tcons (Syntax.tyInt Syntax.w64) (Syntax.tcons q4 Syntax.tnil)))))))))) (L._∷_ q17 (L._∷_ q6 L.[])))))))))))))
 
         abbrev g9 : L.List Row.Entry
-        g9 = L._∷_ (0, Rows.any-gone (Syntax.tyStruct (L._∷_ 115 (L._∷_ 101 (L._∷_ 97 (L._∷_ 114 (L._∷_ 99 (L._∷_ 104 (L._∷_ 58 (L._∷_ 58 (L._∷_ 80 (L._∷_ 114 (L._∷_ 111 (L._∷_ 103 (L._∷_ 114 (L._∷_ 101 (L._∷_ 115 (L._∷_ 115 L.[])))))))))))))))) (Syntax.tcons q0 (Syntax.tcons (Syntax.tyInt Syntax.w64) (Syntax.tcons q3 (Syntax.tcons Syntax.tyBool (Syntax.tcons Syntax.tyBool (Syntax.tcons (Syntax.tyInt Syntax.w64) (Syntax.tcons (Syntax.tyInt Syntax.w64) Syntax.tnil))))))))) (L._∷_ q31 (L._∷_ q13 (L._∷_ (3, Relend.mslice-owed Rec.row q28 1 3 (Row.lease (κs .1 .0) (qs .1 .0))) (L._∷_ q25 (L._∷_ q23 (L._∷_ q8 (L._∷_ q33 (L._∷_ q35 (L._∷_ (9, Relend.msptr Rec.row q30 3) (L._∷_ q7 (L._∷_ (11, Rows.any-gone (Syntax.tyStruct (L._∷_ 110 (L._∷_ 101 (L._∷_ 116 (L._∷_ 119 (L._∷_ 111 (L._∷_ 114 (L._∷_ 107 (L._∷_ 58 (L._∷_ 58 (L._∷_ 69 (L._∷_ 100 (L._∷_ 105 (L._∷_ 116 L.[]))))))))))))) (Syntax.tcons q5 (Syntax.tcons q5 (Syntax.tcons q5 (Syntax.tcons q5 (Syntax.tcons q1 (Syntax.tcons q1 (Syntax.tcons (Syntax.tyInt Syntax.w64) Syntax.tnil))))))))) (L._∷_ q17 (L._∷_ q6 L.[])))))))))))))
+        g9 = L._∷_ (0, Rows.any-gone (Syntax.tyStruct (L._∷_ 115 (L._∷_ 101 (L._∷_ 97 (L._∷_ 114 (L._∷_ 99 (L._∷_ 104 (L._∷_ 58 (L._∷_ 58 (L._∷_ 80 (L._∷_ 114 (L._∷_ 111 (L._∷_ 103 (L._∷_ 114 (L._∷_ 101 (L._∷_ 115 (L._∷_ 115 L.[])))))))))))))))) (Syntax.tcons q0 (Syntax.tcons (Syntax.tyInt Syntax.w64) (Syntax.tcons q3 (Syntax.tcons Syntax.tyBool (Syntax.tcons Syntax.tyBool (Syntax.tcons (Syntax.tyInt Syntax.w64) (Syntax.tcons (Syntax.tyInt Syntax.w64) Syntax.tnil))))))))) (L._∷_ q31 (L._∷_ q13 (L._∷_ (3, Relend.mslice-owed Rec.row q28 1 3 (Row.lease (κs .1 .0) (qs .1 .0))) (L._∷_ q25 (L._∷_ q23 (L._∷_ q8 (L._∷_ q33 (L._∷_ q35 (L._∷_ (9, Relend.msptr Rec.row q30 3) (L._∷_ q7 (L._∷_ (11, Rows.any-gone (Syntax.tyStruct (L._∷_ 110 (L._∷_ 101 (L._∷_ 116 (L._∷_ 119 (L._∷_ 111 (L._∷_ 114 (L._∷_ 107 (L._∷_ 58 (L._∷_ 58 (L._∷_ 69 (L._∷_ 100 (L._∷_ 105 (L._∷_ 116 L.[]))))))))))))) (Syntax.tcons q5 (Syntax.tcons q5 (Syntax.tcons q5 (Syntax.tcons q5 (Syntax.tcons q1 (Syntax.tcons q1 (Syntax.tcons (Syntax.tyInt Syntax.w64) (Syntax.tcons q4 Syntax.tnil)))))))))) (L._∷_ q17 (L._∷_ q6 L.[])))))))))))))
 
         abbrev g10 : L.List Row.Entry
-        g10 = L._∷_ (0, Rows.any-gone (Syntax.tyStruct (L._∷_ 115 (L._∷_ 101 (L._∷_ 97 (L._∷_ 114 (L._∷_ 99 (L._∷_ 104 (L._∷_ 58 (L._∷_ 58 (L._∷_ 80 (L._∷_ 114 (L._∷_ 111 (L._∷_ 103 (L._∷_ 114 (L._∷_ 101 (L._∷_ 115 (L._∷_ 115 L.[])))))))))))))))) (Syntax.tcons q0 (Syntax.tcons (Syntax.tyInt Syntax.w64) (Syntax.tcons q3 (Syntax.tcons Syntax.tyBool (Syntax.tcons Syntax.tyBool (Syntax.tcons (Syntax.tyInt Syntax.w64) (Syntax.tcons (Syntax.tyInt Syntax.w64) Syntax.tnil))))))))) (L._∷_ q31 (L._∷_ q13 (L._∷_ (3, Relend.mslice-owed Rec.row q28 1 3 (Row.lease (κs .1 .0) (qs .1 .0))) (L._∷_ q25 (L._∷_ q23 (L._∷_ q8 (L._∷_ q33 (L._∷_ q35 (L._∷_ q24 (L._∷_ q20 (L._∷_ (11, Rows.any-gone (Syntax.tyStruct (L._∷_ 110 (L._∷_ 101 (L._∷_ 116 (L._∷_ 119 (L._∷_ 111 (L._∷_ 114 (L._∷_ 107 (L._∷_ 58 (L._∷_ 58 (L._∷_ 69 (L._∷_ 100 (L._∷_ 105 (L._∷_ 116 L.[]))))))))))))) (Syntax.tcons q5 (Syntax.tcons q5 (Syntax.tcons q5 (Syntax.tcons q5 (Syntax.tcons q1 (Syntax.tcons q1 (Syntax.tcons (Syntax.tyInt Syntax.w64) Syntax.tnil))))))))) (L._∷_ q17 (L._∷_ q6 L.[])))))))))))))
+        g10 = L._∷_ (0, Rows.any-gone (Syntax.tyStruct (L._∷_ 115 (L._∷_ 101 (L._∷_ 97 (L._∷_ 114 (L._∷_ 99 (L._∷_ 104 (L._∷_ 58 (L._∷_ 58 (L._∷_ 80 (L._∷_ 114 (L._∷_ 111 (L._∷_ 103 (L._∷_ 114 (L._∷_ 101 (L._∷_ 115 (L._∷_ 115 L.[])))))))))))))))) (Syntax.tcons q0 (Syntax.tcons (Syntax.tyInt Syntax.w64) (Syntax.tcons q3 (Syntax.tcons Syntax.tyBool (Syntax.tcons Syntax.tyBool (Syntax.tcons (Syntax.tyInt Syntax.w64) (Syntax.tcons (Syntax.tyInt Syntax.w64) Syntax.tnil))))))))) (L._∷_ q31 (L._∷_ q13 (L._∷_ (3, Relend.mslice-owed Rec.row q28 1 3 (Row.lease (κs .1 .0) (qs .1 .0))) (L._∷_ q25 (L._∷_ q23 (L._∷_ q8 (L._∷_ q33 (L._∷_ q35 (L._∷_ q24 (L._∷_ q20 (L._∷_ (11, Rows.any-gone (Syntax.tyStruct (L._∷_ 110 (L._∷_ 101 (L._∷_ 116 (L._∷_ 119 (L._∷_ 111 (L._∷_ 114 (L._∷_ 107 (L._∷_ 58 (L._∷_ 58 (L._∷_ 69 (L._∷_ 100 (L._∷_ 105 (L._∷_ 116 L.[]))))))))))))) (Syntax.tcons q5 (Syntax.tcons q5 (Syntax.tcons q5 (Syntax.tcons q5 (Syntax.tcons q1 (Syntax.tcons q1 (Syntax.tcons (Syntax.tyInt Syntax.w64) (Syntax.tcons q4 Syntax.tnil)))))))))) (L._∷_ q17 (L._∷_ q6 L.[])))))))))))))
 
         abbrev g11 : L.List Row.Entry
         g11 = L._∷_ (0, Rows.any-gone (Syntax.tyStruct (L._∷_ 115 (L._∷_ 101 (L._∷_ 97 (L._∷_ 114 (L._∷_ 99 (L._∷_ 104 (L._∷_ 58 (L._∷_ 58 (L._∷_ 80 (L._∷_ 114 (L._∷_ 111 (L._∷_ 103 (L._∷_ 114 (L._∷_ 101 (L._∷_ 115 (L._∷_ 115 L.[])))))))))))))))) (Syntax.tcons q0 (Syntax.tcons (Syntax.tyInt Syntax.w64) (Syntax.tcons q3 (Syntax.tcons Syntax.tyBool (Syntax.tcons Syntax.tyBool (Syntax.tcons (Syntax.tyInt Syntax.w64) (Syntax.tcons (Syntax.tyInt Syntax.w64) Syntax.tnil))))))))) (L._∷_ q31 (L._∷_ q13 (L._∷_ (3, Relend.mslice-owed Rec.row q28 1 3 (Row.lease (κs .1 .0) (qs .1 .0))) (L._∷_ q25 (L._∷_ q23 (L._∷_ q8 (L._∷_ q33 (L._∷_ q35 (L._∷_ q24 (L._∷_ q20 (L._∷_ q27 (L._∷_ q17 (L._∷_ q6 L.[])))))))))))))
@@ -647,19 +647,19 @@ module _ (claims· : Claims) where
         g13 = L._∷_ (0, Rows.any-gone (Syntax.tyStruct (L._∷_ 115 (L._∷_ 101 (L._∷_ 97 (L._∷_ 114 (L._∷_ 99 (L._∷_ 104 (L._∷_ 58 (L._∷_ 58 (L._∷_ 80 (L._∷_ 114 (L._∷_ 111 (L._∷_ 103 (L._∷_ 114 (L._∷_ 101 (L._∷_ 115 (L._∷_ 115 L.[])))))))))))))))) (Syntax.tcons q0 (Syntax.tcons (Syntax.tyInt Syntax.w64) (Syntax.tcons q3 (Syntax.tcons Syntax.tyBool (Syntax.tcons Syntax.tyBool (Syntax.tcons (Syntax.tyInt Syntax.w64) (Syntax.tcons (Syntax.tyInt Syntax.w64) Syntax.tnil))))))))) (L._∷_ q31 (L._∷_ q13 (L._∷_ (3, Relend.mslice-owed Rec.row q28 1 3 (Row.lease (κs .1 .0) (qs .1 .0))) (L._∷_ q25 (L._∷_ q23 (L._∷_ q8 (L._∷_ q33 (L._∷_ q35 (L._∷_ q24 (L._∷_ q21 (L._∷_ q27 (L._∷_ q17 (L._∷_ q6 L.[])))))))))))))
 
         abbrev g14 : L.List Row.Entry
-        g14 = L._∷_ (0, Rows.any-gone (Syntax.tyStruct (L._∷_ 115 (L._∷_ 101 (L._∷_ 97 (L._∷_ 114 (L._∷_ 99 (L._∷_ 104 (L._∷_ 58 (L._∷_ 58 (L._∷_ 80 (L._∷_ 114 (L._∷_ 111 (L._∷_ 103 (L._∷_ 114 (L._∷_ 101 (L._∷_ 115 (L._∷_ 115 L.[])))))))))))))))) (Syntax.tcons q0 (Syntax.tcons (Syntax.tyInt Syntax.w64) (Syntax.tcons q3 (Syntax.tcons Syntax.tyBool (Syntax.tcons Syntax.tyBool (Syntax.tcons (Syntax.tyInt Syntax.w64) (Syntax.tcons (Syntax.tyInt Syntax.w64) Syntax.tnil))))))))) (L._∷_ q31 (L._∷_ q13 (L._∷_ (3, Relend.mslice-owed Rec.row q28 1 3 (Row.lease (κs .1 .0) (qs .1 .0))) (L._∷_ q25 (L._∷_ q23 (L._∷_ q8 (L._∷_ q33 (L._∷_ q35 (L._∷_ q24 (L._∷_ q21 (L._∷_ (11, Rows.any-gone (Syntax.tyStruct (L._∷_ 110 (L._∷_ 101 (L._∷_ 116 (L._∷_ 119 (L._∷_ 111 (L._∷_ 114 (L._∷_ 107 (L._∷_ 58 (L._∷_ 58 (L._∷_ 69 (L._∷_ 100 (L._∷_ 105 (L._∷_ 116 L.[]))))))))))))) (Syntax.tcons q5 (Syntax.tcons q5 (Syntax.tcons q5 (Syntax.tcons q5 (Syntax.tcons q1 (Syntax.tcons q1 (Syntax.tcons (Syntax.tyInt Syntax.w64) Syntax.tnil))))))))) (L._∷_ q17 (L._∷_ q6 L.[])))))))))))))
+        g14 = L._∷_ (0, Rows.any-gone (Syntax.tyStruct (L._∷_ 115 (L._∷_ 101 (L._∷_ 97 (L._∷_ 114 (L._∷_ 99 (L._∷_ 104 (L._∷_ 58 (L._∷_ 58 (L._∷_ 80 (L._∷_ 114 (L._∷_ 111 (L._∷_ 103 (L._∷_ 114 (L._∷_ 101 (L._∷_ 115 (L._∷_ 115 L.[])))))))))))))))) (Syntax.tcons q0 (Syntax.tcons (Syntax.tyInt Syntax.w64) (Syntax.tcons q3 (Syntax.tcons Syntax.tyBool (Syntax.tcons Syntax.tyBool (Syntax.tcons (Syntax.tyInt Syntax.w64) (Syntax.tcons (Syntax.tyInt Syntax.w64) Syntax.tnil))))))))) (L._∷_ q31 (L._∷_ q13 (L._∷_ (3, Relend.mslice-owed Rec.row q28 1 3 (Row.lease (κs .1 .0) (qs .1 .0))) (L._∷_ q25 (L._∷_ q23 (L._∷_ q8 (L._∷_ q33 (L._∷_ q35 (L._∷_ q24 (L._∷_ q21 (L._∷_ (11, Rows.any-gone (Syntax.tyStruct (L._∷_ 110 (L._∷_ 101 (L._∷_ 116 (L._∷_ 119 (L._∷_ 111 (L._∷_ 114 (L._∷_ 107 (L._∷_ 58 (L._∷_ 58 (L._∷_ 69 (L._∷_ 100 (L._∷_ 105 (L._∷_ 116 L.[]))))))))))))) (Syntax.tcons q5 (Syntax.tcons q5 (Syntax.tcons q5 (Syntax.tcons q5 (Syntax.tcons q1 (Syntax.tcons q1 (Syntax.tcons (Syntax.tyInt Syntax.w64) (Syntax.tcons q4 Syntax.tnil)))))))))) (L._∷_ q17 (L._∷_ q6 L.[])))))))))))))
 
         abbrev g15 : L.List Row.Entry
-        g15 = L._∷_ (0, Rows.any-gone (Syntax.tyStruct (L._∷_ 115 (L._∷_ 101 (L._∷_ 97 (L._∷_ 114 (L._∷_ 99 (L._∷_ 104 (L._∷_ 58 (L._∷_ 58 (L._∷_ 80 (L._∷_ 114 (L._∷_ 111 (L._∷_ 103 (L._∷_ 114 (L._∷_ 101 (L._∷_ 115 (L._∷_ 115 L.[])))))))))))))))) (Syntax.tcons q0 (Syntax.tcons (Syntax.tyInt Syntax.w64) (Syntax.tcons q3 (Syntax.tcons Syntax.tyBool (Syntax.tcons Syntax.tyBool (Syntax.tcons (Syntax.tyInt Syntax.w64) (Syntax.tcons (Syntax.tyInt Syntax.w64) Syntax.tnil))))))))) (L._∷_ q31 (L._∷_ (2, Relend.mslice-owed (Signed.SInt Syntax.w32) q22 0 4 (Row.lease (κs .0) (qs .0))) (L._∷_ q18 (L._∷_ q25 (L._∷_ q23 (L._∷_ q8 (L._∷_ q33 (L._∷_ q35 (L._∷_ q24 (L._∷_ q7 (L._∷_ (11, Rows.any-gone (Syntax.tyStruct (L._∷_ 110 (L._∷_ 101 (L._∷_ 116 (L._∷_ 119 (L._∷_ 111 (L._∷_ 114 (L._∷_ 107 (L._∷_ 58 (L._∷_ 58 (L._∷_ 69 (L._∷_ 100 (L._∷_ 105 (L._∷_ 116 L.[]))))))))))))) (Syntax.tcons q5 (Syntax.tcons q5 (Syntax.tcons q5 (Syntax.tcons q5 (Syntax.tcons q1 (Syntax.tcons q1 (Syntax.tcons (Syntax.tyInt Syntax.w64) Syntax.tnil))))))))) (L._∷_ (12, Relend.msptr (Signed.SInt Syntax.w32) q26 4) (L._∷_ q6 L.[])))))))))))))
+        g15 = L._∷_ (0, Rows.any-gone (Syntax.tyStruct (L._∷_ 115 (L._∷_ 101 (L._∷_ 97 (L._∷_ 114 (L._∷_ 99 (L._∷_ 104 (L._∷_ 58 (L._∷_ 58 (L._∷_ 80 (L._∷_ 114 (L._∷_ 111 (L._∷_ 103 (L._∷_ 114 (L._∷_ 101 (L._∷_ 115 (L._∷_ 115 L.[])))))))))))))))) (Syntax.tcons q0 (Syntax.tcons (Syntax.tyInt Syntax.w64) (Syntax.tcons q3 (Syntax.tcons Syntax.tyBool (Syntax.tcons Syntax.tyBool (Syntax.tcons (Syntax.tyInt Syntax.w64) (Syntax.tcons (Syntax.tyInt Syntax.w64) Syntax.tnil))))))))) (L._∷_ q31 (L._∷_ (2, Relend.mslice-owed (Signed.SInt Syntax.w32) q22 0 4 (Row.lease (κs .0) (qs .0))) (L._∷_ q18 (L._∷_ q25 (L._∷_ q23 (L._∷_ q8 (L._∷_ q33 (L._∷_ q35 (L._∷_ q24 (L._∷_ q7 (L._∷_ (11, Rows.any-gone (Syntax.tyStruct (L._∷_ 110 (L._∷_ 101 (L._∷_ 116 (L._∷_ 119 (L._∷_ 111 (L._∷_ 114 (L._∷_ 107 (L._∷_ 58 (L._∷_ 58 (L._∷_ 69 (L._∷_ 100 (L._∷_ 105 (L._∷_ 116 L.[]))))))))))))) (Syntax.tcons q5 (Syntax.tcons q5 (Syntax.tcons q5 (Syntax.tcons q5 (Syntax.tcons q1 (Syntax.tcons q1 (Syntax.tcons (Syntax.tyInt Syntax.w64) (Syntax.tcons q4 Syntax.tnil)))))))))) (L._∷_ (12, Relend.msptr (Signed.SInt Syntax.w32) q26 4) (L._∷_ q6 L.[])))))))))))))
 
         abbrev g16 : L.List Row.Entry
-        g16 = L._∷_ (0, Rows.any-gone (Syntax.tyStruct (L._∷_ 115 (L._∷_ 101 (L._∷_ 97 (L._∷_ 114 (L._∷_ 99 (L._∷_ 104 (L._∷_ 58 (L._∷_ 58 (L._∷_ 80 (L._∷_ 114 (L._∷_ 111 (L._∷_ 103 (L._∷_ 114 (L._∷_ 101 (L._∷_ 115 (L._∷_ 115 L.[])))))))))))))))) (Syntax.tcons q0 (Syntax.tcons (Syntax.tyInt Syntax.w64) (Syntax.tcons q3 (Syntax.tcons Syntax.tyBool (Syntax.tcons Syntax.tyBool (Syntax.tcons (Syntax.tyInt Syntax.w64) (Syntax.tcons (Syntax.tyInt Syntax.w64) Syntax.tnil))))))))) (L._∷_ q31 (L._∷_ (2, Relend.mslice-owed (Signed.SInt Syntax.w32) q22 0 4 (Row.lease (κs .0) (qs .0))) (L._∷_ q18 (L._∷_ q25 (L._∷_ q23 (L._∷_ q8 (L._∷_ q33 (L._∷_ q35 (L._∷_ q24 (L._∷_ q7 (L._∷_ (11, Rows.any-gone (Syntax.tyStruct (L._∷_ 110 (L._∷_ 101 (L._∷_ 116 (L._∷_ 119 (L._∷_ 111 (L._∷_ 114 (L._∷_ 107 (L._∷_ 58 (L._∷_ 58 (L._∷_ 69 (L._∷_ 100 (L._∷_ 105 (L._∷_ 116 L.[]))))))))))))) (Syntax.tcons q5 (Syntax.tcons q5 (Syntax.tcons q5 (Syntax.tcons q5 (Syntax.tcons q1 (Syntax.tcons q1 (Syntax.tcons (Syntax.tyInt Syntax.w64) Syntax.tnil))))))))) (L._∷_ q17 (L._∷_ (13, Mut.mslice (Signed.SInt Syntax.w32) q26 4) L.[])))))))))))))
+        g16 = L._∷_ (0, Rows.any-gone (Syntax.tyStruct (L._∷_ 115 (L._∷_ 101 (L._∷_ 97 (L._∷_ 114 (L._∷_ 99 (L._∷_ 104 (L._∷_ 58 (L._∷_ 58 (L._∷_ 80 (L._∷_ 114 (L._∷_ 111 (L._∷_ 103 (L._∷_ 114 (L._∷_ 101 (L._∷_ 115 (L._∷_ 115 L.[])))))))))))))))) (Syntax.tcons q0 (Syntax.tcons (Syntax.tyInt Syntax.w64) (Syntax.tcons q3 (Syntax.tcons Syntax.tyBool (Syntax.tcons Syntax.tyBool (Syntax.tcons (Syntax.tyInt Syntax.w64) (Syntax.tcons (Syntax.tyInt Syntax.w64) Syntax.tnil))))))))) (L._∷_ q31 (L._∷_ (2, Relend.mslice-owed (Signed.SInt Syntax.w32) q22 0 4 (Row.lease (κs .0) (qs .0))) (L._∷_ q18 (L._∷_ q25 (L._∷_ q23 (L._∷_ q8 (L._∷_ q33 (L._∷_ q35 (L._∷_ q24 (L._∷_ q7 (L._∷_ (11, Rows.any-gone (Syntax.tyStruct (L._∷_ 110 (L._∷_ 101 (L._∷_ 116 (L._∷_ 119 (L._∷_ 111 (L._∷_ 114 (L._∷_ 107 (L._∷_ 58 (L._∷_ 58 (L._∷_ 69 (L._∷_ 100 (L._∷_ 105 (L._∷_ 116 L.[]))))))))))))) (Syntax.tcons q5 (Syntax.tcons q5 (Syntax.tcons q5 (Syntax.tcons q5 (Syntax.tcons q1 (Syntax.tcons q1 (Syntax.tcons (Syntax.tyInt Syntax.w64) (Syntax.tcons q4 Syntax.tnil)))))))))) (L._∷_ q17 (L._∷_ (13, Mut.mslice (Signed.SInt Syntax.w32) q26 4) L.[])))))))))))))
 
         abbrev g17 : L.List Row.Entry
-        g17 = L._∷_ (0, Rows.any-gone (Syntax.tyStruct (L._∷_ 115 (L._∷_ 101 (L._∷_ 97 (L._∷_ 114 (L._∷_ 99 (L._∷_ 104 (L._∷_ 58 (L._∷_ 58 (L._∷_ 80 (L._∷_ 114 (L._∷_ 111 (L._∷_ 103 (L._∷_ 114 (L._∷_ 101 (L._∷_ 115 (L._∷_ 115 L.[])))))))))))))))) (Syntax.tcons q0 (Syntax.tcons (Syntax.tyInt Syntax.w64) (Syntax.tcons q3 (Syntax.tcons Syntax.tyBool (Syntax.tcons Syntax.tyBool (Syntax.tcons (Syntax.tyInt Syntax.w64) (Syntax.tcons (Syntax.tyInt Syntax.w64) Syntax.tnil))))))))) (L._∷_ q31 (L._∷_ (2, Relend.mslice-owed (Signed.SInt Syntax.w32) q22 0 4 (Row.lease (κs .0) (qs .0))) (L._∷_ q18 (L._∷_ q25 (L._∷_ q23 (L._∷_ q8 (L._∷_ q33 (L._∷_ (8, Rows.sc-here Row.sUnit) (L._∷_ q24 (L._∷_ q7 (L._∷_ (11, Rows.any-gone (Syntax.tyStruct (L._∷_ 110 (L._∷_ 101 (L._∷_ 116 (L._∷_ 119 (L._∷_ 111 (L._∷_ 114 (L._∷_ 107 (L._∷_ 58 (L._∷_ 58 (L._∷_ 69 (L._∷_ 100 (L._∷_ 105 (L._∷_ 116 L.[]))))))))))))) (Syntax.tcons q5 (Syntax.tcons q5 (Syntax.tcons q5 (Syntax.tcons q5 (Syntax.tcons q1 (Syntax.tcons q1 (Syntax.tcons (Syntax.tyInt Syntax.w64) Syntax.tnil))))))))) (L._∷_ q17 (L._∷_ q14 L.[])))))))))))))
+        g17 = L._∷_ (0, Rows.any-gone (Syntax.tyStruct (L._∷_ 115 (L._∷_ 101 (L._∷_ 97 (L._∷_ 114 (L._∷_ 99 (L._∷_ 104 (L._∷_ 58 (L._∷_ 58 (L._∷_ 80 (L._∷_ 114 (L._∷_ 111 (L._∷_ 103 (L._∷_ 114 (L._∷_ 101 (L._∷_ 115 (L._∷_ 115 L.[])))))))))))))))) (Syntax.tcons q0 (Syntax.tcons (Syntax.tyInt Syntax.w64) (Syntax.tcons q3 (Syntax.tcons Syntax.tyBool (Syntax.tcons Syntax.tyBool (Syntax.tcons (Syntax.tyInt Syntax.w64) (Syntax.tcons (Syntax.tyInt Syntax.w64) Syntax.tnil))))))))) (L._∷_ q31 (L._∷_ (2, Relend.mslice-owed (Signed.SInt Syntax.w32) q22 0 4 (Row.lease (κs .0) (qs .0))) (L._∷_ q18 (L._∷_ q25 (L._∷_ q23 (L._∷_ q8 (L._∷_ q33 (L._∷_ (8, Rows.sc-here Row.sUnit) (L._∷_ q24 (L._∷_ q7 (L._∷_ (11, Rows.any-gone (Syntax.tyStruct (L._∷_ 110 (L._∷_ 101 (L._∷_ 116 (L._∷_ 119 (L._∷_ 111 (L._∷_ 114 (L._∷_ 107 (L._∷_ 58 (L._∷_ 58 (L._∷_ 69 (L._∷_ 100 (L._∷_ 105 (L._∷_ 116 L.[]))))))))))))) (Syntax.tcons q5 (Syntax.tcons q5 (Syntax.tcons q5 (Syntax.tcons q5 (Syntax.tcons q1 (Syntax.tcons q1 (Syntax.tcons (Syntax.tyInt Syntax.w64) (Syntax.tcons q4 Syntax.tnil)))))))))) (L._∷_ q17 (L._∷_ q14 L.[])))))))))))))
 
         abbrev g18 : L.List Row.Entry
-        g18 = L._∷_ (0, Rows.any-gone (Syntax.tyStruct (L._∷_ 115 (L._∷_ 101 (L._∷_ 97 (L._∷_ 114 (L._∷_ 99 (L._∷_ 104 (L._∷_ 58 (L._∷_ 58 (L._∷_ 80 (L._∷_ 114 (L._∷_ 111 (L._∷_ 103 (L._∷_ 114 (L._∷_ 101 (L._∷_ 115 (L._∷_ 115 L.[])))))))))))))))) (Syntax.tcons q0 (Syntax.tcons (Syntax.tyInt Syntax.w64) (Syntax.tcons q3 (Syntax.tcons Syntax.tyBool (Syntax.tcons Syntax.tyBool (Syntax.tcons (Syntax.tyInt Syntax.w64) (Syntax.tcons (Syntax.tyInt Syntax.w64) Syntax.tnil))))))))) (L._∷_ q31 (L._∷_ (2, Relend.mslice-owed (Signed.SInt Syntax.w32) q22 0 4 (Row.lease (κs .0) (qs .0))) (L._∷_ q18 (L._∷_ q25 (L._∷_ q23 (L._∷_ q8 (L._∷_ q33 (L._∷_ q35 (L._∷_ q24 (L._∷_ q7 (L._∷_ (11, Rows.any-gone (Syntax.tyStruct (L._∷_ 110 (L._∷_ 101 (L._∷_ 116 (L._∷_ 119 (L._∷_ 111 (L._∷_ 114 (L._∷_ 107 (L._∷_ 58 (L._∷_ 58 (L._∷_ 69 (L._∷_ 100 (L._∷_ 105 (L._∷_ 116 L.[]))))))))))))) (Syntax.tcons q5 (Syntax.tcons q5 (Syntax.tcons q5 (Syntax.tcons q5 (Syntax.tcons q1 (Syntax.tcons q1 (Syntax.tcons (Syntax.tyInt Syntax.w64) Syntax.tnil))))))))) (L._∷_ q17 (L._∷_ q14 L.[])))))))))))))
+        g18 = L._∷_ (0, Rows.any-gone (Syntax.tyStruct (L._∷_ 115 (L._∷_ 101 (L._∷_ 97 (L._∷_ 114 (L._∷_ 99 (L._∷_ 104 (L._∷_ 58 (L._∷_ 58 (L._∷_ 80 (L._∷_ 114 (L._∷_ 111 (L._∷_ 103 (L._∷_ 114 (L._∷_ 101 (L._∷_ 115 (L._∷_ 115 L.[])))))))))))))))) (Syntax.tcons q0 (Syntax.tcons (Syntax.tyInt Syntax.w64) (Syntax.tcons q3 (Syntax.tcons Syntax.tyBool (Syntax.tcons Syntax.tyBool (Syntax.tcons (Syntax.tyInt Syntax.w64) (Syntax.tcons (Syntax.tyInt Syntax.w64) Syntax.tnil))))))))) (L._∷_ q31 (L._∷_ (2, Relend.mslice-owed (Signed.SInt Syntax.w32) q22 0 4 (Row.lease (κs .0) (qs .0))) (L._∷_ q18 (L._∷_ q25 (L._∷_ q23 (L._∷_ q8 (L._∷_ q33 (L._∷_ q35 (L._∷_ q24 (L._∷_ q7 (L._∷_ (11, Rows.any-gone (Syntax.tyStruct (L._∷_ 110 (L._∷_ 101 (L._∷_ 116 (L._∷_ 119 (L._∷_ 111 (L._∷_ 114 (L._∷_ 107 (L._∷_ 58 (L._∷_ 58 (L._∷_ 69 (L._∷_ 100 (L._∷_ 105 (L._∷_ 116 L.[]))))))))))))) (Syntax.tcons q5 (Syntax.tcons q5 (Syntax.tcons q5 (Syntax.tcons q5 (Syntax.tcons q1 (Syntax.tcons q1 (Syntax.tcons (Syntax.tyInt Syntax.w64) (Syntax.tcons q4 Syntax.tnil)))))))))) (L._∷_ q17 (L._∷_ q14 L.[])))))))))))))
 
         abbrev G0 : Row.Cx
         G0 = record { locals = t0; slots = L._∷_ (Row.lease (κs .0) (qs .0)) (L._∷_ (Row.lease (κs .1 .0) (qs .1 .0)) (L._∷_ Row.off (L._∷_ Row.off (L._∷_ Row.off L.[])))) }
@@ -771,7 +771,7 @@ module _ (claims· : Claims) where
           d0 = Typed.t-return 𝓤 H A W 𝓣 E Δ0 tt
 
           d1 : Typed.Typed 𝓤 H A 𝓣 E G31 b12 Δ0 at1
-          d1 = Typed.g-pre 𝓤 H A W 𝓣 E G31 G32 b12 Δ0 (Typed.pass T31 T32 s30) at0 (Scalar.g-room 𝓤 H A W E G31 4 (Syntax.tyStruct (L._∷_ 114 (L._∷_ 117 (L._∷_ 108 (L._∷_ 101 (L._∷_ 115 (L._∷_ 58 (L._∷_ 58 (L._∷_ 116 (L._∷_ 114 (L._∷_ 105 (L._∷_ 101 (L._∷_ 100 (L._∷_ 58 (L._∷_ 58 (L._∷_ 76 (L._∷_ 111 (L._∷_ 111 (L._∷_ 107 (L._∷_ 101 (L._∷_ 100 L.[])))))))))))))))))))) (Syntax.tcons (Syntax.tyStruct (L._∷_ 114 (L._∷_ 117 (L._∷_ 108 (L._∷_ 101 (L._∷_ 115 (L._∷_ 58 (L._∷_ 58 (L._∷_ 102 (L._∷_ 111 (L._∷_ 117 (L._∷_ 110 (L._∷_ 100 (L._∷_ 58 (L._∷_ 58 (L._∷_ 70 (L._∷_ 111 (L._∷_ 117 (L._∷_ 110 (L._∷_ 100 L.[]))))))))))))))))))) (Syntax.tcons Syntax.tyBool (Syntax.tcons Syntax.tyBool (Syntax.tcons (Syntax.tyStruct (L._∷_ 115 (L._∷_ 116 (L._∷_ 101 (L._∷_ 112 (L._∷_ 58 (L._∷_ 58 (L._∷_ 83 (L._∷_ 116 (L._∷_ 101 (L._∷_ 112 L.[])))))))))) (Syntax.tcons (Syntax.tyInt Syntax.w64) (Syntax.tcons (Syntax.tyInt Syntax.w64) (Syntax.tcons (Syntax.tyStruct (L._∷_ 115 (L._∷_ 116 (L._∷_ 101 (L._∷_ 112 (L._∷_ 58 (L._∷_ 58 (L._∷_ 67 (L._∷_ 104 (L._∷_ 97 (L._∷_ 110 (L._∷_ 103 (L._∷_ 101 L.[])))))))))))) (Syntax.tcons (Syntax.tyStruct (L._∷_ 110 (L._∷_ 101 (L._∷_ 116 (L._∷_ 119 (L._∷_ 111 (L._∷_ 114 (L._∷_ 107 (L._∷_ 58 (L._∷_ 58 (L._∷_ 69 (L._∷_ 100 (L._∷_ 105 (L._∷_ 116 L.[]))))))))))))) (Syntax.tcons q5 (Syntax.tcons q5 (Syntax.tcons q5 (Syntax.tcons q5 (Syntax.tcons q1 (Syntax.tcons q1 (Syntax.tcons (Syntax.tyInt Syntax.w64) Syntax.tnil)))))))) (Syntax.tcons (Syntax.tyStruct (L._∷_ 115 (L._∷_ 116 (L._∷_ 101 (L._∷_ 112 (L._∷_ 58 (L._∷_ 58 (L._∷_ 79 (L._∷_ 108 (L._∷_ 100 L.[]))))))))) (Syntax.tcons (Syntax.tyInt Syntax.w64) (Syntax.tcons q4 (Syntax.tcons q5 (Syntax.tcons q5 (Syntax.tcons q5 (Syntax.tcons q5 (Syntax.tcons q2 Syntax.tnil)))))))) Syntax.tnil))) Syntax.tnil)))) Syntax.tnil)))) (Syntax.tcons q3 Syntax.tnil))) (Local.room-whole 𝓤 H A W (Declared.row rules-proofs-tried-Looked·.the-type) (Syntax.tyStruct (L._∷_ 114 (L._∷_ 117 (L._∷_ 108 (L._∷_ 101 (L._∷_ 115 (L._∷_ 58 (L._∷_ 58 (L._∷_ 116 (L._∷_ 114 (L._∷_ 105 (L._∷_ 101 (L._∷_ 100 (L._∷_ 58 (L._∷_ 58 (L._∷_ 76 (L._∷_ 111 (L._∷_ 111 (L._∷_ 107 (L._∷_ 101 (L._∷_ 100 L.[])))))))))))))))))))) (Syntax.tcons (Syntax.tyStruct (L._∷_ 114 (L._∷_ 117 (L._∷_ 108 (L._∷_ 101 (L._∷_ 115 (L._∷_ 58 (L._∷_ 58 (L._∷_ 102 (L._∷_ 111 (L._∷_ 117 (L._∷_ 110 (L._∷_ 100 (L._∷_ 58 (L._∷_ 58 (L._∷_ 70 (L._∷_ 111 (L._∷_ 117 (L._∷_ 110 (L._∷_ 100 L.[]))))))))))))))))))) (Syntax.tcons Syntax.tyBool (Syntax.tcons Syntax.tyBool (Syntax.tcons (Syntax.tyStruct (L._∷_ 115 (L._∷_ 116 (L._∷_ 101 (L._∷_ 112 (L._∷_ 58 (L._∷_ 58 (L._∷_ 83 (L._∷_ 116 (L._∷_ 101 (L._∷_ 112 L.[])))))))))) (Syntax.tcons (Syntax.tyInt Syntax.w64) (Syntax.tcons (Syntax.tyInt Syntax.w64) (Syntax.tcons (Syntax.tyStruct (L._∷_ 115 (L._∷_ 116 (L._∷_ 101 (L._∷_ 112 (L._∷_ 58 (L._∷_ 58 (L._∷_ 67 (L._∷_ 104 (L._∷_ 97 (L._∷_ 110 (L._∷_ 103 (L._∷_ 101 L.[])))))))))))) (Syntax.tcons (Syntax.tyStruct (L._∷_ 110 (L._∷_ 101 (L._∷_ 116 (L._∷_ 119 (L._∷_ 111 (L._∷_ 114 (L._∷_ 107 (L._∷_ 58 (L._∷_ 58 (L._∷_ 69 (L._∷_ 100 (L._∷_ 105 (L._∷_ 116 L.[]))))))))))))) (Syntax.tcons q5 (Syntax.tcons q5 (Syntax.tcons q5 (Syntax.tcons q5 (Syntax.tcons q1 (Syntax.tcons q1 (Syntax.tcons (Syntax.tyInt Syntax.w64) Syntax.tnil)))))))) (Syntax.tcons (Syntax.tyStruct (L._∷_ 115 (L._∷_ 116 (L._∷_ 101 (L._∷_ 112 (L._∷_ 58 (L._∷_ 58 (L._∷_ 79 (L._∷_ 108 (L._∷_ 100 L.[]))))))))) (Syntax.tcons (Syntax.tyInt Syntax.w64) (Syntax.tcons q4 (Syntax.tcons q5 (Syntax.tcons q5 (Syntax.tcons q5 (Syntax.tcons q5 (Syntax.tcons q2 Syntax.tnil)))))))) Syntax.tnil))) Syntax.tnil)))) Syntax.tnil)))) (Syntax.tcons q3 Syntax.tnil))) Path.refl)) d0
+          d1 = Typed.g-pre 𝓤 H A W 𝓣 E G31 G32 b12 Δ0 (Typed.pass T31 T32 s30) at0 (Scalar.g-room 𝓤 H A W E G31 4 (Syntax.tyStruct (L._∷_ 114 (L._∷_ 117 (L._∷_ 108 (L._∷_ 101 (L._∷_ 115 (L._∷_ 58 (L._∷_ 58 (L._∷_ 116 (L._∷_ 114 (L._∷_ 105 (L._∷_ 101 (L._∷_ 100 (L._∷_ 58 (L._∷_ 58 (L._∷_ 76 (L._∷_ 111 (L._∷_ 111 (L._∷_ 107 (L._∷_ 101 (L._∷_ 100 L.[])))))))))))))))))))) (Syntax.tcons (Syntax.tyStruct (L._∷_ 114 (L._∷_ 117 (L._∷_ 108 (L._∷_ 101 (L._∷_ 115 (L._∷_ 58 (L._∷_ 58 (L._∷_ 102 (L._∷_ 111 (L._∷_ 117 (L._∷_ 110 (L._∷_ 100 (L._∷_ 58 (L._∷_ 58 (L._∷_ 70 (L._∷_ 111 (L._∷_ 117 (L._∷_ 110 (L._∷_ 100 L.[]))))))))))))))))))) (Syntax.tcons Syntax.tyBool (Syntax.tcons Syntax.tyBool (Syntax.tcons (Syntax.tyStruct (L._∷_ 115 (L._∷_ 116 (L._∷_ 101 (L._∷_ 112 (L._∷_ 58 (L._∷_ 58 (L._∷_ 83 (L._∷_ 116 (L._∷_ 101 (L._∷_ 112 L.[])))))))))) (Syntax.tcons (Syntax.tyInt Syntax.w64) (Syntax.tcons (Syntax.tyInt Syntax.w64) (Syntax.tcons (Syntax.tyStruct (L._∷_ 115 (L._∷_ 116 (L._∷_ 101 (L._∷_ 112 (L._∷_ 58 (L._∷_ 58 (L._∷_ 67 (L._∷_ 104 (L._∷_ 97 (L._∷_ 110 (L._∷_ 103 (L._∷_ 101 L.[])))))))))))) (Syntax.tcons (Syntax.tyStruct (L._∷_ 110 (L._∷_ 101 (L._∷_ 116 (L._∷_ 119 (L._∷_ 111 (L._∷_ 114 (L._∷_ 107 (L._∷_ 58 (L._∷_ 58 (L._∷_ 69 (L._∷_ 100 (L._∷_ 105 (L._∷_ 116 L.[]))))))))))))) (Syntax.tcons q5 (Syntax.tcons q5 (Syntax.tcons q5 (Syntax.tcons q5 (Syntax.tcons q1 (Syntax.tcons q1 (Syntax.tcons (Syntax.tyInt Syntax.w64) (Syntax.tcons q4 Syntax.tnil))))))))) (Syntax.tcons (Syntax.tyStruct (L._∷_ 115 (L._∷_ 116 (L._∷_ 101 (L._∷_ 112 (L._∷_ 58 (L._∷_ 58 (L._∷_ 79 (L._∷_ 108 (L._∷_ 100 L.[]))))))))) (Syntax.tcons (Syntax.tyInt Syntax.w64) (Syntax.tcons q4 (Syntax.tcons q5 (Syntax.tcons q5 (Syntax.tcons q5 (Syntax.tcons q5 (Syntax.tcons q2 Syntax.tnil)))))))) Syntax.tnil))) Syntax.tnil)))) Syntax.tnil)))) (Syntax.tcons q3 Syntax.tnil))) (Local.room-whole 𝓤 H A W (Declared.row rules-proofs-tried-Looked·.the-type) (Syntax.tyStruct (L._∷_ 114 (L._∷_ 117 (L._∷_ 108 (L._∷_ 101 (L._∷_ 115 (L._∷_ 58 (L._∷_ 58 (L._∷_ 116 (L._∷_ 114 (L._∷_ 105 (L._∷_ 101 (L._∷_ 100 (L._∷_ 58 (L._∷_ 58 (L._∷_ 76 (L._∷_ 111 (L._∷_ 111 (L._∷_ 107 (L._∷_ 101 (L._∷_ 100 L.[])))))))))))))))))))) (Syntax.tcons (Syntax.tyStruct (L._∷_ 114 (L._∷_ 117 (L._∷_ 108 (L._∷_ 101 (L._∷_ 115 (L._∷_ 58 (L._∷_ 58 (L._∷_ 102 (L._∷_ 111 (L._∷_ 117 (L._∷_ 110 (L._∷_ 100 (L._∷_ 58 (L._∷_ 58 (L._∷_ 70 (L._∷_ 111 (L._∷_ 117 (L._∷_ 110 (L._∷_ 100 L.[]))))))))))))))))))) (Syntax.tcons Syntax.tyBool (Syntax.tcons Syntax.tyBool (Syntax.tcons (Syntax.tyStruct (L._∷_ 115 (L._∷_ 116 (L._∷_ 101 (L._∷_ 112 (L._∷_ 58 (L._∷_ 58 (L._∷_ 83 (L._∷_ 116 (L._∷_ 101 (L._∷_ 112 L.[])))))))))) (Syntax.tcons (Syntax.tyInt Syntax.w64) (Syntax.tcons (Syntax.tyInt Syntax.w64) (Syntax.tcons (Syntax.tyStruct (L._∷_ 115 (L._∷_ 116 (L._∷_ 101 (L._∷_ 112 (L._∷_ 58 (L._∷_ 58 (L._∷_ 67 (L._∷_ 104 (L._∷_ 97 (L._∷_ 110 (L._∷_ 103 (L._∷_ 101 L.[])))))))))))) (Syntax.tcons (Syntax.tyStruct (L._∷_ 110 (L._∷_ 101 (L._∷_ 116 (L._∷_ 119 (L._∷_ 111 (L._∷_ 114 (L._∷_ 107 (L._∷_ 58 (L._∷_ 58 (L._∷_ 69 (L._∷_ 100 (L._∷_ 105 (L._∷_ 116 L.[]))))))))))))) (Syntax.tcons q5 (Syntax.tcons q5 (Syntax.tcons q5 (Syntax.tcons q5 (Syntax.tcons q1 (Syntax.tcons q1 (Syntax.tcons (Syntax.tyInt Syntax.w64) (Syntax.tcons q4 Syntax.tnil))))))))) (Syntax.tcons (Syntax.tyStruct (L._∷_ 115 (L._∷_ 116 (L._∷_ 101 (L._∷_ 112 (L._∷_ 58 (L._∷_ 58 (L._∷_ 79 (L._∷_ 108 (L._∷_ 100 L.[]))))))))) (Syntax.tcons (Syntax.tyInt Syntax.w64) (Syntax.tcons q4 (Syntax.tcons q5 (Syntax.tcons q5 (Syntax.tcons q5 (Syntax.tcons q5 (Syntax.tcons q2 Syntax.tnil)))))))) Syntax.tnil))) Syntax.tnil)))) Syntax.tnil)))) (Syntax.tcons q3 Syntax.tnil))) Path.refl)) d0
 
           d2 : Typed.Typed 𝓤 H A 𝓣 E G30 b12 Δ0 at2
           d2 = Typed.g-pre 𝓤 H A W 𝓣 E G30 G31 b12 Δ0 (Typed.pass T30 T31 s29) at1 (Scalar.g-room 𝓤 H A W E G30 1 (Syntax.tyStruct (L._∷_ 115 (L._∷_ 101 (L._∷_ 97 (L._∷_ 114 (L._∷_ 99 (L._∷_ 104 (L._∷_ 58 (L._∷_ 58 (L._∷_ 80 (L._∷_ 114 (L._∷_ 111 (L._∷_ 103 (L._∷_ 114 (L._∷_ 101 (L._∷_ 115 (L._∷_ 115 L.[])))))))))))))))) (Syntax.tcons q0 (Syntax.tcons (Syntax.tyInt Syntax.w64) (Syntax.tcons q3 (Syntax.tcons Syntax.tyBool (Syntax.tcons Syntax.tyBool (Syntax.tcons (Syntax.tyInt Syntax.w64) (Syntax.tcons (Syntax.tyInt Syntax.w64) Syntax.tnil)))))))) (Local.room-whole 𝓤 H A W (Declared.row Progress·.the-type) (Syntax.tyStruct (L._∷_ 115 (L._∷_ 101 (L._∷_ 97 (L._∷_ 114 (L._∷_ 99 (L._∷_ 104 (L._∷_ 58 (L._∷_ 58 (L._∷_ 80 (L._∷_ 114 (L._∷_ 111 (L._∷_ 103 (L._∷_ 114 (L._∷_ 101 (L._∷_ 115 (L._∷_ 115 L.[])))))))))))))))) (Syntax.tcons q0 (Syntax.tcons (Syntax.tyInt Syntax.w64) (Syntax.tcons q3 (Syntax.tcons Syntax.tyBool (Syntax.tcons Syntax.tyBool (Syntax.tcons (Syntax.tyInt Syntax.w64) (Syntax.tcons (Syntax.tyInt Syntax.w64) Syntax.tnil)))))))) Path.refl)) d1
@@ -792,7 +792,7 @@ module _ (claims· : Claims) where
           d7 = Typed.g-pre 𝓤 H A W 𝓣 E G25 G26 b13 Δ0 (Typed.pass T25 T26 s24) at6 (Scalar.g-room 𝓤 H A W E G25 8 Syntax.tyUnit (Scalar.room-sc 𝓤 H A W Row.sUnit)) d6
 
           d8 : Typed.Typed 𝓤 H A 𝓣 E G24 b14 Δ0 at8
-          d8 = Typed.s-seq 𝓤 H A W 𝓣 E G24 G25 b10 b13 Δ0 (Typed.both s23) at7 (Plain.t-call-plain 𝓤 H A W 𝓣 1 ps·4 r·4 (claims· .8) (claims· .9) "search::note" (known .4) E (λ pos β. β) G24 (record { pos = 13; ty = Syntax.tyRef Syntax.erased Syntax.mut (Syntax.tyInt Syntax.w32); ref = λ x. x }, (Num.vFld 1 (L._∷_ (Syntax.field 1) L.[]) 320 λ x. Progress·.struct .as-values x .1 .0, (record { pos = 4; st = L.[]; d = 0; at = λ x. x }, tt))) 8 (L._∷_ 4 L.[]) (Call.sub-id 𝓤 H A W (G24 .slots)) (TReads.as-is 𝓤 H A (Mut.mslice (Signed.SInt Syntax.w32) q26 4), Mut.reads-mslice 𝓤 H A W (Signed.SInt Syntax.w32) q26 4, Path.refl, ((Reads.reads-field 𝓤 H A W Progress·.the-type Progress-Laws·.the-laws 1 (Syntax.tyInt Syntax.w64) 320 Path.refl, Path.refl), ((RuleYields.yields-copy 𝓤 H A W (λ ρ. Unit) (Declared.row rules-proofs-tried-Looked·.the-type) Path.refl (Copies.cStruct rules-proofs-tried-Looked·.the-type rules-proofs-tried-Looked-Laws·.the-laws rules-proofs-tried-Looked-Laws·.the-copy .copy 𝓤 H A W) (Rows.whole (Declared.row rules-proofs-tried-Looked·.the-type)) (λ x. x) (λ x. x) (λ ρ told. Local.mem-whole 𝓤 H A W (Declared.row rules-proofs-tried-Looked·.the-type) ρ) λ ρ told. Local.whole-mem 𝓤 H A W (Declared.row rules-proofs-tried-Looked·.the-type) ρ, Path.refl), tt))) (TReads.room-gone 𝓤 H A Syntax.tyUnit) (tt, tt) Path.refl) d7
+          d8 = Typed.s-seq 𝓤 H A W 𝓣 E G24 G25 b10 b13 Δ0 (Typed.both s23) at7 (Plain.t-call-plain 𝓤 H A W 𝓣 1 ps·4 r·4 (claims· .8) (claims· .9) "search::note" (known .4) E (λ pos β. β) G24 (record { pos = 13; ty = Syntax.tyRef Syntax.erased Syntax.mut (Syntax.tyInt Syntax.w32); ref = λ x. x }, (Num.vFld 1 (L._∷_ (Syntax.field 1) L.[]) 328 λ x. Progress·.struct .as-values x .1 .0, (record { pos = 4; st = L.[]; d = 0; at = λ x. x }, tt))) 8 (L._∷_ 4 L.[]) (Call.sub-id 𝓤 H A W (G24 .slots)) (TReads.as-is 𝓤 H A (Mut.mslice (Signed.SInt Syntax.w32) q26 4), Mut.reads-mslice 𝓤 H A W (Signed.SInt Syntax.w32) q26 4, Path.refl, ((Reads.reads-field 𝓤 H A W Progress·.the-type Progress-Laws·.the-laws 1 (Syntax.tyInt Syntax.w64) 328 Path.refl, Path.refl), ((RuleYields.yields-copy 𝓤 H A W (λ ρ. Unit) (Declared.row rules-proofs-tried-Looked·.the-type) Path.refl (Copies.cStruct rules-proofs-tried-Looked·.the-type rules-proofs-tried-Looked-Laws·.the-laws rules-proofs-tried-Looked-Laws·.the-copy .copy 𝓤 H A W) (Rows.whole (Declared.row rules-proofs-tried-Looked·.the-type)) (λ x. x) (λ x. x) (λ ρ told. Local.mem-whole 𝓤 H A W (Declared.row rules-proofs-tried-Looked·.the-type) ρ) λ ρ told. Local.whole-mem 𝓤 H A W (Declared.row rules-proofs-tried-Looked·.the-type) ρ, Path.refl), tt))) (TReads.room-gone 𝓤 H A Syntax.tyUnit) (tt, tt) Path.refl) d7
 
           d9 : Typed.Typed 𝓤 H A 𝓣 E G23 b15 Δ0 at9
           d9 = Typed.s-seq 𝓤 H A W 𝓣 E G23 G24 b9 b14 Δ0 (Typed.ask s22) at8 (Relend.t-sl-aggregate 𝓤 H A W E (Signed.SInt Syntax.w32) 𝓣 (Relend.asMut (Signed.SInt Syntax.w32)) G23 12 13 4 q26 q26 (λ x. x) (Scalar.oFld 2 (L._∷_ (Syntax.field 1) L.[]) (Syntax.tyInt Syntax.w64) 8 λ v. Shared.lenV (v .0)) (TReads.as-is 𝓤 H A (Relend.msptr (Signed.SInt Syntax.w32) q26 4)) (TReads.room-gone 𝓤 H A q9) (Relend.reads-owed-len 𝓤 H A W (Signed.SInt Syntax.w32) q22 0 4 (Row.lease (κs .0) (qs .0)) 8 Path.refl, Path.refl) Path.refl Path.refl λ b o k. tt) d8
@@ -813,7 +813,7 @@ module _ (claims· : Claims) where
           d14 = Typed.g-pre 𝓤 H A W 𝓣 E G18 G19 b16 Δ0 (λ Ψ. Ψ) at13 (Lifetime.g-end 𝓤 H A W E G18 3 Path.refl) d13
 
           d15 : Typed.Typed 𝓤 H A 𝓣 E G17 b16 Δ0 at15
-          d15 = Typed.g-pre 𝓤 H A W 𝓣 E G17 G18 b16 Δ0 (Typed.pass T17 T18 s16) at14 (Scalar.g-room 𝓤 H A W E G17 11 (Syntax.tyStruct (L._∷_ 110 (L._∷_ 101 (L._∷_ 116 (L._∷_ 119 (L._∷_ 111 (L._∷_ 114 (L._∷_ 107 (L._∷_ 58 (L._∷_ 58 (L._∷_ 69 (L._∷_ 100 (L._∷_ 105 (L._∷_ 116 L.[]))))))))))))) (Syntax.tcons q5 (Syntax.tcons q5 (Syntax.tcons q5 (Syntax.tcons q5 (Syntax.tcons q1 (Syntax.tcons q1 (Syntax.tcons (Syntax.tyInt Syntax.w64) Syntax.tnil)))))))) (Local.room-whole 𝓤 H A W (Declared.row network-proofs-Edit·.the-type) (Syntax.tyStruct (L._∷_ 110 (L._∷_ 101 (L._∷_ 116 (L._∷_ 119 (L._∷_ 111 (L._∷_ 114 (L._∷_ 107 (L._∷_ 58 (L._∷_ 58 (L._∷_ 69 (L._∷_ 100 (L._∷_ 105 (L._∷_ 116 L.[]))))))))))))) (Syntax.tcons q5 (Syntax.tcons q5 (Syntax.tcons q5 (Syntax.tcons q5 (Syntax.tcons q1 (Syntax.tcons q1 (Syntax.tcons (Syntax.tyInt Syntax.w64) Syntax.tnil)))))))) Path.refl)) d14
+          d15 = Typed.g-pre 𝓤 H A W 𝓣 E G17 G18 b16 Δ0 (Typed.pass T17 T18 s16) at14 (Scalar.g-room 𝓤 H A W E G17 11 (Syntax.tyStruct (L._∷_ 110 (L._∷_ 101 (L._∷_ 116 (L._∷_ 119 (L._∷_ 111 (L._∷_ 114 (L._∷_ 107 (L._∷_ 58 (L._∷_ 58 (L._∷_ 69 (L._∷_ 100 (L._∷_ 105 (L._∷_ 116 L.[]))))))))))))) (Syntax.tcons q5 (Syntax.tcons q5 (Syntax.tcons q5 (Syntax.tcons q5 (Syntax.tcons q1 (Syntax.tcons q1 (Syntax.tcons (Syntax.tyInt Syntax.w64) (Syntax.tcons q4 Syntax.tnil))))))))) (Local.room-whole 𝓤 H A W (Declared.row network-proofs-Edit·.the-type) (Syntax.tyStruct (L._∷_ 110 (L._∷_ 101 (L._∷_ 116 (L._∷_ 119 (L._∷_ 111 (L._∷_ 114 (L._∷_ 107 (L._∷_ 58 (L._∷_ 58 (L._∷_ 69 (L._∷_ 100 (L._∷_ 105 (L._∷_ 116 L.[]))))))))))))) (Syntax.tcons q5 (Syntax.tcons q5 (Syntax.tcons q5 (Syntax.tcons q5 (Syntax.tcons q1 (Syntax.tcons q1 (Syntax.tcons (Syntax.tyInt Syntax.w64) (Syntax.tcons q4 Syntax.tnil))))))))) Path.refl)) d14
 
           d16 : Typed.Typed 𝓤 H A 𝓣 E G16 b16 Δ0 at16
           d16 = Typed.g-pre 𝓤 H A W 𝓣 E G16 G17 b16 Δ0 (Typed.pass T16 T17 s15) at15 (Scalar.g-room 𝓤 H A W E G16 8 Syntax.tyUnit (Scalar.room-sc 𝓤 H A W Row.sUnit)) d15
@@ -822,7 +822,7 @@ module _ (claims· : Claims) where
           d17 = Typed.s-seq 𝓤 H A W 𝓣 E G15 G16 b7 b16 Δ0 (Typed.both s14) at16 (Plain.t-call-plain 𝓤 H A W 𝓣 1 ps·3 r·3 (claims· .6) (claims· .7) "network::list::put_edit" (known .3) E (λ pos β. β) G15 (record { pos = 10; ty = Syntax.tyRef Syntax.erased Syntax.mut Rec.named; ref = λ x. x }, (record { pos = 11; st = L.[]; d = 0; at = λ x. x }, tt)) 8 (L._∷_ 3 L.[]) (Call.sub-id 𝓤 H A W (G15 .slots)) (TReads.as-is 𝓤 H A (Mut.mslice Rec.row q30 3), Mut.reads-mslice 𝓤 H A W Rec.row q30 3, Path.refl, ((RuleYields.yields-copy 𝓤 H A W (λ ρ. Unit) (Declared.row network-proofs-Edit·.the-type) Path.refl (Copies.cStruct network-proofs-Edit·.the-type network-proofs-Edit-Laws·.the-laws network-proofs-Edit-Laws·.the-copy .copy 𝓤 H A W) (Rows.whole (Declared.row network-proofs-Edit·.the-type)) (λ x. x) (λ x. x) (λ ρ told. Local.mem-whole 𝓤 H A W (Declared.row network-proofs-Edit·.the-type) ρ) λ ρ told. Local.whole-mem 𝓤 H A W (Declared.row network-proofs-Edit·.the-type) ρ, Path.refl), tt)) (TReads.room-gone 𝓤 H A Syntax.tyUnit) (tt, tt) Path.refl) d16
 
           d18 : Typed.Typed 𝓤 H A 𝓣 E G14 b18 Δ0 at18
-          d18 = Typed.s-seq 𝓤 H A W 𝓣 E G14 G15 b6 b17 Δ0 (Typed.both s13) at17 (Plain.t-call-plain 𝓤 H A W 𝓣 0 ps·2 r·2 (claims· .4) (claims· .5) "search::edit_of" (known .2) E (λ pos β. β) G14 (record { pos = 4; st = L.[]; d = 0; at = λ x. x }, tt) 11 L.[] (Call.sub-id 𝓤 H A W (G14 .slots)) ((RuleYields.yields-copy 𝓤 H A W (λ ρ. Unit) (Declared.row rules-proofs-tried-Looked·.the-type) Path.refl (Copies.cStruct rules-proofs-tried-Looked·.the-type rules-proofs-tried-Looked-Laws·.the-laws rules-proofs-tried-Looked-Laws·.the-copy .copy 𝓤 H A W) (Rows.whole (Declared.row rules-proofs-tried-Looked·.the-type)) (λ x. x) (λ x. x) (λ ρ told. Local.mem-whole 𝓤 H A W (Declared.row rules-proofs-tried-Looked·.the-type) ρ) λ ρ told. Local.whole-mem 𝓤 H A W (Declared.row rules-proofs-tried-Looked·.the-type) ρ, Path.refl), tt) (TReads.room-gone 𝓤 H A (Syntax.tyStruct (L._∷_ 110 (L._∷_ 101 (L._∷_ 116 (L._∷_ 119 (L._∷_ 111 (L._∷_ 114 (L._∷_ 107 (L._∷_ 58 (L._∷_ 58 (L._∷_ 69 (L._∷_ 100 (L._∷_ 105 (L._∷_ 116 L.[]))))))))))))) (Syntax.tcons q5 (Syntax.tcons q5 (Syntax.tcons q5 (Syntax.tcons q5 (Syntax.tcons q1 (Syntax.tcons q1 (Syntax.tcons (Syntax.tyInt Syntax.w64) Syntax.tnil))))))))) tt Path.refl) d17
+          d18 = Typed.s-seq 𝓤 H A W 𝓣 E G14 G15 b6 b17 Δ0 (Typed.both s13) at17 (Plain.t-call-plain 𝓤 H A W 𝓣 0 ps·2 r·2 (claims· .4) (claims· .5) "search::edit_of" (known .2) E (λ pos β. β) G14 (record { pos = 4; st = L.[]; d = 0; at = λ x. x }, tt) 11 L.[] (Call.sub-id 𝓤 H A W (G14 .slots)) ((RuleYields.yields-copy 𝓤 H A W (λ ρ. Unit) (Declared.row rules-proofs-tried-Looked·.the-type) Path.refl (Copies.cStruct rules-proofs-tried-Looked·.the-type rules-proofs-tried-Looked-Laws·.the-laws rules-proofs-tried-Looked-Laws·.the-copy .copy 𝓤 H A W) (Rows.whole (Declared.row rules-proofs-tried-Looked·.the-type)) (λ x. x) (λ x. x) (λ ρ told. Local.mem-whole 𝓤 H A W (Declared.row rules-proofs-tried-Looked·.the-type) ρ) λ ρ told. Local.whole-mem 𝓤 H A W (Declared.row rules-proofs-tried-Looked·.the-type) ρ, Path.refl), tt) (TReads.room-gone 𝓤 H A (Syntax.tyStruct (L._∷_ 110 (L._∷_ 101 (L._∷_ 116 (L._∷_ 119 (L._∷_ 111 (L._∷_ 114 (L._∷_ 107 (L._∷_ 58 (L._∷_ 58 (L._∷_ 69 (L._∷_ 100 (L._∷_ 105 (L._∷_ 116 L.[]))))))))))))) (Syntax.tcons q5 (Syntax.tcons q5 (Syntax.tcons q5 (Syntax.tcons q5 (Syntax.tcons q1 (Syntax.tcons q1 (Syntax.tcons (Syntax.tyInt Syntax.w64) (Syntax.tcons q4 Syntax.tnil)))))))))) tt Path.refl) d17
 
           d19 : Typed.Typed 𝓤 H A 𝓣 E G13 b19 Δ0 at19
           d19 = Typed.s-seq 𝓤 H A W 𝓣 E G13 G14 b5 b18 Δ0 (Typed.ask s12) at18 (Relend.t-sl-aggregate 𝓤 H A W E Rec.row 𝓣 (Relend.asMut Rec.row) G13 9 10 3 q30 q30 (λ x. x) (Scalar.oFld 3 (L._∷_ (Syntax.field 1) L.[]) (Syntax.tyInt Syntax.w64) 8 λ v. Shared.lenV (v .0)) (TReads.as-is 𝓤 H A (Relend.msptr Rec.row q30 3)) (TReads.room-gone 𝓤 H A q11) (Relend.reads-owed-len 𝓤 H A W Rec.row q28 1 3 (Row.lease (κs .1 .0) (qs .1 .0)) 8 Path.refl, Path.refl) Path.refl Path.refl λ b o k. tt) d18
@@ -849,7 +849,7 @@ module _ (claims· : Claims) where
           d26 = Typed.g-pre 𝓤 H A W 𝓣 E G6 G7 b20 Δ0 (Typed.pass T6 T7 s5) at25 (Scalar.g-room 𝓤 H A W E G6 6 q10 (Shared.room-sslice 𝓤 H A W Rec.row q29 2)) d25
 
           d27 : Typed.Typed 𝓤 H A 𝓣 E G5 b21 Δ0 at27
-          d27 = Typed.s-seq 𝓤 H A W 𝓣 E G5 G6 b3 b20 Δ0 (Typed.both s4) at26 (Plain.t-call-plain 𝓤 H A W 𝓣 1 ps·1 r·1 (claims· .2) (claims· .3) "search::scan::next" (known .1) E (λ pos β. β) G5 (record { pos = 1; st = L._∷_ (Syntax.field 0) L.[]; d = 0; at = λ x. Progress·.struct .as-values x .0 }, (record { pos = 6; ty = Syntax.tyRef Syntax.erased Syntax.imm Rec.named; ref = λ x. x }, (record { pos = 1; st = L._∷_ (Syntax.field 2) L.[]; d = 328; at = λ x. Progress·.struct .as-values x .1 .1 .0 }, (Num.vAt 7 λ x. x, tt)))) 4 (L._∷_ 2 L.[]) (Call.sub-id 𝓤 H A W (G5 .slots)) ((StructYields.yields-acc 𝓤 H A W q32 (Declared.row network-proofs-Nodes·.the-type) 0 (λ x. Progress·.struct .as-values x .0) Path.refl (Copies.cStruct network-proofs-Nodes·.the-type network-proofs-Nodes-Laws·.the-laws network-proofs-Nodes-Laws·.the-copy .copy 𝓤 H A W) (StructYields.acc-record 𝓤 H A W q32 network-proofs-Nodes·.the-type 0 (λ x. Progress·.struct .as-values x .0) (StructYields.acc-part 𝓤 H A W q32 (Declared.row Progress·.the-type) (Struct.Struct (Declared.shape network-proofs-Nodes·.the-type)) 0 0 (λ x. x) (λ y. network-proofs-Nodes·.the-type .to (Progress·.struct .as-values y .0)) (StructYields.acc-whole 𝓤 H A W (Declared.row Progress·.the-type)) λ y a. Behind.look-at 𝓤 H A W TreeShare.fullShare Progress·.the-type Progress-Laws·.the-laws 0 0 Path.refl Path.refl a y (Progress·.struct .as-values y) Path.refl)), Path.refl), (ShrSlice.spares-sslice 𝓤 H A W Rec.row q29 2, Shared.reads-sslice 𝓤 H A W Rec.row q29 2, Path.refl, ((StructYields.yields-acc 𝓤 H A W q32 (Declared.row costly-arc-proofs-Seen·.the-type) 328 (λ x. Progress·.struct .as-values x .1 .1 .0) Path.refl (Copies.cStruct costly-arc-proofs-Seen·.the-type costly-arc-proofs-Seen-Laws·.the-laws costly-arc-proofs-Seen-Laws·.the-copy .copy 𝓤 H A W) (StructYields.acc-record 𝓤 H A W q32 costly-arc-proofs-Seen·.the-type 328 (λ x. Progress·.struct .as-values x .1 .1 .0) (StructYields.acc-part 𝓤 H A W q32 (Declared.row Progress·.the-type) (Struct.Struct (Declared.shape costly-arc-proofs-Seen·.the-type)) 0 328 (λ x. x) (λ y. costly-arc-proofs-Seen·.the-type .to (Progress·.struct .as-values y .1 .1 .0)) (StructYields.acc-whole 𝓤 H A W (Declared.row Progress·.the-type)) λ y a. Behind.look-at 𝓤 H A W TreeShare.fullShare Progress·.the-type Progress-Laws·.the-laws 2 328 Path.refl Path.refl a y (Progress·.struct .as-values y) Path.refl)), Path.refl), ((Scalar.reads-sc 𝓤 H A W (Row.sInt Syntax.w8), Path.refl), tt)))) (TReads.room-gone 𝓤 H A (Syntax.tyStruct (L._∷_ 114 (L._∷_ 117 (L._∷_ 108 (L._∷_ 101 (L._∷_ 115 (L._∷_ 58 (L._∷_ 58 (L._∷_ 116 (L._∷_ 114 (L._∷_ 105 (L._∷_ 101 (L._∷_ 100 (L._∷_ 58 (L._∷_ 58 (L._∷_ 76 (L._∷_ 111 (L._∷_ 111 (L._∷_ 107 (L._∷_ 101 (L._∷_ 100 L.[])))))))))))))))))))) (Syntax.tcons (Syntax.tyStruct (L._∷_ 114 (L._∷_ 117 (L._∷_ 108 (L._∷_ 101 (L._∷_ 115 (L._∷_ 58 (L._∷_ 58 (L._∷_ 102 (L._∷_ 111 (L._∷_ 117 (L._∷_ 110 (L._∷_ 100 (L._∷_ 58 (L._∷_ 58 (L._∷_ 70 (L._∷_ 111 (L._∷_ 117 (L._∷_ 110 (L._∷_ 100 L.[]))))))))))))))))))) (Syntax.tcons Syntax.tyBool (Syntax.tcons Syntax.tyBool (Syntax.tcons (Syntax.tyStruct (L._∷_ 115 (L._∷_ 116 (L._∷_ 101 (L._∷_ 112 (L._∷_ 58 (L._∷_ 58 (L._∷_ 83 (L._∷_ 116 (L._∷_ 101 (L._∷_ 112 L.[])))))))))) (Syntax.tcons (Syntax.tyInt Syntax.w64) (Syntax.tcons (Syntax.tyInt Syntax.w64) (Syntax.tcons (Syntax.tyStruct (L._∷_ 115 (L._∷_ 116 (L._∷_ 101 (L._∷_ 112 (L._∷_ 58 (L._∷_ 58 (L._∷_ 67 (L._∷_ 104 (L._∷_ 97 (L._∷_ 110 (L._∷_ 103 (L._∷_ 101 L.[])))))))))))) (Syntax.tcons (Syntax.tyStruct (L._∷_ 110 (L._∷_ 101 (L._∷_ 116 (L._∷_ 119 (L._∷_ 111 (L._∷_ 114 (L._∷_ 107 (L._∷_ 58 (L._∷_ 58 (L._∷_ 69 (L._∷_ 100 (L._∷_ 105 (L._∷_ 116 L.[]))))))))))))) (Syntax.tcons q5 (Syntax.tcons q5 (Syntax.tcons q5 (Syntax.tcons q5 (Syntax.tcons q1 (Syntax.tcons q1 (Syntax.tcons (Syntax.tyInt Syntax.w64) Syntax.tnil)))))))) (Syntax.tcons (Syntax.tyStruct (L._∷_ 115 (L._∷_ 116 (L._∷_ 101 (L._∷_ 112 (L._∷_ 58 (L._∷_ 58 (L._∷_ 79 (L._∷_ 108 (L._∷_ 100 L.[]))))))))) (Syntax.tcons (Syntax.tyInt Syntax.w64) (Syntax.tcons q4 (Syntax.tcons q5 (Syntax.tcons q5 (Syntax.tcons q5 (Syntax.tcons q5 (Syntax.tcons q2 Syntax.tnil)))))))) Syntax.tnil))) Syntax.tnil)))) Syntax.tnil)))) (Syntax.tcons q3 Syntax.tnil)))) (tt, tt) Path.refl) d26
+          d27 = Typed.s-seq 𝓤 H A W 𝓣 E G5 G6 b3 b20 Δ0 (Typed.both s4) at26 (Plain.t-call-plain 𝓤 H A W 𝓣 1 ps·1 r·1 (claims· .2) (claims· .3) "search::scan::next" (known .1) E (λ pos β. β) G5 (record { pos = 1; st = L._∷_ (Syntax.field 0) L.[]; d = 0; at = λ x. Progress·.struct .as-values x .0 }, (record { pos = 6; ty = Syntax.tyRef Syntax.erased Syntax.imm Rec.named; ref = λ x. x }, (record { pos = 1; st = L._∷_ (Syntax.field 2) L.[]; d = 336; at = λ x. Progress·.struct .as-values x .1 .1 .0 }, (Num.vAt 7 λ x. x, tt)))) 4 (L._∷_ 2 L.[]) (Call.sub-id 𝓤 H A W (G5 .slots)) ((StructYields.yields-acc 𝓤 H A W q32 (Declared.row network-proofs-Nodes·.the-type) 0 (λ x. Progress·.struct .as-values x .0) Path.refl (Copies.cStruct network-proofs-Nodes·.the-type network-proofs-Nodes-Laws·.the-laws network-proofs-Nodes-Laws·.the-copy .copy 𝓤 H A W) (StructYields.acc-record 𝓤 H A W q32 network-proofs-Nodes·.the-type 0 (λ x. Progress·.struct .as-values x .0) (StructYields.acc-part 𝓤 H A W q32 (Declared.row Progress·.the-type) (Struct.Struct (Declared.shape network-proofs-Nodes·.the-type)) 0 0 (λ x. x) (λ y. network-proofs-Nodes·.the-type .to (Progress·.struct .as-values y .0)) (StructYields.acc-whole 𝓤 H A W (Declared.row Progress·.the-type)) λ y a. Behind.look-at 𝓤 H A W TreeShare.fullShare Progress·.the-type Progress-Laws·.the-laws 0 0 Path.refl Path.refl a y (Progress·.struct .as-values y) Path.refl)), Path.refl), (ShrSlice.spares-sslice 𝓤 H A W Rec.row q29 2, Shared.reads-sslice 𝓤 H A W Rec.row q29 2, Path.refl, ((StructYields.yields-acc 𝓤 H A W q32 (Declared.row costly-arc-proofs-Seen·.the-type) 336 (λ x. Progress·.struct .as-values x .1 .1 .0) Path.refl (Copies.cStruct costly-arc-proofs-Seen·.the-type costly-arc-proofs-Seen-Laws·.the-laws costly-arc-proofs-Seen-Laws·.the-copy .copy 𝓤 H A W) (StructYields.acc-record 𝓤 H A W q32 costly-arc-proofs-Seen·.the-type 336 (λ x. Progress·.struct .as-values x .1 .1 .0) (StructYields.acc-part 𝓤 H A W q32 (Declared.row Progress·.the-type) (Struct.Struct (Declared.shape costly-arc-proofs-Seen·.the-type)) 0 336 (λ x. x) (λ y. costly-arc-proofs-Seen·.the-type .to (Progress·.struct .as-values y .1 .1 .0)) (StructYields.acc-whole 𝓤 H A W (Declared.row Progress·.the-type)) λ y a. Behind.look-at 𝓤 H A W TreeShare.fullShare Progress·.the-type Progress-Laws·.the-laws 2 336 Path.refl Path.refl a y (Progress·.struct .as-values y) Path.refl)), Path.refl), ((Scalar.reads-sc 𝓤 H A W (Row.sInt Syntax.w8), Path.refl), tt)))) (TReads.room-gone 𝓤 H A (Syntax.tyStruct (L._∷_ 114 (L._∷_ 117 (L._∷_ 108 (L._∷_ 101 (L._∷_ 115 (L._∷_ 58 (L._∷_ 58 (L._∷_ 116 (L._∷_ 114 (L._∷_ 105 (L._∷_ 101 (L._∷_ 100 (L._∷_ 58 (L._∷_ 58 (L._∷_ 76 (L._∷_ 111 (L._∷_ 111 (L._∷_ 107 (L._∷_ 101 (L._∷_ 100 L.[])))))))))))))))))))) (Syntax.tcons (Syntax.tyStruct (L._∷_ 114 (L._∷_ 117 (L._∷_ 108 (L._∷_ 101 (L._∷_ 115 (L._∷_ 58 (L._∷_ 58 (L._∷_ 102 (L._∷_ 111 (L._∷_ 117 (L._∷_ 110 (L._∷_ 100 (L._∷_ 58 (L._∷_ 58 (L._∷_ 70 (L._∷_ 111 (L._∷_ 117 (L._∷_ 110 (L._∷_ 100 L.[]))))))))))))))))))) (Syntax.tcons Syntax.tyBool (Syntax.tcons Syntax.tyBool (Syntax.tcons (Syntax.tyStruct (L._∷_ 115 (L._∷_ 116 (L._∷_ 101 (L._∷_ 112 (L._∷_ 58 (L._∷_ 58 (L._∷_ 83 (L._∷_ 116 (L._∷_ 101 (L._∷_ 112 L.[])))))))))) (Syntax.tcons (Syntax.tyInt Syntax.w64) (Syntax.tcons (Syntax.tyInt Syntax.w64) (Syntax.tcons (Syntax.tyStruct (L._∷_ 115 (L._∷_ 116 (L._∷_ 101 (L._∷_ 112 (L._∷_ 58 (L._∷_ 58 (L._∷_ 67 (L._∷_ 104 (L._∷_ 97 (L._∷_ 110 (L._∷_ 103 (L._∷_ 101 L.[])))))))))))) (Syntax.tcons (Syntax.tyStruct (L._∷_ 110 (L._∷_ 101 (L._∷_ 116 (L._∷_ 119 (L._∷_ 111 (L._∷_ 114 (L._∷_ 107 (L._∷_ 58 (L._∷_ 58 (L._∷_ 69 (L._∷_ 100 (L._∷_ 105 (L._∷_ 116 L.[]))))))))))))) (Syntax.tcons q5 (Syntax.tcons q5 (Syntax.tcons q5 (Syntax.tcons q5 (Syntax.tcons q1 (Syntax.tcons q1 (Syntax.tcons (Syntax.tyInt Syntax.w64) (Syntax.tcons q4 Syntax.tnil))))))))) (Syntax.tcons (Syntax.tyStruct (L._∷_ 115 (L._∷_ 116 (L._∷_ 101 (L._∷_ 112 (L._∷_ 58 (L._∷_ 58 (L._∷_ 79 (L._∷_ 108 (L._∷_ 100 L.[]))))))))) (Syntax.tcons (Syntax.tyInt Syntax.w64) (Syntax.tcons q4 (Syntax.tcons q5 (Syntax.tcons q5 (Syntax.tcons q5 (Syntax.tcons q5 (Syntax.tcons q2 Syntax.tnil)))))))) Syntax.tnil))) Syntax.tnil)))) Syntax.tnil)))) (Syntax.tcons q3 Syntax.tnil)))) (tt, tt) Path.refl) d26
 
           d28 : Typed.Typed 𝓤 H A 𝓣 E G4 b22 Δ0 at28
           d28 = Typed.s-seq 𝓤 H A W 𝓣 E G4 G5 b2 b21 Δ0 (Typed.both s3) at27 (Plain.t-call-plain 𝓤 H A W 𝓣 0 ps·0 r·0 (claims· .0) (claims· .1) "search::time" (known .0) E (λ pos β. β) G4 (record { pos = 1; st = L.[]; d = 0; at = λ x. x }, tt) 7 L.[] (Call.sub-id 𝓤 H A W (G4 .slots)) ((RuleYields.yields-copy 𝓤 H A W (λ ρ. Unit) (Declared.row Progress·.the-type) Path.refl (Copies.cStruct Progress·.the-type Progress-Laws·.the-laws Progress-Laws·.the-copy .copy 𝓤 H A W) q32 (λ x. x) (λ x. x) (λ ρ told. Local.mem-whole 𝓤 H A W (Declared.row Progress·.the-type) ρ) λ ρ told. Local.whole-mem 𝓤 H A W (Declared.row Progress·.the-type) ρ, Path.refl), tt) (TReads.room-gone 𝓤 H A (Syntax.tyInt Syntax.w8)) tt Path.refl) d27
@@ -926,14 +926,14 @@ module _ (claims· : Claims) where
 
       module _ (before· : After-time) where
         abbrev pub After-next·own : Type 0
-        After-next·own = Called.Called ps·1 r·1 (claims· .3) T5 (record { pos = 1; st = L._∷_ (Syntax.field 0) L.[]; d = 0; at = λ x. Progress·.struct .as-values x .0 }, (record { pos = 6; ty = Syntax.tyRef Syntax.erased Syntax.imm Rec.named; ref = λ x. x }, (record { pos = 1; st = L._∷_ (Syntax.field 2) L.[]; d = 328; at = λ x. Progress·.struct .as-values x .1 .1 .0 }, (Num.vAt 7 λ x. x, tt)))) (m3 (before· .before) (After-time·gave before·))
+        After-next·own = Called.Called ps·1 r·1 (claims· .3) T5 (record { pos = 1; st = L._∷_ (Syntax.field 0) L.[]; d = 0; at = λ x. Progress·.struct .as-values x .0 }, (record { pos = 6; ty = Syntax.tyRef Syntax.erased Syntax.imm Rec.named; ref = λ x. x }, (record { pos = 1; st = L._∷_ (Syntax.field 2) L.[]; d = 336; at = λ x. Progress·.struct .as-values x .1 .1 .0 }, (Num.vAt 7 λ x. x, tt)))) (m3 (before· .before) (After-time·gave before·))
 
       pub record After-next : Type 0 where
         pub before : After-time
         pub next : After-next·own before
 
       abbrev pub After-next·gave : (c : After-next) → s4 .gives (m3 (c .before .before) (After-time·gave (c .before)))
-      After-next·gave = λ c. Called.given ps·1 r·1 (claims· .3) T5 (record { pos = 1; st = L._∷_ (Syntax.field 0) L.[]; d = 0; at = λ x. Progress·.struct .as-values x .0 }, (record { pos = 6; ty = Syntax.tyRef Syntax.erased Syntax.imm Rec.named; ref = λ x. x }, (record { pos = 1; st = L._∷_ (Syntax.field 2) L.[]; d = 328; at = λ x. Progress·.struct .as-values x .1 .1 .0 }, (Num.vAt 7 λ x. x, tt)))) (m3 (c .before .before) (After-time·gave (c .before))) (c .next)
+      After-next·gave = λ c. Called.given ps·1 r·1 (claims· .3) T5 (record { pos = 1; st = L._∷_ (Syntax.field 0) L.[]; d = 0; at = λ x. Progress·.struct .as-values x .0 }, (record { pos = 6; ty = Syntax.tyRef Syntax.erased Syntax.imm Rec.named; ref = λ x. x }, (record { pos = 1; st = L._∷_ (Syntax.field 2) L.[]; d = 336; at = λ x. Progress·.struct .as-values x .1 .1 .0 }, (Num.vAt 7 λ x. x, tt)))) (m3 (c .before .before) (After-time·gave (c .before))) (c .next)
 
       abbrev pub m5 : (before : After-time) → (given : s4 .gives (m3 (before .before) (After-time·gave before))) → Typed.Mo T7
       m5 = λ before given. s5 (m4 before given)
@@ -1031,14 +1031,14 @@ module _ (claims· : Claims) where
 
       module _ (before· : After-note-arg) where
         abbrev pub After-note·own : Type 0
-        After-note·own = Called.Called ps·4 r·4 (claims· .9) T24 (record { pos = 13; ty = Syntax.tyRef Syntax.erased Syntax.mut (Syntax.tyInt Syntax.w32); ref = λ x. x }, (Num.vFld 1 (L._∷_ (Syntax.field 1) L.[]) 320 λ x. Progress·.struct .as-values x .1 .0, (record { pos = 4; st = L.[]; d = 0; at = λ x. x }, tt))) (m16 (before· .before) (before· .note-arg .given))
+        After-note·own = Called.Called ps·4 r·4 (claims· .9) T24 (record { pos = 13; ty = Syntax.tyRef Syntax.erased Syntax.mut (Syntax.tyInt Syntax.w32); ref = λ x. x }, (Num.vFld 1 (L._∷_ (Syntax.field 1) L.[]) 328 λ x. Progress·.struct .as-values x .1 .0, (record { pos = 4; st = L.[]; d = 0; at = λ x. x }, tt))) (m16 (before· .before) (before· .note-arg .given))
 
       pub record After-note : Type 0 where
         pub before : After-note-arg
         pub note : After-note·own before
 
       abbrev pub After-note·gave : (c : After-note) → s23 .gives (m16 (c .before .before) (c .before .note-arg .given))
-      After-note·gave = λ c. Called.given ps·4 r·4 (claims· .9) T24 (record { pos = 13; ty = Syntax.tyRef Syntax.erased Syntax.mut (Syntax.tyInt Syntax.w32); ref = λ x. x }, (Num.vFld 1 (L._∷_ (Syntax.field 1) L.[]) 320 λ x. Progress·.struct .as-values x .1 .0, (record { pos = 4; st = L.[]; d = 0; at = λ x. x }, tt))) (m16 (c .before .before) (c .before .note-arg .given)) (c .note)
+      After-note·gave = λ c. Called.given ps·4 r·4 (claims· .9) T24 (record { pos = 13; ty = Syntax.tyRef Syntax.erased Syntax.mut (Syntax.tyInt Syntax.w32); ref = λ x. x }, (Num.vFld 1 (L._∷_ (Syntax.field 1) L.[]) 328 λ x. Progress·.struct .as-values x .1 .0, (record { pos = 4; st = L.[]; d = 0; at = λ x. x }, tt))) (m16 (c .before .before) (c .before .note-arg .given)) (c .note)
 
       abbrev pub m18 : (before : After-note-arg) → (given : s23 .gives (m16 (before .before) (before .note-arg .given))) → Typed.Mo T26
       m18 = λ before given. s24 (m17 before given)
@@ -1094,7 +1094,7 @@ module _ (claims· : Claims) where
         lay5 = λ c. (Path.refl, λ g. (advance-requires record { before = record { before = c .before; note = c .note }; log = record { given = g } }, λ g'. lay6 record { before = record { before = record { before = c .before; note = c .note }; log = record { given = g } }; advance = Called.called ps·5 r·5 (claims· .11) T28 (record { pos = 1; st = L.[]; d = 0; at = λ x. x }, (record { pos = 4; st = L.[]; d = 0; at = λ x. x }, tt)) (m19 record { before = c .before; note = c .note } g) g' }))
 
         lay4 : (c : After-put-edit) → at16 (W0 (c .before .before .before .before .before .before .κs) (c .before .before .before .before .before .before .args)) (m11 (c .before) (After-put-edit·gave c))
-        lay4 = λ c. (Path.refl, λ g. λ g'. (Path.refl, (note-requires record { before = record { before = record { before = c .before; put-edit = c .put-edit }; arcs = record { given = g } }; note-arg = record { given = g' } }, λ g''. lay5 record { before = record { before = record { before = record { before = c .before; put-edit = c .put-edit }; arcs = record { given = g } }; note-arg = record { given = g' } }; note = Called.called ps·4 r·4 (claims· .9) T24 (record { pos = 13; ty = Syntax.tyRef Syntax.erased Syntax.mut (Syntax.tyInt Syntax.w32); ref = λ x. x }, (Num.vFld 1 (L._∷_ (Syntax.field 1) L.[]) 320 λ x. Progress·.struct .as-values x .1 .0, (record { pos = 4; st = L.[]; d = 0; at = λ x. x }, tt))) (m16 record { before = record { before = c .before; put-edit = c .put-edit }; arcs = record { given = g } } g') g'' })))
+        lay4 = λ c. (Path.refl, λ g. λ g'. (Path.refl, (note-requires record { before = record { before = record { before = c .before; put-edit = c .put-edit }; arcs = record { given = g } }; note-arg = record { given = g' } }, λ g''. lay5 record { before = record { before = record { before = record { before = c .before; put-edit = c .put-edit }; arcs = record { given = g } }; note-arg = record { given = g' } }; note = Called.called ps·4 r·4 (claims· .9) T24 (record { pos = 13; ty = Syntax.tyRef Syntax.erased Syntax.mut (Syntax.tyInt Syntax.w32); ref = λ x. x }, (Num.vFld 1 (L._∷_ (Syntax.field 1) L.[]) 328 λ x. Progress·.struct .as-values x .1 .0, (record { pos = 4; st = L.[]; d = 0; at = λ x. x }, tt))) (m16 record { before = record { before = c .before; put-edit = c .put-edit }; arcs = record { given = g } } g') g'' })))
 
         lay3 : (c : After-edit-of) → at17 (W0 (c .before .before .before .before .before .κs) (c .before .before .before .before .before .args)) (m10 (c .before) (After-edit-of·gave c))
         lay3 = λ c. (put-edit-requires record { before = c .before; edit-of = c .edit-of }, λ g. lay4 record { before = record { before = c .before; edit-of = c .edit-of }; put-edit = Called.called ps·3 r·3 (claims· .7) T15 (record { pos = 10; ty = Syntax.tyRef Syntax.erased Syntax.mut Rec.named; ref = λ x. x }, (record { pos = 11; st = L.[]; d = 0; at = λ x. x }, tt)) (m10 (c .before) (After-edit-of·gave c)) g })
@@ -1103,7 +1103,7 @@ module _ (claims· : Claims) where
         lay2 = λ c. λ g. (Path.refl, (edit-of-requires record { before = record { before = c .before; next = c .next }; put-edit-arg = record { given = g } }, λ g'. lay3 record { before = record { before = record { before = c .before; next = c .next }; put-edit-arg = record { given = g } }; edit-of = Called.called ps·2 r·2 (claims· .5) T14 (record { pos = 4; st = L.[]; d = 0; at = λ x. x }, tt) (m9 record { before = c .before; next = c .next } g) g' }))
 
         lay1 : (c : After-time) → at27 (W0 (c .before .before .κs) (c .before .before .args)) (m3 (c .before) (After-time·gave c))
-        lay1 = λ c. (next-requires record { before = c .before; time = c .time }, λ g. lay2 record { before = record { before = c .before; time = c .time }; next = Called.called ps·1 r·1 (claims· .3) T5 (record { pos = 1; st = L._∷_ (Syntax.field 0) L.[]; d = 0; at = λ x. Progress·.struct .as-values x .0 }, (record { pos = 6; ty = Syntax.tyRef Syntax.erased Syntax.imm Rec.named; ref = λ x. x }, (record { pos = 1; st = L._∷_ (Syntax.field 2) L.[]; d = 328; at = λ x. Progress·.struct .as-values x .1 .1 .0 }, (Num.vAt 7 λ x. x, tt)))) (m3 (c .before) (After-time·gave c)) g })
+        lay1 = λ c. (next-requires record { before = c .before; time = c .time }, λ g. lay2 record { before = record { before = c .before; time = c .time }; next = Called.called ps·1 r·1 (claims· .3) T5 (record { pos = 1; st = L._∷_ (Syntax.field 0) L.[]; d = 0; at = λ x. Progress·.struct .as-values x .0 }, (record { pos = 6; ty = Syntax.tyRef Syntax.erased Syntax.imm Rec.named; ref = λ x. x }, (record { pos = 1; st = L._∷_ (Syntax.field 2) L.[]; d = 336; at = λ x. Progress·.struct .as-values x .1 .1 .0 }, (Num.vAt 7 λ x. x, tt)))) (m3 (c .before) (After-time·gave c)) g })
 
         pub laid : (c : Start) → at31 (W0 (c .κs) (c .args)) (m0 (c .κs) (c .args))
         laid = λ c. λ g. (Path.refl, (time-requires record { before = c; next-arg = record { given = g } }, λ g'. lay1 record { before = record { before = c; next-arg = record { given = g } }; time = Called.called ps·0 r·0 (claims· .1) T4 (record { pos = 1; st = L.[]; d = 0; at = λ x. x }, tt) (m2 c g) g' }))

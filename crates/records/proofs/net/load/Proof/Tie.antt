@@ -54,11 +54,14 @@ Need-number-at-requires = net-load-Lts·.Need-number-at-requires (net-has-sizes-
 abbrev pub Need-number-at-requires-2 : Type 0
 Need-number-at-requires-2 = net-load-Lts·.Need-number-at-requires-2 (net-has-sizes-Reads·.Asked, net-has-sizes-Reads·.Learnt, number-at-Reads·.Asked, number-at-Reads·.Learnt, net-load-arcs-Reads·.Asked, net-load-arcs-Reads·.Learnt) net-load-Reads·.Pre net-load-Reads·.Post
 
+abbrev pub Need-add-load-arcs : Type 0
+Need-add-load-arcs = net-load-Lts·.Need-add-load-arcs (net-has-sizes-Reads·.Asked, net-has-sizes-Reads·.Learnt, number-at-Reads·.Asked, number-at-Reads·.Learnt, net-load-arcs-Reads·.Asked, net-load-arcs-Reads·.Learnt) net-load-Reads·.Pre net-load-Reads·.Post
+
 abbrev pub Need-mul-load-arcs : Type 0
 Need-mul-load-arcs = net-load-Lts·.Need-mul-load-arcs (net-has-sizes-Reads·.Asked, net-has-sizes-Reads·.Learnt, number-at-Reads·.Asked, number-at-Reads·.Learnt, net-load-arcs-Reads·.Asked, net-load-arcs-Reads·.Learnt) net-load-Reads·.Pre net-load-Reads·.Post
 
-abbrev pub Need-add-load-arcs : Type 0
-Need-add-load-arcs = net-load-Lts·.Need-add-load-arcs (net-has-sizes-Reads·.Asked, net-has-sizes-Reads·.Learnt, number-at-Reads·.Asked, number-at-Reads·.Learnt, net-load-arcs-Reads·.Asked, net-load-arcs-Reads·.Learnt) net-load-Reads·.Pre net-load-Reads·.Post
+abbrev pub Need-add-load-arcs-2 : Type 0
+Need-add-load-arcs-2 = net-load-Lts·.Need-add-load-arcs-2 (net-has-sizes-Reads·.Asked, net-has-sizes-Reads·.Learnt, number-at-Reads·.Asked, number-at-Reads·.Learnt, net-load-arcs-Reads·.Asked, net-load-arcs-Reads·.Learnt) net-load-Reads·.Pre net-load-Reads·.Post
 
 abbrev pub Need-load-arcs-requires : Type 0
 Need-load-arcs-requires = net-load-Lts·.Need-load-arcs-requires (net-has-sizes-Reads·.Asked, net-has-sizes-Reads·.Learnt, number-at-Reads·.Asked, number-at-Reads·.Learnt, net-load-arcs-Reads·.Asked, net-load-arcs-Reads·.Learnt) net-load-Reads·.Pre net-load-Reads·.Post
@@ -73,8 +76,8 @@ abbrev pub Need-returns-2 : Type 0
 Need-returns-2 = net-load-Lts·.Need-returns-2 (net-has-sizes-Reads·.Asked, net-has-sizes-Reads·.Learnt, number-at-Reads·.Asked, number-at-Reads·.Learnt, net-load-arcs-Reads·.Asked, net-load-arcs-Reads·.Learnt) net-load-Reads·.Pre net-load-Reads·.Post
 
 module _ {M : Type 1} where
-  pub spec : (answer : Need-has-sizes-requires) → (answer : Need-number-at-requires) → (answer : Need-number-at-requires-2) → (answer : Need-mul-load-arcs) → (answer : Need-add-load-arcs) → (answer : Need-load-arcs-requires) → (answer : Need-same-length) → (answer : Need-returns) → (answer : Need-returns-2) → net-load-Lts·.Closed (net-has-sizes-Reads·.Asked, net-has-sizes-Reads·.Learnt, number-at-Reads·.Asked, number-at-Reads·.Learnt, net-load-arcs-Reads·.Asked, net-load-arcs-Reads·.Learnt) net-load-Reads·.Pre net-load-Reads·.Post M
-  spec = λ answer answer' answer'' answer'3 answer'4 answer'5 answer'6 answer'7 answer'8. net-load-Lts·.spec (net-has-sizes-Reads·.Asked, net-has-sizes-Reads·.Learnt, number-at-Reads·.Asked, number-at-Reads·.Learnt, net-load-arcs-Reads·.Asked, net-load-arcs-Reads·.Learnt) net-load-Reads·.Pre net-load-Reads·.Post answer answer' answer'' answer'3 answer'4 answer'5 answer'6 answer'7 answer'8
+  pub spec : (answer : Need-has-sizes-requires) → (answer : Need-number-at-requires) → (answer : Need-number-at-requires-2) → (answer : Need-add-load-arcs) → (answer : Need-mul-load-arcs) → (answer : Need-add-load-arcs-2) → (answer : Need-load-arcs-requires) → (answer : Need-same-length) → (answer : Need-returns) → (answer : Need-returns-2) → net-load-Lts·.Closed (net-has-sizes-Reads·.Asked, net-has-sizes-Reads·.Learnt, number-at-Reads·.Asked, number-at-Reads·.Learnt, net-load-arcs-Reads·.Asked, net-load-arcs-Reads·.Learnt) net-load-Reads·.Pre net-load-Reads·.Post M
+  spec = λ answer answer' answer'' answer'3 answer'4 answer'5 answer'6 answer'7 answer'8 answer'9. net-load-Lts·.spec (net-has-sizes-Reads·.Asked, net-has-sizes-Reads·.Learnt, number-at-Reads·.Asked, number-at-Reads·.Learnt, net-load-arcs-Reads·.Asked, net-load-arcs-Reads·.Learnt) net-load-Reads·.Pre net-load-Reads·.Post answer answer' answer'' answer'3 answer'4 answer'5 answer'6 answer'7 answer'8 answer'9
 
   pub close : net-load-Lts·.Closed (net-has-sizes-Reads·.Asked, net-has-sizes-Reads·.Learnt, number-at-Reads·.Asked, number-at-Reads·.Learnt, net-load-arcs-Reads·.Asked, net-load-arcs-Reads·.Learnt) net-load-Reads·.Pre net-load-Reads·.Post M → net-load-Statement·.statement M
   unfolding net-load-Code·.routine Running.tablesOf

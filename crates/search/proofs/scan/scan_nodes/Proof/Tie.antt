@@ -75,6 +75,9 @@ After-gather = λ Inv μ. scan-scan-nodes-Lts·.After-gather (rules-proofs-tried
 abbrev pub After-at-node-arg : (Inv : InvT-loop) → (μ : MeasureT-loop) → Type 0
 After-at-node-arg = λ Inv μ. scan-scan-nodes-Lts·.After-at-node-arg (rules-proofs-tried-asks-of-Reads·.Asked, rules-proofs-tried-asks-of-Reads·.Learnt, scan-has-degree-Reads·.Asked, scan-has-degree-Reads·.Learnt, rules-proofs-tried-may-apply-Reads·.Asked, rules-proofs-tried-may-apply-Reads·.Learnt, scan-gather-Reads·.Asked, scan-gather-Reads·.Learnt, rules-proofs-tried-at-node-Reads·.Asked, rules-proofs-tried-at-node-Reads·.Learnt, rules-proofs-found-nothing-Reads·.Asked, rules-proofs-found-nothing-Reads·.Learnt) scan-scan-nodes-Reads·.Pre scan-scan-nodes-Reads·.Post Inv μ
 
+abbrev pub After-at-node-arg2 : (Inv : InvT-loop) → (μ : MeasureT-loop) → Type 0
+After-at-node-arg2 = λ Inv μ. scan-scan-nodes-Lts·.After-at-node-arg2 (rules-proofs-tried-asks-of-Reads·.Asked, rules-proofs-tried-asks-of-Reads·.Learnt, scan-has-degree-Reads·.Asked, scan-has-degree-Reads·.Learnt, rules-proofs-tried-may-apply-Reads·.Asked, rules-proofs-tried-may-apply-Reads·.Learnt, scan-gather-Reads·.Asked, scan-gather-Reads·.Learnt, rules-proofs-tried-at-node-Reads·.Asked, rules-proofs-tried-at-node-Reads·.Learnt, rules-proofs-found-nothing-Reads·.Asked, rules-proofs-found-nothing-Reads·.Learnt) scan-scan-nodes-Reads·.Pre scan-scan-nodes-Reads·.Post Inv μ
+
 abbrev pub After-at-node : (Inv : InvT-loop) → (μ : MeasureT-loop) → Type 0
 After-at-node = λ Inv μ. scan-scan-nodes-Lts·.After-at-node (rules-proofs-tried-asks-of-Reads·.Asked, rules-proofs-tried-asks-of-Reads·.Learnt, scan-has-degree-Reads·.Asked, scan-has-degree-Reads·.Learnt, rules-proofs-tried-may-apply-Reads·.Asked, rules-proofs-tried-may-apply-Reads·.Learnt, scan-gather-Reads·.Asked, scan-gather-Reads·.Learnt, rules-proofs-tried-at-node-Reads·.Asked, rules-proofs-tried-at-node-Reads·.Learnt, rules-proofs-found-nothing-Reads·.Asked, rules-proofs-found-nothing-Reads·.Learnt) scan-scan-nodes-Reads·.Pre scan-scan-nodes-Reads·.Post Inv μ
 
