@@ -71,6 +71,13 @@ none-left : (q y c : Fraction) → q .den ≡ 0 → isUnder (sumOf q y) c ≡ fa
 unfolding sumOf isOperand
 none-left q y c e = rw (e, and-false)
 
+none-right : (q y c : Fraction) → y .den ≡ 0 → isUnder (sumOf q y) c ≡ false
+unfolding sumOf isOperand
+none-right q y c e = rw (e, and-false, and-false)
+
+pub none-due : (seen : Seen) (w : ℕ) (q : Fraction) (to : List Fraction) (c : Fraction) (k : ℕ) → getD to k noFigure .den ≡ 0 → isDueUnder seen w q to c k ≡ false
+none-due seen w q to c k e = rw (none-right q (getD to k noFigure) c e, and-false)
+
 pub none-from : (seen : Seen) (w : ℕ) (q : Fraction) (to : List Fraction) (c : Fraction) → q .den ≡ 0 → any (isDueUnder seen w q to c) 97 ≡ false
 none-from seen w q to c e = any-none _ 97 (λ k l. rw (none-left q (getD to k noFigure) c e, and-false))
 

@@ -163,10 +163,12 @@ fn any_due_under(seen: Seen, w: u8, q: Fraction, to: [Fraction; ARC_PLACES], c: 
     ensures { λ r. ⌜ r ≡ any (isDueUnder seen w q to c) arcPlaces ⌝ }
 {
     for k in 0..ARC_PLACES {
-        if seen.put[k] >= w {
-            let y = to[k];
-            if is_under(q.sum(y), c) {
-                return true;
+        let y = to[k];
+        if y.den != 0 {
+            if seen.put[k] >= w {
+                if is_under(q.sum(y), c) {
+                    return true;
+                }
             }
         }
     }

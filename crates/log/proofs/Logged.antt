@@ -1,12 +1,13 @@
 -- What was logged is read.
 --     logged-holds    the steps of a run, in words that have room for them
 use mathlib.Core.Path.{_≡_, refl, _∙_}
+use mathlib.Core.Bool.{_&&_}
 use mathlib.Core.List.{List, [], _∷_, _++_}
 use Prim.Native.Nat.{ℕ, zero, suc, _+_, _*_, _≤_, _<_}
 use native.Mathlib.Nat.{not-suc-le-zero}
 use native.Mathlib.Numerals.{add-one}
 use native.Mathlib.Omega.{arith}
-use lib.Dec.{ltb, lit≤}
+use lib.Dec.{ltb, leb, lit≤}
 use lib.IntN.{ℤ, pos}
 use lib.ListN.{List·getD-append, length, getD, set, length-set, length-append}
 use lib.Seq.{getD-set-same, getD-set-other, getD-append-add}
@@ -122,11 +123,11 @@ old-is zs at rule place old s w =
 
 step-long : (zs : List ℤ) (k : ℕ) (s : Step) → length (withStep zs k s) ≡ length zs
 unfolding withStep
-step-long zs k s = split (ltb k 128) (λ e. rw e (figures-long zs (80 * k) _)) (λ e. rw e)
+step-long zs k s = split (ltb k 128 && leb (80 * k + 80) (length zs)) (λ e. rw e (figures-long zs (80 * k) _)) (λ e. rw e)
 
 step-below : (zs : List ℤ) (k p : ℕ) (s : Step) → p + 1 < 80 * k → figureIn (withStep zs k s) p ≡ figureIn zs p
 unfolding withStep
-step-below zs k p s h = split (ltb k 128) (λ e. rw e (figures-below zs (80 * k) p _ h)) (λ e. rw e)
+step-below zs k p s h = split (ltb k 128 && leb (80 * k + 80) (length zs)) (λ e. rw e (figures-below zs (80 * k) p _ h)) (λ e. rw e)
 
 pub logged-long : (k : ℕ) (ss : List Step) (zs : List ℤ) → length (logged k ss zs) ≡ length zs
 unfolding logged
@@ -158,4 +159,4 @@ logged-holds k (s ∷ ss) zs small few room =
     below = omega (arith, few, add-one (length ss))
 
     stands : Stands (logged (suc k) ss (withStep zs k s)) (80 * k) (figuresOf (s .rule) (s .place) (s .change .old))
-    stands = record { figure = λ r h d p e. logged-below (suc k) ss (withStep zs k s) p (omega (arith, h, e, add-one k)) ∙ rw (lt-ltb k 128 below) (figure-at zs (80 * k) _ (omega (arith, room, below)) r h d p e) }
+    stands = record { figure = λ r h d p e. logged-below (suc k) ss (withStep zs k s) p (omega (arith, h, e, add-one k)) ∙ rw (lt-ltb k 128 below, le-leb (80 * k + 80) (length zs) (omega (arith, room, below))) (figure-at zs (80 * k) _ (omega (arith, room, below)) r h d p e) }

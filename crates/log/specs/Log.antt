@@ -1,11 +1,11 @@
 -- The log: the steps of a run in the lent words, each as 40 figures of two words, a numerator and a denominator.
 use mathlib.Core.Path.{_≡_}
-use mathlib.Core.Bool.{cond}
+use mathlib.Core.Bool.{cond, _&&_}
 use mathlib.Core.List.{List, [], _∷_, _++_}
 use Prim.Native.Nat.{ℕ, suc, _+_, _*_}
-use lib.Dec.{ltb}
+use lib.Dec.{ltb, leb}
 use lib.IntN.{ℤ}
-use lib.ListN.{set}
+use lib.ListN.{length, set}
 use Rattle.fraction.specs.declared.Fraction.{Fraction}
 use Rattle.fraction.specs.Exact.{fromWords, denWord}
 use Rattle.network.specs.declared.ArcUpdate.{ArcUpdate}
@@ -48,9 +48,9 @@ unfoldable pub withFigures : List ℤ → ℕ → List Fraction → List ℤ
 withFigures zs at [] = zs
 withFigures zs at (f ∷ fs) = withFigures (withFigure zs at f) (at + 2) fs
 
--- step k, from 0; nothing is written where there is no such step
+-- step k, from 0; nothing is written where there is no such step, or no room for it
 unfoldable pub withStep : List ℤ → ℕ → Step → List ℤ
-withStep zs k s = cond (ltb k maxSteps) (withFigures zs (stepWords * k) (figuresOf (s .rule) (s .place) (s .change .old))) zs
+withStep zs k s = cond (ltb k maxSteps && leb (stepWords * k + stepWords) (length zs)) (withFigures zs (stepWords * k) (figuresOf (s .rule) (s .place) (s .change .old))) zs
 
 -- steps from number k on
 unfoldable pub logged : ℕ → List Step → List ℤ → List ℤ

@@ -1,9 +1,10 @@
 // The log: the steps of a run in the lent words, as many words for each.
 ghost use mathlib.Core.Path.{_≡_};
-ghost use Prim.Native.Nat.{_*_, _≤_};
+ghost use Prim.Native.Nat.{_+_, _*_, _≤_};
+ghost use lib.ListN.{length};
 ghost use Rattle.fraction.specs.Words.{word};
 ghost use Rattle.fraction.specs.Words.{wholeOf};
-ghost use Rattle.log.specs.Log.{logWords, updateFigures, numberFigures, withFigure, withFigures, figuresOf, withStep, startOf, figureIn, numberIn, updateIn, numbersIn, ruleIn, placeIn, oldIn};
+ghost use Rattle.log.specs.Log.{stepWords, logWords, updateFigures, numberFigures, withFigure, withFigures, figuresOf, withStep, startOf, figureIn, numberIn, updateIn, numbersIn, ruleIn, placeIn, oldIn};
 use fraction::Fraction;
 use network::Arc;
 use network::ArcUpdate;
@@ -21,25 +22,26 @@ pub const LOG_WORDS: usize = STEP_WORDS * MAX_STEPS;
 // ---- written
 
 fn put_figure(words: &mut [i32], at: usize, f: Fraction)
-    requires { ⌜ at ≤ 3 * logWords ⌝ }
+    requires { ⌜ at + 2 ≤ length (now words) ⌝ }
     ensures { λ _. ⌜ now (words .exit) ≡ withFigure (now (words .entry)) at f ⌝ }
 {
-    loops::put(words, at, f.num);
-    loops::put(words, at + 1, f.den_word());
+    let num = f.num;
+    words[at] = num;
+    words[at + 1] = f.den_word();
 }
 
 // A whole number, over 1.
 fn put_number(words: &mut [i32], at: usize, k: usize)
-    requires { ⌜ at ≤ 3 * logWords ⌝ }
+    requires { ⌜ at + 2 ≤ length (now words) ⌝ }
     ensures { λ _. ⌜ now (words .exit) ≡ withFigure (now (words .entry)) at (wholeOf k) ⌝ }
 {
-    loops::put(words, at, fraction::words::word_of(k));
-    loops::put(words, at + 1, 1);
+    words[at] = fraction::words::word_of(k);
+    words[at + 1] = 1;
 }
 
 // An old arc: its number and its seven figures.
 fn put_update(words: &mut [i32], at: usize, u: ArcUpdate)
-    requires { ⌜ at ≤ 2 * logWords ⌝ }
+    requires { ⌜ at + 16 ≤ length (now words) ⌝ }
     ensures { λ _. ⌜ now (words .exit) ≡ withFigures (now (words .entry)) at (updateFigures u) ⌝ }
 {
     let t = u.arc;
@@ -54,7 +56,7 @@ fn put_update(words: &mut [i32], at: usize, u: ArcUpdate)
 }
 
 fn put_numbers(words: &mut [i32], at: usize, new: Numbers)
-    requires { ⌜ at ≤ 2 * logWords ⌝ }
+    requires { ⌜ at + 8 ≤ length (now words) ⌝ }
     ensures { λ _. ⌜ now (words .exit) ≡ withFigures (now (words .entry)) at (numberFigures new) ⌝ }
 {
     put_number(words, at, new.first);
@@ -65,7 +67,7 @@ fn put_numbers(words: &mut [i32], at: usize, new: Numbers)
 
 // The words of a step.
 fn put_old(words: &mut [i32], at: usize, rule: usize, place: usize, old: Old)
-    requires { ⌜ at ≤ logWords ⌝ }
+    requires { ⌜ at + stepWords ≤ length (now words) ⌝ }
     ensures { λ _. ⌜ now (words .exit) ≡ withFigures (now (words .entry)) at (figuresOf rule place old) ⌝ }
 {
     put_number(words, at, rule);
@@ -79,14 +81,16 @@ fn put_old(words: &mut [i32], at: usize, rule: usize, place: usize, old: Old)
     put_numbers(words, at + 72, old.new);
 }
 
-// Step k, from 0; nothing is written where there is no such step.
+// Step k, from 0; nothing is written where there is no such step, or no room for it.
 pub fn store(words: &mut [i32], k: usize, s: Step)
     ensures { λ _. ⌜ now (words .exit) ≡ withStep (now (words .entry)) k s ⌝ }
 {
     if k < MAX_STEPS {
-        let c = s.change;
-        let old = c.old;
-        put_old(words, STEP_WORDS * k, s.rule, s.place, old);
+        if STEP_WORDS * k + STEP_WORDS <= words.len() {
+            let c = s.change;
+            let old = c.old;
+            put_old(words, STEP_WORDS * k, s.rule, s.place, old);
+        }
     }
 }
 

@@ -10,7 +10,7 @@ use Rattle.records.specs.Network.{readOf}
 use Rattle.rules.specs.Table.{reduced}
 use Rattle.restoration.specs.declared.Answer.{Answer}
 use Rattle.restoration.specs.Restore.{refusalOf, answerOf, numberOf, Written, Restoration}
-use Rattle.restoration.proofs.Optimum.{restored-optimum, restored-same}
+use Rattle.restoration.proofs.Optimum.{restored-optimum}
 use Rattle.restoration.proofs.Passed.{passed-exactly, six-flowless}
 
 number-of : (q : ℕ) → numberOf (answerOf q) ≡ q
@@ -29,7 +29,6 @@ says xs zs ys o v w k {r} h z a =
       exactly = λ e. rw n (passed-exactly xs zs ys o v w k e);
       flowless = λ e. six-flowless xs zs ys o v w k (sym n ∙ e);
       optimum = restored-optimum xs zs ys o v w k h;
-      same-values = restored-same xs zs ys o v w k h;
     }
   where
     n : numberOf r ≡ refusalOf xs zs ys o v w k

@@ -219,6 +219,14 @@ module _ (xs zs ys : List ℤ) (o v w k : ℕ) where
     brought =
         Whole.restored net (legal-read (y .asked)) (spreadOf (run .net) (pairIn (reducedNet run) ys)) (read-sized (run .net) left-legal ys (proven .in-form)) (read-solved (run .net) left-legal ys (proven .in-form) (proven .solved)) (arrived net way (y .fits) .0)
 
+    -- the reduced value and the original's are one fraction: both are exact and in form
+    same-value : reducedValue run ys ≡ originalValue net way
+    same-value =
+        let g = legal-read (y .asked) in
+        let left = proven-value (packed-legal left-legal) (packed-gapless left-legal) ys proven in
+        let given = value-exactly g (read-gapless xs (y .asked .asked)) (pairBack way) _ (fit-some _ (arrived net way (y .fits) .1)) in
+        value-unique _ _ (left .0) (given .0) (left .1 ∙ sym (read-value (run .net) left-legal ys (proven .in-form)) ∙ sym (brought .2) ∙ sym (given .1))
+
     optimum : Optimum net run ys (pairWords (net .n) (net .m) (pairBack way) o) (fourWords (reducedValue run ys) (originalValue net way) v)
     optimum =
         let g = legal-read (y .asked) in
@@ -231,15 +239,8 @@ module _ (xs zs ys : List ℤ) (o v w k : ℕ) where
           solved = solved;
           optimal = weak-duality (programOf net) _ solved;
           cost = cost-written g (pairBack way) (brought .0) o (y .room) gap (arrived net way (y .fits) .1) (reducedValue run ys) v;
+          same-values = (ap (λ (f : Fraction). f .num) same-value, ap (λ (f : Fraction). denWord (f .den)) same-value);
         }
-
-    -- the reduced value and the original's are one fraction: both are exact and in form
-    same-value : reducedValue run ys ≡ originalValue net way
-    same-value =
-        let g = legal-read (y .asked) in
-        let left = proven-value (packed-legal left-legal) (packed-gapless left-legal) ys proven in
-        let given = value-exactly g (read-gapless xs (y .asked .asked)) (pairBack way) _ (fit-some _ (arrived net way (y .fits) .1)) in
-        value-unique _ _ (left .0) (given .0) (left .1 ∙ sym (read-value (run .net) left-legal ys (proven .in-form)) ∙ sym (brought .2) ∙ sym (given .1))
 
   restored-is : (q : ℕ) → answerOf q ≡ Restored → q ≡ 0
   restored-is zero e = refl
@@ -250,8 +251,3 @@ module _ (xs zs ys : List ℤ) (o v w k : ℕ) where
   restored-optimum a p =
       let z = restored-is (refusalOf xs zs ys o v w k) (sym (a .result) ∙ p) in
       rw (rw z at (a .out-is), rw z at (a .values-is)) (optimum (restores z))
-
-  pub restored-same : {r : Answer} {out values : List ℤ} → Written (refusalOf xs zs ys o v w k) net run ys r out values o v → r ≡ Restored → (word values 0 ≡ word values 2) × (word values 1 ≡ word values 3)
-  restored-same a p =
-      let z = restored-is (refusalOf xs zs ys o v w k) (sym (a .result) ∙ p) in
-      rw (rw z at (a .values-is)) (let e = same-value (restores z) in (ap (λ (f : Fraction). f .num) e, ap (λ (f : Fraction). denWord (f .den)) e))

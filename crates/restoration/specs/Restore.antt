@@ -141,6 +141,8 @@ pub record Optimum (net : Net) (run : Run) (ys out values : List ℤ) : Type 0 w
   -- its flow is feasible, every feasible flow costs at least as much, and the value written is its cost, with the network's constant
   pub optimal : Optimal (programOf net) (exactPair (writtenPair net out) .flow)
   pub cost : value (fromWords (word values 2) (word values 3)) ≡ LP.value (programOf net) (exactPair (writtenPair net out) .flow)
+  -- "The reduced and the restored value are then equal for every pair that restoring brings back" (02, 2026-01): they are written in the same words
+  pub same-values : (word values 0 ≡ word values 2) × (word values 1 ≡ word values 3)
 
 -- ---- a call: the words of the network, the stack and the pair, the lengths of the lent pair, values, scratch and arc list; the result, all words written, and the records
 
@@ -157,5 +159,3 @@ pub record Restoration (xs zs ys : List ℤ) (o v w k : ℕ) (r : Answer) (out v
   -- 6 only where the network given has no feasible flow, in fractions of any width
   pub flowless : numberOf r ≡ 6 → LP.NoFlow (programOf (readOf xs))
   pub optimum : r ≡ Restored → Optimum (readOf xs) (reduced (readOf xs)) ys out values
-  -- "The reduced and the restored value are then equal for every pair that restoring brings back" (02, 2026-01): the two values written are the same words
-  pub same-values : r ≡ Restored → (word values 0 ≡ word values 2) × (word values 1 ≡ word values 3)
