@@ -1,6 +1,6 @@
 -- Rule 2 as it is tried: at a node of another degree it passes, and what it is given is what it reads of the network.
 use mathlib.Core.Path.{_≡_}
-use mathlib.Core.Bool.{true, false}
+use mathlib.Core.Bool.{false}
 use mathlib.Core.List.{List}
 use Prim.Native.Nat.{ℕ}
 use lib.Dec.{eqb}

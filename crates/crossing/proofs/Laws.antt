@@ -5,7 +5,6 @@ use mathlib.Core.Logic.{inl, inr}
 use mathlib.Core.Option.{none, some}
 use Prim.Native.Nat.{ℕ, _≤_}
 use native.Mathlib.Omega.{arith}
-use lib.Dec.{eqb}
 use borrow.Author.Tests.{eqb-true, ne-eqb, not-true}
 use Rattle.algebra.proofs.Solver.{_:-_, :0, _:=_, ring1}
 use Rattle.algebra.proofs.Rat.{ℚ-ring, addℚ-zero as add-zero}

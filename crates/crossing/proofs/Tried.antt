@@ -3,7 +3,7 @@ use mathlib.Core.Path.{_≡_, refl, sym, ap, _∙_, subst₂}
 use mathlib.Core.Bool.{Bool, true, false, cond, _&&_}
 use mathlib.Core.List.{List, [], _∷_}
 use mathlib.Core.Logic.{⊎-elim}
-use Prim.Native.Nat.{ℕ, zero, suc, _≤_, _<_}
+use Prim.Native.Nat.{ℕ, zero, suc, _≤_}
 use native.Mathlib.Nat.{eq-or-lt-of-le}
 use native.Mathlib.Numerals.{add-one}
 use native.Mathlib.Omega.{arith}
@@ -27,7 +27,7 @@ use Rattle.step.proofs.Each.{All, none-any}
 use Rattle.step.proofs.Lines.{split}
 use Rattle.step.proofs.Touch.{unlike, First, At, These, Upward, touches, touching-first, touching-at, touching-all}
 use Rattle.crossing.specs.declared.Signed.{Signed}
-use Rattle.crossing.specs.Crossing.{signedAfter, secondN, secondP, crossing}
+use Rattle.crossing.specs.Crossing.{signedAfter, crossing}
 use Rattle.crossing.specs.Tried.{noSigned, signedIn, signedOf, crossingBy}
 use Rattle.crossing.proofs.Signs.{positive, signs, signed-first, sign-touches}
 

@@ -12,7 +12,6 @@ ghost use Rattle.postsolve.specs.Postsolve.{wayOf, arcsTurn, arcsBack};
 ghost use Rattle.postsolve.specs.internal.Turn.{backTurn, oldEdit};
 use network::Arc;
 use network::Edit;
-use network::Net;
 use network::pair::Pair;
 use step::Old;
 use step::Undone;

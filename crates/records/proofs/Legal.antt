@@ -1,5 +1,5 @@
 -- A record that the questions 2 to 5 let pass holds a legal network.
-use mathlib.Core.Path.{_≡_, refl, sym, ap, _∙_}
+use mathlib.Core.Path.{_≡_, refl, sym, ap, _∙_, subst}
 use mathlib.Core.Bool.{Bool, true, false, cond, not, _&&_, _||_}
 use mathlib.Core.List.{List}
 use mathlib.Core.Logic.{_⊎_, inl, inr, ⊎-elim}
@@ -189,7 +189,7 @@ module _ (xs : List ℤ) (n m : ℕ) (s : Sized xs n m) (g : Formed xs n m) wher
         no-arc = ap (λ (t : Arc). t .from) (no-arc-read xs n m (s .few-nodes) (s .few-arcs) 0 (inl refl));
         nodes-beyond = λ i l. not-here xs n m (s .few-nodes) (s .few-arcs) i (inr (omega (arith, ap (λ (t : Net). t .n) is)));
         arcs-beyond = λ j l. ap (λ (t : Arc). t .from) (no-arc-read xs n m (s .few-nodes) (s .few-arcs) j (inr (omega (arith, ap (λ (t : Net). t .m) is))));
-        constant-proper = rw is (figure-of-node 0 (omega arith));
+        constant-proper = subst (λ (t : Net). Proper (t .constant)) (sym is) (figure-of-node 0 (omega arith));
         supply-proper = supply-legal;
         unused = λ j e. ⊎-elim (λ z. z) (λ w. absurd (omega (arith, w .0))) (arc-at j);
         used = λ j l. ⊎-elim (λ z. absurd (omega (arith, ap (λ (t : Arc). t .from) z))) (λ w. w .1) (arc-at j);

@@ -5,7 +5,7 @@ ghost use Prim.Native.Nat.{_+_, _-_, _≤_};
 ghost use lib.ListN.{length, set};
 ghost use Rattle.loops.specs.Loops.{zeros};
 ghost use Rattle.fraction.specs.Exact.{denWord};
-ghost use Rattle.fraction.specs.Words.{word, wordOf, naturalOf};
+ghost use Rattle.fraction.specs.Words.{word, naturalOf};
 ghost use Rattle.network.specs.Limits.{maxNodes};
 ghost use Rattle.records.specs.Limits.{networkFigures};
 ghost use Rattle.records.specs.Arrays.{figureAt, hasRoom};

@@ -51,13 +51,6 @@ pub(crate) fn has_sizes(xs: &[i32]) -> bool
     }
 }
 
-// Which of an arc's seven figures figure k is, from 0; of the constant and of a supply 0.
-fn role_of(n: usize, k: usize) -> usize
-    ensures { λ r. ⌜ r ≡ roleOf n k ⌝ }
-{
-    if k <= n { 0 } else { (k - n - 1) % 7 }
-}
-
 // Whether figure k is a fraction in form, or the mark that its place permits.
 fn permitted(n: usize, k: usize, f: Fraction) -> bool
     ensures { λ r. ⌜ r ≡ isPermitted (roleOf n k) f ⌝ }
@@ -65,7 +58,10 @@ fn permitted(n: usize, k: usize, f: Fraction) -> bool
     if f.is_proper() {
         return true;
     }
-    let role = role_of(n, k);
+    if k <= n {
+        return false;
+    }
+    let role = (k - n - 1) % 7;
     match role {
         3 => f.same(Fraction::NO_LOWER),
         4 => f.same(Fraction::NO_UPPER),
@@ -251,7 +247,7 @@ pub fn read(network: &[i32]) -> Net
     network::empty_net(0, 0, Fraction::ZERO)
 }
 
-// The nodes of a record's network.
+// The constant and the nodes of a record's network.
 pub fn read_beside(network: &[i32]) -> Nodes
     ensures { λ r. ⌜ r ≡ nodesOf (readOf (now (network .entry))) ⌝ }
 {

@@ -41,7 +41,7 @@ use Rattle.reduction.proofs.Entry.{searched-room}
 use Rattle.restoration.specs.declared.Answer.{Answer}
 use Rattle.restoration.specs.declared.Answer.the-variants.{Restored, Refused}
 use Rattle.restoration.specs.declared.Offer.{Offer}
-use Rattle.restoration.specs.Restore.{isReduced, isStack, isRoomy, reducedNet, broughtBack, pairBack, originalValue, isBack, offerTable, backTable, runTable, restoreTable, refusalOf, answerOf, outOf, valuesOf, Written}
+use Rattle.restoration.specs.Restore.{isReduced, isStack, isRoomy, reducedNet, broughtBack, originalValue, isBack, offerTable, backTable, runTable, restoreTable, refusalOf, valuesOf, Written}
 use Rattle.restoration.specs.internal.Parts.{Offers, valuesWith, Ended}
 
 -- ---- the questions

@@ -117,7 +117,7 @@ pub fn supply_less(end: usize, s: Fraction, e: Fraction, v: Fraction) -> Worked
     s.fit().minus(e.fit().times(v.fit()))
 }
 
-// The constant, and the cost c of a flow v.
+// The constant with the cost of a flow v added, c × v.
 pub fn cost_added(constant: Fraction, c: Fraction, v: Fraction) -> Worked
     ensures { λ r. ⌜ r ≡ costAdded constant c v ⌝ }
 {

@@ -1,8 +1,8 @@
 -- Rule 5 as it is tried: at a node of another degree it passes, and what it is given is what it reads of the network.
 use mathlib.Core.Path.{_≡_, subst₂}
-use mathlib.Core.Bool.{true, false}
+use mathlib.Core.Bool.{false}
 use mathlib.Core.List.{List}
-use Prim.Native.Nat.{ℕ, _≤_}
+use Prim.Native.Nat.{ℕ}
 use native.Mathlib.Omega.{arith}
 use lib.Dec.{eqb}
 use borrow.Author.Tests.{eqb-true}

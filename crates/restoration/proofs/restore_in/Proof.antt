@@ -1,6 +1,6 @@
 -- `restoration::restore_in` meets its contract. The part that follows the code is `Proof/Tie.antt`, made by tools/lift.py.
 mod Tie
-use mathlib.Core.Path.{_∙_, sym, refl, ap}
+use mathlib.Core.Path.{_∙_, sym, ap}
 use native.Mathlib.Omega.{arith}
 use Rattle.network.specs.ArcList.{arcsIn}
 use Rattle.reduction.proofs.Found.{found}

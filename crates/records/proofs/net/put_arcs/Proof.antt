@@ -1,11 +1,10 @@
 -- `records::net::put_arcs` meets its contract.
 use Prim.Native.Nat.{_+_, _-_}
-use mathlib.Core.Path.{_∙_, ap}
+use mathlib.Core.Path.{_∙_}
 use lib.ListN.{getD}
-use native.Mathlib.Omega.{arith}
 use Rattle.network.specs.Network.{noArc}
 use Rattle.records.specs.Network.{arcFigure, roleFigure}
-use Rattle.records.specs.internal.Put.{arcsPut, denOf, densIn, numOf, numsIn, putFrom}
+use Rattle.records.specs.internal.Put.{arcsPut, denOf, numOf, putFrom}
 use Rattle.records.proofs.Put.{Turned, put-built, turned-all, turned-more, turned-none}
 use Rattle.records.proofs.Turns.{turn-less}
 use borrow.Author.Needs.{needs}

@@ -11,7 +11,7 @@ use Rattle.step.specs.Run.{ruleOf}
 use Rattle.step.specs.declared.Next.the-variants.{Stops}
 use borrow.Author.Needs.{needs}
 use mathlib.Core.Logic.{⊎-elim}
-use mathlib.Core.Path.{_∙_, sym, refl}
+use mathlib.Core.Path.{_∙_, sym}
 use native.Mathlib.Omega.{arith}
 use Rattle.search.proofs.scan.scan_nodes.Statement.{statement}
 use Rattle.search.proofs.scan.scan_nodes.Proof.Tie as tie
