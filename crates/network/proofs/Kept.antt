@@ -130,30 +130,12 @@ module _ {net : Net} (g : Legal net) where
       some l (inl e) = absurd (omega (arith, ap (λ (t : Arc). t .from) e))
       some l (inr h) = moved (h .1) (h .1 .from-here) (h .1 .to-here)
 
-  pub supply-kept : (j : ℕ) (r : Fraction) → (1 ≤ j → Proper r) → Legal (withSupply net j r)
-  unfolding withSupply
-  supply-kept j r ok =
+  -- another constant and other supplies, in form
+  figures-kept : (k : Fraction) (l : List Fraction) → Proper k → length l ≡ 33 → ((i : ℕ) → isHere net i ≡ true → Proper (getD l i noFigure)) → Legal (record { n = net .n; m = net .m; constant = k; here = net .here; supply = l; arcs = net .arcs })
+  figures-kept k l proper long all =
       record {
         here-long = g .here-long;
-        supply-long = long noFigure r (net .supply) j (isNumber 32 j) ∙ g .supply-long;
-        arcs-long = g .arcs-long;
-        few-nodes = g .few-nodes;
-        few-arcs = g .few-arcs;
-        no-node = g .no-node;
-        no-arc = g .no-arc;
-        nodes-beyond = g .nodes-beyond;
-        arcs-beyond = g .arcs-beyond;
-        constant-proper = g .constant-proper;
-        supply-proper = λ i e. ⊎-elim (λ q. rw q (g .supply-proper i e)) (λ w. rw (w .2) (ok (w .0))) (supply-either net j r i);
-        unused = g .unused;
-        used = λ i l. let h = g .used i l in moved h (h .from-here) (h .to-here);
-      }
-
-  pub constant-kept : (k : Fraction) → Proper k → Legal (withConstant net k)
-  constant-kept k proper =
-      record {
-        here-long = g .here-long;
-        supply-long = g .supply-long;
+        supply-long = long;
         arcs-long = g .arcs-long;
         few-nodes = g .few-nodes;
         few-arcs = g .few-arcs;
@@ -162,10 +144,19 @@ module _ {net : Net} (g : Legal net) where
         nodes-beyond = g .nodes-beyond;
         arcs-beyond = g .arcs-beyond;
         constant-proper = proper;
-        supply-proper = g .supply-proper;
+        supply-proper = all;
         unused = g .unused;
         used = λ i l. let h = g .used i l in moved h (h .from-here) (h .to-here);
       }
+
+  pub supply-kept : (j : ℕ) (r : Fraction) → (1 ≤ j → Proper r) → Legal (withSupply net j r)
+  unfolding withSupply
+  supply-kept j r ok =
+      figures-kept (net .constant) _ (g .constant-proper) (long noFigure r (net .supply) j (isNumber 32 j) ∙ g .supply-long)
+      (λ i e. ⊎-elim (λ q. rw q (g .supply-proper i e)) (λ w. rw (w .2) (ok (w .0))) (supply-either net j r i))
+
+  pub constant-kept : (k : Fraction) → Proper k → Legal (withConstant net k)
+  constant-kept k proper = figures-kept k (net .supply) proper (g .supply-long) (g .supply-proper)
 
   -- a node that no arc touches may be dropped
   pub node-kept : (j : ℕ) → (1 ≤ j → (i : ℕ) → isTouching (arcAt net i) j ≡ false) → Legal (without net j)

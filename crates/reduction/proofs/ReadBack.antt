@@ -29,7 +29,7 @@ use Rattle.records.specs.Network.{figures, arcFigure, sizesRight, roleOf, isPer
 use Rattle.records.specs.Cut.{cutNetwork}
 use Rattle.records.proofs.Questions.{asked}
 use Rattle.records.proofs.Arrays.{with-room}
-use Rattle.records.proofs.Put.{supply-figure, role-figure}
+use Rattle.records.proofs.Put.{constant-figure, supply-figure, role-figure}
 use Rattle.records.proofs.Legal.{Permitted, permitted-is, net-is, read-is}
 use Rattle.records.proofs.Written.{figure-written}
 
@@ -195,7 +195,6 @@ module _ {net : Net} (g : Legal net) (u : Gapless net) where
 
     -- and they are read as the network
     net-held : ((i : ℕ) → (i ≡ 0) ⊎ (net .n < i) → supplyAt net i ≡ noFigure) → readOf xs ≡ net
-    unfolding figureOf
     net-held bare =
         read-is xs sizes-held
         ∙ rw (
@@ -209,7 +208,7 @@ module _ {net : Net} (g : Legal net) (u : Gapless net) where
         )
       where
         constant-held : figureAt xs many 0 ≡ net .constant
-        constant-held = figure-held 0 (omega arith)
+        constant-held = figure-held 0 (omega arith) ∙ constant-figure net
 
         supply-held : (i : ℕ) → i < net .n → supplyAt net (i + 1) ≡ figureAt xs many (i + 1)
         supply-held i l = sym (figure-held (i + 1) (omega arith) ∙ supply-figure net i l)

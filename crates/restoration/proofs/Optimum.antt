@@ -29,6 +29,7 @@ use Rattle.fraction.specs.Formula.{isFit, figureOf}
 use Rattle.fraction.proofs.Laws.{never, and-both, is-proper}
 use Rattle.fraction.specs.Value.{value}
 use Rattle.fraction.proofs.Value.{value-unique}
+use Rattle.fraction.proofs.Exactly.{fit-is}
 use Rattle.network.specs.declared.Net.{Net}
 use Rattle.network.specs.declared.pair.Pair.{Pair}
 use Rattle.fraction.specs.Words.{word}
@@ -224,7 +225,7 @@ module _ (xs zs ys : List ℤ) (o v w k : ℕ) where
     same-value =
         let g = legal-read (y .asked) in
         let left = proven-value (packed-legal left-legal) (packed-gapless left-legal) ys proven in
-        let given = value-exactly g (read-gapless xs (y .asked .asked)) (pairBack way) _ (fit-some _ (arrived net way (y .fits) .1)) in
+        let given = fit-is _ (value-exactly g (read-gapless xs (y .asked .asked)) (pairBack way)) (arrived net way (y .fits) .1) in
         value-unique _ _ (left .0) (given .0) (left .1 ∙ sym (read-value (run .net) left-legal ys (proven .in-form)) ∙ sym (brought .2) ∙ sym (given .1))
 
     optimum : Optimum net run ys (pairWords (net .n) (net .m) (pairBack way) o) (fourWords (reducedValue run ys) (originalValue net way) v)
