@@ -13,7 +13,8 @@ use Rattle.network.specs.declared.Net.{Net}
 use Rattle.network.specs.Network.{arcAt, isHere, degreeOf, sideOf}
 use Rattle.network.specs.Legal.{Legal}
 use Rattle.step.proofs.Each.{All, Apart}
-use Rattle.step.proofs.Touch.{unlike, First, At, touches, scan-first, different-all}
+use Rattle.network.proofs.First.{First, scan-first}
+use Rattle.step.proofs.Touch.{unlike, At, touches, different-all}
 use Rattle.step.proofs.Figures.{above-zero, below-zero}
 use Rattle.step.proofs.Node.{ArcsAt, at-node, arcs-at}
 use Rattle.crossing.specs.Crossing.{signBy, hasSignAt, signedAfter}

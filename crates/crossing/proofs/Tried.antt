@@ -25,7 +25,8 @@ use Rattle.step.specs.Back.{oldArc}
 use Rattle.step.specs.Around.{firstAt, secondAt, thirdAt, fourthAt, Near, Given}
 use Rattle.step.proofs.Each.{All, none-any}
 use Rattle.step.proofs.Lines.{split}
-use Rattle.step.proofs.Touch.{unlike, First, At, These, Upward, touches, touching-first, touching-at, touching-all}
+use Rattle.network.proofs.First.{First, first-same}
+use Rattle.step.proofs.Touch.{unlike, At, These, Upward, touches, touching-first, touching-at, touching-all}
 use Rattle.crossing.specs.declared.Signed.{Signed}
 use Rattle.crossing.specs.Crossing.{signedAfter, crossing}
 use Rattle.crossing.specs.Tried.{noSigned, signedIn, signedOf, crossingBy}
@@ -42,16 +43,6 @@ passes net i = by (isHere net i) (eqb (degreeOf net i) 4) (isZero (supplyAt net 
     by false d z x e = refl
 
 -- ---- the signs among the four arcs that touch a node
-
--- the first number after k that passes is one
-first-same : {p : ℕ → Bool} {k a b : ℕ} → First p k a → First p k b → a ≡ b
-first-same {p} {k} {a} {b} f h = by a b (λ m. f .least b (h .above m) (h .within) (h .passes m)) (λ m. h .least a (f .above m) (f .within) (f .passes m))
-  where
-    by : (a b : ℕ) → (1 ≤ b → (1 ≤ a) × (a ≤ b)) → (1 ≤ a → (1 ≤ b) × (b ≤ a)) → a ≡ b
-    by zero zero f h = refl
-    by zero (suc b) f h = omega (arith, f (omega (arith, add-one b)) .0)
-    by (suc a) zero f h = omega (arith, h (omega (arith, add-one a)) .0)
-    by (suc a) (suc b) f h = omega (arith, f (omega (arith, add-one b)) .1, h (omega (arith, add-one a)) .1)
 
 module _ {net : Net} (g : Legal net) (i : ℕ) (l : 1 ≤ i) (below : Bool) where
   abbrev after : ℕ → ℕ

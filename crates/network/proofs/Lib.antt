@@ -4,5 +4,7 @@ pub mod Numbers
 pub mod Kept
 pub mod Sane
 pub mod Bounds
+pub mod First
+pub mod Linked
 pub mod Lent
 pub mod Lists

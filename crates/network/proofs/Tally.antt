@@ -43,7 +43,7 @@ pub record Tallied (net : Net) (ds : List ℕ) (j : ℕ) : Type 0 where
   pub long : length ds ≡ 33
   pub is : (i : ℕ) → i < 33 → getD ds i 0 ≡ count (λ k. isTouching (arcAt net k) i) j
 
-zero-at : (n i : ℕ) → _≡_ {A = ℕ} (getD (replicate n 0) i 0) 0
+pub zero-at : (n i : ℕ) → _≡_ {A = ℕ} (getD (replicate n 0) i 0) 0
 zero-at zero i = refl
 zero-at (suc n) zero = refl
 zero-at (suc n) (suc i) = zero-at n i

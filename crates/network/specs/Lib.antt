@@ -4,3 +4,4 @@ pub mod ArcList
 pub mod Legal
 pub mod Program
 pub mod Pair
+pub mod internal

@@ -124,6 +124,21 @@ touchAt net i j = cond (isTouching (arcAt net j) i) j 0
 unfoldable pub touchingAfter : Net → ℕ → ℕ → ℕ
 touchingAfter net i k = scan orNext 0 (touchAt net i) (maxArcs - k) (k + 1)
 
+-- ---- parallel arcs: "both have the same from and to" (02, 2026-02)
+
+unfoldable pub isParallel : Arc → Arc → Bool
+isParallel t u = eqb (u .from) (t .from) && eqb (u .to) (t .to)
+
+-- the first arc after number j that is parallel to arc j; 0 where there is none
+unfoldable pub parallelAfter : Net → ℕ → ℕ
+parallelAfter net j = scan orNext 0 (λ k. cond (isParallel (arcAt net j) (arcAt net k)) k 0) (maxArcs - j) (j + 1)
+
+-- the next parallel arc of each arc in use, at its number
+abbrev pub AreParallel : Net → List ℕ → Type 0
+AreParallel net next = (j : ℕ) → getD next j 0 ≡ cond (isUsed net j) (parallelAfter net j) 0
+
+-- ---- an arc's ends, and an arc at a node
+
 -- the end that is not the from node; 0 for a root arc, which has none
 unfoldable pub farEnd : Arc → ℕ
 farEnd t = cond (isRoot t) 0 (t .to)
@@ -140,9 +155,12 @@ noUpdate = record { number = 0; arc = noArc }
 abbrev pub noSupplyUpdate : SupplyUpdate
 noSupplyUpdate = record { node = 0; supply = noFigure }
 
--- a change of one arc, two supplies, a node and the constant
+-- a change of one arc, or of two, two supplies, a node and the constant
+abbrev pub editTwo : ArcUpdate → ArcUpdate → SupplyUpdate → SupplyUpdate → ℕ → Fraction → Edit
+editTwo one two left right gone constant = record { one = one; two = two; three = noUpdate; four = noUpdate; left = left; right = right; gone = gone; constant = constant }
+
 abbrev pub editOne : ArcUpdate → SupplyUpdate → SupplyUpdate → ℕ → Fraction → Edit
-editOne one left right gone constant = record { one = one; two = noUpdate; three = noUpdate; four = noUpdate; left = left; right = right; gone = gone; constant = constant }
+editOne one left right gone constant = editTwo one noUpdate left right gone constant
 
 abbrev pub noEdit : Edit
 noEdit = editOne noUpdate noSupplyUpdate noSupplyUpdate 0 noFigure

@@ -8,7 +8,8 @@ ghost use Rattle.fraction.specs.Exact.{noFigure};
 ghost use Rattle.network.specs.Limits.{arcPlaces};
 ghost use Rattle.network.specs.ArcList.{nodesOf, joined};
 ghost use Rattle.network.specs.Network.{noArc, emptyNet, arcAt, withSupply, without, applied};
-ghost use Rattle.network.specs.Network.{isTouching, raised, countedAt, Countable, isRoot, farEnd, sideOf, noUpdate, noSupplyUpdate, noEdit, editOne};
+ghost use Rattle.network.specs.internal.Linked.{nextOf, lastOf};
+ghost use Rattle.network.specs.Network.{isTouching, raised, countedAt, Countable, isRoot, farEnd, sideOf, noUpdate, noSupplyUpdate, noEdit, editTwo, editOne};
 use fraction::Fraction;
 
 pub mod list;
@@ -264,6 +265,37 @@ pub(crate) fn count_ends(at: &mut [usize; NODE_PLACES], t: Arc)
     }
 }
 
+// The places of two nodes.
+pub(crate) const END_PLACES: usize = NODE_PLACES * NODE_PLACES;
+
+// The next parallel arc of each arc, one with the same from and to, at its number; 0 where there is none.
+pub struct Parallels {
+    pub next: [u8; ARC_PLACES],
+}
+
+// Arc j, t, is taken, where it is in use: the last one between its ends is its next, and now it is the last.
+pub(crate) fn link(next: &mut [u8; ARC_PLACES], last: &mut [u8; END_PLACES], j: usize, t: Arc)
+    ensures { λ _. ⌜ (now (next .exit) ≡ nextOf (now (next .entry)) (now (last .entry)) j (t .from) (t .to)) × (now (last .exit) ≡ lastOf (now (last .entry)) j (t .from) (t .to)) ⌝ }
+{
+    let f = t.from;
+    let e = t.to;
+    if ARC_PLACES <= j {
+        return;
+    }
+    if f < 1 {
+        return;
+    }
+    if NODE_PLACES <= f {
+        return;
+    }
+    if NODE_PLACES <= e {
+        return;
+    }
+    let k = f * NODE_PLACES + e;
+    next[j] = last[k];
+    last[k] = j as u8;
+}
+
 // Whether an arc is a root arc.
 pub fn is_root(t: Arc) -> bool
     ensures { λ r. ⌜ r ≡ isRoot t ⌝ }
@@ -319,7 +351,31 @@ pub fn no_supply_update() -> SupplyUpdate
     SupplyUpdate { node: 0, supply }
 }
 
-// A change of one arc, two supplies, a node and the constant.
+// A change of two arcs, two supplies, a node and the constant.
+pub fn edit_two(
+    one: ArcUpdate,
+    two: ArcUpdate,
+    left: SupplyUpdate,
+    right: SupplyUpdate,
+    gone: usize,
+    constant: Fraction,
+) -> Edit
+    ensures { λ r. ⌜ r ≡ editTwo one two left right gone constant ⌝ }
+{
+    let z = no_update();
+    Edit {
+        one,
+        two,
+        three: z,
+        four: z,
+        left,
+        right,
+        gone,
+        constant,
+    }
+}
+
+// A change of one arc.
 pub fn edit_one(
     one: ArcUpdate,
     left: SupplyUpdate,
@@ -329,17 +385,7 @@ pub fn edit_one(
 ) -> Edit
     ensures { λ r. ⌜ r ≡ editOne one left right gone constant ⌝ }
 {
-    let z = no_update();
-    Edit {
-        one,
-        two: z,
-        three: z,
-        four: z,
-        left,
-        right,
-        gone,
-        constant,
-    }
+    edit_two(one, no_update(), left, right, gone, constant)
 }
 
 // Nothing changed.

@@ -7,14 +7,17 @@ ghost use Prim.Native.Nat.{_+_};
 ghost use lib.ListN.{length};
 ghost use Rattle.network.specs.declared.Nodes.{Nodes};
 ghost use Rattle.network.specs.ArcList.{recordAt, replaced, replacedAll, noArcs, arcsIn, netIn};
-ghost use Rattle.network.specs.Network.{AreDegreesTo, touchingAfter};
+ghost use Rattle.network.specs.Network.{AreDegreesTo, touchingAfter, AreParallel};
+ghost use Rattle.network.specs.Legal.{Legal};
 use crate::ARC_PLACES;
 use crate::Arc;
 use crate::ArcUpdate;
 use crate::Degrees;
+use crate::END_PLACES;
 use crate::Edit;
 use crate::MAX_ARCS;
 use crate::NODE_PLACES;
+use crate::Parallels;
 
 // How many records there are.
 pub fn count(arcs: &[Arc]) -> usize
@@ -107,6 +110,21 @@ pub fn degrees(arcs: &[Arc], m: usize) -> Degrees
         j += 1;
     }
     Degrees { at }
+}
+
+// The next parallel arc of each arc, of the numbers up to m.
+pub fn parallels(arcs: &[Arc], m: usize) -> Parallels
+    ensures { λ r. ⌜ ((nodes : Nodes) → nodes .m ≡ m → Legal (netIn nodes (now (arcs .entry))) → AreParallel (netIn nodes (now (arcs .entry))) (r .next)) ⌝ }
+{
+    let mut next: [u8; ARC_PLACES] = [0; ARC_PLACES];
+    let mut last: [u8; END_PLACES] = [0; END_PLACES];
+    let mut j = m;
+    while 1 <= j {
+        let t = read(arcs, j);
+        crate::link(&mut next, &mut last, j, t);
+        j -= 1;
+    }
+    Parallels { next }
 }
 
 // An arc put at its number.

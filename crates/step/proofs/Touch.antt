@@ -11,11 +11,12 @@ use lib.Dec.{eqb, ltb}
 use lib.ListN.{length}
 use borrow.Author.Tests.{ltb-true, ltb-false, lt-ltb, le-ltb, eqb-true, eqb-false, eq-eqb, ne-eqb}
 use Rattle.fraction.proofs.Laws.{and-both, never}
-use Rattle.loops.specs.Loops.{count, scan}
+use Rattle.loops.specs.Loops.{count}
 use Rattle.loops.proofs.Laws.{count-same}
 use Rattle.network.specs.declared.Net.{Net}
-use Rattle.network.specs.Network.{arcAt, isTouching, degreeOf, orNext, touchingAfter}
+use Rattle.network.specs.Network.{arcAt, isTouching, degreeOf, touchingAfter}
 use Rattle.network.specs.Legal.{Legal}
+use Rattle.network.proofs.First.{First, scan-first}
 use Rattle.network.proofs.Kept.{used-number, touching-used}
 use Rattle.step.proofs.Each.{All, Any, Apart, all-map}
 use Rattle.step.proofs.Lines.{split}
@@ -54,14 +55,6 @@ count-but p n a l t = count-one-less p (but p a) n a l t (rw (eq-eqb a a refl)) 
 count-none : (p : ℕ → Bool) (n : ℕ) → count p n ≡ 0 → (x : ℕ) → x < n → p x ≡ true → ⊥
 count-none p n e x l t = omega (arith, count-but p n x l t)
 
--- j is the first number after k, to 96, that passes p, and 0 where none does
-pub record First (p : ℕ → Bool) (k j : ℕ) : Type 0 where
-  pub within : j ≤ 96
-  pub above : 1 ≤ j → k < j
-  pub passes : 1 ≤ j → p j ≡ true
-  -- a number after k that passes means that j is one, and not beyond it
-  pub least : (x : ℕ) → k < x → x ≤ 96 → p x ≡ true → (1 ≤ j) × (j ≤ x)
-
 -- a number after k, to 96, that passes
 pub record At (p : ℕ → Bool) (k x : ℕ) : Type 0 where
   pub above : k < x
@@ -80,18 +73,6 @@ Upward p k [] = Unit {0}
 Upward p k (x ∷ xs) = First p k x × Upward p x xs
 
 module _ (p : ℕ → Bool) where
-  scan-from : (c k : ℕ) → 96 - k ≡ c → First p k (scan orNext 0 (λ j. cond (p j) j 0) c (suc k))
-  unfolding scan
-  scan-from zero k q = record { within = omega arith; above = λ h. absurd (omega arith); passes = λ h. absurd (omega arith); least = λ x h l. absurd (omega arith) }
-  scan-from (suc c) k q =
-      split (p (suc k))
-      (λ e. rw e (record { within = omega (arith, add-one k, add-one c); above = λ h. omega (arith, add-one k); passes = λ h. e; least = λ x h l t. (omega (arith, add-one k), omega (arith, add-one k)) }))
-      (λ e. let r = scan-from c (suc k) (omega (arith, add-one k, add-one c)) in
-      rw e (record { within = r .within; above = λ h. omega (arith, add-one k, r .above h); passes = r .passes; least = λ x h l t. r .least x (⊎-elim (λ z. unlike (sym e ∙ ap p z ∙ t)) (λ l. l) (eq-or-lt-of-le h)) l t }))
-
-  pub scan-first : (k : ℕ) → First p k (scan orNext 0 (λ j. cond (p j) j 0) (96 - k) (k + 1))
-  scan-first k = rw (add-one k) (scan-from (96 - k) k refl)
-
   -- how many numbers after k, to 96, pass
   abbrev after : ℕ → ℕ → Bool
   after k x = ltb k x && p x

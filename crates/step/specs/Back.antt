@@ -53,7 +53,10 @@ noFlowUpdate = record { arc = 0; flow = noFigure }
 abbrev pub noPriceUpdate : PriceUpdate
 noPriceUpdate = record { node = 0; price = noFigure }
 
--- a flow; a price; one of each
+-- two flows; a flow; a price; one of each
+abbrev pub twoFlows : ℕ → Fraction → ℕ → Fraction → Restored
+twoFlows k y j x = record { one = record { arc = k; flow = y }; two = record { arc = j; flow = x }; three = noFlowUpdate; four = noFlowUpdate; price = noPriceUpdate }
+
 abbrev pub flowOnly : ℕ → Fraction → Restored
 flowOnly j x = record { one = record { arc = j; flow = x }; two = noFlowUpdate; three = noFlowUpdate; four = noFlowUpdate; price = noPriceUpdate }
 

@@ -4,7 +4,7 @@ ghost use mathlib.Core.Bool.{true};
 ghost use Prim.Native.Nat.{_≤_};
 ghost use Rattle.network.specs.Network.{isNumber};
 ghost use Rattle.network.specs.declared.pair.Pair.{Pair};
-ghost use Rattle.step.specs.Back.{oldOne, oldTwo, noFlowUpdate, flowOnly, priceOnly, flowAndPrice, restored, quoteAt};
+ghost use Rattle.step.specs.Back.{oldOne, oldTwo, noFlowUpdate, twoFlows, flowOnly, priceOnly, flowAndPrice, restored, quoteAt};
 ghost use Rattle.step.specs.Figure.{larger as largerOf, smaller as smallerOf};
 ghost use Rattle.step.specs.Dropped.{supplyLess, costAdded, dropping as droppingOf, dropped, lowerBack};
 use fraction::Fraction;
@@ -257,6 +257,23 @@ fn no_flow() -> FlowUpdate
     FlowUpdate {
         arc: 0,
         flow: network::no_figure(),
+    }
+}
+
+// Two flows.
+pub fn two_flows(k: usize, y: Fraction, j: usize, x: Fraction) -> Restored
+    ensures { λ r. ⌜ r ≡ twoFlows k y j x ⌝ }
+{
+    let none = no_flow();
+    Restored {
+        one: FlowUpdate { arc: k, flow: y },
+        two: FlowUpdate { arc: j, flow: x },
+        three: none,
+        four: none,
+        price: PriceUpdate {
+            node: 0,
+            price: network::no_figure(),
+        },
     }
 }
 

@@ -16,7 +16,7 @@ use Rattle.network.specs.declared.ArcUpdate.{ArcUpdate}
 use Rattle.network.specs.declared.Edit.{Edit}
 use Rattle.network.specs.declared.pair.Pair.{Pair}
 use Rattle.network.specs.Limits.{maxNodes}
-use Rattle.network.specs.Network.{noArc, noUpdate, noSupplyUpdate, isHere, degreeOf, isRoot, sideOf}
+use Rattle.network.specs.Network.{noArc, noSupplyUpdate, editTwo, isHere, degreeOf, isRoot, sideOf}
 use Rattle.network.specs.Pair.{priceAt, flowAt}
 use Rattle.slackness.specs.Slackness.{keepsRule}
 use Rattle.step.specs.declared.Old.{Old}
@@ -52,7 +52,7 @@ newArc wj wk c l u b = record { from = wj .other; to = cond (eqb (wk .other) 0) 
 
 -- two arcs are put, a supply is set, a node is dropped, and the constant is set
 abbrev pub merging : ℕ → Arc → ℕ → ℕ → Fraction → ℕ → Fraction → Edit
-merging j t k node s gone constant = record { one = record { number = j; arc = t }; two = record { number = k; arc = noArc }; three = noUpdate; four = noUpdate; left = record { node = node; supply = s }; right = noSupplyUpdate; gone = gone; constant = constant }
+merging j t k node s gone constant = editTwo (record { number = j; arc = t }) (record { number = k; arc = noArc }) (record { node = node; supply = s }) noSupplyUpdate gone constant
 
 -- j, tj, is kept and k, tk, goes, at node i of supply r; wj and wk are their sides there, and r′ is the supply at k's other end
 unfoldable pub merged : Fraction → ℕ → ℕ → Arc → Side → ℕ → Arc → Side → Fraction → Fraction → Outcome

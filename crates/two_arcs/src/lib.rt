@@ -154,19 +154,17 @@ fn merging(
 ) -> network::Edit
     ensures { λ x. ⌜ x ≡ mergingOf j t k node s gone constant ⌝ }
 {
-    let none = network::no_update();
-    let arc = network::no_arc();
-    let right = network::no_supply_update();
-    network::Edit {
-        one: ArcUpdate { number: j, arc: t },
-        two: ArcUpdate { number: k, arc },
-        three: none,
-        four: none,
-        left: SupplyUpdate { node, supply: s },
-        right,
+    let one = ArcUpdate { number: j, arc: t };
+    let two = step::numbered(k, network::no_arc());
+    let left = SupplyUpdate { node, supply: s };
+    network::edit_two(
+        one,
+        two,
+        left,
+        network::no_supply_update(),
         gone,
         constant,
-    }
+    )
 }
 
 // Arc j, tj, is kept and arc k, tk, goes, at node i of supply r; s is the supply at k's other end.

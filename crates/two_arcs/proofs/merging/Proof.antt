@@ -4,4 +4,4 @@ use Rattle.two_arcs.proofs.merging.Statement.{statement}
 use Rattle.two_arcs.proofs.merging.Tie as tie
 
 pub merging-spec : {M : Type 1} → statement M
-merging-spec = tie.close (tie.spec (search needs) (search needs) (search needs) (λ c. rw (c .no-supply-update .ensures, c .before .no-arc .ensures, c .before .before .no-update .ensures)))
+merging-spec = tie.close (tie.spec (search needs) (search needs) (search needs) (search needs) (λ c. cc))

@@ -1,0 +1,2 @@
+pub mod ParallelArcs
+pub mod internal
