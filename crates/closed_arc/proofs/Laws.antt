@@ -15,12 +15,14 @@ use Rattle.network.specs.Network.{arcAt, isUsed}
 use Rattle.network.specs.Legal.{Legal}
 use Rattle.network.specs.Program.{boundOf, programOf}
 use Rattle.network.proofs.Bounds.{bound-is, both-proper, crossing}
+use Rattle.network.proofs.Kept.{used-number}
 use Rattle.step.specs.declared.Change.{Change}
 use Rattle.step.specs.declared.Outcome.{Outcome}
 use Rattle.step.specs.declared.Outcome.the-variants.{Passes, NoFlow, Changes}
 use Rattle.fraction.proofs.Laws.{never}
 use Rattle.step.specs.Outcome.{onlyWhere, noFlowWhere}
 use Rattle.step.specs.Dropped.{droppedAt, lowerBack}
+use Rattle.step.specs.Applies.{Passing}
 use Rattle.step.proofs.Exactly.{listed-arc, column-is}
 use Rattle.step.proofs.Lines.{Answers, only-met, flow-met, not-changed, split}
 use Rattle.step.proofs.Removing.{lower-right, dropped-shows}
@@ -40,10 +42,13 @@ closed-met net j a e =
     let n = eqb-false (arcAt net j .from) 0 (not-true _ (u .0)) in
     record { used = omega arith; shows = ⊎-elim inl (λ b. let c = only-met a _ _ (b .1) in inr (same-is _ _ (c .0), c .1)) (flow-met _ _ (u .1)) }
 
--- where it passes, the bounds of an arc in use don't cross
-pub uncrossed : (net : Net) (j : ℕ) → 1 ≤ arcAt net j .from → closedArc net j ≡ Passes → isLess (arcAt net j .upper) (arcAt net j .lower) ≡ false
+-- where it passes, the bounds of no arc in use cross
+pub uncrossed : {net : Net} → Legal net → Passing rule net → (j : ℕ) → 1 ≤ arcAt net j .from → isLess (arcAt net j .upper) (arcAt net j .lower) ≡ false
 unfolding closed onlyWhere noFlowWhere
-uncrossed net j u e = split (isLess (arcAt net j .upper) (arcAt net j .lower)) (λ q. never (let z = rw (ne-eqb (arcAt net j .from) 0 (λ n. omega arith), q) at e in cc)) (λ q. q)
+uncrossed {net} g p j u =
+    let n = used-number g j u in
+    let e = p j (n .0) (n .1) in
+    split (isLess (arcAt net j .upper) (arcAt net j .lower)) (λ q. never (let z = rw (ne-eqb (arcAt net j .from) 0 (λ n. omega arith), q) at e in cc)) (λ q. q)
 
 module _ (net : Net) (g : Legal net) (j : ℕ) (used : 1 ≤ arcAt net j .from) where
   right : {c : Change} → arcAt net j .lower ≡ arcAt net j .upper → droppedAt net j (arcAt net j .lower) ≡ Changes c → Right net c (lowerBack (c .old))

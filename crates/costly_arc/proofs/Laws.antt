@@ -28,7 +28,7 @@ use Rattle.network.specs.Network.{arcAt, isUsed, isRoot, applied}
 use Rattle.network.specs.Legal.{Legal}
 use Rattle.network.specs.Program.{boundOf, exactOf, programOf}
 use Rattle.network.proofs.Sane.{sane}
-use Rattle.network.proofs.Kept.{here-number, used-number}
+use Rattle.network.proofs.Kept.{here-number}
 use Rattle.network.proofs.Bounds.{bound-is, no-upper, finite-proper, not-over}
 use Rattle.step.specs.declared.Change.{Change}
 use Rattle.step.specs.declared.Outcome.{Outcome}
@@ -156,5 +156,5 @@ laws first = record {
   unused = unused;
   at-nodes = λ e. unlike e;
   no-flow = λ net g p j e. dropped-shows net j _ (costly-met net g j tt e .dropped);
-  right = λ net g p j e. let h = costly-met net g j tt e in let u = rootless-used net g j (h .no-root) in let n = used-number g j u in right net g j (uncrossed net j u (first net p j (n .0) (n .1))) h;
+  right = λ net g p j e. let h = costly-met net g j tt e in right net g j (uncrossed g (first net p) j (rootless-used net g j (h .no-root))) h;
 }

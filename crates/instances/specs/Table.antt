@@ -1,4 +1,5 @@
--- The marked instances of document 01, with the constants of document 02, 2026-01, as one table: what the definitions compute, and what the document says.
+-- The marked instances of document 01, with the constants of document 02, 2026-01, and a worked example of ours, as one table: what the definitions
+-- compute, and what is written.
 use mathlib.Core.Path.{_≡_, refl}
 use mathlib.Core.Bool.{Bool, true, false}
 use mathlib.Core.List.{List, [], _∷_, _++_, map}
@@ -41,6 +42,7 @@ use Rattle.single_arc.specs.SingleArc.{forcedOut, single, singleArc, singleBack
 use Rattle.costly_arc.specs.CostlyArc.{isOpenRoot, isCostlier, hasPair, costlyArc}
 use Rattle.two_arcs.specs.TwoArcs.{sameSign, tighter, imageOf, gained, merged, kept, two, twoArcs, twoBack}
 use Rattle.crossing.specs.Crossing.{hasSignAt, signedAfter, isFree, isApart, crossed as crossedArc, crossedAt, crossing, crossingBack}
+use Rattle.parallel_arcs.specs.ParallelArcs.{ratioOf, isTimes, lowEnd, highEnd, upperSum, joined, alike, parallelArc, parallelBack}
 use Rattle.rules.specs.Table.{reduced}
 use Rattle.survivors.specs.Survivors.{spreadOf}
 use Rattle.reduction.specs.declared.Answer.{Answer}
@@ -221,6 +223,27 @@ I =
     row (Bool × List Arc) (puts (crossing (network 5 (arcN 2 ∷ arcN 3 ∷ arcP 4 ∷ arcP 5 ∷ [])) 1))
     (true, crossed 2 4 ∷ crossed 2 5 ∷ crossed 3 4 ∷ crossed 3 5 ∷ [])
 
+-- ---- an example of ours, not the papers'
+
+-- Rule 7 (02, 2026-02), g = -1/2. Two arcs from node 1 to node 2: cost 2, bounds 0 and 3, multipliers 2 and -1; and cost -1, bounds -4 and 2, multipliers
+-- -1 and 1/2, whose image goes from -1 to 2. The supplies are 8 and -4, the constant 5
+abbrev road : List ℤ
+road =
+    (pos 2 ∷ pos 2 ∷ [])
+    ++ (pos 5 ∷ pos 8 ∷ neg 4 ∷ pos 1 ∷ pos 2 ∷ pos 2 ∷ pos 0 ∷ pos 3 ∷ pos 2 ∷ neg 1 ∷ pos 1 ∷ pos 2 ∷ neg 1 ∷ neg 4 ∷ pos 2 ∷ neg 1 ∷ pos 1 ∷ [])
+    ++ (pos 1 ∷ pos 1 ∷ pos 1 ∷ pos 1 ∷ pos 1 ∷ pos 1 ∷ pos 1 ∷ pos 1 ∷ pos 1 ∷ pos 1 ∷ pos 1 ∷ pos 1 ∷ pos 1 ∷ pos 1 ∷ pos 1 ∷ pos 1 ∷ pos 2 ∷ [])
+
+-- rule 7 at arc 1; then rule 3 at node 1, with the flow 4 within -1 and 5, and rule 2 at node 2: nothing is left but the constant 5 + 2 × 4
+abbrev roadStack : List ℤ
+roadStack = pos 3 ∷ pos 7 ∷ pos 3 ∷ pos 2 ∷ pos 1 ∷ pos 1 ∷ pos 2 ∷ []
+
+-- going back: prices 1 and 0; of the flow 4, 4 - (-1) is above 3, so that arc 1 takes 3, and arc 2 (4 - 3) ÷ (-1/2); both values are 13
+abbrev K : Row
+K =
+    row (Reducing × Return) (reducing road, restoring road roadStack (pos 0 ∷ pos 0 ∷ []))
+    (outcome Reduced (pos 0 ∷ pos 0 ∷ pos 13 ∷ pos 1 ∷ []) roadStack,
+    (Restored, (filled pairRoom (pos 2 ∷ pos 2 ∷ pos 1 ∷ pos 0 ∷ pos 3 ∷ neg 2 ∷ pos 1 ∷ pos 1 ∷ pos 1 ∷ pos 1 ∷ []), pos 13 ∷ pos 1 ∷ pos 13 ∷ pos 1 ∷ [])))
+
 -- ---- J: an operation on its own
 
 -- J. 2147483647 + 1 doesn't fit; 1/2 + 1/2 is 1 over 1
@@ -250,8 +273,8 @@ abbrev A-back-text : Row
 A-back-text = row (List ℕ) (restoreText textOffered) linesRestored
 
 abbrev pub table : List Row
-table = A ∷ A-text ∷ A-back ∷ A-back-text ∷ B ∷ E ∷ F ∷ G ∷ H ∷ I ∷ J ∷ []
+table = A ∷ A-text ∷ A-back ∷ A-back-text ∷ B ∷ E ∷ F ∷ G ∷ H ∷ I ∷ J ∷ K ∷ []
 
 pub marked : All table
-unfolding gcd gcdBy build upto count all any scan isOperand isProper fitted reduceOf sumOf productOf differenceOf quotientOf negationOf reciprocalOf isLess isSame isZero isFinite fromWords denWord pairOf _⊕_ _⊖_ _⊗_ _⊘_ ⊝_ withArc withSupply withNode without applied isTouching degreeOf touchingAfter isRoot farEnd sideOf figureAt sizesRight figuresRight endsRight multipliersRight questions roleOf isPermitted isEnd hasEnds arcIn isWeighted netOf readOf rankOf packNode packArc packedOf arraysOf wordOf roleFigure figureOf hasRoom recordOf networkOf withPrice withFlow hasSizes isPair pairRead balanceOf reducedCost valueOf allFit isWithin isAt keepsRule testQuestions pairQuestions onlyWhere noFlowWhere fits supplyLess costAdded dropped lowerBack figure restored quoteAt upward nextFrom ruleFrom runBy runOf wayBack closed bare bareNode bareBack forcedOut single singleArc singleBack isOpenRoot isCostlier hasPair costlyArc sameSign tighter imageOf gained merged kept two twoArcs twoBack hasSignAt signedAfter isFree isApart crossedArc crossedAt crossing crossingBack arcRank spreadOf stackRecord Stack.stackOf sameWords isRoomy reduceTable isRoomyBack offerTable runTable restoreTable broughtBack pairFigure pairWords separator digit pieces valueFrom wordsIn wordsOf digitsIn digits behindSpaces spaced lineOf recordLines reduceText stackSplit splitSized splitOf restoreText
-marked = (refl, (refl, (refl, (refl, (refl, (refl, (refl, (refl, (refl, (refl, (refl, tt)))))))))))
+unfolding gcd gcdBy build upto count all any scan isOperand isProper fitted reduceOf sumOf productOf differenceOf quotientOf negationOf reciprocalOf isLess isSame isZero isFinite fromWords denWord pairOf _⊕_ _⊖_ _⊗_ _⊘_ ⊝_ withArc withSupply withNode without applied isTouching degreeOf touchingAfter isRoot farEnd sideOf figureAt sizesRight figuresRight endsRight multipliersRight questions roleOf isPermitted isEnd hasEnds arcIn isWeighted netOf readOf rankOf packNode packArc packedOf arraysOf wordOf roleFigure figureOf hasRoom recordOf networkOf withPrice withFlow hasSizes isPair pairRead balanceOf reducedCost valueOf allFit isWithin isAt keepsRule testQuestions pairQuestions onlyWhere noFlowWhere fits supplyLess costAdded dropped lowerBack figure restored quoteAt upward nextFrom ruleFrom runBy runOf wayBack closed bare bareNode bareBack forcedOut single singleArc singleBack isOpenRoot isCostlier hasPair costlyArc sameSign tighter imageOf gained merged kept two twoArcs twoBack hasSignAt signedAfter isFree isApart crossedArc crossedAt crossing crossingBack ratioOf isTimes lowEnd highEnd upperSum joined alike parallelArc parallelBack arcRank spreadOf stackRecord Stack.stackOf sameWords isRoomy reduceTable isRoomyBack offerTable runTable restoreTable broughtBack pairFigure pairWords separator digit pieces valueFrom wordsIn wordsOf digitsIn digits behindSpaces spaced lineOf recordLines reduceText stackSplit splitSized splitOf restoreText
+marked = (refl, (refl, (refl, (refl, (refl, (refl, (refl, (refl, (refl, (refl, (refl, (refl, tt))))))))))))

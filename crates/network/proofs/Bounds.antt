@@ -29,6 +29,15 @@ pub no-upper : boundOf noUpper ≡ none
 unfolding boundOf isFinite
 no-upper = refl
 
+-- by its form
+pub finite-bound : (z : Fraction) → isFinite z ≡ true → boundOf z ≡ some (value z)
+unfolding boundOf
+finite-bound z e = rw e
+
+pub mark-bound : (z : Fraction) → isFinite z ≡ false → boundOf z ≡ none
+unfolding boundOf
+mark-bound z e = rw e
+
 -- a bound that is a number is a fraction in form of that value
 pub record Number (z : Fraction) (q : ℚ) : Type 0 where
   pub proper : Proper z

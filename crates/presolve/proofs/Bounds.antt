@@ -35,6 +35,13 @@ unfolding mapO
 mapO-some f none h = absurd (none-some h)
 mapO-some f (some a) h = (a, refl, some-inj h)
 
+-- what is there, and a fact of what is there
+pub mapO-is : {A B : Type 0} (f : A → B) {o : Option A} {a : A} → o ≡ some a → mapO f o ≡ some (f a)
+mapO-is f {a} e = ap (mapO f) e ∙ mapO-at f a
+
+pub mapO-each : {A B : Type 0} (f : A → B) (o : Option A) (P : B → Type 0) → ((a : A) → o ≡ some a → P (f a)) → (b : B) → mapO f o ≡ some b → P b
+mapO-each f o P h b e = let t = mapO-some f o e in subst P (t .2) (h (t .0) (t .1))
+
 -- one of two numbers, by a decision
 unfoldable pub choose : {A : Type 0} → Dec A → ℚ → ℚ → ℚ
 choose (yes a) u v = u
@@ -55,6 +62,16 @@ pub mergeU : Option ℚ → Option ℚ → Option ℚ
 mergeU none o = o
 mergeU (some a) none = some a
 mergeU (some a) (some b) = some (pick (le-dec b a) a b)
+
+-- the lesser of an upper bound and a number
+pub capped : Option ℚ → ℚ → ℚ
+capped none v = v
+capped (some u) v = pick (le-dec v u) u v
+
+pub capped-is : (u : Option ℚ) (v : ℚ) → mergeU u (some v) ≡ some (capped u v)
+unfolding mergeU capped
+capped-is none v = refl
+capped-is (some u) v = refl
 
 -- where the other one is absent, or is no tighter
 pub mergeL-none : (o : Option ℚ) → mergeL o none ≡ o

@@ -2,16 +2,17 @@
 -- The old columns may come back under each other's numbers: `new` is `old` in another order.
 use mathlib.Core.Path.{_≡_, refl, sym, _∙_, ap, ap₂, subst}
 use mathlib.Core.Logic.{_⊎_, inl, inr}
-use mathlib.Core.List.{List, List·Memᴰ}
+use mathlib.Core.List.{List, [], _∷_, List·Memᴰ}
 use Prim.Native.Nat.{ℕ}
 use native.Mathlib.Decide.{ℕ-discrete}
 use Rattle.algebra.proofs.Ring.{combo2}
 use Rattle.algebra.proofs.Solver.{_:+_, _:*_, _:-_, :0, :1, _:=_, ring2, ring6}
 use Rattle.algebra.specs.Rat.{ℚ, _+ℚ_, _*ℚ_, -ℚ_, 0ℚ as 𝟘, 1ℚ as 𝟙}
 use Rattle.algebra.proofs.Rat.{ℚ-ring}
-use Rattle.algebra.proofs.Sum.{Absent, Once, sum-ext, upd-other}
+use Rattle.algebra.proofs.Sum.{Absent, step, Once, sum-ext, upd-other}
 use Rattle.algebra.specs.Sum.{sum, upd}
-use Rattle.presolve.proofs.Named.{Distinct, once-mem, named?, All, all-mem, sum-named, Perm, perm-sym, sum-perm, mem-perm, absent-perm}
+use Rattle.algebra.proofs.Sum as Sum
+use Rattle.presolve.proofs.Named.{Distinct, nil, cons, apart, further, once-mem, named?, All, all-mem, sum-named, Perm, perm-refl, perm-sym, sum-perm, mem-perm, absent-perm}
 use Rattle.presolve.specs.LP.{LP, Pair, Feasible, Solved, InBounds, PriceRule, worth, brings, total, value}
 
 pub record Frame (N N′ : LP) (old new : List ℕ) : Type 0 where
@@ -21,6 +22,17 @@ pub record Frame (N N′ : LP) (old new : List ℕ) : Type 0 where
   pub listed : All (λ c. Once c (N .cols)) old
   pub renumbered : Perm old new
   pub same : (c : ℕ) → List·Memᴰ c (N .cols) → Absent c old → N′ .col c ≡ N .col c
+
+-- two named columns, under their own numbers
+pub two-frame : {N N′ : LP} {j k : ℕ} → N′ .rows ≡ N .rows → N′ .cols ≡ N .cols → ¬ (j ≡ k) → Once j (N .cols) → Once k (N .cols) → ((c : ℕ) → List·Memᴰ c (N .cols) → ¬ (c ≡ j) → ¬ (c ≡ k) → N′ .col c ≡ N .col c) → Frame N N′ (j ∷ k ∷ []) (j ∷ k ∷ [])
+two-frame rows cols different listed-j listed-k same = record {
+  rows-same = rows;
+  cols-same = cols;
+  distinct = cons (step different Sum.none) (cons Sum.none nil);
+  listed = (listed-j, (listed-k, tt));
+  renumbered = perm-refl _;
+  same = λ c m a. same c m (apart a) (apart (further a));
+}
 
 -- a flow x of N and a flow x′ of N′ that belong together: equal but at the named columns, whose shares at each row differ as the right-hand sides do
 pub record Matched (N N′ : LP) (old new : List ℕ) (x x′ : ℕ → ℚ) : Type 0 where

@@ -18,3 +18,4 @@ pub mod Spare
 pub mod Net
 pub mod TakeOut
 pub mod Rewire
+pub mod Parallel

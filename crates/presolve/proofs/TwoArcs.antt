@@ -2,23 +2,22 @@
 use mathlib.Core.Path.{_≡_, refl, sym, _∙_, ap, ap₂, subst}
 use mathlib.Core.Logic.{_⊎_, inl, inr}
 use mathlib.Core.List.{[], _∷_, List·Memᴰ, List·Memᴰ·head}
-use mathlib.Core.Option.{Option, none, some}
+use mathlib.Core.Option.{Option, some}
 use Prim.Native.Nat.{ℕ}
 use Rattle.algebra.proofs.Ring.{combo, combo2, combo3}
 use Rattle.algebra.proofs.Solver.{_:+_, _:*_, _:-_, :neg, :0, :1, _:=_, ring1, ring2, ring3, ring4, ring5, ring6, ring7, ring8, ring9}
 use Rattle.algebra.specs.Rat.{ℚ, _+ℚ_, _*ℚ_, -ℚ_, _≤ℚ_, 0ℚ as 𝟘, 1ℚ as 𝟙, invℚ as inv, _<ℚ_}
 use Rattle.algebra.proofs.Rat.{ℚ-ring, mulℚ-inv as mul-inv}
 use Rattle.algebra.proofs.Order.{lt→le, le-by, sub-nn, mul-nn′, sq-nn}
-use Rattle.algebra.proofs.Sum.{step, Once, upd-same, upd-other}
+use Rattle.algebra.proofs.Sum.{Once, upd-same, upd-other}
 use Rattle.algebra.specs.Sum.{only, upd}
-use Rattle.algebra.proofs.Sum as Sum
-use Rattle.presolve.proofs.Named.{nil, cons, apart, further, once-mem, all-mem, sum-at-named, perm-refl}
-use Rattle.presolve.proofs.Bounds.{mapO, mapO-at, mapO-some, mergeL, mergeU, mergeL-or, mergeU-or, mergeL-l, mergeL-r, mergeU-l, mergeU-r, mergeL-both, mergeU-both, fits-dec, fits-zero, choose}
+use Rattle.presolve.proofs.Named.{apart, further, once-mem, all-mem, sum-at-named}
+use Rattle.presolve.proofs.Bounds.{mapO, mapO-is, mapO-each, mapO-some, mergeL, mergeU, mergeL-or, mergeU-or, mergeL-l, mergeL-r, mergeU-l, mergeU-r, mergeL-both, mergeU-both, fits-dec, fits-zero, choose}
 use Rattle.presolve.specs.Bounds.{Fits}
 use Rattle.presolve.specs.LP.{LP, Column, Pair, Feasible, Solved, InBounds, PriceRule, reduced, brings}
 use Rattle.presolve.proofs.Removed.{Gone, gone-within}
 use Rattle.presolve.proofs.Step.{SoundStep}
-use Rattle.presolve.proofs.Frame.{Frame, Matched, Paid, frame-value, frame-on, frame-solved, agree-upd, rule-new, within-new}
+use Rattle.presolve.proofs.Frame.{Frame, two-frame, Matched, Paid, frame-value, frame-on, frame-solved, agree-upd, rule-new, within-new}
 use Rattle.presolve.proofs.Price.{Blend, reduced-blend, reduced-unseen, Ends, ends-reduced-at, only-scale, only-share}
 use Rattle.presolve.proofs.Spoke.{Spoke, SpokeAt, quote, spoke-e, spoke-reduced, rhs-shift}
 
@@ -120,14 +119,7 @@ module _ {N N′ : LP} {i : ℕ} {j k : Spoke} (T : TwoArcs N N′ i j k) where
   coef-k = spoke-e (T .at-k)
 
   frame : Frame N N′ ((j .arc) ∷ (k .arc) ∷ []) ((j .arc) ∷ (k .arc) ∷ [])
-  frame = record {
-    rows-same = T .rows-same;
-    cols-same = T .cols-same;
-    distinct = cons (step (T .different) Sum.none) (cons Sum.none nil);
-    listed = (T .at-j .listed, (T .at-k .listed, tt));
-    renumbered = perm-refl _;
-    same = λ c m a. T .same c m (apart a) (apart (further a));
-  }
+  frame = two-frame (T .rows-same) (T .cols-same) (T .different) (T .at-j .listed) (T .at-k .listed) (T .same)
 
   -- the new arc is j less e_j / e_k times k
   blend : Blend (N′ .col (j .arc)) (N .col (j .arc)) (N .col (k .arc)) 𝟙 (-ℚ (j .e *ℚ inv (k .e)))
@@ -176,9 +168,6 @@ module _ {N N′ : LP} {i : ℕ} {j k : Spoke} (T : TwoArcs N N′ i j k) where
     j-k : (z : ℚ) → image (N .rhs i) (j .e) (k .e) z +ℚ -ℚ x (j .arc) ≡ j .e *ℚ k .e *ℚ (inv (j .e) *ℚ inv (j .e)) *ℚ (x (k .arc) +ℚ -ℚ z)
     j-k z = j-by-k (N .rhs i) (j .e) (k .e) (x (j .arc)) (x (k .arc)) (T .at-j .nonzero) (T .at-k .nonzero) link z
 
-    implied : {o : Option ℚ} {z : ℚ} → o ≡ some z → mapO (image (N .rhs i) (j .e) (k .e)) o ≡ some (image (N .rhs i) (j .e) (k .e) z)
-    implied {z} e = ap (mapO (image (N .rhs i) (j .e) (k .e))) e ∙ mapO-at (image (N .rhs i) (j .e) (k .e)) z
-
     -- j within its new bounds: j and k within their old ones
     within-j : InBounds (N′ .col (j .arc)) (x (j .arc)) → InBounds (N .col (j .arc)) (x (j .arc))
     within-j w = go (T .bounds-new)
@@ -192,33 +181,30 @@ module _ {N N′ : LP} {i : ℕ} {j k : Spoke} (T : TwoArcs N N′ i j k) where
       where
         go : NewBounds (N .col (j .arc)) (N .col (k .arc)) (N′ .col (j .arc)) (N .rhs i) (j .e) (k .e) → InBounds (N .col (k .arc)) (x (k .arc))
         go (exchanged q el eu) = record {
-          above = λ z e. up⁺ (k-j z) (times-sq⁺ (inv (k .e)) q) (mergeU-r (x (j .arc)) _ _ (λ z g. w .below z (eu ∙ g)) (image (N .rhs i) (j .e) (k .e) z) (implied e));
-          below = λ z e. down⁺ (k-j z) (times-sq⁺ (inv (k .e)) q) (mergeL-r (x (j .arc)) _ _ (λ z g. w .above z (el ∙ g)) (image (N .rhs i) (j .e) (k .e) z) (implied e));
+          above = λ z e. up⁺ (k-j z) (times-sq⁺ (inv (k .e)) q) (mergeU-r (x (j .arc)) _ _ (λ z g. w .below z (eu ∙ g)) (image (N .rhs i) (j .e) (k .e) z) (mapO-is _ e));
+          below = λ z e. down⁺ (k-j z) (times-sq⁺ (inv (k .e)) q) (mergeL-r (x (j .arc)) _ _ (λ z g. w .above z (el ∙ g)) (image (N .rhs i) (j .e) (k .e) z) (mapO-is _ e));
         }
         go (straight q el eu) = record {
-          above = λ z e. up⁻ (k-j z) (times-sq⁻ (inv (k .e)) q) (mergeL-r (x (j .arc)) _ _ (λ z g. w .above z (el ∙ g)) (image (N .rhs i) (j .e) (k .e) z) (implied e));
-          below = λ z e. down⁻ (k-j z) (times-sq⁻ (inv (k .e)) q) (mergeU-r (x (j .arc)) _ _ (λ z g. w .below z (eu ∙ g)) (image (N .rhs i) (j .e) (k .e) z) (implied e));
+          above = λ z e. up⁻ (k-j z) (times-sq⁻ (inv (k .e)) q) (mergeL-r (x (j .arc)) _ _ (λ z g. w .above z (el ∙ g)) (image (N .rhs i) (j .e) (k .e) z) (mapO-is _ e));
+          below = λ z e. down⁻ (k-j z) (times-sq⁻ (inv (k .e)) q) (mergeU-r (x (j .arc)) _ _ (λ z g. w .below z (eu ∙ g)) (image (N .rhs i) (j .e) (k .e) z) (mapO-is _ e));
         }
 
     -- and the other way round
     within-new-j : InBounds (N .col (j .arc)) (x (j .arc)) → InBounds (N .col (k .arc)) (x (k .arc)) → InBounds (N′ .col (j .arc)) (x (j .arc))
     within-new-j wj wk = go (T .bounds-new)
       where
-        by-image : (o : Option ℚ) (P : ℚ → Type 0) → ((z : ℚ) → o ≡ some z → P (image (N .rhs i) (j .e) (k .e) z)) → (z : ℚ) → mapO (image (N .rhs i) (j .e) (k .e)) o ≡ some z → P z
-        by-image o P h z e = let t : (a : ℚ) × (o ≡ some a) × (image (N .rhs i) (j .e) (k .e) a ≡ z) = mapO-some (image (N .rhs i) (j .e) (k .e)) o e in subst P (t .2) (h (t .0) (t .1))
-
         go : NewBounds (N .col (j .arc)) (N .col (k .arc)) (N′ .col (j .arc)) (N .rhs i) (j .e) (k .e) → InBounds (N′ .col (j .arc)) (x (j .arc))
         go (exchanged q el eu) = record {
           above = λ z e. mergeL-both (x (j .arc)) (N .col (j .arc) .lower) (mapO (image (N .rhs i) (j .e) (k .e)) (N .col (k .arc) .upper)) (wj .above)
-              (by-image (N .col (k .arc) .upper) (λ z. z ≤ℚ x (j .arc)) (λ z g. down⁺ (j-k z) (times-sq⁺ (inv (j .e)) q) (wk .below z g))) z (sym el ∙ e);
+              (mapO-each _ (N .col (k .arc) .upper) (λ z. z ≤ℚ x (j .arc)) (λ z g. down⁺ (j-k z) (times-sq⁺ (inv (j .e)) q) (wk .below z g))) z (sym el ∙ e);
           below = λ z e. mergeU-both (x (j .arc)) (N .col (j .arc) .upper) (mapO (image (N .rhs i) (j .e) (k .e)) (N .col (k .arc) .lower)) (wj .below)
-              (by-image (N .col (k .arc) .lower) (λ z. x (j .arc) ≤ℚ z) (λ z g. up⁺ (j-k z) (times-sq⁺ (inv (j .e)) q) (wk .above z g))) z (sym eu ∙ e);
+              (mapO-each _ (N .col (k .arc) .lower) (λ z. x (j .arc) ≤ℚ z) (λ z g. up⁺ (j-k z) (times-sq⁺ (inv (j .e)) q) (wk .above z g))) z (sym eu ∙ e);
         }
         go (straight q el eu) = record {
           above = λ z e. mergeL-both (x (j .arc)) (N .col (j .arc) .lower) (mapO (image (N .rhs i) (j .e) (k .e)) (N .col (k .arc) .lower)) (wj .above)
-              (by-image (N .col (k .arc) .lower) (λ z. z ≤ℚ x (j .arc)) (λ z g. down⁻ (j-k z) (times-sq⁻ (inv (j .e)) q) (wk .above z g))) z (sym el ∙ e);
+              (mapO-each _ (N .col (k .arc) .lower) (λ z. z ≤ℚ x (j .arc)) (λ z g. down⁻ (j-k z) (times-sq⁻ (inv (j .e)) q) (wk .above z g))) z (sym el ∙ e);
           below = λ z e. mergeU-both (x (j .arc)) (N .col (j .arc) .upper) (mapO (image (N .rhs i) (j .e) (k .e)) (N .col (k .arc) .upper)) (wj .below)
-              (by-image (N .col (k .arc) .upper) (λ z. x (j .arc) ≤ℚ z) (λ z g. up⁻ (j-k z) (times-sq⁻ (inv (j .e)) q) (wk .below z g))) z (sym eu ∙ e);
+              (mapO-each _ (N .col (k .arc) .upper) (λ z. x (j .arc) ≤ℚ z) (λ z g. up⁻ (j-k z) (times-sq⁻ (inv (j .e)) q) (wk .below z g))) z (sym eu ∙ e);
         }
 
   -- ---- the prices

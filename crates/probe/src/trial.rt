@@ -70,6 +70,9 @@ fn at_place(net: Net, k: usize, i: usize) -> Outcome {
     if k == 4 {
         return costly_arc::costly_arc(net, i);
     }
+    if k == 7 {
+        return parallel_arcs::parallel_arc(net, i);
+    }
     if i < network::NODE_PLACES {
         if net.here[i] {
             return at_node(net, k, i);

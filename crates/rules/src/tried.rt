@@ -12,6 +12,7 @@ ghost use Rattle.step.specs.Run.{orElse, upward, ruleOf};
 ghost use Rattle.closed_arc.specs.ClosedArc.{closed};
 ghost use Rattle.costly_arc.specs.CostlyArc.{isOpenRoot, costlyArc};
 ghost use Rattle.costly_arc.specs.Seen.{Known};
+ghost use Rattle.parallel_arcs.specs.ParallelArcs.{alike};
 ghost use Rattle.rules.specs.Found.{foundOf};
 ghost use Rattle.rules.specs.Table.{rules};
 ghost use Rattle.rules.specs.Tried.{isClosed, asksOf, mayApply};
@@ -81,6 +82,7 @@ pub fn asks_of(k: usize) -> Asks
         4 => asking(MAX_ARCS, 0, false),
         5 => asking(MAX_NODES, 2, false),
         6 => asking(MAX_NODES, 4, true),
+        7 => asking(MAX_ARCS, 0, false),
         _ => asking(0, 0, false),
     }
 }
@@ -162,4 +164,13 @@ pub fn at_costly(nodes: Nodes, view: [Arc; ARC_PLACES], seen: Seen, time: u8) ->
         found: crate::found::flat(next),
         seen: known,
     }
+}
+
+// ---- rule 7
+
+// Rule 7 at arcs j, t, and k, u.
+pub fn at_pair(constant: Fraction, j: usize, t: Arc, k: usize, u: Arc) -> Found
+    ensures { λ r. ⌜ r ≡ foundOf (orElse 7 j (alike constant j t k u) Stops) ⌝ }
+{
+    crate::found::answer(7, j, parallel_arcs::alike(constant, j, t, k, u))
 }

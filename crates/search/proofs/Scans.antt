@@ -27,6 +27,7 @@ use Rattle.costly_arc.specs.CostlyArc.{isOpenRoot, costlyArc}
 use Rattle.costly_arc.proofs.Upward.{Reached, upward-at, upward-none, orRest, else-rest, upward-rest}
 use Rattle.costly_arc.proofs.Pairs.{none-any}
 use Rattle.costly_arc.proofs.Passing.{no-open-root}
+use Rattle.parallel_arcs.specs.ParallelArcs.{parallelArc}
 use Rattle.rules.specs.declared.found.Found.{Found}
 use Rattle.rules.specs.Found.{foundOf}
 use Rattle.rules.specs.Tried.{isOfNodes}
@@ -85,18 +86,19 @@ module _ (rule : ℕ → Outcome) (k last : ℕ) (rest : Next) {a : Found} (e : 
   found-later : a .found ≡ false → rest ≡ upward rule k last 1 rest
   found-later f = past (upward rule k last 1 Stops) rest (rw e at f) ∙ sym (upward-rest rule k rest last 1)
 
--- ---- but for 1 and 4 the rules go over the nodes
+-- ---- but for 1, 4 and 7 the rules go over the nodes
 
 past-false : (a d : Bool) → a ≡ false → (a || d) ≡ true → d ≡ true
 past-false true d q e = unlike (sym q)
 past-false false d q e = e
 
-pub of-nodes : (k : ℕ) → 2 ≤ k → k ≤ lastRule → (k ≡ 4 → ⊥) → isOfNodes k ≡ true
+pub of-nodes : (k : ℕ) → 2 ≤ k → k ≤ lastRule → (k ≡ 4 → ⊥) → (k ≡ 7 → ⊥) → isOfNodes k ≡ true
 unfolding all ruleFrom
-of-nodes k l m n =
-    past-false (eqb k 4) _ (ne-eqb k 4 n)
+of-nodes k l m n o =
+    past-false (eqb k 7) _ (ne-eqb k 7 o)
+    (past-false (eqb k 4) _ (ne-eqb k 4 n)
     (past-false (eqb k 1) _ (ne-eqb k 1 (λ z. omega arith))
-    (past-false (eqb k 0) _ (ne-eqb k 0 (λ z. omega arith)) (all-each (λ k. eqb k 0 || (eqb k 1 || (eqb k 4 || isOfNodes k))) (lastRule + 1) refl k (omega arith))))
+    (past-false (eqb k 0) _ (ne-eqb k 0 (λ z. omega arith)) (all-each (λ k. eqb k 0 || (eqb k 1 || (eqb k 4 || (eqb k 7 || isOfNodes k)))) (lastRule + 1) refl k (omega arith)))))
 
 -- a number with places is a rule's, and behind the last rule there is none
 pub is-within : (k : ℕ) → ltb 0 (ruleOf rules k .last) ≡ true → k ≤ lastRule
@@ -107,7 +109,8 @@ unfolding ruleFrom
 none-left k l e =
     split (ltb lastRule k) (λ f. ltb-true lastRule k f)
     (λ f. split (eqb k 4) (λ q. unlike (sym (rw (eqb-true k 4 q) at e)))
-    (λ q. let n = of-nodes k l (ltb-false lastRule k f) (eqb-false k 4 q) in unlike (sym (rw (eqb-true (ruleOf rules k .last) 32 n) at e))))
+    (λ q. split (eqb k 7) (λ r. unlike (sym (rw (eqb-true k 7 r) at e)))
+    (λ r. let n = of-nodes k l (ltb-false lastRule k f) (eqb-false k 4 q) (eqb-false k 7 r) in unlike (sym (rw (eqb-true (ruleOf rules k .last) 32 n) at e)))))
 
 -- what the scans find, by the rule's number
 module _ (net : Net) (k : ℕ) {a : Found} where
@@ -117,6 +120,10 @@ module _ (net : Net) (k : ℕ) {a : Found} where
   pub by-costly : k ≡ 4 → a ≡ foundOf (upward (costlyArc net) 4 96 1 Stops) → a ≡ foundOf (upward (ruleOf rules k .at net) k (ruleOf rules k .last) 1 Stops)
   unfolding ruleFrom
   by-costly q e = rw q e
+
+  pub by-parallel : k ≡ 7 → a ≡ foundOf (upward (parallelArc net) 7 96 1 Stops) → a ≡ foundOf (upward (ruleOf rules k .at net) k (ruleOf rules k .last) 1 Stops)
+  unfolding ruleFrom
+  by-parallel q e = rw q e
 
 -- ---- the rules one after the other: at the head of the loop, those before number k find nothing
 

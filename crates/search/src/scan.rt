@@ -5,15 +5,16 @@ ghost use lib.Dec.{eqb};
 ghost use Rattle.network.specs.declared.Nodes.{Nodes};
 ghost use Rattle.network.specs.Limits.{maxNodes, maxArcs};
 ghost use Rattle.network.specs.ArcList.{netIn};
-ghost use Rattle.network.specs.Network.{AreDegreesTo, touchingAfter};
+ghost use Rattle.network.specs.Network.{isUsed, AreDegreesTo, touchingAfter, AreParallel};
 ghost use Rattle.network.specs.Legal.{Legal};
 ghost use Rattle.step.specs.declared.Next.the-variants.{Stops};
 ghost use Rattle.step.specs.Back.{oldArc};
 ghost use Rattle.step.specs.Around.{Near};
-ghost use Rattle.step.specs.Run.{upward, ruleOf};
+ghost use Rattle.step.specs.Run.{orElse, upward, ruleOf};
 ghost use Rattle.closed_arc.specs.ClosedArc.{closedArc};
 ghost use Rattle.costly_arc.specs.CostlyArc.{costlyArc};
 ghost use Rattle.costly_arc.specs.Seen.{Known};
+ghost use Rattle.parallel_arcs.specs.ParallelArcs.{parallelArc};
 ghost use Rattle.rules.specs.Table.{rules, nextOf};
 ghost use Rattle.rules.specs.Found.{foundOf};
 ghost use Rattle.rules.specs.Tried.{isOfNodes};
@@ -22,6 +23,7 @@ use network::Arc;
 use network::ArcUpdate;
 use network::Degrees;
 use network::Nodes;
+use network::Parallels;
 use rules::found::Found;
 use rules::tried::Looked;
 use step::Around;
@@ -156,6 +158,47 @@ pub(crate) fn scan_costly(nodes: Nodes, arcs: &[Arc], seen: Seen, time: u8) -> L
     Looked { found, seen }
 }
 
+// ---- rule 7
+
+// Rule 7 at arc j: the parallel arcs after it, upward.
+pub(crate) fn scan_pairs(nodes: Nodes, arcs: &[Arc], parallels: Parallels, j: usize) -> Found
+    requires { ⌜ Legal (netIn nodes (now arcs)) × AreParallel (netIn nodes (now arcs)) (parallels .next) × (isUsed (netIn nodes (now arcs)) j ≡ true) ⌝ }
+    ensures { λ r. ⌜ r ≡ foundOf (orElse 7 j (parallelArc (netIn nodes (now (arcs .entry))) j) Stops) ⌝ }
+{
+    let mut k = parallels.next[j] as usize;
+    while 1 <= k {
+        let t = network::list::read(arcs, j);
+        let u = network::list::read(arcs, k);
+        if parallel_arcs::multiple::is_multiple(t, u) {
+            let x = rules::tried::at_pair(nodes.constant, j, t, k, u);
+            if x.found {
+                return x;
+            }
+        }
+        k = parallels.next[k] as usize;
+    }
+    rules::found::nothing()
+}
+
+// Rule 7 at the arcs upward.
+pub(crate) fn scan_parallel(nodes: Nodes, arcs: &[Arc]) -> Found
+    requires { ⌜ Legal (netIn nodes (now arcs)) ⌝ }
+    ensures { λ r. ⌜ r ≡ foundOf (upward (parallelArc (netIn nodes (now (arcs .entry)))) 7 maxArcs 1 Stops) ⌝ }
+{
+    let parallels = network::list::parallels(arcs, nodes.m);
+    let mut j = 1;
+    while j <= nodes.m {
+        if parallels.next[j] != 0 {
+            let x = scan_pairs(nodes, arcs, parallels, j);
+            if x.found {
+                return x;
+            }
+        }
+        j += 1;
+    }
+    rules::found::nothing()
+}
+
 // ---- all rules
 
 // The next step: the first that applies.
@@ -177,6 +220,11 @@ pub(crate) fn next(nodes: Nodes, arcs: &[Arc], mut seen: Seen, time: u8) -> Look
                 return x;
             }
             seen = x.seen;
+        } else if k == 7 {
+            let x = scan_parallel(nodes, arcs);
+            if x.found {
+                return Looked { found: x, seen };
+            }
         } else {
             let x = scan_nodes(nodes, arcs, degrees, k);
             if x.found {

@@ -1,7 +1,8 @@
 -- Figures restored to a pair, in exact numbers.
-use mathlib.Core.Path.{_≡_, refl, sym, ap₂, _∙_, fun-ext}
+use mathlib.Core.Path.{_≡_, refl, sym, ap, ap₂, _∙_, fun-ext}
 use mathlib.Core.Bool.{true, cond}
 use mathlib.Core.List.{List}
+use mathlib.Core.Logic.{inl, inr}
 use Prim.Native.Nat.{ℕ, _+_, _≤_}
 use native.Mathlib.Omega.{arith}
 use lib.Dec.{eqb}
@@ -10,24 +11,29 @@ use lib.Seq.{getD-set-same, getD-set-other}
 use borrow.Author.Tests.{le-leb, eqb-true, eqb-false}
 use Rattle.algebra.specs.Rat.{ℚ, 0ℚ, -ℚ_, _<ℚ_}
 use Rattle.algebra.proofs.Rat.{≤ℚ-dec}
+use Rattle.algebra.proofs.Order.{lt→le}
 use Rattle.algebra.specs.Sum.{upd}
 use Rattle.presolve.specs.LP as LP
 use Rattle.presolve.proofs.Closed.{closed-back}
 use Rattle.presolve.proofs.Bare.{bare-back}
-use Rattle.presolve.proofs.Bounds.{choose}
+use Rattle.presolve.proofs.Bounds.{choose, mergeL, mergeU, capped, capped-is, none-mergeL, none-mergeU, mergeL-first, mergeL-second, mergeU-first, mergeU-second}
 use Rattle.presolve.proofs.Spoke as Spoke
 use Rattle.fraction.specs.declared.Fraction.{Fraction}
 use Rattle.fraction.specs.declared.Worked.{Worked}
-use Rattle.fraction.specs.Exact.{Proper, noFigure, zeroFraction, isLess}
+use Rattle.fraction.specs.Exact.{Proper, noFigure, noLower, noUpper, zeroFraction, isLess}
 use Rattle.fraction.specs.Formula.{_⊘_, ⊝_}
 use Rattle.fraction.specs.Value.{value}
-use Rattle.fraction.proofs.Extended.{less-value, not-less}
+use Rattle.fraction.specs.Extended.{absent-lower, absent-upper}
+use Rattle.fraction.proofs.Extended.{proper-figure, less-is, less-value, not-less}
 use Rattle.fraction.proofs.Formulas.{Gives, overℚ, over-fits, over-gives, negated-fits, negated-gives, zero-proper, zero-is}
 use Rattle.network.specs.declared.pair.Pair.{Pair}
 use Rattle.network.specs.Network.{isNumber}
+use Rattle.network.specs.Legal.{Bound}
 use Rattle.network.specs.Pair.{withPrice, withFlow, exactPair}
+use Rattle.network.specs.Program.{boundOf}
+use Rattle.network.proofs.Bounds.{bound-is, no-lower, no-upper, upper-number}
 use Rattle.fraction.proofs.Exactly.{Exactly, gives}
-use Rattle.step.specs.Figure.{larger}
+use Rattle.step.specs.Figure.{larger, smaller}
 use Rattle.step.proofs.Lines.{split}
 
 -- ---- figures, and pairs of them
@@ -123,6 +129,23 @@ larger-is {x} {y} {p} {q} a b =
     split (isLess x y)
     (λ e. rw e (b .0, b .1 ∙ sym (choose-no (≤ℚ-dec q p) p q (λ l. less-value (a .0) (b .0) e (rw (a .1, b .1) l)))))
     (λ e. rw e (a .0, a .1 ∙ sym (choose-yes (≤ℚ-dec q p) p q (rw (← a .1, ← b .1) (not-less (a .0) (b .0) e)))))
+
+-- the tighter of a bound and a fraction in form
+pub larger-bound : (l v : Fraction) → Bound noLower l → Proper v → Bound noLower (larger l v) × (boundOf (larger l v) ≡ mergeL (boundOf l) (boundOf v))
+larger-bound l v (inl p) q =
+    split (isLess l v) (λ e. rw (e, bound-is p, bound-is q) (inl q, sym (mergeL-second (lt→le (less-value p q e))))) (λ e. rw (e, bound-is p, bound-is q) (inl p, sym (mergeL-first (not-less p q e))))
+larger-bound l v (inr m) q = rw (m, less-is absent-lower (proper-figure q) .1 tt, no-lower) (inl q, sym (none-mergeL (boundOf v)))
+
+pub smaller-bound : (u v : Fraction) → Bound noUpper u → Proper v → Bound noUpper (smaller u v) × (boundOf (smaller u v) ≡ mergeU (boundOf u) (boundOf v))
+smaller-bound u v (inl p) q =
+    split (isLess v u) (λ e. rw (e, bound-is p, bound-is q) (inl q, sym (mergeU-second (lt→le (less-value q p e))))) (λ e. rw (e, bound-is p, bound-is q) (inl p, sym (mergeU-first (not-less q p e))))
+smaller-bound u v (inr m) q = rw (m, less-is (proper-figure q) absent-upper .1 tt, no-upper) (inl q, sym (none-mergeU (boundOf v)))
+
+pub smaller-is : {u v : Fraction} → Bound noUpper u → Proper v → Figure (smaller u v) (capped (boundOf u) (value v))
+smaller-is {u} {v} b p =
+    let s = smaller-bound u v b p in
+    let n = upper-number (s .0) (s .1 ∙ ap (mergeU (boundOf u)) (bound-is p) ∙ capped-is (boundOf u) (value v)) in
+    (n .proper, n .is)
 
 -- ---- signs
 
