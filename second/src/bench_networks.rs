@@ -1,12 +1,13 @@
-//! Deterministic networks for the benchmarks, with reductions of three kinds. Their constants are 0.
+//! Deterministic networks for the benchmarks, with reductions of five kinds. Their constants are 0.
 
 use crate::draw::Draw;
 use crate::fraction::{Bound, Fraction};
 use crate::network::{Arc, Network};
-use crate::reduce::{reduce, End};
+use crate::reduce::{reduce, End, RULES};
 use crate::restore::restore;
 use crate::samples::{self, Shape};
 use crate::trips::{Trip, Words};
+use std::collections::BTreeSet;
 
 pub const SIZES: [(usize, usize); 3] = [(8, 24), (16, 48), (32, 96)];
 
@@ -21,10 +22,15 @@ pub enum Kind {
     Mixed,
     /// Rule 4 tries very many pairs of root arcs in vain.
     Pairs,
+    /// Rule 7 tries every pair of very many root arcs in vain.
+    Roots,
 }
 
 /// Every kind that has networks of all sizes.
 pub const KINDS: [Kind; 3] = [Kind::Long, Kind::Stuck, Kind::Mixed];
+
+/// The others, each with its size.
+pub const SEARCHES: [(Kind, (usize, usize)); 2] = [(Kind::Pairs, (2, 96)), (Kind::Roots, (1, 96))];
 
 impl Kind {
     pub fn name(self) -> &'static str {
@@ -33,6 +39,7 @@ impl Kind {
             Kind::Stuck => "stuck",
             Kind::Mixed => "mixed",
             Kind::Pairs => "pairs",
+            Kind::Roots => "roots",
         }
     }
 
@@ -42,6 +49,7 @@ impl Kind {
             Kind::Stuck => stuck(draw, n, m),
             Kind::Mixed => mixed(draw, n, m),
             Kind::Pairs => pairs(draw, n, m),
+            Kind::Roots => roots(draw, n, m),
         };
         stir(draw, &mut network);
         network
@@ -55,7 +63,7 @@ impl Kind {
                 continue;
             }
             let trip = match self {
-                Kind::Pairs => Trip::at_rest(network),
+                Kind::Pairs | Kind::Roots => Trip::at_rest(network),
                 _ => Trip::of(draw, network),
             };
             let words = trip.words();
@@ -72,8 +80,8 @@ impl Kind {
         reduced
             && match self {
                 Kind::Long => reduction.steps.len() + 2 >= network.arcs.len(),
-                Kind::Stuck | Kind::Pairs => reduction.steps.is_empty(),
-                Kind::Mixed => (1..=6).all(|rule| reduction.rules().contains(&rule)),
+                Kind::Stuck | Kind::Pairs | Kind::Roots => reduction.steps.is_empty(),
+                Kind::Mixed => (1..=RULES as i32).all(|rule| reduction.rules().contains(&rule)),
             }
     }
 }
@@ -141,30 +149,41 @@ fn stuck(draw: &mut Draw, n: usize, m: usize) -> Network {
     network_of(n, arcs)
 }
 
+/// A figure whose sums and quotients with others like it are wide.
+fn wide(draw: &mut Draw) -> Fraction {
+    Fraction::fitted(draw.within(1_000, 9_999) as i128, draw.within(1, 99) as i128).expect("fits")
+}
+
+/// An arc from 0 upward of wide figures; one that is no root arc costs 1.
+fn wide_arc(draw: &mut Draw, from: usize, to: usize) -> Arc {
+    let at_to = if from == to { Fraction::ZERO } else { wide(draw) };
+    let cost = if from == to { wide(draw) } else { Fraction::ONE };
+    let (lower, upper) = (Bound::Finite(Fraction::ZERO), Bound::AbsentUpper);
+    Arc { from, to, cost, lower, upper, at_from: wide(draw), at_to }
+}
+
 /// A third of the arcs from node 1 to node 2, and a third root arcs at either, all of wide figures and too dear for rule 4.
 fn pairs(draw: &mut Draw, n: usize, m: usize) -> Network {
-    let mut wide = |low, high| Fraction::fitted(draw.within(low, high) as i128, draw.within(1, 99) as i128).expect("fits");
     let ends = [(1, 2), (1, 1), (2, 2)];
     let arcs = (0..m).map(|number| {
         let (from, to) = ends[number % 3];
-        let at_to = if from == to { Fraction::ZERO } else { wide(1_000, 9_999) };
-        let cost = if from == to { wide(1_000, 9_999) } else { Fraction::ONE };
-        Arc { from, to, cost, lower: Bound::Finite(Fraction::ZERO), upper: Bound::AbsentUpper, at_from: wide(1_000, 9_999), at_to }
+        wide_arc(draw, from, to)
     });
     network_of(n, arcs.collect())
+}
+
+/// Root arcs at node 1, all of wide figures, of which no two are proportional.
+fn roots(draw: &mut Draw, n: usize, m: usize) -> Network {
+    network_of(n, (0..m).map(|_| wide_arc(draw, 1, 1)).collect())
 }
 
 /// Small sample networks side by side, then further arcs at the nodes that have the most.
 fn mixed(draw: &mut Draw, n: usize, m: usize) -> Network {
     let mut all = Network::default();
-    let mut misses = 0;
-    while misses < 20 {
-        let part = samples::without_constant(draw, Shape::Small);
+    let mut rules = BTreeSet::new();
+    while let Some(part) = part(draw, n - all.supplies.len(), m - all.arcs.len(), &rules) {
+        rules.extend(reduce(&part).rules());
         let (nodes, arcs) = (all.supplies.len(), all.arcs.len());
-        if nodes + part.supplies.len() > n || arcs + part.arcs.len() > m {
-            misses += 1;
-            continue;
-        }
         all.supplies.extend(part.supplies.iter().map(|(node, supply)| (nodes + node, *supply)));
         let moved = |arc: &Arc| Arc { from: nodes + arc.from, to: nodes + arc.to, ..*arc };
         all.arcs.extend(part.arcs.iter().map(|(number, arc)| (arcs + number, moved(arc))));
@@ -183,6 +202,13 @@ fn mixed(draw: &mut Draw, n: usize, m: usize) -> Network {
     all
 }
 
+/// A sample network of at most this size, of a few the one in which the most rules apply that are not among those given.
+fn part(draw: &mut Draw, n: usize, m: usize, rules: &BTreeSet<i32>) -> Option<Network> {
+    let parts = (0..100).map(|_| samples::without_constant(draw, Shape::Small));
+    let parts = parts.filter(|part| part.supplies.len() <= n && part.arcs.len() <= m && !part.supplies.is_empty());
+    parts.max_by_key(|part| BTreeSet::from_iter(reduce(part).rules()).difference(rules).count())
+}
+
 /// Nodes and arcs under random numbers.
 fn stir(draw: &mut Draw, network: &mut Network) {
     let mut numbers: Vec<usize> = network.supplies.keys().copied().collect();
@@ -194,4 +220,28 @@ fn stir(draw: &mut Draw, network: &mut Network) {
     }
     network.arcs = (1..).zip(arcs).collect();
     network.supplies = network.supplies.iter().map(|(node, supply)| (numbers[node - 1], *supply)).collect();
+}
+
+#[cfg(test)]
+mod tests {
+    use super::*;
+
+    /// Networks of every kind and size come soon, and have the reduction that their kind asks for.
+    #[test]
+    fn every_kind_comes_soon() {
+        let mut draw = Draw::new(18);
+        let rows = SIZES.into_iter().flat_map(|size| KINDS.map(|kind| (kind, size))).chain(SEARCHES);
+        for (kind, (n, m)) in rows {
+            let mut tries = 0..300;
+            assert!(tries.any(|_| kind.suits(&kind.network(&mut draw, n, m))), "{} {n}/{m}", kind.name());
+            let (words, steps) = kind.words(&mut draw, n, m);
+            assert_eq!(words.network[..2], [n as i32, m as i32]);
+            let rules = &words.stack[1..1 + steps];
+            match kind {
+                Kind::Long => assert!(steps + 2 >= m),
+                Kind::Mixed => assert!((1..=7).all(|rule| rules.contains(&rule)), "{rules:?}"),
+                _ => assert_eq!(steps, 0),
+            }
+        }
+    }
 }

@@ -1,4 +1,4 @@
-//! Second implementation of the network presolver, written from document 01 and from request 2026-01 alone.
+//! Second implementation of the network presolver, written from document 01 and from requests 2026-01 and 2026-02 alone.
 //! It exists to be compared with the verified one.
 
 pub mod bench_networks;
@@ -11,6 +11,7 @@ pub mod fraction;
 pub mod network;
 pub mod optimality;
 pub mod pairs;
+pub mod parallel_cases;
 pub mod programs;
 pub mod reduce;
 pub mod restore;

@@ -167,6 +167,9 @@ fn built(draw: &mut Draw) -> Case {
         if draft.case.network.arcs.len() < arcs && draw.chance(20) {
             draft.add_opposite(draw);
         }
+        if draft.case.network.arcs.len() < arcs && draw.chance(20) {
+            draft.add_multiple(draw);
+        }
     }
     for (node, balance) in draft.balances {
         draft.case.network.supplies.insert(node, balance.fraction().unwrap_or(small(draw)));
@@ -243,6 +246,18 @@ impl Draft {
         let flow = self.case.pair.flows[number];
         let cost = self.cost(draw, ends, multipliers, flow);
         self.put_arc(draw, ends, multipliers, flow, cost);
+    }
+
+    /// The last arc again, g times over, if all of that fits (rule 7).
+    fn add_multiple(&mut self, draw: &mut Draw) {
+        let (_, arc) = self.case.network.arcs.last_key_value().expect("an arc is there");
+        let (ends, g) = ([arc.from, arc.to], self.taste.multiplier(draw));
+        let g = draw.of(&[over(1, 1), over(-1, 1), g]);
+        let (a, b, cost) = (arc.at_from.times(g), arc.at_to.times(g), arc.cost.times(g));
+        if let (Some(a), Some(b), Some(cost)) = (a, b, cost) {
+            let flow = self.taste.figure(draw, Flow);
+            self.put_arc(draw, ends, [a, b], flow, cost);
+        }
     }
 
     /// A flow; now and then with it a product or a sum at the from node lies at the width.

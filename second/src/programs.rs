@@ -156,6 +156,17 @@ mod tests {
         assert_eq!(restored_a("2 2 2 0 3 2 1 1 1 1"), "refused 10\n");
     }
 
+    /// Two roads from 1 to 2, the second -1/2 times the first: rule 7, then 3 and 2. Both values are the same.
+    const PARALLEL: &str = "2 2\n0 8 -4 1 2 2 0 3 2 -1 1 2 -1 -4 2 -1 1\n1 1 1 1 1 1 1 1 1 1 1 1 1 1 1 1 2\n";
+
+    #[test]
+    fn parallel_arcs() {
+        assert_eq!(reduced(PARALLEL), "reduced\n0 0\n8\n1\n3\n7 3 2\n1 1 2\n");
+        let restored = restoring(format!("{PARALLEL}3 7 3 2 1 1 2 0 0").as_bytes());
+        assert_eq!(restored, "restored\n2 2\n1 0 3 -2\n1 1 1 1\n8 1\n8 1\n");
+        assert_eq!(restoring(format!("{PARALLEL}3 7 3 2 2 1 2 0 0").as_bytes()), "refused 7\n");
+    }
+
     #[test]
     fn restoring_refusals() {
         for (text, number) in [

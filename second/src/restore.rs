@@ -1,6 +1,6 @@
 //! Restoring: questions 6 to 13 of 01 and the way back.
 
-use crate::fraction::Fraction;
+use crate::fraction::{Bound, Fraction};
 use crate::network::{Network, Refusal};
 use crate::optimality::{keeps_price_rule, test, value, Pair};
 use crate::reduce::{reduce, End};
@@ -59,6 +59,7 @@ pub fn go_back(back: &Back, pair: &mut Pair) -> Option<()> {
         Back::Crossing { node, negative, positive, numbers } => {
             back_to_crossing(*node, negative, positive, numbers, pair)?
         }
+        Back::ParallelArcs { kept, gone, g, lower_end } => back_to_parallel_arcs(kept, *gone, *g, *lower_end, pair)?,
     }
     Some(())
 }
@@ -112,4 +113,91 @@ fn back_to_crossing(
     }
     pair.prices.insert(node, price);
     Some(())
+}
+
+/// Rule 7: "k's image first stands at its lower end: j takes the smaller of its upper bound and (flow - that lower end);
+/// k's flow is (flow - j's new flow) ÷ g." No price changes.
+fn back_to_parallel_arcs(
+    (number, j): &Numbered,
+    gone: usize,
+    g: Fraction,
+    lower_end: Fraction,
+    pair: &mut Pair,
+) -> Option<()> {
+    let flow = pair.flows[number];
+    let rest = flow.minus(lower_end)?;
+    let flow_j = match j.upper {
+        Bound::Finite(upper) => upper.min(rest),
+        _ => rest,
+    };
+    let flow_k = flow.minus(flow_j)?.over(g)?;
+    pair.flows.insert(*number, flow_j);
+    pair.flows.insert(gone, flow_k);
+    Some(())
+}
+
+#[cfg(test)]
+mod tests {
+    use super::*;
+    use crate::network::Arc;
+
+    const WIDEST: i32 = 2147483647;
+
+    fn f(numerator: i32, denominator: i32) -> Fraction {
+        Fraction::read(numerator, denominator).expect("in form")
+    }
+
+    fn whole(number: i32) -> Fraction {
+        f(number, 1)
+    }
+
+    /// The flows of j and k that rule 7 gives back for a flow; j's upper bound, g and the image's lower end are given.
+    fn parallel(flow: Fraction, upper: Option<Fraction>, g: Fraction, lower_end: Fraction) -> Option<[Fraction; 2]> {
+        let j = Arc {
+            from: 1,
+            to: 2,
+            cost: Fraction::ZERO,
+            lower: Bound::AbsentLower,
+            upper: upper.map_or(Bound::AbsentUpper, Bound::Finite),
+            at_from: Fraction::ONE,
+            at_to: Fraction::ONE,
+        };
+        let prices = [(1, whole(7)), (2, f(1, WIDEST))];
+        let mut pair = Pair { prices: prices.into(), flows: [(3, flow)].into() };
+        go_back(&Back::ParallelArcs { kept: (3, j), gone: 5, g, lower_end }, &mut pair)?;
+        assert_eq!((pair.prices, pair.flows.len()), (prices.into(), 2));
+        Some([pair.flows[&3], pair.flows[&5]])
+    }
+
+    /// j from 0 to 3, k from -4 to 2 with g = -1/2: its image goes from -1 to 2.
+    #[test]
+    fn flows_of_parallel_arcs() {
+        let given = |flow| parallel(flow, Some(whole(3)), f(-1, 2), whole(-1));
+        for (flow, j, k) in [(5, 3, -4), (4, 3, -2), (3, 3, 0), (2, 3, 2), (1, 2, 2), (0, 1, 2), (-1, 0, 2)] {
+            assert_eq!(given(whole(flow)), Some([whole(j), whole(k)]), "{flow}");
+        }
+        assert_eq!(given(f(13, 6)), Some([whole(3), f(5, 3)]));
+        assert_eq!(given(f(11, 6)), Some([f(17, 6), whole(2)]));
+    }
+
+    /// Without upper bound j takes all but the lower end.
+    #[test]
+    fn parallel_arcs_none_above() {
+        assert_eq!(parallel(whole(1000), None, f(2, 3), whole(4)), Some([whole(996), whole(6)]));
+        assert_eq!(parallel(whole(-8), None, whole(-2), whole(-10)), Some([whole(2), whole(5)]));
+    }
+
+    /// (flow - lower end) must fit even where j's upper bound is the smaller; so must (flow - j's new flow), and that ÷ g.
+    #[test]
+    fn misfits_of_parallel_arcs() {
+        let half = f(1, 2);
+        assert_eq!(parallel(whole(WIDEST), Some(whole(1)), half, whole(0)), None, "the quotient");
+        assert_eq!(parallel(whole(WIDEST), Some(whole(1)), whole(2), whole(0)), Some([whole(1), whole(WIDEST / 2)]));
+        assert_eq!(parallel(whole(WIDEST), Some(whole(1)), whole(2), whole(-1)), None, "the lower end");
+        assert_eq!(parallel(whole(WIDEST), None, whole(2), whole(-1)), None, "the lower end");
+        assert_eq!(parallel(whole(WIDEST), Some(whole(-1)), whole(2), whole(0)), None, "j's new flow");
+        let low = parallel(f(1, 65537), Some(f(1, 65536)), whole(2), f(-1, 65537));
+        assert_eq!(low, None, "j's new flow");
+        assert_eq!(parallel(f(1, 65537), None, whole(2), f(-1, 65537)), Some([f(2, 65537), f(-1, 131074)]));
+    }
 }

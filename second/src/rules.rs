@@ -1,4 +1,5 @@
-//! The six reductions of 01, each tried at one place of a network, with what they add to the constant of 2026-01.
+//! The six reductions of 01 and rule 7 of 2026-02, each tried at one place of a network, with what they add to the
+//! constant of 2026-01.
 
 use crate::fraction::{Bound, Fraction};
 use crate::network::{Arc, Network};
@@ -40,11 +41,13 @@ pub enum Back {
     TwoArcs { node: usize, supply: Fraction, kept: Numbered, gone: Numbered },
     /// Rule 6; `numbers` are the four numbers upward, which the new arcs took.
     Crossing { node: usize, negative: [Numbered; 2], positive: [Numbered; 2], numbers: [usize; 4] },
+    /// Rule 7: arc j, the number of k, g, and the lower end of k's image.
+    ParallelArcs { kept: Numbered, gone: usize, g: Fraction, lower_end: Fraction },
 }
 
 /// The rules whose place is an arc; that of the others is a node.
 pub fn place_is_arc(rule: u8) -> bool {
-    matches!(rule, 1 | 4)
+    matches!(rule, 1 | 4 | 7)
 }
 
 /// One rule at one place. None: it doesn't apply there, also because some figure doesn't fit.
@@ -64,17 +67,19 @@ pub fn apart_from_constant(network: &Network, rule: u8, place: usize) -> Option<
         4 => costly_arc(network, place),
         5 => two_arcs(network, place),
         6 => crossing(network, place),
+        7 => parallel_arcs(network, place),
         _ => None,
     }
 }
 
 /// "Rules 1, 3 and 4 add c × flow to it, rule 5 adds ck × r ÷ ek; a constant that doesn't fit stops the rule there."
+/// The others leave it as it was.
 fn new_constant(network: &Network, back: &Back) -> Option<Fraction> {
     let carried = match back {
         Back::FixedFlow { arc, flow } => network.arcs[arc].cost.times(*flow)?,
         Back::SingleArc { arc: (_, arc), flow, .. } => arc.cost.times(*flow)?,
         Back::TwoArcs { node, supply, gone: (_, k), .. } => k.cost.times(*supply)?.over(k.multiplier(*node))?,
-        Back::BareNode { .. } | Back::Crossing { .. } => return Some(network.constant),
+        Back::BareNode { .. } | Back::Crossing { .. } | Back::ParallelArcs { .. } => return Some(network.constant),
     };
     network.constant.plus(carried)
 }
@@ -309,6 +314,61 @@ fn crossing_arc(node: usize, n: &Arc, p: &Arc) -> Option<Arc> {
     })
 }
 
+/// Rule 7. Parallel arcs, "tried at arc j upward, then k > j upward, a misfit passing over that k alone".
+fn parallel_arcs(network: &Network, number: usize) -> Option<Found> {
+    let j = *network.arcs.get(&number)?;
+    let later = network.arcs.iter().filter(|(&other, _)| other > number);
+    later.map(|(&other, &k)| (other, k)).find_map(|k| merged(network, (number, j), k))
+}
+
+/// "both have the same from and to, and a, b and c of k are a common fraction g times those of j"; "j's lower bound and
+/// the image's lower end are finite. j gets the sums of bounds, none above where either has none above; k is dropped;
+/// the step's place is j." None also where a figure doesn't fit.
+fn merged(network: &Network, kept: Numbered, (gone, k): Numbered) -> Option<Found> {
+    let (number, j) = kept;
+    if (j.from, j.to) != (k.from, k.to) {
+        return None;
+    }
+    let g = k.at_from.over(j.at_from)?;
+    // A product that equals a figure of k fits.
+    if g.times(j.at_to) != Some(k.at_to) || g.times(j.cost) != Some(k.cost) {
+        return None;
+    }
+    let (image_lower, image_upper) = image(&k, g)?;
+    let lower_end = image_lower.finite()?;
+    let lower = Bound::Finite(j.lower.finite()?.plus(lower_end)?);
+    let upper = match (j.upper, image_upper) {
+        (Bound::Finite(upper), Bound::Finite(upper_end)) => Bound::Finite(upper.plus(upper_end)?),
+        _ => Bound::AbsentUpper,
+    };
+    Some(Found::Step(Change {
+        rule: 7,
+        place: number,
+        constant: network.constant,
+        new_supplies: vec![],
+        new_arcs: vec![(number, Arc { lower, upper, ..j })],
+        dropped_arcs: vec![gone],
+        dropped_node: None,
+        back: Back::ParallelArcs { kept, gone, g, lower_end },
+    }))
+}
+
+/// "k's bounds times g, exchanged if g < 0, give an image". None: a finite bound times g doesn't fit.
+fn image(k: &Arc, g: Fraction) -> Option<(Bound, Bound)> {
+    let (lower, upper) = (bound_times(k.lower, g)?, bound_times(k.upper, g)?);
+    Some(if g.is_negative() { (upper, lower) } else { (lower, upper) })
+}
+
+/// A bound times g: where there is none below, there is none above if g < 0, and the other way round.
+fn bound_times(bound: Bound, g: Fraction) -> Option<Bound> {
+    Some(match bound {
+        Bound::Finite(z) => Bound::Finite(z.times(g)?),
+        Bound::AbsentLower if g.is_negative() => Bound::AbsentUpper,
+        Bound::AbsentUpper if g.is_negative() => Bound::AbsentLower,
+        mark => mark,
+    })
+}
+
 #[cfg(test)]
 mod tests {
     use super::*;
@@ -486,12 +546,153 @@ mod tests {
         assert_eq!(carried(whole(0), &given(65536, 32767, 65536), 5, 2), Some(whole(32767)));
     }
 
-    /// Rules 2 and 6 leave the constant alone.
+    /// Rules 2, 6 and 7 leave the constant alone.
     #[test]
     fn other_rules_carry_nothing() {
         assert_eq!(carried(f(WIDEST, 2), &network(&[0], &[]), 2, 1), Some(f(WIDEST, 2)));
         let around = |end, e| arc((end, 5), 9, (finite(0), NONE), (whole(1), whole(e)));
         let given = network(&[0; 5], &[around(1, -1), around(2, -1), around(3, 1), around(4, 1)]);
         assert_eq!(carried(whole(-WIDEST), &given, 6, 5), Some(whole(-WIDEST)));
+        let twice = arc((1, 2), 9, (finite(7), finite(8)), (whole(1), whole(-1)));
+        assert_eq!(carried(whole(WIDEST), &network(&[0, 0], &[twice, twice]), 7, 1), Some(whole(WIDEST)));
+    }
+
+    const NONE_BELOW: Bound = Bound::AbsentLower;
+
+    /// An arc from 1 to 2.
+    fn road(cost: i32, bounds: (Bound, Bound), multipliers: (Fraction, Fraction)) -> Arc {
+        arc((1, 2), cost, bounds, multipliers)
+    }
+
+    /// A road with multipliers 1 and -1 times g, and cost 2 times g.
+    fn multiple(g: Fraction, bounds: (Bound, Bound)) -> Arc {
+        let cost = g.times(whole(2)).expect("fits");
+        Arc { cost, ..road(0, bounds, (g, g.negated())) }
+    }
+
+    /// What rule 7 finds at arc 1.
+    fn found(arcs: &[Arc]) -> Option<Found> {
+        try_rule(&network(&[0, 0], arcs), 7, 1)
+    }
+
+    /// The number that rule 7 drops at arc 1, and arc 1's new bounds; none where it doesn't apply.
+    fn merging(arcs: &[Arc]) -> Option<(usize, Bound, Bound)> {
+        let change = step(Some(found(arcs)?));
+        let merged = change.new_arcs[0].1;
+        assert_eq!(change.new_arcs, vec![(1, Arc { lower: merged.lower, upper: merged.upper, ..arcs[0] })]);
+        assert_eq!((change.new_supplies, change.dropped_node), (vec![], None));
+        let [dropped] = change.dropped_arcs[..] else { panic!("{:?}", change.dropped_arcs) };
+        Some((dropped, merged.lower, merged.upper))
+    }
+
+    /// g = -1/2: k from -4 to 2 has an image from -1 to 2.
+    #[test]
+    fn parallel_arcs_with_a_negative_fraction() {
+        let j = road(2, (finite(0), finite(3)), (whole(2), whole(-1)));
+        let k = road(-1, (finite(-4), finite(2)), (whole(-1), f(1, 2)));
+        let change = step(found(&[j, k]));
+        assert_eq!((change.rule, change.place, change.constant), (7, 1, Fraction::ZERO));
+        assert_eq!(change.new_arcs, vec![(1, Arc { lower: finite(-1), upper: finite(5), ..j })]);
+        assert_eq!((change.dropped_arcs, change.dropped_node, change.new_supplies), (vec![2], None, vec![]));
+        let back = Back::ParallelArcs { kept: (1, j), gone: 2, g: f(-1, 2), lower_end: whole(-1) };
+        assert_eq!(change.back, back);
+    }
+
+    /// "none above where either has none above"; both lower ends must be finite.
+    #[test]
+    fn parallel_arcs_without_bounds() {
+        let pair =
+            |j_bounds, g: i32, k_bounds| merging(&[multiple(Fraction::ONE, j_bounds), multiple(whole(g), k_bounds)]);
+        let (both, above, below) = ((finite(1), finite(2)), (finite(1), NONE), (NONE_BELOW, finite(2)));
+        assert_eq!(pair(both, 3, both), Some((2, finite(4), finite(8))));
+        assert_eq!(pair(above, 3, both), Some((2, finite(4), NONE)));
+        assert_eq!(pair(both, 3, above), Some((2, finite(4), NONE)));
+        assert_eq!(pair(above, 3, above), Some((2, finite(4), NONE)));
+        assert_eq!(pair(below, 3, both), None);
+        assert_eq!(pair(both, 3, below), None);
+        assert_eq!(pair(both, -3, both), Some((2, finite(-5), finite(-1))));
+        assert_eq!(pair(both, -3, below), Some((2, finite(-5), NONE)));
+        assert_eq!(pair(above, -3, below), Some((2, finite(-5), NONE)));
+        assert_eq!(pair(both, -3, above), None);
+        assert_eq!(pair(both, 3, (NONE_BELOW, NONE)), None);
+        assert_eq!(pair(both, -3, (NONE_BELOW, NONE)), None);
+    }
+
+    /// "both have the same from and to": opposite directions don't match, root arcs at one node do.
+    #[test]
+    fn parallel_arcs_have_the_same_ends() {
+        let bounds = (finite(0), finite(1));
+        let j = road(2, bounds, (whole(1), whole(-1)));
+        let opposite = arc((2, 1), 2, bounds, (whole(-1), whole(1)));
+        assert_eq!(found(&[j, opposite]), None);
+        assert_eq!(merging(&[j, opposite, j]), Some((3, finite(0), finite(2))));
+        let root = |node, cost, e| arc((node, node), cost, bounds, (whole(e), Fraction::ZERO));
+        assert_eq!(merging(&[root(1, 2, 1), root(1, -4, -2)]), Some((2, finite(-2), finite(1))));
+        assert_eq!(found(&[root(1, 2, 1), root(2, 2, 1)]), None);
+        assert_eq!(found(&[root(1, 2, 1), j]), None);
+    }
+
+    /// "a, b and c of k are a common fraction g times those of j": one figure off is enough, and a cost of 0 on one side.
+    #[test]
+    fn parallel_arcs_are_proportional() {
+        let bounds = (finite(0), finite(1));
+        let j = road(2, bounds, (whole(1), whole(-1)));
+        assert_eq!(merging(&[j, road(6, bounds, (whole(3), whole(-3)))]), Some((2, finite(0), finite(4))));
+        for (cost, a, b) in [(5, 3, -3), (7, 3, -3), (-6, 3, -3), (0, 3, -3), (6, 2, -3), (6, 3, -2), (6, 3, 3)] {
+            assert_eq!(found(&[j, road(cost, bounds, (whole(a), whole(b)))]), None, "{cost} {a} {b}");
+        }
+        let free = road(0, bounds, (whole(1), whole(-1)));
+        assert_eq!(merging(&[free, road(0, bounds, (whole(3), whole(-3)))]), Some((2, finite(0), finite(4))));
+        assert_eq!(found(&[free, road(1, bounds, (whole(3), whole(-3)))]), None);
+    }
+
+    /// "then k > j upward": the lowest such k, and none below j.
+    #[test]
+    fn lowest_parallel_arc() {
+        let bounds = |upper| (finite(0), finite(upper));
+        let roads = [1, 20, 300].map(|upper| multiple(Fraction::ONE, bounds(upper)));
+        let given = network(&[0, 0], &roads);
+        let at = |place| step(try_rule(&given, 7, place)).dropped_arcs;
+        assert_eq!((at(1), at(2)), (vec![2], vec![3]));
+        assert_eq!(try_rule(&given, 7, 3), None);
+        assert_eq!(try_rule(&given, 7, 4), None);
+    }
+
+    /// g must fit. It is 65536 × 32768, which doesn't, or 65536 × 32767, which does; "a misfit passing over that k alone".
+    #[test]
+    fn misfit_of_the_fraction() {
+        let bounds = (finite(0), NONE);
+        let j = Arc { cost: f(1, 65536), ..road(0, bounds, (f(1, 65536), f(-1, 65536))) };
+        let k = |size| road(size, bounds, (whole(size), whole(-size)));
+        assert_eq!(merging(&[j, k(32767)]), Some((2, finite(0), NONE)));
+        assert_eq!(merging(&[j, k(32768)]), None);
+        assert_eq!(merging(&[j, k(32768), k(-32768), j]), Some((4, finite(0), NONE)));
+        assert_eq!(merging(&[k(32768), j]), None);
+        assert_eq!(merging(&[k(32767), j]), Some((2, finite(0), NONE)));
+    }
+
+    /// Each finite bound of k times g must fit, also where j has none above, and even where the sum would fit.
+    #[test]
+    fn misfit_of_an_image() {
+        let large = 1 << 30;
+        let j = |lower, upper| multiple(Fraction::ONE, (finite(lower), upper));
+        let twice = |lower, upper| multiple(whole(2), (lower, upper));
+        assert_eq!(merging(&[j(0, NONE), twice(finite(1), finite(large - 1))]), Some((2, finite(2), NONE)));
+        assert_eq!(merging(&[j(0, NONE), twice(finite(1), finite(large))]), None);
+        assert_eq!(merging(&[j(-9, finite(-9)), twice(finite(1), finite(large))]), None);
+        assert_eq!(merging(&[j(9, NONE), twice(finite(-large), NONE)]), None);
+        let four = [j(0, NONE), twice(finite(1), finite(large)), twice(finite(-large), NONE), twice(finite(3), NONE)];
+        assert_eq!(merging(&four), Some((4, finite(6), NONE)));
+    }
+
+    /// The sums of bounds must fit.
+    #[test]
+    fn misfit_of_a_sum() {
+        let pair = |j_bounds, k_bounds| merging(&[multiple(Fraction::ONE, j_bounds), multiple(whole(-1), k_bounds)]);
+        let least = finite(-WIDEST);
+        assert_eq!(pair((least, NONE), (NONE_BELOW, finite(0))), Some((2, least, NONE)));
+        assert_eq!(pair((least, NONE), (NONE_BELOW, finite(1))), None);
+        assert_eq!(pair((finite(0), finite(1)), (finite(-WIDEST), finite(0))), None);
+        assert_eq!(pair((finite(0), finite(0)), (finite(-WIDEST), finite(0))), Some((2, finite(0), finite(WIDEST))));
     }
 }

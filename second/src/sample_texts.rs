@@ -336,12 +336,15 @@ pub fn odd_text(draw: &mut Draw, number: usize, words: &[i32]) -> Vec<u8> {
     }
 }
 
+/// After so many sample texts their kinds come again.
+pub const KINDS: usize = 22;
+
 /// The n-th text for the reducing program.
 pub fn reducing_text(draw: &mut Draw, number: usize) -> Vec<u8> {
-    let words = match number % 20 {
+    let words = match number % KINDS {
         0 => {
             let words = network(draw, Shape::Small).record().words();
-            return odd_text(draw, number / 20, &words);
+            return odd_text(draw, number / KINDS, &words);
         }
         1 => limit_record(draw),
         2 | 3 => damaged_record(draw),
@@ -350,7 +353,7 @@ pub fn reducing_text(draw: &mut Draw, number: usize) -> Vec<u8> {
     text_of(draw, &words)
 }
 
-/// The shape of the texts whose number leaves this rest by 20.
+/// The shape of the texts whose number leaves this rest by `KINDS`.
 pub fn shape(which: usize) -> Shape {
     match which {
         4 => Shape::Full,
@@ -360,6 +363,7 @@ pub fn shape(which: usize) -> Shape {
         11 => Shape::HeavyCrossing,
         12 => Shape::SteepChain,
         13 => Shape::SteepCostly,
+        20 | 21 => Shape::Doubled,
         _ => Shape::Small,
     }
 }

@@ -6,6 +6,8 @@ use crate::exact::Exact;
 use crate::fraction::{Bound, Fraction};
 use crate::network::{Arc, Network, MOST_ARCS, MOST_NODES};
 
+mod doubled;
+
 /// The shapes of sample networks.
 #[derive(Clone, Copy)]
 pub enum Shape {
@@ -27,6 +29,8 @@ pub enum Shape {
     SteepChain,
     /// A costly arc whose multipliers and those of the root arcs are far apart.
     SteepCostly,
+    /// Parallel arcs whose figures hardly fit together, or very many parallel arcs.
+    Doubled,
 }
 
 /// A sample network of the shape.
@@ -47,6 +51,7 @@ pub fn without_constant(draw: &mut Draw, shape: Shape) -> Network {
         Shape::HeavyCrossing => heavy_crossing(draw),
         Shape::SteepChain => steep_chain(draw),
         Shape::SteepCostly => steep_costly(draw),
+        Shape::Doubled => doubled::doubled(draw),
     }
 }
 
@@ -64,14 +69,25 @@ struct Taste {
     optimal: usize,
     /// Of a hundred networks so many get a supply or bounds that hardly allow a flow.
     spoilt: usize,
+    /// In a hundred networks so many have arcs that are listed twice.
+    doubled: usize,
     /// Goes on until 32 nodes and 96 arcs are there.
     full: bool,
     /// Whole figures and multipliers 1 or -1, so that large sums fit.
     plain: bool,
 }
 
-const SMALL: Taste =
-    Taste { core: (0, 4), gadgets: (1, 4), wide: 0, family: false, optimal: 60, spoilt: 15, full: false, plain: false };
+const SMALL: Taste = Taste {
+    core: (0, 4),
+    gadgets: (1, 4),
+    wide: 0,
+    family: false,
+    optimal: 60,
+    spoilt: 15,
+    doubled: 40,
+    full: false,
+    plain: false,
+};
 const PLAIN: Taste = Taste { plain: true, ..SMALL };
 const WIDE: Taste = Taste { core: (1, 3), wide: 8, optimal: 40, spoilt: 3, ..SMALL };
 const FAMILY: Taste = Taste { core: (1, 3), wide: 40, family: true, optimal: 30, spoilt: 2, ..SMALL };
@@ -124,6 +140,8 @@ struct Draft {
     arcs: Vec<DraftArc>,
     taste: Taste,
     large: i64,
+    /// So many arcs are still to be listed twice.
+    spare: usize,
 }
 
 #[derive(Clone, Copy)]
@@ -134,13 +152,15 @@ struct DraftArc {
     costly: bool,
     /// The cost stands already.
     priced: bool,
+    /// It is to be listed twice.
+    twice: bool,
 }
 
 const OPEN: Bound = Bound::AbsentUpper;
 
 impl Draft {
     fn has_room(&self, nodes: usize, arcs: usize) -> bool {
-        self.nodes + nodes <= MOST_NODES && self.arcs.len() + arcs <= MOST_ARCS
+        self.nodes + nodes <= MOST_NODES && self.arcs.len() + arcs + self.spare <= MOST_ARCS
     }
 
     fn new_node(&mut self) -> usize {
@@ -229,7 +249,7 @@ impl Draft {
         let cost = self.figure(draw);
         let arc =
             Arc { from: ends[0], to: ends[1], cost, lower, upper, at_from: multipliers[0], at_to: multipliers[1] };
-        self.arcs.push(DraftArc { arc, flow, costly: false, priced: false });
+        self.arcs.push(DraftArc { arc, flow, costly: false, priced: false, twice: false });
     }
 
     /// An arc with the given multiplier at `node`, drawn in either direction.
@@ -391,6 +411,8 @@ impl Draft {
         for ends in around.chunks(2) {
             self.side(draw, node, ends[0], ends[1]);
         }
+        // Rule 7 comes first, then.
+        self.arcs.last_mut().expect("just pushed").twice = draw.chance(10);
     }
 
     /// One N and one P whose flows balance at the node; now and then not as rule 6 wants them.
@@ -458,12 +480,13 @@ impl Draft {
     }
 
     fn gadget(&mut self, draw: &mut Draw) {
-        match draw.below(12) {
+        match draw.below(13) {
             0 | 1 => self.leaves(draw),
             2 => self.closed(draw),
             3 => self.bare(draw),
             4..=6 => self.costly(draw),
             7 | 8 => self.chain(draw),
+            9 => self.half_crossing(draw),
             _ => self.crossing(draw),
         }
     }
@@ -543,7 +566,8 @@ fn spoil(draw: &mut Draw, network: &mut Network) {
 /// A core with gadgets.
 fn gadgets(draw: &mut Draw, taste: Taste) -> Network {
     let core = draw.within(taste.core.0, taste.core.1) as usize;
-    let mut draft = Draft { nodes: core, core, arcs: vec![], taste, large: draw.of(&LARGE) };
+    let twice = if draw.chance(taste.doubled) { draw.within(1, if taste.full { 12 } else { 3 }) as usize } else { 0 };
+    let mut draft = Draft { nodes: core, core, arcs: vec![], taste, large: draw.of(&LARGE), spare: twice };
     if core == 0 {
         for _ in 0..draw.below(3) {
             draft.bare(draw);
@@ -562,6 +586,10 @@ fn gadgets(draw: &mut Draw, taste: Taste) -> Network {
         let highest = draw.of(&[5, 5, 5, 0]);
         draft.price_arcs(draw, highest);
     }
+    draft.double_some(draw, twice);
+    while taste.full && draft.has_room(0, 1) {
+        draft.double_some(draw, 1);
+    }
     let mut network = draft.network(draw);
     if draw.chance(taste.spoilt) {
         spoil(draw, &mut network);
@@ -574,7 +602,7 @@ fn long_run(draw: &mut Draw) -> Network {
     let n = if longest { MOST_NODES } else { draw.within(20, 32) as usize };
     let m = if longest { MOST_ARCS } else { draw.within(40, 96) as usize };
     let closed = draw.chance(50);
-    let mut draft = Draft { nodes: n, core: n, arcs: vec![], taste: SMALL, large: 1 };
+    let mut draft = Draft { nodes: n, core: n, arcs: vec![], taste: SMALL, large: 1, spare: 0 };
     for number in 0..m {
         let node = 1 + number % n;
         let other = 1 + (number + 1) % n;
@@ -595,7 +623,7 @@ fn long_run(draw: &mut Draw) -> Network {
 
 fn heavy_crossing(draw: &mut Draw) -> Network {
     let core = draw.within(2, 5) as usize;
-    let mut draft = Draft { nodes: core, core, arcs: vec![], taste: PLAIN, large: 1 };
+    let mut draft = Draft { nodes: core, core, arcs: vec![], taste: PLAIN, large: 1, spare: 0 };
     draft.core_arcs(draw, 2);
     draft.heavy_crossing(draw);
     draft.stirred(draw);
@@ -606,7 +634,7 @@ fn heavy_crossing(draw: &mut Draw) -> Network {
 fn steep_chain(draw: &mut Draw) -> Network {
     let core = draw.within(2, 4) as usize;
     let large = draw.of(&[46341, 46349, 65536, 65537, 100_003, 1 << 20, 9_699_690]);
-    let mut draft = Draft { nodes: core, core, arcs: vec![], taste: draw.of(&[SMALL, PLAIN]), large };
+    let mut draft = Draft { nodes: core, core, arcs: vec![], taste: draw.of(&[SMALL, PLAIN]), large, spare: 0 };
     draft.core_arcs(draw, 1);
     for _ in 0..draw.within(1, 2) {
         let (first, second) = (1 + draw.below(core - 1), core);
@@ -628,7 +656,7 @@ fn steep_chain(draw: &mut Draw) -> Network {
 fn steep_costly(draw: &mut Draw) -> Network {
     let core = draw.within(2, 3) as usize;
     let large = draw.of(&[30030, 46340, 46341, 65536, 65537]);
-    let mut draft = Draft { nodes: core, core, arcs: vec![], taste: PLAIN, large };
+    let mut draft = Draft { nodes: core, core, arcs: vec![], taste: PLAIN, large, spare: 0 };
     draft.core_arcs(draw, 0);
     let multiplier = |draw: &mut Draw, sign: i64| match draw.below(4) {
         0 => fitted(sign, 1),

@@ -7,6 +7,8 @@ use crate::network::{Arc, Network};
 use crate::rules::place_is_arc;
 use crate::samples::{small, wide};
 
+mod parallel;
+
 /// A network, and the place at which the rule is to be tried.
 pub struct Scene {
     pub network: Network,
@@ -22,14 +24,16 @@ pub const WIDEST: i64 = 2147483647;
 
 /// A scene for the rule, mostly one in which its conditions hold, apart from the width.
 pub fn scene(draw: &mut Draw, rule: u8) -> Scene {
-    let mut draft = Draft { taste: Taste::new(draw), supplies: vec![], arcs: vec![] };
+    let meeting: &[_] = if rule == 7 { &parallel::MEETING } else { &MEETING };
+    let mut draft = Draft { taste: Taste::new(draw, meeting), supplies: vec![], arcs: vec![], in_order: 0 };
     match rule {
         1 => draft.closed_arc(draw),
         2 => draft.bare_node(draw),
         3 => draft.single_arc(draw),
         4 => draft.costly_arc(draw),
         5 => draft.two_arcs(draw),
-        _ => draft.crossing(draw),
+        6 => draft.crossing(draw),
+        _ => draft.parallel_arcs(draw),
     }
     if draw.chance(8) {
         draft.balance(draw, rule);
@@ -109,11 +113,13 @@ enum Role {
     Here,
     There,
     Root,
+    /// g of rule 7.
+    Ratio,
 }
 
-use Role::{Constant, Cost, Far, Here, Limit, Root, Supply, There};
+use Role::{Constant, Cost, Far, Here, Limit, Ratio, Root, Supply, There};
 
-/// Figures that meet in one formula.
+/// Figures that meet in one formula of rules 1 to 6.
 const MEETING: [&[Role]; 15] = [
     &[Constant],
     &[Cost, Limit],
@@ -186,17 +192,17 @@ impl Source {
 }
 
 impl Taste {
-    fn new(draw: &mut Draw) -> Taste {
+    fn new(draw: &mut Draw, meeting: &[&'static [Role]]) -> Taste {
         let source = Source::new(draw);
         if draw.chance(30) {
             return Taste {
-                roles: &[Supply, Far, Constant, Cost, Limit, Here, There, Root],
+                roles: &[Supply, Far, Constant, Cost, Limit, Here, There, Root, Ratio],
                 share: draw.of(&[0, 10, 20, 40, 80]),
                 plain: 0,
                 source,
             };
         }
-        Taste { roles: draw.of(&MEETING), share: draw.of(&[70, 100]), plain: draw.of(&[30, 80]), source }
+        Taste { roles: draw.of(meeting), share: draw.of(&[70, 100]), plain: draw.of(&[30, 80]), source }
     }
 
     fn is_wide(&self, draw: &mut Draw, role: Role) -> bool {
@@ -274,6 +280,16 @@ pub fn beyond(draw: &mut Draw, factor: &Exact) -> Exact {
     &exact(factor) * &Exact::whole(times)
 }
 
+/// A figure that makes g times it lie at the width, or just beyond: a large one, or a small one.
+pub fn wide_times(draw: &mut Draw, g: Fraction) -> Fraction {
+    let (top, bottom) = (g.numerator().abs() as i64, g.denominator() as i64);
+    if top > 1 && (bottom == 1 || draw.chance(70)) {
+        over(WIDEST / top + draw.within(0, 2), 1)
+    } else {
+        over(1, WIDEST / bottom + draw.within(0, 2))
+    }
+}
+
 fn absolute(figure: Fraction) -> Fraction {
     figure.max(figure.negated())
 }
@@ -309,11 +325,12 @@ fn exact(figure: Fraction) -> Exact {
     Exact::from(figure)
 }
 
-/// A network in the making. The place is node 1 or arc 1.
+/// A network in the making. The place is node 1 or arc 1. So many of the first arcs mostly keep their order.
 struct Draft {
     taste: Taste,
     supplies: Vec<Fraction>,
     arcs: Vec<Arc>,
+    in_order: usize,
 }
 
 impl Draft {
@@ -602,6 +619,9 @@ impl Draft {
         let mut places: Vec<usize> = (1..=self.arcs.len()).collect();
         draw.shuffle(&mut numbers);
         draw.shuffle(&mut places);
+        if self.in_order > 0 && draw.chance(95) {
+            places[..self.in_order].sort();
+        }
         let moved = |arc: Arc| Arc { from: numbers[arc.from - 1], to: numbers[arc.to - 1], ..arc };
         let place = if place_is_arc { places[0] } else { numbers[0] };
         let network = Network {
@@ -616,15 +636,16 @@ impl Draft {
 #[cfg(test)]
 mod tests {
     use super::*;
+    use crate::reduce::RULES;
     use crate::rules::{apart_from_constant, try_rule, Found};
 
     /// Rules 1, 3, 4 and 5 often stop for their constant alone: for the sum, which is too wide, or for an operation
-    /// before it although the sum would fit. Where they don't stop, the constant is the exact sum; rules 2 and 6 leave
-    /// it alone.
+    /// before it although the sum would fit. Where they don't stop, the constant is the exact sum; rules 2, 6 and 7
+    /// leave it alone.
     #[test]
     fn constants() {
         let mut draw = Draw::new(12);
-        for rule in 1..=6 {
+        for rule in 1..=RULES {
             let (mut steps, mut wide_sums, mut before_sum) = (0, 0, 0);
             for _ in 0..5000 {
                 let scene = scene(&mut draw, rule);
@@ -645,7 +666,7 @@ mod tests {
                     found => panic!("{found:?}"),
                 }
             }
-            if matches!(rule, 2 | 6) {
+            if matches!(rule, 2 | 6 | 7) {
                 assert_eq!((wide_sums, before_sum), (0, 0));
             } else {
                 assert!(8 * wide_sums > steps && before_sum > 4, "rule {rule}: {steps} {wide_sums} {before_sum}");

@@ -8,7 +8,7 @@ use crate::network::Network;
 use crate::optimality::Pair;
 use crate::rules::{Back, Change, Numbered};
 use crate::samples::small;
-use crate::scenes::{at_the_width, beyond, over, sign, Source, WIDEST};
+use crate::scenes::{at_the_width, beyond, over, sign, wide_times, Source, WIDEST};
 
 fn exact(figure: Fraction) -> Exact {
     Exact::from(figure)
@@ -91,6 +91,22 @@ pub fn heavier(draw: &mut Draw, network: &Network, node: usize) -> Network {
     changed
 }
 
+/// The network with small bounds at both arcs of a step of rule 7, so that j often takes its upper bound; often that lies
+/// below 0.
+pub fn bounded(draw: &mut Draw, network: &Network, change: &Change) -> Network {
+    let mut bounded = network.clone();
+    for number in [change.place, change.dropped_arcs[0]] {
+        let arc = bounded.arcs.get_mut(&number).expect("at the place");
+        let x = if draw.chance(50) { small(draw) } else { over(-draw.within(0, 60), 1) };
+        let y = small(draw);
+        (arc.lower, arc.upper) = (Bound::Finite(x.min(y)), Bound::Finite(x.max(y)));
+        if number == change.place && x < y {
+            (arc.lower, arc.upper) = (Bound::Finite(over(-WIDEST / 2, 1)), Bound::Finite(x));
+        }
+    }
+    bounded
+}
+
 /// Prices and flows under all numbers of the network before the step.
 pub fn step_pair(draw: &mut Draw, network: &Network, change: &Change) -> Pair {
     let (source, share) = (Source::new(draw), draw.of(&[0, 0, 0, 15, 40, 100]));
@@ -106,6 +122,7 @@ pub fn step_pair(draw: &mut Draw, network: &Network, change: &Change) -> Pair {
             let sides = [&negative[0], &negative[1], &positive[0], &positive[1]];
             aim_crossing(draw, sides.map(|arc| Side::new(arc, *node)), numbers, &mut pair);
         }
+        Back::ParallelArcs { .. } => aim_parallel_arcs(draw, change, &mut pair),
         _ => {}
     }
     pair
@@ -171,13 +188,39 @@ fn aim_crossing(draw: &mut Draw, sides: [Side; 4], numbers: &[usize; 4], pair: &
     }
 }
 
+/// Brings flow - lower end, flow - j's upper bound or that ÷ g to the width; or puts the flow at an end of its bounds, or
+/// where j's upper bound and (flow - lower end) are equal or nearly so.
+fn aim_parallel_arcs(draw: &mut Draw, change: &Change, pair: &mut Pair) {
+    let Back::ParallelArcs { kept: (number, j), g: ratio, lower_end, .. } = &change.back else {
+        return;
+    };
+    let (g, low) = (exact(*ratio), exact(*lower_end));
+    let (width, merged) = (at_the_width(draw), change.new_arcs[0].1);
+    let one = Exact::whole(1);
+    let flow = match (draw.below(10), j.upper.finite().map(exact)) {
+        (0 | 1, _) => &low + &width,
+        (2, Some(upper)) => &upper + &with_sign_of(&one, width),
+        (3 | 4, Some(upper)) => &upper + &with_sign_of(&one, &g * &exact(wide_times(draw, *ratio))),
+        (5, Some(upper)) => &upper + &with_sign_of(&one, &width * &g),
+        (6, Some(upper)) => &(&upper + &low) + &exact(over(draw.within(-1, 1), draw.of(&[1, 2, 3, 65537]))),
+        (7, Some(upper)) => &(&upper + &low) + &exact(over(draw.within(0, 99), draw.within(1, 9))),
+        (8, _) => draw.of(&[merged.lower, merged.upper]).finite().map_or(low, exact),
+        _ => return,
+    };
+    if let Some(flow) = flow.fraction() {
+        pair.flows.insert(*number, flow);
+    }
+}
+
 /// A step's way back in exact numbers: its operations by name with their results, whether rule 5 takes its second
-/// price, and whether rule 6 has two different prices, of which the second is the larger.
+/// price, whether rule 6 has two different prices, of which the second is the larger, and whether rule 7 gives j its upper
+/// bound, which is the smaller.
 #[derive(Default)]
 pub struct Exactly {
     pub operations: Vec<(&'static str, Exact)>,
     pub is_second_price: bool,
     pub is_second_larger: bool,
+    pub is_upper_smaller: bool,
 }
 
 impl Exactly {
@@ -193,6 +236,10 @@ impl Exactly {
             Back::Crossing { node, negative, positive, numbers } => {
                 let sides = [&negative[0], &negative[1], &positive[0], &positive[1]];
                 exactly.crossing(sides.map(|arc| Side::new(arc, *node)), numbers, pair);
+            }
+            Back::ParallelArcs { kept: (number, j), g, lower_end, .. } => {
+                let flow = exact(pair.flows[number]);
+                exactly.parallel_arcs(flow, j.upper.finite().map(exact), exact(*g), exact(*lower_end));
             }
         }
         exactly
@@ -248,5 +295,16 @@ impl Exactly {
         self.price(&sides[0], pair);
         self.price(&sides[1], pair);
         self.is_second_larger = sides[0].price(pair) < sides[1].price(pair);
+    }
+
+    fn parallel_arcs(&mut self, flow: Exact, upper: Option<Exact>, g: Exact, lower_end: Exact) {
+        let rest = &flow - &lower_end;
+        self.is_upper_smaller = upper.as_ref().is_some_and(|upper| *upper < rest);
+        let name =
+            if self.is_upper_smaller { "flow - lower end, larger than j's upper bound," } else { "flow - lower end" };
+        self.note(name, &rest);
+        let new_flow = upper.filter(|_| self.is_upper_smaller).unwrap_or(rest);
+        self.note("flow - j's new flow", &(&flow - &new_flow));
+        self.note("flow of k", &(&(&flow - &new_flow) / &g));
     }
 }

@@ -6,12 +6,14 @@ use crate::exact::Exact;
 use crate::fraction::{Bound, Fraction};
 use crate::network::{Network, Refusal};
 use crate::optimality::Pair;
-use crate::reduce::{reduce, End, Reduction};
-use crate::restore::{price_by, Restored};
+use crate::parallel_cases::ByRule;
+use crate::reduce::{reduce, End, Reduction, RULES};
+use crate::restore::{go_back, price_by, Restored};
 use crate::rules::Back;
-use crate::sample_texts::{damage_network, drop_constant, improper_figure, odd_text, put, text_of};
+use crate::sample_texts::{damage_network, drop_constant, improper_figure, odd_text, put, text_of, KINDS};
 use crate::samples::{network, wide, Shape};
 use crate::solve::{is_optimal, solve, Solution};
+use crate::step_pairs::Exactly;
 
 /// A sample network, its reduction and an optimal pair of the reduced network, if there is one that fits.
 pub struct Trip {
@@ -142,14 +144,29 @@ impl Trip {
 /// How often each part of the way back was gone.
 #[derive(Default)]
 pub struct Ways {
-    pub steps: [usize; 7],
+    pub steps: ByRule,
     pub second_prices: usize,
     pub different_prices: usize,
+    /// Rule 7: how often j took its upper bound, and how often what is left of the flow, for g > 0 and for g < 0.
+    pub capped: [usize; 2],
+    pub uncapped: [usize; 2],
+    /// How often a step's figures didn't fit; 0 stands for the original's value.
+    pub misfits: ByRule,
 }
 
 impl Ways {
-    pub fn count(&mut self, reduction: &Reduction, restored: &Restored) {
-        for step in &reduction.steps {
+    /// Counts a trip that ended in 13.
+    pub fn count_misfit(&mut self, trip: &Trip) {
+        let mut pair = trip.pair.clone().expect("it was tested");
+        let mut steps = trip.reduction.steps.iter().rev();
+        let stopped = steps.find(|step| go_back(&step.back, &mut pair).is_none());
+        self.misfits[stopped.map_or(0, |step| step.rule as usize)] += 1;
+    }
+
+    /// Counts a trip whose pair was restored.
+    pub fn count(&mut self, trip: &Trip, restored: &Restored) {
+        let mut pair = trip.pair.clone().expect("it was restored");
+        for step in trip.reduction.steps.iter().rev() {
             self.steps[step.rule as usize] += 1;
             match &step.back {
                 Back::TwoArcs { node, gone, .. } => {
@@ -160,10 +177,34 @@ impl Ways {
                     let [first, second] = negative.each_ref().map(|arc| price_by(arc, *node, &restored.pair));
                     self.different_prices += (first != second) as usize;
                 }
+                Back::ParallelArcs { g, .. } => {
+                    let capped = Exactly::new(&step.back, &pair).is_upper_smaller;
+                    let counts = if capped { &mut self.capped } else { &mut self.uncapped };
+                    counts[g.is_negative() as usize] += 1;
+                }
                 _ => {}
             }
+            go_back(&step.back, &mut pair).expect("it was restored");
         }
     }
+}
+
+/// The parts of a whole network's pair that belong to what is left of it; an arc that rule 7 merged has the flow of both.
+/// If the pair is optimal, this often is, too.
+pub fn survivors(reduction: &Reduction, pair: &Pair) -> Pair {
+    let End::Reduced(kept) = &reduction.end else {
+        return Pair::default();
+    };
+    let mut left = pair.clone();
+    for step in &reduction.steps {
+        if let Back::ParallelArcs { kept: (number, _), gone, g, .. } = &step.back {
+            let both = g.times(left.flows[gone]).and_then(|part| left.flows[number].plus(part));
+            left.flows.extend(both.map(|flow| (*number, flow)));
+        }
+    }
+    left.prices.retain(|node, _| kept.supplies.contains_key(node));
+    left.flows.retain(|arc, _| kept.arcs.contains_key(arc));
+    left
 }
 
 /// The network with some costs changed: its optimum is feasible in the network itself, and mostly not optimal.
@@ -257,7 +298,7 @@ fn damage_stack(draw: &mut Draw, words: &mut Words) {
             stack[0] = stack[0].wrapping_sub(1);
         }
         6 => {
-            stack.insert(1 + steps, draw.within(1, 6) as i32);
+            stack.insert(1 + steps, draw.within(1, RULES as i64) as i32);
             stack.push(1);
             stack[0] = stack[0].wrapping_add(1);
         }
@@ -351,8 +392,8 @@ fn odd(draw: &mut Draw, number: usize) -> Sample {
 
 /// The n-th text for the restoring program.
 pub fn sample(draw: &mut Draw, number: usize) -> Sample {
-    match number % 20 {
-        0 => odd(draw, number / 20),
+    match number % KINDS {
+        0 => odd(draw, number / KINDS),
         1 => cut(draw),
         2 => damaged(draw, damage_original),
         3 => damaged(draw, damage_stack),
@@ -365,12 +406,13 @@ pub fn sample(draw: &mut Draw, number: usize) -> Sample {
             damage_any(draw, words);
         }),
         10 => spoilt(draw),
-        11 if number % 60 == 11 => whole(draw, Shape::Full),
+        11 if number % (3 * KINDS) == 11 => whole(draw, Shape::Full),
         11 => whole(draw, Shape::LongRun),
         12 => whole(draw, Shape::Wide),
         13 | 14 => whole(draw, Shape::Family),
         15 | 18 => whole(draw, Shape::HeavyCrossing),
         16 | 17 => whole(draw, Shape::SteepChain),
+        20 | 21 => whole(draw, Shape::Doubled),
         _ => whole(draw, Shape::Small),
     }
 }
@@ -378,14 +420,17 @@ pub fn sample(draw: &mut Draw, number: usize) -> Sample {
 #[cfg(test)]
 mod tests {
     use super::*;
+    use crate::pairs::case;
     use crate::programs::read_and_restore;
+    use crate::restore::restore;
 
-    /// Whatever is restored has the same value as before, and whole trips end in an optimum of the original.
+    /// Whatever is restored has the same value as before, and whole trips end in an optimum of the original. Each rule is
+    /// undone often, rule 7 in both ways and with g of both signs.
     #[test]
     fn restored_trips() {
         let mut draw = Draw::new(14);
-        let (mut restored, mut carried) = (0, 0);
-        for number in 0..1500 {
+        let (mut restored, mut carried, mut ways) = (0, 0, Ways::default());
+        for number in 0..1700 {
             let Sample { text, trip, whole } = sample(&mut draw, number);
             let answer = read_and_restore(&text);
             if let Ok(answer) = &answer {
@@ -396,8 +441,41 @@ mod tests {
                 assert_eq!(trip.complaint_about(&answer), None);
                 let reduced = trip.reduced().expect("it has a pair");
                 carried += (answer.is_ok() && reduced.constant != trip.original.constant) as usize;
+                match &answer {
+                    Ok(restored) => ways.count(&trip, restored),
+                    Err(Refusal(13)) => ways.count_misfit(&trip),
+                    _ => {}
+                }
             }
         }
         assert!(restored > 300 && carried > 100, "{restored}, and {carried} trips with cost carried");
+        assert!(ways.steps[1..].iter().all(|&count| count > 50), "{:?}", ways.steps);
+        assert!(
+            ways.capped.iter().chain(&ways.uncapped).all(|&count| count > 20),
+            "{:?} {:?}",
+            ways.capped,
+            ways.uncapped
+        );
+        assert!(ways.misfits[7] > 4, "{:?}", ways.misfits);
+    }
+
+    /// What is left of a pair that is optimal for the whole network is often restored through rule 7, and then optimal.
+    #[test]
+    fn survivors_are_restored() {
+        let mut draw = Draw::new(19);
+        let mut counts = [0; 2];
+        for _ in 0..20000 {
+            let whole = case(&mut draw);
+            let reduction = reduce(&whole.network);
+            if !reduction.rules().contains(&7) || !is_optimal(&whole.network, &whole.pair) {
+                continue;
+            }
+            let left = survivors(&reduction, &whole.pair).record().words();
+            if let Ok(restored) = restore(&whole.network.record().words(), &reduction.stack(), &left) {
+                assert!(is_optimal(&whole.network, &restored.pair));
+                counts[(restored.pair != whole.pair) as usize] += 1;
+            }
+        }
+        assert!(counts.iter().all(|&count| count > 30), "{counts:?}");
     }
 }

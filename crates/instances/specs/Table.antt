@@ -240,9 +240,10 @@ roadStack = pos 3 ∷ pos 7 ∷ pos 3 ∷ pos 2 ∷ pos 1 ∷ pos 1 ∷ pos 2 �
 -- going back: prices 1 and 0; of the flow 4, 4 - (-1) is above 3, so that arc 1 takes 3, and arc 2 (4 - 3) ÷ (-1/2); both values are 13
 abbrev K : Row
 K =
-    row (Reducing × Return) (reducing road, restoring road roadStack (pos 0 ∷ pos 0 ∷ []))
-    (outcome Reduced (pos 0 ∷ pos 0 ∷ pos 13 ∷ pos 1 ∷ []) roadStack,
-    (Restored, (filled pairRoom (pos 2 ∷ pos 2 ∷ pos 1 ∷ pos 0 ∷ pos 3 ∷ neg 2 ∷ pos 1 ∷ pos 1 ∷ pos 1 ∷ pos 1 ∷ []), pos 13 ∷ pos 1 ∷ pos 13 ∷ pos 1 ∷ [])))
+    row (Reducing × Return) (reducing road, restoring road roadStack (pos 0 ∷ pos 0 ∷ [])) (
+      outcome Reduced (pos 0 ∷ pos 0 ∷ pos 13 ∷ pos 1 ∷ []) roadStack,
+      (Restored, (filled pairRoom (pos 2 ∷ pos 2 ∷ pos 1 ∷ pos 0 ∷ pos 3 ∷ neg 2 ∷ pos 1 ∷ pos 1 ∷ pos 1 ∷ pos 1 ∷ []), pos 13 ∷ pos 1 ∷ pos 13 ∷ pos 1 ∷ [])),
+    )
 
 -- ---- J: an operation on its own
 

@@ -1,6 +1,6 @@
 -- The figures of rule 7 in exact numbers: the common fraction, the image of k's bounds, and the sums of bounds.
 use mathlib.Core.Path.{_≡_, refl, sym, ap, _∙_}
-use mathlib.Core.Bool.{Bool, true, false, cond, _&&_}
+use mathlib.Core.Bool.{true, false}
 use mathlib.Core.Logic.{inl, inr}
 use mathlib.Core.Option.{some, none}
 use Prim.Native.Nat.{_<_}
@@ -89,15 +89,15 @@ sum-is u v {w} a b e = let p : Proper w = plus-fits {x = Fits u} {y = Fits v} e 
 
 pub upper-sum-is : (u v : Fraction) {w : Fraction} → upperSum u v ≡ Fits w → Bound noUpper w × (boundOf w ≡ addO (boundOf u) (boundOf v))
 unfolding upperSum
-upper-sum-is u v {w} e = by (isFinite u) refl (isFinite v) refl e
+upper-sum-is u v {w} e =
+    split (isFinite u)
+    (λ a. split (isFinite v)
+    (λ b. let s = sum-is u v (finite-bound u a) (finite-bound v b) (rw (a, b) at e) in (inl (s .0), s .1))
+    (λ b. rw (finite-bound u a, mark-bound v b) (none-above (let f = rw (a, b) at e in cc))))
+    (λ a. rw (mark-bound u a) (none-above (let f = rw a at e in cc)))
   where
     none-above : w ≡ noUpper → Bound noUpper w × (boundOf w ≡ none)
     none-above q = (inr q, rw q no-upper)
-
-    by : (s : Bool) → isFinite u ≡ s → (t : Bool) → isFinite v ≡ t → cond (s && t) (Fits u ⊕ Fits v) (Fits noUpper) ≡ Fits w → Bound noUpper w × (boundOf w ≡ addO (boundOf u) (boundOf v))
-    by true a true b e = let s = sum-is u v (finite-bound u a) (finite-bound v b) e in (inl (s .0), s .1)
-    by true a false b e = let q : w ≡ noUpper = cc in rw (finite-bound u a, mark-bound v b) (none-above q)
-    by false a t b e = let q : w ≡ noUpper = cc in rw (mark-bound u a) (none-above q)
 
 -- ---- bounds that don't cross
 

@@ -80,7 +80,14 @@ fn upper_sum(u: Fraction, v: Fraction) -> Worked
 }
 
 // Arc j, t, gets other bounds, and arc k is dropped.
-fn joining(constant: Fraction, j: usize, t: Arc, l: Fraction, u: Fraction, k: usize) -> network::Edit
+fn joining(
+    constant: Fraction,
+    j: usize,
+    t: Arc,
+    l: Fraction,
+    u: Fraction,
+    k: usize,
+) -> network::Edit
     ensures { λ x. ⌜ x ≡ joiningBy constant j t l u k ⌝ }
 {
     let c = t.cost;

@@ -7,4 +7,6 @@ pub mod scan_next
 pub mod scan_scan_closed
 pub mod scan_scan_costly
 pub mod scan_scan_nodes
+pub mod scan_scan_pairs
+pub mod scan_scan_parallel
 pub mod turn

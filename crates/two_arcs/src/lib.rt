@@ -157,14 +157,7 @@ fn merging(
     let one = ArcUpdate { number: j, arc: t };
     let two = step::numbered(k, network::no_arc());
     let left = SupplyUpdate { node, supply: s };
-    network::edit_two(
-        one,
-        two,
-        left,
-        network::no_supply_update(),
-        gone,
-        constant,
-    )
+    network::edit_two(one, two, left, network::no_supply_update(), gone, constant)
 }
 
 // Arc j, tj, is kept and arc k, tk, goes, at node i of supply r; s is the supply at k's other end.

@@ -1,9 +1,9 @@
 //! Times calls of the library for other languages against this implementation, called directly, in one process; processor
 //! time, so that other processes disturb little.
-//! Without arguments: all sizes and kinds. With TASK KIND N M COUNT (reduce or restore; long, stuck, mixed or pairs): so many calls of
-//! the library alone, on one network, for a profiler.
+//! Without arguments: all sizes and kinds. With TASK KIND N M COUNT (reduce or restore; long, stuck, mixed, pairs or roots): so
+//! many calls of the library alone, on one network, for a profiler.
 
-use second::bench_networks::{Kind, KINDS, SIZES};
+use second::bench_networks::{Kind, KINDS, SEARCHES, SIZES};
 use second::calls::{reduce_call, restore_call, REDUCING_ROOM, RESTORING_ROOM};
 use second::draw::Draw;
 use second::trips::Words;
@@ -126,7 +126,8 @@ fn repeat(arguments: &[String]) -> Option<()> {
         return None;
     };
     let task = TASKS.into_iter().find(|it| it.name() == task)?;
-    let kind = KINDS.into_iter().chain([Kind::Pairs]).find(|it| it.name() == kind)?;
+    let mut kinds = KINDS.into_iter().chain(SEARCHES.map(|(kind, _)| kind));
+    let kind = kinds.find(|it| it.name() == kind)?;
     let count: usize = count.parse().ok()?;
     let (words, steps) = kind.words(&mut Draw::new(SEED), n.parse().ok()?, m.parse().ok()?);
     let mut lent = Lent::new();
@@ -141,7 +142,7 @@ fn main() {
     let arguments: Vec<String> = std::env::args().skip(1).collect();
     if !arguments.is_empty() {
         if repeat(&arguments).is_none() {
-            eprintln!("bench_calls [reduce|restore long|stuck|mixed|pairs N M COUNT]");
+            eprintln!("bench_calls [reduce|restore long|stuck|mixed|pairs|roots N M COUNT]");
             std::process::exit(2);
         }
         return;
@@ -153,5 +154,7 @@ fn main() {
             print_row(kind, size, &mut draw, &mut lent);
         }
     }
-    print_row(Kind::Pairs, (2, 96), &mut draw, &mut lent);
+    for (kind, size) in SEARCHES {
+        print_row(kind, size, &mut draw, &mut lent);
+    }
 }

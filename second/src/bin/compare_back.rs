@@ -6,11 +6,12 @@ use second::draw::Draw;
 use second::fraction::Fraction;
 use second::network::Network;
 use second::optimality::Pair;
+use second::reduce::RULES;
 use second::restore::go_back;
 use second::rules::{place_is_arc, try_rule, Back, Change, Found};
 use second::sample_texts::damage_network;
 use second::scenes::{scene, Scene, ARCS, NODES};
-use second::step_pairs::{heavier, step_pair, Exactly};
+use second::step_pairs::{bounded, heavier, step_pair, Exactly};
 use std::collections::{BTreeMap, BTreeSet};
 use std::process::exit;
 
@@ -39,7 +40,8 @@ fn step(network: &Network, rule: u8, place: usize) -> Option<Change> {
     }
 }
 
-/// A scene in which the rule gives a step, if one comes soon; often with figures near the width at the place.
+/// A scene in which the rule gives a step, if one comes soon; often with figures near the width at the place, or with small
+/// bounds.
 fn scene_with_step(draw: &mut Draw, rule: u8) -> Scene {
     let mut drawn = scene(draw, rule);
     for _ in 0..10 {
@@ -48,8 +50,12 @@ fn scene_with_step(draw: &mut Draw, rule: u8) -> Scene {
         }
         drawn = scene(draw, rule);
     }
-    if !place_is_arc(rule) && draw.chance(50) {
-        let network = heavier(draw, &drawn.network, drawn.place);
+    if draw.chance(50) {
+        let network = match step(&drawn.network, rule, drawn.place) {
+            Some(change) if rule == 7 => bounded(draw, &drawn.network, &change),
+            _ if !place_is_arc(rule) => heavier(draw, &drawn.network, drawn.place),
+            _ => return drawn,
+        };
         if step(&network, rule, drawn.place).is_some() {
             drawn.network = network;
         }
@@ -79,7 +85,7 @@ fn pair_of(words: &[i32]) -> Pair {
 
 /// A step with prices and flows; now and then another place, or a record that is none.
 fn drawn(draw: &mut Draw) -> Question {
-    let rule = draw.of(&[1, 2, 3, 3, 4, 5, 5, 5, 5, 5, 6, 6, 6]);
+    let rule = draw.of(&[1, 2, 3, 3, 4, 5, 5, 5, 5, 5, 6, 6, 6, 7, 7, 7, 7]);
     let Scene { network, place } = scene_with_step(draw, rule);
     let pair = match step(&network, rule, place) {
         Some(change) => step_pair(draw, &network, &change),
@@ -92,7 +98,7 @@ fn drawn(draw: &mut Draw) -> Question {
     let mut question = [0; ASKED];
     question[..3].copy_from_slice(&[rule as i32, place as i32, record.len() as i32]);
     if draw.chance(1) {
-        question[draw.below(3)] = draw.of(&[-1, 0, 1, 2, 3, 4, 5, 6, 7, 9, 10, 97, 161, i32::MAX, i32::MIN]);
+        question[draw.below(3)] = draw.of(&[-1, 0, 1, 2, 3, 4, 5, 6, 7, 8, 9, 10, 97, 161, i32::MAX, i32::MIN]);
     }
     question[3..3 + record.len()].copy_from_slice(&record);
     question[3 + ROOM..5 + ROOM].copy_from_slice(&[NODES as i32, ARCS as i32]);
@@ -135,6 +141,9 @@ struct Row {
     second_larger: usize,
     /// Rule 6: how often an N has the lowest number of the four.
     negative_first: usize,
+    /// Rule 7: how often all fits for g > 0 and for g < 0, where j takes its upper bound, and otherwise.
+    capped: [usize; 2],
+    uncapped: [usize; 2],
 }
 
 impl Row {
@@ -151,6 +160,10 @@ impl Row {
         if kind == FITS {
             self.second_prices += exactly.is_second_price as usize;
             self.second_larger += exactly.is_second_larger as usize;
+            if let Back::ParallelArcs { g, .. } = &change.back {
+                let counts = if exactly.is_upper_smaller { &mut self.capped } else { &mut self.uncapped };
+                counts[g.is_negative() as usize] += 1;
+            }
         }
         if let Back::Crossing { negative, numbers, .. } = &change.back {
             self.negative_first += (negative[0].0 == numbers[0]) as usize;
@@ -166,6 +179,11 @@ impl Row {
         match rule {
             5 => println!("    fits with the second price: {}", self.second_prices),
             6 => println!("    fits with the second N's price: {}", self.second_larger),
+            7 => {
+                let ([plus, minus], [others_plus, others_minus]) = (self.capped, self.uncapped);
+                println!("    fits with j at its upper bound, g > 0: {plus}, g < 0: {minus}");
+                println!("    fits with j at flow - lower end, g > 0: {others_plus}, g < 0: {others_minus}");
+            }
             _ => {}
         }
         if rule == 6 {
@@ -176,7 +194,7 @@ impl Row {
 
 /// Prints how often each rule gave each kind here, and which operations didn't fit.
 fn print_tally(questions: &[Question], expected: &[Answer]) {
-    let mut rows: BTreeMap<usize, Row> = (1..=6).map(|rule| (rule, Row::default())).collect();
+    let mut rows: BTreeMap<usize, Row> = (1..=RULES as usize).map(|rule| (rule, Row::default())).collect();
     for (question, told) in questions.iter().zip(expected) {
         if let Some(row) = rows.get_mut(&(question[0] as usize)) {
             row.kinds[told[0] as usize] += 1;

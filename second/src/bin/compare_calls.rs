@@ -9,7 +9,7 @@ use second::pairs::case;
 use second::reduce::{reduce, End};
 use second::sample_texts::{damage_length, damage_network, damaged_record, limit_record};
 use second::samples::{network, Shape};
-use second::trips::{change_pair_figure, damage_any, damage_pair_record, nearly_right_pair, Trip, Words};
+use second::trips::{change_pair_figure, damage_any, damage_pair_record, nearly_right_pair, survivors, Trip, Words};
 use std::collections::BTreeMap;
 
 #[path = "../../../include/patskvime.rs"]
@@ -64,6 +64,8 @@ struct Calls {
     made: usize,
     differ: usize,
     full: usize,
+    /// Pairs restored through a step of rule 7.
+    merged: usize,
     codes: BTreeMap<(&'static str, String), usize>,
 }
 
@@ -111,6 +113,7 @@ impl Calls {
         let lengths = lengths(draw, RESTORING_ROOM);
         let told = restore_call(network, stack, pair, lengths);
         assert!(told.code != 0 || told.records[1][..2] == told.records[1][2..], "both values are the same");
+        self.merged += (told.code == 0 && stack[1..=stack.len() / 2].contains(&7)) as usize;
         self.compare(draw, ("restore", lengths), told, &[network, stack, pair], |[out, values, scratch]| {
             patskvime::restore(network, stack, pair, out, values, scratch)
         });
@@ -138,11 +141,8 @@ impl Calls {
             End::Reduced(kept) => kept.clone(),
             End::NoFlow { .. } => Network::default(),
         };
-        let mut survivors = pair.clone();
-        survivors.prices.retain(|node, _| kept.supplies.contains_key(node));
-        survivors.flows.retain(|arc, _| kept.arcs.contains_key(arc));
-        let words =
-            Words { network: original.record().words(), stack: reduction.stack(), pair: survivors.record().words() };
+        let survivors = survivors(&reduction, pair).record().words();
+        let words = Words { network: original.record().words(), stack: reduction.stack(), pair: survivors };
         self.trip(draw, &words, &kept.renumbered().record().words());
         self.test(draw, &words.network, &pair.record().words());
     }
@@ -199,6 +199,7 @@ fn main() {
         Shape::HeavyCrossing,
         Shape::SteepChain,
         Shape::SteepCostly,
+        Shape::Doubled,
     ];
     for round in 0.. {
         if calls.made >= count {
@@ -206,8 +207,8 @@ fn main() {
         }
         match round % 100 {
             0 => calls.solved_pair(&mut draw, if round % 200 == 0 { Shape::Full } else { Shape::LongRun }),
-            1..=14 => calls.solved_pair(&mut draw, shapes[round % 7]),
-            15..=39 => calls.damaged(&mut draw),
+            1..=16 => calls.solved_pair(&mut draw, shapes[round % 8]),
+            17..=39 => calls.damaged(&mut draw),
             _ => {
                 let whole = case(&mut draw);
                 calls.whole_pair(&mut draw, &whole.network, &whole.pair);
@@ -217,6 +218,7 @@ fn main() {
     for ((name, code), times) in &calls.codes {
         println!("{name} {code}: {times}");
     }
+    println!("pairs restored through rule 7: {}", calls.merged);
     println!("calls: {}, of {} networks with 32 nodes and 96 arcs, {} differ", calls.made, calls.full, calls.differ);
     std::process::exit((calls.differ > 0) as i32);
 }

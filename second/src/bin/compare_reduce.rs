@@ -3,6 +3,7 @@
 
 use second::compare::{arguments, own_program, Comparison};
 use second::draw::Draw;
+use second::parallel_cases::{ByRule, Merges};
 use second::programs::{read_and_reduce, reducing};
 use second::sample_texts::reducing_text;
 
@@ -10,18 +11,20 @@ fn main() {
     let (other, count, folder) = arguments("compare_reduce", 3000);
     let mut comparison = Comparison::new(own_program("reduce"), other, folder);
     let mut draw = Draw::new(0x5EC0_4D02);
-    let mut fired = [0usize; 7];
+    let (mut fired, mut merges) = (ByRule::default(), Merges::default());
     for number in 0..count {
         let text = reducing_text(&mut draw, number);
         if let Ok(reduction) = read_and_reduce(&text) {
             for step in &reduction.steps {
                 fired[step.rule as usize] += 1;
             }
+            merges.count(&reduction);
         }
         comparison.compare(&text, &reducing(&text));
     }
     for (rule, times) in fired.iter().enumerate().skip(1) {
         println!("rule {rule} fired {times} times");
     }
+    merges.print();
     std::process::exit(comparison.finish("reducing"));
 }

@@ -3,6 +3,7 @@
 
 use second::compare::{arguments, own_program, Comparison};
 use second::draw::Draw;
+use second::network::Refusal;
 use second::programs::{read_and_restore, restoring};
 use second::trips::{sample, Sample, Ways};
 
@@ -37,9 +38,13 @@ impl Checks {
         }
         if sample.whole && sample.trip.pair.is_some() {
             complaint = complaint.or(sample.trip.complaint_about(&answer));
-            if let Ok(restored) = &answer {
-                self.ways.count(&sample.trip.reduction, restored);
-                self.optima += 1;
+            match &answer {
+                Ok(restored) => {
+                    self.ways.count(&sample.trip, restored);
+                    self.optima += 1;
+                }
+                Err(Refusal(13)) => self.ways.count_misfit(&sample.trip),
+                _ => {}
             }
         }
         if let Some(complaint) = complaint {
@@ -54,6 +59,9 @@ impl Checks {
         }
         println!("rule 5 with its second price {} times", self.ways.second_prices);
         println!("rule 6 with two different prices {} times", self.ways.different_prices);
+        println!("rule 7 with j at its upper bound, g > 0 and g < 0: {:?} times", self.ways.capped);
+        println!("rule 7 with j at flow - lower end, g > 0 and g < 0: {:?} times", self.ways.uncapped);
+        println!("13 by rules 1 to 7: {:?}, by the value: {}", &self.ways.misfits[1..], self.ways.misfits[0]);
         println!("{} originals solved beside their reduced networks", self.kinds);
         println!("{} restored pairs with the same value before and after", self.values);
         println!("{} restored pairs checked against the independent optimum", self.optima);

@@ -6,9 +6,12 @@ use second::draw::Draw;
 use second::exact::Exact;
 use second::fraction::{Bound, Fraction};
 use second::network::{Arc, Network};
-use second::rules::{apart_from_constant, place_is_arc, try_rule, Change, Found};
+use second::parallel_cases::{met, Meets};
+use second::reduce::RULES;
+use second::rules::{apart_from_constant, place_is_arc, try_rule, Back, Change, Found};
 use second::sample_texts::{damage_network, drop_constant};
 use second::scenes::{scene, sign};
+use std::collections::BTreeMap;
 use std::process::exit;
 
 /// Words for a network's record.
@@ -39,7 +42,7 @@ fn question(rule: i32, place: i32, record: &[i32]) -> Question {
 
 /// A rule at its place of a network shaped for it; now and then another place, rule or record.
 fn drawn(draw: &mut Draw) -> Question {
-    let rule = draw.of(&[1, 1, 2, 3, 3, 4, 4, 4, 5, 5, 5, 5, 6, 6, 6]);
+    let rule = draw.of(&[1, 1, 2, 3, 3, 4, 4, 4, 5, 5, 5, 5, 6, 6, 6, 7, 7, 7, 7, 7]);
     let scene = scene(draw, rule);
     let mut record = scene.network.record().words();
     let (mut rule, mut place) = (rule as i32, scene.place as i32);
@@ -47,7 +50,7 @@ fn drawn(draw: &mut Draw) -> Question {
         place = draw.of(&[-1, 0, 1, 2, 3, 4, 5, 6, 7, 8, 9, 10, 32, 33, 34, 96, 97, 98, i32::MAX, i32::MIN]);
     }
     if draw.chance(2) {
-        rule = draw.of(&[1, 2, 3, 4, 5, 6, 0, 7, -1, 257, 260, i32::MAX, i32::MIN]);
+        rule = draw.of(&[1, 2, 3, 4, 5, 6, 7, 0, 8, 9, -1, 257, 260, 263, i32::MAX, i32::MIN]);
     }
     match draw.below(100) {
         0 | 1 => damage_network(draw, &mut record),
@@ -164,6 +167,7 @@ fn applies_but_for_width(network: &Network, rule: u8, place: usize) -> bool {
     }
     match network.arcs.get(&place) {
         Some(arc) if rule == 1 => arc.lower >= arc.upper,
+        Some(_) if rule == 7 => met(network, place).iter().any(|(_, meets)| matches!(meets, Meets::Parallel(_))),
         Some(arc) => arc.lower.finite().is_some() && is_costly(network, arc),
         None => false,
     }
@@ -174,13 +178,87 @@ fn is_wide(answer: &Answer) -> bool {
     answer.iter().any(|word| word.unsigned_abs() > 1 << 30)
 }
 
+/// What rule 7 met here.
+#[derive(Default)]
+struct Parallels {
+    /// Of the arcs that it passed over, how many were unlike j in this, and for how many an operation of this name
+    /// didn't fit, and no other.
+    unlike: BTreeMap<&'static str, usize>,
+    misfits: BTreeMap<&'static str, (usize, usize)>,
+    /// The steps by their kind.
+    steps: BTreeMap<&'static str, usize>,
+}
+
+impl Parallels {
+    fn count(&mut self, network: &Network, place: usize) {
+        let met = met(network, place);
+        for (_, meets) in &met {
+            match meets {
+                Meets::OtherEnds => {}
+                Meets::Unlike(what) => *self.unlike.entry(what).or_default() += 1,
+                Meets::Parallel(misfits) => {
+                    for name in misfits {
+                        let (some, alone) = self.misfits.entry(name).or_default();
+                        *some += 1;
+                        *alone += (misfits.len() == 1) as usize;
+                    }
+                }
+            }
+        }
+        let merged = met.last().filter(|(_, meets)| *meets == Meets::Parallel(vec![])).map(|(number, _)| vec![*number]);
+        match try_rule(network, 7, place) {
+            Some(Found::Step(change)) => {
+                assert_eq!(merged.as_ref(), Some(&change.dropped_arcs), "this package's two ways agree");
+                self.count_step(&change, &met[..met.len() - 1]);
+            }
+            _ => assert_eq!(merged, None, "this package's two ways agree"),
+        }
+    }
+
+    fn count_step(&mut self, change: &Change, passed: &[(usize, Meets)]) {
+        let Back::ParallelArcs { kept: (_, j), g, .. } = &change.back else {
+            panic!("a step of rule 7");
+        };
+        let is_open = |arc: &Arc| arc.upper == Bound::AbsentUpper;
+        let above = match (is_open(j), is_open(&change.new_arcs[0].1)) {
+            (true, _) => "j has none above",
+            (_, true) => "the image alone has none above",
+            _ => "both have bounds above",
+        };
+        let is_passed = |which: fn(&Meets) -> bool| passed.iter().any(|(_, meets)| which(meets));
+        let kinds = [
+            (if g.is_negative() { "g < 0" } else { "g > 0" }, true),
+            (above, true),
+            ("of root arcs", j.is_root()),
+            ("past an arc with a misfit", is_passed(|meets| matches!(meets, Meets::Parallel(_)))),
+            ("past an unlike arc", is_passed(|meets| matches!(meets, Meets::Unlike(_)))),
+        ];
+        for (kind, _) in kinds.into_iter().filter(|(_, is_so)| *is_so) {
+            *self.steps.entry(kind).or_default() += 1;
+        }
+    }
+
+    fn print(&self) {
+        self.steps.iter().for_each(|(kind, count)| println!("    steps, {kind}: {count}"));
+        self.unlike.iter().for_each(|(what, count)| println!("    passed over for {what}: {count}"));
+        for (name, (some, alone)) in &self.misfits {
+            println!("    passed over since {name} doesn't fit: {some}, and nothing else: {alone}");
+        }
+    }
+}
+
 /// Prints how often each rule gave each kind here, and how often the width had a say.
 fn print_tally(questions: &[Question], expected: &[Answer]) {
-    let mut kinds = [[0usize; 4]; 7];
-    let (mut stopped, mut by_constant, mut wide) = ([0usize; 7], [0usize; 7], [0usize; 7]);
+    const ROWS: usize = 1 + RULES as usize;
+    let mut kinds = [[0usize; 4]; ROWS];
+    let (mut stopped, mut by_constant, mut wide) = ([0usize; ROWS], [0usize; ROWS], [0usize; ROWS]);
+    let mut parallels = Parallels::default();
     for (question, told) in questions.iter().zip(expected) {
         let (network, rule, place) = asked(question);
-        let row = if rule > 6 { 0 } else { rule as usize };
+        let row = if rule > RULES { 0 } else { rule as usize };
+        if let (7, Some(network)) = (rule, &network) {
+            parallels.count(network, place);
+        }
         kinds[row][told[0] as usize] += 1;
         wide[row] += is_wide(told) as usize;
         if let Some(network) = network.filter(|_| told[0] == 0 && row > 0) {
@@ -194,6 +272,7 @@ fn print_tally(questions: &[Question], expected: &[Answer]) {
         println!("{name}: {}; wide steps {}", counts.join(", "), wide[row]);
         println!("    stopped by the width alone {}, by that of the constant {}", stopped[row], by_constant[row]);
     }
+    parallels.print();
 }
 
 fn main() {

@@ -142,7 +142,7 @@ abbrev pub ps : L.List (FnKinds.PK 1)
 ps = L._∷_ (ShrSlice.pShrS Rec.row 0 tt) (L._∷_ (Num.pNum Syntax.w64) L.[])
 
 abbrev pub r : FnKinds.RK 1
-r = Value.rVal record { ty = Declared.row Parallels·.the-type; one = Path.refl; val = StructLaws.val Parallels·.the-type Parallels-Laws·.the-laws; tells = StructLaws.tells Parallels·.the-type Parallels-Laws·.the-laws; still = StructLaws.still Parallels·.the-type Parallels-Laws·.the-copy Exit.yes; row = Rows.whole (Declared.row Parallels·.the-type); rd = λ x. x; mk = λ x. x; } λ M 𝓤 H A W. record { copies = StructLaws.copy Parallels·.the-type Parallels-Laws·.the-copy 𝓤 H A W; lawful = StructLaws.lawful Parallels·.the-type Parallels-Laws·.the-laws 𝓤 H A W; makes = StructLaws.makes Parallels·.the-type Parallels-Laws·.the-plain 𝓤 H A; in-mem = Local.mem-whole 𝓤 H A W (Declared.row Parallels·.the-type); of-mem = Local.whole-mem 𝓤 H A W (Declared.row Parallels·.the-type); }
+r = Value.rVal record { ty = Declared.row Parallels·.the-type; one = Path.refl; val = StructLaws.val Parallels·.the-type Parallels-Laws·.the-laws; tells = StructLaws.tells Parallels·.the-type Parallels-Laws·.the-laws; still = StructLaws.still Parallels·.the-type Parallels-Laws·.the-copy Exit.yes; row = Rows.whole (Declared.row Parallels·.the-type); rd = λ x. x; mk = λ x. x } λ M 𝓤 H A W. record { copies = StructLaws.copy Parallels·.the-type Parallels-Laws·.the-copy 𝓤 H A W; lawful = StructLaws.lawful Parallels·.the-type Parallels-Laws·.the-laws 𝓤 H A W; makes = StructLaws.makes Parallels·.the-type Parallels-Laws·.the-plain 𝓤 H A; in-mem = Local.mem-whole 𝓤 H A W (Declared.row Parallels·.the-type); of-mem = Local.whole-mem 𝓤 H A W (Declared.row Parallels·.the-type) }
 
 abbrev pub xs : L.List Syntax.Ty
 xs = L._∷_ q18 (L._∷_ q17 (L._∷_ (Syntax.tyInt Syntax.w64) (L._∷_ Rec.by-value (L._∷_ Syntax.tyBool (L._∷_ Syntax.tyUnit (L._∷_ q5 (L._∷_ q4 (L._∷_ q18 L.[]))))))))
@@ -464,7 +464,7 @@ module _ (claims· : Claims) where
   s8 = Scalar.n-room T11 7 Syntax.tyBool
 
   abbrev s9 : Typed.Both T9 T13
-  s9 = Call.callB ps·0 r·0 (claims· .0) (claims· .1) T9 (record { pos = 1; ty = Syntax.tyRef (Syntax.named 0) Syntax.imm Rec.named; ref = λ x. x; }, (Num.vAt 5 λ x. x, tt)) 6 (L._∷_ 0 L.[]) Rec.by-value
+  s9 = Call.callB ps·0 r·0 (claims· .0) (claims· .1) T9 (record { pos = 1; ty = Syntax.tyRef (Syntax.named 0) Syntax.imm Rec.named; ref = λ x. x }, (Num.vAt 5 λ x. x, tt)) 6 (L._∷_ 0 L.[]) Rec.by-value
 
   abbrev s11 : Typed.Gives T13 T15
   s11 = Local.k-sc-borrow T13 3 9 1 (DArray.Array (Referent.rtF (Referent.fInt Syntax.w8)) 97) q5 λ x. x
@@ -473,7 +473,7 @@ module _ (claims· : Claims) where
   s13 = Local.k-sc-borrow T15 4 10 2 (DArray.Array (Referent.rtF (Referent.fInt Syntax.w8)) 1089) q4 λ x. x
 
   abbrev s14 : Typed.Both T17 T18
-  s14 = Call.callB ps·1 r·1 (claims· .2) (claims· .3) T17 (record { pos = 9; ty = Syntax.tyRef Syntax.erased Syntax.mut q18; ref = λ x. x; }, (record { pos = 10; ty = Syntax.tyRef Syntax.erased Syntax.mut q17; ref = λ x. x; }, (Num.vAt 5 λ x. x, (record { pos = 6; st = L.[]; d = 0; at = λ x. x }, tt)))) 8 (L._∷_ 1 (L._∷_ 2 L.[])) Syntax.tyUnit
+  s14 = Call.callB ps·1 r·1 (claims· .2) (claims· .3) T17 (record { pos = 9; ty = Syntax.tyRef Syntax.erased Syntax.mut q18; ref = λ x. x }, (record { pos = 10; ty = Syntax.tyRef Syntax.erased Syntax.mut q17; ref = λ x. x }, (Num.vAt 5 λ x. x, (record { pos = 6; st = L.[]; d = 0; at = λ x. x }, tt)))) 8 (L._∷_ 1 (L._∷_ 2 L.[])) Syntax.tyUnit
 
   abbrev s15 : Typed.Mo T18 → Typed.Mo T19
   s15 = Scalar.n-room T18 6 Rec.by-value
@@ -646,109 +646,109 @@ module _ (claims· : Claims) where
 
       module _ (κs : Lifetimes.Lfts 1) (qs : Lifetimes.Shares 1) where
         abbrev G0 : Row.Cx
-        G0 = record { locals = t0; slots = L._∷_ (Row.lease (κs .0) (qs .0)) (L._∷_ Row.off (L._∷_ Row.off L.[])); }
+        G0 = record { locals = t0; slots = L._∷_ (Row.lease (κs .0) (qs .0)) (L._∷_ Row.off (L._∷_ Row.off L.[])) }
 
         abbrev G1 : Row.Cx
-        G1 = record { locals = t1; slots = L._∷_ (Row.lease (κs .0) (qs .0)) (L._∷_ Row.off (L._∷_ Row.off L.[])); }
+        G1 = record { locals = t1; slots = L._∷_ (Row.lease (κs .0) (qs .0)) (L._∷_ Row.off (L._∷_ Row.off L.[])) }
 
         abbrev G2 : Row.Cx
-        G2 = record { locals = t2; slots = L._∷_ (Row.lease (κs .0) (qs .0)) (L._∷_ Row.off (L._∷_ Row.off L.[])); }
+        G2 = record { locals = t2; slots = L._∷_ (Row.lease (κs .0) (qs .0)) (L._∷_ Row.off (L._∷_ Row.off L.[])) }
 
         abbrev G3 : Row.Cx
-        G3 = record { locals = t3; slots = L._∷_ (Row.lease (κs .0) (qs .0)) (L._∷_ Row.off (L._∷_ Row.off L.[])); }
+        G3 = record { locals = t3; slots = L._∷_ (Row.lease (κs .0) (qs .0)) (L._∷_ Row.off (L._∷_ Row.off L.[])) }
 
         abbrev G4 : Row.Cx
-        G4 = record { locals = t4; slots = L._∷_ (Row.lease (κs .0) (qs .0)) (L._∷_ Row.off (L._∷_ Row.off L.[])); }
+        G4 = record { locals = t4; slots = L._∷_ (Row.lease (κs .0) (qs .0)) (L._∷_ Row.off (L._∷_ Row.off L.[])) }
 
         abbrev G5 : Row.Cx
-        G5 = record { locals = t5; slots = L._∷_ (Row.lease (κs .0) (qs .0)) (L._∷_ Row.off (L._∷_ Row.off L.[])); }
+        G5 = record { locals = t5; slots = L._∷_ (Row.lease (κs .0) (qs .0)) (L._∷_ Row.off (L._∷_ Row.off L.[])) }
 
         abbrev G6 : Row.Cx
-        G6 = record { locals = t6; slots = L._∷_ (Row.lease (κs .0) (qs .0)) (L._∷_ Row.off (L._∷_ Row.off L.[])); }
+        G6 = record { locals = t6; slots = L._∷_ (Row.lease (κs .0) (qs .0)) (L._∷_ Row.off (L._∷_ Row.off L.[])) }
 
         abbrev G7 : Row.Cx
-        G7 = record { locals = t7; slots = L._∷_ (Row.lease (κs .0) (qs .0)) (L._∷_ Row.off (L._∷_ Row.off L.[])); }
+        G7 = record { locals = t7; slots = L._∷_ (Row.lease (κs .0) (qs .0)) (L._∷_ Row.off (L._∷_ Row.off L.[])) }
 
         abbrev G8 : Row.Cx
-        G8 = record { locals = t8; slots = L._∷_ (Row.lease (κs .0) (qs .0)) (L._∷_ Row.off (L._∷_ Row.off L.[])); }
+        G8 = record { locals = t8; slots = L._∷_ (Row.lease (κs .0) (qs .0)) (L._∷_ Row.off (L._∷_ Row.off L.[])) }
 
         abbrev G9 : Row.Cx
-        G9 = record { locals = t6; slots = L._∷_ (Row.lease (κs .0) (qs .0)) (L._∷_ Row.off (L._∷_ Row.off L.[])); }
+        G9 = record { locals = t6; slots = L._∷_ (Row.lease (κs .0) (qs .0)) (L._∷_ Row.off (L._∷_ Row.off L.[])) }
 
         abbrev G10 : Row.Cx
-        G10 = record { locals = t6; slots = L._∷_ (Row.lease (κs .0) (qs .0)) (L._∷_ Row.off (L._∷_ Row.off L.[])); }
+        G10 = record { locals = t6; slots = L._∷_ (Row.lease (κs .0) (qs .0)) (L._∷_ Row.off (L._∷_ Row.off L.[])) }
 
         abbrev G11 : Row.Cx
-        G11 = record { locals = t9; slots = L._∷_ (Row.lease (κs .0) (qs .0)) (L._∷_ Row.off (L._∷_ Row.off L.[])); }
+        G11 = record { locals = t9; slots = L._∷_ (Row.lease (κs .0) (qs .0)) (L._∷_ Row.off (L._∷_ Row.off L.[])) }
 
         abbrev G12 : Row.Cx
-        G12 = record { locals = t7; slots = L._∷_ (Row.lease (κs .0) (qs .0)) (L._∷_ Row.off (L._∷_ Row.off L.[])); }
+        G12 = record { locals = t7; slots = L._∷_ (Row.lease (κs .0) (qs .0)) (L._∷_ Row.off (L._∷_ Row.off L.[])) }
 
         abbrev G13 : Row.Cx
-        G13 = record { locals = t10; slots = L._∷_ (Row.lease (κs .0) (qs .0)) (L._∷_ Row.off (L._∷_ Row.off L.[])); }
+        G13 = record { locals = t10; slots = L._∷_ (Row.lease (κs .0) (qs .0)) (L._∷_ Row.off (L._∷_ Row.off L.[])) }
 
         abbrev G14 : Row.Cx
-        G14 = record { locals = t10; slots = L._∷_ (Row.lease (κs .0) (qs .0)) (L._∷_ Row.alive (L._∷_ Row.off L.[])); }
+        G14 = record { locals = t10; slots = L._∷_ (Row.lease (κs .0) (qs .0)) (L._∷_ Row.alive (L._∷_ Row.off L.[])) }
 
         abbrev G15 : Row.Cx
-        G15 = record { locals = t11; slots = L._∷_ (Row.lease (κs .0) (qs .0)) (L._∷_ Row.alive (L._∷_ Row.off L.[])); }
+        G15 = record { locals = t11; slots = L._∷_ (Row.lease (κs .0) (qs .0)) (L._∷_ Row.alive (L._∷_ Row.off L.[])) }
 
         abbrev G16 : Row.Cx
-        G16 = record { locals = t11; slots = L._∷_ (Row.lease (κs .0) (qs .0)) (L._∷_ Row.alive (L._∷_ Row.alive L.[])); }
+        G16 = record { locals = t11; slots = L._∷_ (Row.lease (κs .0) (qs .0)) (L._∷_ Row.alive (L._∷_ Row.alive L.[])) }
 
         abbrev G17 : Row.Cx
-        G17 = record { locals = t12; slots = L._∷_ (Row.lease (κs .0) (qs .0)) (L._∷_ Row.alive (L._∷_ Row.alive L.[])); }
+        G17 = record { locals = t12; slots = L._∷_ (Row.lease (κs .0) (qs .0)) (L._∷_ Row.alive (L._∷_ Row.alive L.[])) }
 
         abbrev G18 : Row.Cx
-        G18 = record { locals = t13; slots = L._∷_ (Row.lease (κs .0) (qs .0)) (L._∷_ Row.alive (L._∷_ Row.alive L.[])); }
+        G18 = record { locals = t13; slots = L._∷_ (Row.lease (κs .0) (qs .0)) (L._∷_ Row.alive (L._∷_ Row.alive L.[])) }
 
         abbrev G19 : Row.Cx
-        G19 = record { locals = t14; slots = L._∷_ (Row.lease (κs .0) (qs .0)) (L._∷_ Row.alive (L._∷_ Row.alive L.[])); }
+        G19 = record { locals = t14; slots = L._∷_ (Row.lease (κs .0) (qs .0)) (L._∷_ Row.alive (L._∷_ Row.alive L.[])) }
 
         abbrev G20 : Row.Cx
-        G20 = record { locals = t15; slots = L._∷_ (Row.lease (κs .0) (qs .0)) (L._∷_ Row.alive (L._∷_ Row.alive L.[])); }
+        G20 = record { locals = t15; slots = L._∷_ (Row.lease (κs .0) (qs .0)) (L._∷_ Row.alive (L._∷_ Row.alive L.[])) }
 
         abbrev G21 : Row.Cx
-        G21 = record { locals = t15; slots = L._∷_ (Row.lease (κs .0) (qs .0)) (L._∷_ Row.dead (L._∷_ Row.alive L.[])); }
+        G21 = record { locals = t15; slots = L._∷_ (Row.lease (κs .0) (qs .0)) (L._∷_ Row.dead (L._∷_ Row.alive L.[])) }
 
         abbrev G22 : Row.Cx
-        G22 = record { locals = t16; slots = L._∷_ (Row.lease (κs .0) (qs .0)) (L._∷_ Row.dead (L._∷_ Row.alive L.[])); }
+        G22 = record { locals = t16; slots = L._∷_ (Row.lease (κs .0) (qs .0)) (L._∷_ Row.dead (L._∷_ Row.alive L.[])) }
 
         abbrev G23 : Row.Cx
-        G23 = record { locals = t16; slots = L._∷_ (Row.lease (κs .0) (qs .0)) (L._∷_ Row.off (L._∷_ Row.alive L.[])); }
+        G23 = record { locals = t16; slots = L._∷_ (Row.lease (κs .0) (qs .0)) (L._∷_ Row.off (L._∷_ Row.alive L.[])) }
 
         abbrev G24 : Row.Cx
-        G24 = record { locals = t16; slots = L._∷_ (Row.lease (κs .0) (qs .0)) (L._∷_ Row.off (L._∷_ Row.dead L.[])); }
+        G24 = record { locals = t16; slots = L._∷_ (Row.lease (κs .0) (qs .0)) (L._∷_ Row.off (L._∷_ Row.dead L.[])) }
 
         abbrev G25 : Row.Cx
-        G25 = record { locals = t6; slots = L._∷_ (Row.lease (κs .0) (qs .0)) (L._∷_ Row.off (L._∷_ Row.dead L.[])); }
+        G25 = record { locals = t6; slots = L._∷_ (Row.lease (κs .0) (qs .0)) (L._∷_ Row.off (L._∷_ Row.dead L.[])) }
 
         abbrev G26 : Row.Cx
-        G26 = record { locals = t6; slots = L._∷_ (Row.lease (κs .0) (qs .0)) (L._∷_ Row.off (L._∷_ Row.off L.[])); }
+        G26 = record { locals = t6; slots = L._∷_ (Row.lease (κs .0) (qs .0)) (L._∷_ Row.off (L._∷_ Row.off L.[])) }
 
         abbrev G27 : Row.Cx
-        G27 = record { locals = t6; slots = L._∷_ (Row.lease (κs .0) (qs .0)) (L._∷_ Row.off (L._∷_ Row.off L.[])); }
+        G27 = record { locals = t6; slots = L._∷_ (Row.lease (κs .0) (qs .0)) (L._∷_ Row.off (L._∷_ Row.off L.[])) }
 
         abbrev G28 : Row.Cx
-        G28 = record { locals = t17; slots = L._∷_ (Row.lease (κs .0) (qs .0)) (L._∷_ Row.off (L._∷_ Row.off L.[])); }
+        G28 = record { locals = t17; slots = L._∷_ (Row.lease (κs .0) (qs .0)) (L._∷_ Row.off (L._∷_ Row.off L.[])) }
 
         abbrev G29 : Row.Cx
-        G29 = record { locals = t18; slots = L._∷_ (Row.lease (κs .0) (qs .0)) (L._∷_ Row.off (L._∷_ Row.off L.[])); }
+        G29 = record { locals = t18; slots = L._∷_ (Row.lease (κs .0) (qs .0)) (L._∷_ Row.off (L._∷_ Row.off L.[])) }
 
         abbrev G30 : Row.Cx
-        G30 = record { locals = t19; slots = L._∷_ (Row.lease (κs .0) (qs .0)) (L._∷_ Row.off (L._∷_ Row.off L.[])); }
+        G30 = record { locals = t19; slots = L._∷_ (Row.lease (κs .0) (qs .0)) (L._∷_ Row.off (L._∷_ Row.off L.[])) }
 
         abbrev G31 : Row.Cx
-        G31 = record { locals = t20; slots = L._∷_ (Row.lease (κs .0) (qs .0)) (L._∷_ Row.off (L._∷_ Row.off L.[])); }
+        G31 = record { locals = t20; slots = L._∷_ (Row.lease (κs .0) (qs .0)) (L._∷_ Row.off (L._∷_ Row.off L.[])) }
 
         abbrev G32 : Row.Cx
-        G32 = record { locals = t21; slots = L._∷_ (Row.lease (κs .0) (qs .0)) (L._∷_ Row.off (L._∷_ Row.off L.[])); }
+        G32 = record { locals = t21; slots = L._∷_ (Row.lease (κs .0) (qs .0)) (L._∷_ Row.off (L._∷_ Row.off L.[])) }
 
         abbrev G33 : Row.Cx
-        G33 = record { locals = t22; slots = L._∷_ (Row.lease (κs .0) (qs .0)) (L._∷_ Row.off (L._∷_ Row.off L.[])); }
+        G33 = record { locals = t22; slots = L._∷_ (Row.lease (κs .0) (qs .0)) (L._∷_ Row.off (L._∷_ Row.off L.[])) }
 
         abbrev G34 : Row.Cx
-        G34 = record { locals = t1; slots = L._∷_ (Row.lease (κs .0) (qs .0)) (L._∷_ Row.off (L._∷_ Row.off L.[])); }
+        G34 = record { locals = t1; slots = L._∷_ (Row.lease (κs .0) (qs .0)) (L._∷_ Row.off (L._∷_ Row.off L.[])) }
 
         abbrev Δ0 : Typed.Outs
         Δ0 = record { next = Option.none; exits = L.[]; returns = Option.some G1 }
@@ -815,7 +815,7 @@ module _ (claims· : Claims) where
           d14 = Typed.g-pre 𝓤 H A W 𝓣 E G18 G19 b11 Δ3 (Typed.pass T18 T19 s15) at13 (Scalar.g-room 𝓤 H A W E G18 6 Rec.by-value (Rec.room 𝓤 H A W)) d13
 
           d15 : Typed.Typed 𝓤 H A 𝓣 E G17 b12 Δ3 at15
-          d15 = Typed.s-seq 𝓤 H A W 𝓣 E G17 G18 b10 b11 Δ3 (Typed.both s14) at14 (Plain.t-call-plain 𝓤 H A W 𝓣 2 ps·1 r·1 (claims· .2) (claims· .3) "network::link" (known .1) E (λ pos β. β) G17 (record { pos = 9; ty = Syntax.tyRef Syntax.erased Syntax.mut q18; ref = λ x. x; }, (record { pos = 10; ty = Syntax.tyRef Syntax.erased Syntax.mut q17; ref = λ x. x; }, (Num.vAt 5 λ x. x, (record { pos = 6; st = L.[]; d = 0; at = λ x. x }, tt)))) 8 (L._∷_ 1 (L._∷_ 2 L.[])) (Call.sub-id 𝓤 H A W (G17 .slots)) (TReads.as-is 𝓤 H A (Rows.mref (DArray.Array (Referent.rtF (Referent.fInt Syntax.w8)) 97) q5 1), TReads.reads-mref 𝓤 H A W (DArray.Array (Referent.rtF (Referent.fInt Syntax.w8)) 97) q5 1, Path.refl, (TReads.as-is 𝓤 H A (Rows.mref (DArray.Array (Referent.rtF (Referent.fInt Syntax.w8)) 1089) q4 2), TReads.reads-mref 𝓤 H A W (DArray.Array (Referent.rtF (Referent.fInt Syntax.w8)) 1089) q4 2, Path.refl, ((Scalar.reads-sc 𝓤 H A W (Row.sInt Syntax.w64), Path.refl), ((Rec.yields 𝓤 H A W, Path.refl), tt)))) (TReads.room-gone 𝓤 H A Syntax.tyUnit) (tt, (tt, tt)) Path.refl) d14
+          d15 = Typed.s-seq 𝓤 H A W 𝓣 E G17 G18 b10 b11 Δ3 (Typed.both s14) at14 (Plain.t-call-plain 𝓤 H A W 𝓣 2 ps·1 r·1 (claims· .2) (claims· .3) "network::link" (known .1) E (λ pos β. β) G17 (record { pos = 9; ty = Syntax.tyRef Syntax.erased Syntax.mut q18; ref = λ x. x }, (record { pos = 10; ty = Syntax.tyRef Syntax.erased Syntax.mut q17; ref = λ x. x }, (Num.vAt 5 λ x. x, (record { pos = 6; st = L.[]; d = 0; at = λ x. x }, tt)))) 8 (L._∷_ 1 (L._∷_ 2 L.[])) (Call.sub-id 𝓤 H A W (G17 .slots)) (TReads.as-is 𝓤 H A (Rows.mref (DArray.Array (Referent.rtF (Referent.fInt Syntax.w8)) 97) q5 1), TReads.reads-mref 𝓤 H A W (DArray.Array (Referent.rtF (Referent.fInt Syntax.w8)) 97) q5 1, Path.refl, (TReads.as-is 𝓤 H A (Rows.mref (DArray.Array (Referent.rtF (Referent.fInt Syntax.w8)) 1089) q4 2), TReads.reads-mref 𝓤 H A W (DArray.Array (Referent.rtF (Referent.fInt Syntax.w8)) 1089) q4 2, Path.refl, ((Scalar.reads-sc 𝓤 H A W (Row.sInt Syntax.w64), Path.refl), ((Rec.yields 𝓤 H A W, Path.refl), tt)))) (TReads.room-gone 𝓤 H A Syntax.tyUnit) (tt, (tt, tt)) Path.refl) d14
 
           d16 : Typed.Typed 𝓤 H A 𝓣 E G16 b13 Δ3 at16
           d16 = Typed.s-seq 𝓤 H A W 𝓣 E G16 G17 b9 b12 Δ3 (Typed.give s13) at15 (Local.t-sc-borrow 𝓤 H A W E 𝓣 G16 4 10 2 (DArray.Array (Referent.rtF (Referent.fInt Syntax.w8)) 1089) q4 (λ x. x) (Whole.mem-arr 𝓤 H A W (Referent.rtF (Referent.fInt Syntax.w8)) 1089) (TReads.room-gone 𝓤 H A q4) Path.refl λ b o. tt) d15
@@ -830,7 +830,7 @@ module _ (claims· : Claims) where
           d19 = Typed.g-pre 𝓤 H A W 𝓣 E G13 G14 b14 Δ3 (λ Ψ. Ψ) at18 (Lifetime.g-begin 𝓤 H A W E G13 1 (tt, (tt, (tt, (tt, (tt, (tt, (tt, (tt, (tt, (tt, (tt, (tt, tt))))))))))))) d18
 
           d20 : Typed.Typed 𝓤 H A 𝓣 E G9 b15 Δ3 at20
-          d20 = Typed.s-seq 𝓤 H A W 𝓣 E G9 G13 b7 b14 Δ3 (Typed.both s9) at19 (Plain.t-call-plain 𝓤 H A W 𝓣 1 ps·0 r·0 (claims· .0) (claims· .1) "network::list::read" (known .0) E (λ pos β. β) G9 (record { pos = 1; ty = Syntax.tyRef (Syntax.named 0) Syntax.imm Rec.named; ref = λ x. x; }, (Num.vAt 5 λ x. x, tt)) 6 (L._∷_ 0 L.[]) (Call.sub-id 𝓤 H A W (G9 .slots)) (ShrSlice.spares-sslice 𝓤 H A W Rec.row q16 0, Shared.reads-sslice 𝓤 H A W Rec.row q16 0, Path.refl, ((Scalar.reads-sc 𝓤 H A W (Row.sInt Syntax.w64), Path.refl), tt)) (TReads.room-gone 𝓤 H A Rec.by-value) (tt, tt) Path.refl) d19
+          d20 = Typed.s-seq 𝓤 H A W 𝓣 E G9 G13 b7 b14 Δ3 (Typed.both s9) at19 (Plain.t-call-plain 𝓤 H A W 𝓣 1 ps·0 r·0 (claims· .0) (claims· .1) "network::list::read" (known .0) E (λ pos β. β) G9 (record { pos = 1; ty = Syntax.tyRef (Syntax.named 0) Syntax.imm Rec.named; ref = λ x. x }, (Num.vAt 5 λ x. x, tt)) 6 (L._∷_ 0 L.[]) (Call.sub-id 𝓤 H A W (G9 .slots)) (ShrSlice.spares-sslice 𝓤 H A W Rec.row q16 0, Shared.reads-sslice 𝓤 H A W Rec.row q16 0, Path.refl, ((Scalar.reads-sc 𝓤 H A W (Row.sInt Syntax.w64), Path.refl), tt)) (TReads.room-gone 𝓤 H A Rec.by-value) (tt, tt) Path.refl) d19
 
           d21 : Typed.Typed 𝓤 H A 𝓣 E G8 b16 Δ3 at21
           d21 = Typed.t-seq 𝓤 H A W 𝓣 E G8 G9 b6 b15 Δ3 at5 at20 d5 d20
@@ -994,14 +994,14 @@ module _ (claims· : Claims) where
 
       module _ (before· : In-loop) where
         abbrev pub After-read·own : Type 0
-        After-read·own = Called.Called ps·0 r·0 (claims· .1) T9 (record { pos = 1; ty = Syntax.tyRef (Syntax.named 0) Syntax.imm Rec.named; ref = λ x. x; }, (Num.vAt 5 λ x. x, tt)) (m8 (before· .before))
+        After-read·own = Called.Called ps·0 r·0 (claims· .1) T9 (record { pos = 1; ty = Syntax.tyRef (Syntax.named 0) Syntax.imm Rec.named; ref = λ x. x }, (Num.vAt 5 λ x. x, tt)) (m8 (before· .before))
 
       pub record After-read : Type 0 where
         pub before : In-loop
         pub read : After-read·own before
 
       abbrev pub After-read·gave : (c : After-read) → s9 .gives (m8 (c .before .before))
-      After-read·gave = λ c. Called.given ps·0 r·0 (claims· .1) T9 (record { pos = 1; ty = Syntax.tyRef (Syntax.named 0) Syntax.imm Rec.named; ref = λ x. x; }, (Num.vAt 5 λ x. x, tt)) (m8 (c .before .before)) (c .read)
+      After-read·gave = λ c. Called.given ps·0 r·0 (claims· .1) T9 (record { pos = 1; ty = Syntax.tyRef (Syntax.named 0) Syntax.imm Rec.named; ref = λ x. x }, (Num.vAt 5 λ x. x, tt)) (m8 (c .before .before)) (c .read)
 
       abbrev pub m12 : (before : After-read) → (given : s11 .gives (m11 (before .before) (After-read·gave before))) → Typed.Mo T15
       m12 = λ before given. s11 .next (m11 (before .before) (After-read·gave before)) given
@@ -1033,14 +1033,14 @@ module _ (claims· : Claims) where
 
       module _ (before· : After-last) where
         abbrev pub After-link·own : Type 0
-        After-link·own = Called.Called ps·1 r·1 (claims· .3) T17 (record { pos = 9; ty = Syntax.tyRef Syntax.erased Syntax.mut q18; ref = λ x. x; }, (record { pos = 10; ty = Syntax.tyRef Syntax.erased Syntax.mut q17; ref = λ x. x; }, (Num.vAt 5 λ x. x, (record { pos = 6; st = L.[]; d = 0; at = λ x. x }, tt)))) (m13 (before· .before) (before· .last .given))
+        After-link·own = Called.Called ps·1 r·1 (claims· .3) T17 (record { pos = 9; ty = Syntax.tyRef Syntax.erased Syntax.mut q18; ref = λ x. x }, (record { pos = 10; ty = Syntax.tyRef Syntax.erased Syntax.mut q17; ref = λ x. x }, (Num.vAt 5 λ x. x, (record { pos = 6; st = L.[]; d = 0; at = λ x. x }, tt)))) (m13 (before· .before) (before· .last .given))
 
       pub record After-link : Type 0 where
         pub before : After-last
         pub link : After-link·own before
 
       abbrev pub After-link·gave : (c : After-link) → s14 .gives (m13 (c .before .before) (c .before .last .given))
-      After-link·gave = λ c. Called.given ps·1 r·1 (claims· .3) T17 (record { pos = 9; ty = Syntax.tyRef Syntax.erased Syntax.mut q18; ref = λ x. x; }, (record { pos = 10; ty = Syntax.tyRef Syntax.erased Syntax.mut q17; ref = λ x. x; }, (Num.vAt 5 λ x. x, (record { pos = 6; st = L.[]; d = 0; at = λ x. x }, tt)))) (m13 (c .before .before) (c .before .last .given)) (c .link)
+      After-link·gave = λ c. Called.given ps·1 r·1 (claims· .3) T17 (record { pos = 9; ty = Syntax.tyRef Syntax.erased Syntax.mut q18; ref = λ x. x }, (record { pos = 10; ty = Syntax.tyRef Syntax.erased Syntax.mut q17; ref = λ x. x }, (Num.vAt 5 λ x. x, (record { pos = 6; st = L.[]; d = 0; at = λ x. x }, tt)))) (m13 (c .before .before) (c .before .last .given)) (c .link)
 
       abbrev pub m15 : (before : After-last) → (given : s14 .gives (m13 (before .before) (before .last .given))) → Typed.Mo T19
       m15 = λ before given. s15 (m14 before given)
@@ -1095,10 +1095,10 @@ module _ (claims· : Claims) where
         lay5 = λ c. (Path.refl, (Path.refl, (c .before .before .before .before .loop-test .taken, (μ·0 (Row.get 1 (T6 .locals) (m5 (c .before .before .before .before .before .before .κs) (c .before .before .before .before .before .before .args)) .now) (Row.get 2 (T6 .locals) (m5 (c .before .before .before .before .before .before .κs) (c .before .before .before .before .before .before .args))) (Row.get 3 (T6 .locals) (m5 (c .before .before .before .before .before .before .κs) (c .before .before .before .before .before .before .args))) (Row.get 4 (T6 .locals) (m5 (c .before .before .before .before .before .before .κs) (c .before .before .before .before .before .before .args))) (Row.get 5 (T6 .locals) (m5 (c .before .before .before .before .before .before .κs) (c .before .before .before .before .before .before .args))) (Row.get 3 (T6 .locals) (m19 (c .before) (After-link·gave c))) (Row.get 4 (T6 .locals) (m19 (c .before) (After-link·gave c))) (Row.get 5 (T6 .locals) (m19 (c .before) (After-link·gave c))), loop-less record { before = c .before; link = c .link }, ((Row.get 3 (T6 .locals) (m19 (c .before) (After-link·gave c)), Row.get 4 (T6 .locals) (m19 (c .before) (After-link·gave c)), Row.get 5 (T6 .locals) (m19 (c .before) (After-link·gave c))), Path.refl {a = m19 (c .before) (After-link·gave c)}, loop-again record { before = c .before; link = c .link }, Path.refl {a = μ·0 (Row.get 1 (T6 .locals) (m5 (c .before .before .before .before .before .before .κs) (c .before .before .before .before .before .before .args)) .now) (Row.get 2 (T6 .locals) (m5 (c .before .before .before .before .before .before .κs) (c .before .before .before .before .before .before .args))) (Row.get 3 (T6 .locals) (m5 (c .before .before .before .before .before .before .κs) (c .before .before .before .before .before .before .args))) (Row.get 4 (T6 .locals) (m5 (c .before .before .before .before .before .before .κs) (c .before .before .before .before .before .before .args))) (Row.get 5 (T6 .locals) (m5 (c .before .before .before .before .before .before .κs) (c .before .before .before .before .before .before .args))) (Row.get 3 (T6 .locals) (m19 (c .before) (After-link·gave c))) (Row.get 4 (T6 .locals) (m19 (c .before) (After-link·gave c))) (Row.get 5 (T6 .locals) (m19 (c .before) (After-link·gave c)))})))))
 
         lay4 : (c : After-read) → at19 (W3 (c .before .before .before) (c .before .before .loop .next) (c .before .before .loop .last) (c .before .before .loop .j)) (m11 (c .before) (After-read·gave c))
-        lay4 = λ c. λ g. λ g'. (link-requires record { before = record { before = record { before = c .before; read = c .read }; next = record { given = g }; }; last = record { given = g' }; }, λ g''. lay5 record { before = record { before = record { before = record { before = c .before; read = c .read }; next = record { given = g }; }; last = record { given = g' }; }; link = Called.called ps·1 r·1 (claims· .3) T17 (record { pos = 9; ty = Syntax.tyRef Syntax.erased Syntax.mut q18; ref = λ x. x; }, (record { pos = 10; ty = Syntax.tyRef Syntax.erased Syntax.mut q17; ref = λ x. x; }, (Num.vAt 5 λ x. x, (record { pos = 6; st = L.[]; d = 0; at = λ x. x }, tt)))) (m13 record { before = record { before = c .before; read = c .read }; next = record { given = g }; } g') g''; })
+        lay4 = λ c. λ g. λ g'. (link-requires record { before = record { before = record { before = c .before; read = c .read }; next = record { given = g } }; last = record { given = g' } }, λ g''. lay5 record { before = record { before = record { before = record { before = c .before; read = c .read }; next = record { given = g } }; last = record { given = g' } }; link = Called.called ps·1 r·1 (claims· .3) T17 (record { pos = 9; ty = Syntax.tyRef Syntax.erased Syntax.mut q18; ref = λ x. x }, (record { pos = 10; ty = Syntax.tyRef Syntax.erased Syntax.mut q17; ref = λ x. x }, (Num.vAt 5 λ x. x, (record { pos = 6; st = L.[]; d = 0; at = λ x. x }, tt)))) (m13 record { before = record { before = c .before; read = c .read }; next = record { given = g } } g') g'' })
 
         lay3 : (c : In-loop) → at20 (W3 (c .before .before) (c .before .loop .next) (c .before .loop .last) (c .before .loop .j)) (m8 (c .before))
-        lay3 = λ c. (read-requires record { before = c .before; loop-test = c .loop-test }, λ g. lay4 record { before = record { before = c .before; loop-test = c .loop-test }; read = Called.called ps·0 r·0 (claims· .1) T9 (record { pos = 1; ty = Syntax.tyRef (Syntax.named 0) Syntax.imm Rec.named; ref = λ x. x; }, (Num.vAt 5 λ x. x, tt)) (m8 (c .before)) g; })
+        lay3 = λ c. (read-requires record { before = c .before; loop-test = c .loop-test }, λ g. lay4 record { before = record { before = c .before; loop-test = c .loop-test }; read = Called.called ps·0 r·0 (claims· .1) T9 (record { pos = 1; ty = Syntax.tyRef (Syntax.named 0) Syntax.imm Rec.named; ref = λ x. x }, (Num.vAt 5 λ x. x, tt)) (m8 (c .before)) g })
 
         lay2 : (c : After-loop) → at4 (W4 (c .before .before) (c .before .loop .next) (c .before .loop .last) (c .before .loop .j)) (m7 (c .before .before) (c .before .loop .next) (c .before .loop .last) (c .before .loop .j))
         lay2 = λ c. lay6 record { before = c .before; loop-test = c .loop-test }
@@ -1107,11 +1107,11 @@ module _ (claims· : Claims) where
         lay1 = λ c. lay3 record { before = c .before; loop-test = c .loop-test }
 
         pub laid : (c : Start) → at38 (W0 (c .κs) (c .args)) (m0 (c .κs) (c .args))
-        laid = λ c. (((Row.get 3 (T6 .locals) (m5 (c .κs) (c .args)), Row.get 4 (T6 .locals) (m5 (c .κs) (c .args)), Row.get 5 (T6 .locals) (m5 (c .κs) (c .args))), Path.refl {a = m5 (c .κs) (c .args)}, loop-holds c), λ vs inv. (tt, (λ taken. lay1 record { before = record { before = c; loop = record { next = vs .0; last = vs .1; j = vs .2; inv = inv }; }; loop-test = record { taken = Tests.leb-true 1 (Row.get 5 (T6 .locals) (m6 c (vs .0) (vs .1) (vs .2))) taken; }; }, λ left. lay2 record { before = record { before = c; loop = record { next = vs .0; last = vs .1; j = vs .2; inv = inv }; }; loop-test = record { left = Tests.leb-false 1 (Row.get 5 (T6 .locals) (m6 c (vs .0) (vs .1) (vs .2))) left; }; })))
+        laid = λ c. (((Row.get 3 (T6 .locals) (m5 (c .κs) (c .args)), Row.get 4 (T6 .locals) (m5 (c .κs) (c .args)), Row.get 5 (T6 .locals) (m5 (c .κs) (c .args))), Path.refl {a = m5 (c .κs) (c .args)}, loop-holds c), λ vs inv. (tt, (λ taken. lay1 record { before = record { before = c; loop = record { next = vs .0; last = vs .1; j = vs .2; inv = inv } }; loop-test = record { taken = Tests.leb-true 1 (Row.get 5 (T6 .locals) (m6 c (vs .0) (vs .1) (vs .2))) taken } }, λ left. lay2 record { before = record { before = c; loop = record { next = vs .0; last = vs .1; j = vs .2; inv = inv } }; loop-test = record { left = Tests.leb-false 1 (Row.get 5 (T6 .locals) (m6 c (vs .0) (vs .1) (vs .2))) left } })))
 
         module _ (κs : Lifetimes.Lfts 1) (qs : Lifetimes.Shares 1) where
           pub asked : (a : FnKinds.Dens κs ps) → (good : FnKinds.GoodsP κs ps a) → (pre : Pre· κs a) → (bs : L.List Nat.ℕ) → Φ (Any.wantQ 1 ps r xs m κs qs a (Post· κs a)) (Function.init 1 ps r xs m κs qs a)
-          asked = λ a good pre bs. laid record { κs = κs; args = record { arcs = a .0; m = a .1 .0 }; good = good; fits = record { m = record { fits = good .1 .0 .1 } }; pre = pre; }
+          asked = λ a good pre bs. laid record { κs = κs; args = record { arcs = a .0; m = a .1 .0 }; good = good; fits = record { m = record { fits = good .1 .0 .1 } }; pre = pre }
 
         module _ {M : Type 1} (𝓤 : URA.URA M) (H : Wp.Heap 𝓤) (A : Atoms.Atoms 𝓤) (W : Kit.Given 𝓤 H A) (𝓣 : Wp.Tables 𝓤 H) (known0 : Plain.Known 𝓤 H A W 𝓣 1 ps·0 r·0 (claims· .0) (claims· .1) "network::list::read") (known1 : Plain.Known 𝓤 H A W 𝓣 2 ps·1 r·1 (claims· .2) (claims· .3) "network::link") where
           pub spec : Statement.Triple 𝓤 (Wp.WpFn 𝓤 H (𝓣 .C) (𝓣 .Λ) (Function.fnOf 1 ps r xs m hs body)) (Function.plainOf 𝓤 H A 1 ps r Pre· Post·)
