@@ -21,7 +21,7 @@ use Rattle.network.specs.declared.ArcUpdate.{ArcUpdate}
 use Rattle.records.specs.Limits.{networkRoom, stackRoom, pairRoom, valueRoom, scratchRoom}
 use Rattle.records.specs.Arrays.{figureAt}
 use Rattle.records.specs.Network.{sizesRight, figuresRight, endsRight, multipliersRight, questions, roleOf, isPermitted, isEnd, hasEnds, arcIn, isWeighted, netOf, readOf}
-use Rattle.network.specs.Pair.{withPrice, withFlow}
+use Rattle.network.specs.Pair.{noPair, flowAt, withPrice, withFlow}
 use Rattle.records.specs.Pair.{hasSizes, isPair, pairOf as pairRead}
 use Rattle.survivors.specs.Survivors.{arcRank, rankOf, packNode, packArc, packedOf}
 use Rattle.records.specs.Arrays.{arraysOf, hasRoom, recordOf}
@@ -35,7 +35,7 @@ use Rattle.step.specs.declared.Outcome.the-variants.{Passes, NoFlow as NoFlow·
 use Rattle.step.specs.Outcome.{onlyWhere, noFlowWhere, fits}
 use Rattle.step.specs.Dropped.{supplyLess, costAdded, dropped, lowerBack}
 use Rattle.step.specs.Back.{figure, restored, quoteAt}
-use Rattle.step.specs.Run.{ruleFrom, upward, nextFrom, runBy, runOf, wayBack}
+use Rattle.step.specs.Run.{ruleFrom, upward, nextFrom, runBy, runOf, Way, wide, at, undo, wayBack}
 use Rattle.closed_arc.specs.ClosedArc.{closed}
 use Rattle.bare_node.specs.BareNode.{bare, bareNode, bareBack}
 use Rattle.single_arc.specs.SingleArc.{forcedOut, single, singleArc, singleBack}
@@ -223,33 +223,39 @@ I =
     row (Bool × List Arc) (puts (crossing (network 5 (arcN 2 ∷ arcN 3 ∷ arcP 4 ∷ arcP 5 ∷ [])) 1))
     (true, crossed 2 4 ∷ crossed 2 5 ∷ crossed 3 4 ∷ crossed 3 5 ∷ [])
 
--- ---- an example of ours, not the papers'
-
--- Rule 7 (02, 2026-02), g = -1/2. Two arcs from node 1 to node 2: cost 2, bounds 0 and 3, multipliers 2 and -1; and cost -1, bounds -4 and 2, multipliers
--- -1 and 1/2, whose image goes from -1 to 2. The supplies are 8 and -4, the constant 5
-abbrev road : List ℤ
-road =
-    (pos 2 ∷ pos 2 ∷ [])
-    ++ (pos 5 ∷ pos 8 ∷ neg 4 ∷ pos 1 ∷ pos 2 ∷ pos 2 ∷ pos 0 ∷ pos 3 ∷ pos 2 ∷ neg 1 ∷ pos 1 ∷ pos 2 ∷ neg 1 ∷ neg 4 ∷ pos 2 ∷ neg 1 ∷ pos 1 ∷ [])
-    ++ (pos 1 ∷ pos 1 ∷ pos 1 ∷ pos 1 ∷ pos 1 ∷ pos 1 ∷ pos 1 ∷ pos 1 ∷ pos 1 ∷ pos 1 ∷ pos 1 ∷ pos 1 ∷ pos 1 ∷ pos 1 ∷ pos 1 ∷ pos 1 ∷ pos 2 ∷ [])
-
--- rule 7 at arc 1; then rule 3 at node 1, with the flow 4 within -1 and 5, and rule 2 at node 2: nothing is left but the constant 5 + 2 × 4
-abbrev roadStack : List ℤ
-roadStack = pos 3 ∷ pos 7 ∷ pos 3 ∷ pos 2 ∷ pos 1 ∷ pos 1 ∷ pos 2 ∷ []
-
--- going back: prices 1 and 0; of the flow 4, 4 - (-1) is above 3, so that arc 1 takes 3, and arc 2 (4 - 3) ÷ (-1/2); both values are 13
-abbrev K : Row
-K =
-    row (Reducing × Return) (reducing road, restoring road roadStack (pos 0 ∷ pos 0 ∷ [])) (
-      outcome Reduced (pos 0 ∷ pos 0 ∷ pos 13 ∷ pos 1 ∷ []) roadStack,
-      (Restored, (filled pairRoom (pos 2 ∷ pos 2 ∷ pos 1 ∷ pos 0 ∷ pos 3 ∷ neg 2 ∷ pos 1 ∷ pos 1 ∷ pos 1 ∷ pos 1 ∷ []), pos 13 ∷ pos 1 ∷ pos 13 ∷ pos 1 ∷ [])),
-    )
-
 -- ---- J: an operation on its own
 
 -- J. 2147483647 + 1 doesn't fit; 1/2 + 1/2 is 1 over 1
 abbrev J : Row
 J = row (Worked × Worked) (sumOf (over (pos 2147483647) 1) (over (pos 1) 1), sumOf (over (pos 1) 2) (over (pos 1) 2)) (Misfit, Fits (over (pos 1) 1))
+
+-- ---- K: a worked example of ours, not the papers'
+
+-- K. Rule 7 (02, 2026-02), g = -1/2: two arcs from node 1 to node 2, one of cost 2, bounds 0 and 3, multipliers 2 and -1, the other of cost -1, bounds -4 and 2,
+-- multipliers -1 and 1/2, whose image goes from -1 to 2: bounds -1 and 5
+abbrev roads : Net
+roads = network 2 (arc 1 2 (whole 2) (whole 0) (whole 3) (whole 2) (over (neg 1) 1) ∷ arc 1 2 (over (neg 1) 1) (over (neg 4) 1) (whole 2) (over (neg 1) 1) (over (pos 1) 2) ∷ [])
+
+-- the flows of arcs 1 and 2 that come back from the flow x of arc 1
+abbrev flowsIn : Way → List Fraction
+flowsIn wide = []
+flowsIn (at pair) = flowAt pair 1 ∷ flowAt pair 2 ∷ []
+
+abbrev back-by : Outcome → Fraction → List Fraction
+back-by Passes x = []
+back-by NoFlow·outcome x = []
+back-by (Changes c) x = flowsIn (undo (parallelBack (c .old)) (at (withFlow noPair 1 x)))
+
+-- back with flow 4: 4 - (-1) is above 3, so that arc 1 takes 3, and arc 2 (4 - 3) ÷ (-1/2); with flow 1: arc 1 takes 1 - (-1), and arc 2 its upper bound
+abbrev K : Row
+K =
+    row ((Bool × List Arc) × (List Fraction × List Fraction)) (puts (parallelArc roads 1), (back-by (parallelArc roads 1) (whole 4), back-by (parallelArc roads 1) (whole 1)))
+    ((true, arc 1 2 (whole 2) (over (neg 1) 1) (whole 5) (whole 2) (over (neg 1) 1) ∷ noArc ∷ noArc ∷ noArc ∷ []), (whole 3 ∷ over (neg 2) 1 ∷ [], whole 2 ∷ whole 2 ∷ []))
+
+-- computed on its own: it and the rows of whole texts are too much at once
+worked : K .computed ≡ K .documented
+unfolding gcd gcdBy upto scan isOperand fitted reduceOf sumOf productOf differenceOf quotientOf negationOf reciprocalOf isLess isSame isFinite pairOf _⊕_ _⊖_ _⊗_ _⊘_ withArc withSupply withNode withFlow withPrice onlyWhere fits figure restored ratioOf isTimes lowEnd highEnd upperSum joined alike parallelArc parallelBack
+worked = refl
 
 -- ---- the table
 
@@ -277,5 +283,5 @@ abbrev pub table : List Row
 table = A ∷ A-text ∷ A-back ∷ A-back-text ∷ B ∷ E ∷ F ∷ G ∷ H ∷ I ∷ J ∷ K ∷ []
 
 pub marked : All table
-unfolding gcd gcdBy build upto count all any scan isOperand isProper fitted reduceOf sumOf productOf differenceOf quotientOf negationOf reciprocalOf isLess isSame isZero isFinite fromWords denWord pairOf _⊕_ _⊖_ _⊗_ _⊘_ ⊝_ withArc withSupply withNode without applied isTouching degreeOf touchingAfter isRoot farEnd sideOf figureAt sizesRight figuresRight endsRight multipliersRight questions roleOf isPermitted isEnd hasEnds arcIn isWeighted netOf readOf rankOf packNode packArc packedOf arraysOf wordOf roleFigure figureOf hasRoom recordOf networkOf withPrice withFlow hasSizes isPair pairRead balanceOf reducedCost valueOf allFit isWithin isAt keepsRule testQuestions pairQuestions onlyWhere noFlowWhere fits supplyLess costAdded dropped lowerBack figure restored quoteAt upward nextFrom ruleFrom runBy runOf wayBack closed bare bareNode bareBack forcedOut single singleArc singleBack isOpenRoot isCostlier hasPair costlyArc sameSign tighter imageOf gained merged kept two twoArcs twoBack hasSignAt signedAfter isFree isApart crossedArc crossedAt crossing crossingBack ratioOf isTimes lowEnd highEnd upperSum joined alike parallelArc parallelBack arcRank spreadOf stackRecord Stack.stackOf sameWords isRoomy reduceTable isRoomyBack offerTable runTable restoreTable broughtBack pairFigure pairWords separator digit pieces valueFrom wordsIn wordsOf digitsIn digits behindSpaces spaced lineOf recordLines reduceText stackSplit splitSized splitOf restoreText
-marked = (refl, (refl, (refl, (refl, (refl, (refl, (refl, (refl, (refl, (refl, (refl, (refl, tt))))))))))))
+unfolding gcd gcdBy build upto count all any scan isOperand isProper fitted reduceOf sumOf productOf differenceOf quotientOf negationOf reciprocalOf isLess isSame isZero isFinite fromWords denWord pairOf _⊕_ _⊖_ _⊗_ _⊘_ ⊝_ withArc withSupply withNode without applied isTouching degreeOf touchingAfter isRoot farEnd sideOf figureAt sizesRight figuresRight endsRight multipliersRight questions roleOf isPermitted isEnd hasEnds arcIn isWeighted netOf readOf rankOf packNode packArc packedOf arraysOf wordOf roleFigure figureOf hasRoom recordOf networkOf withPrice withFlow hasSizes isPair pairRead balanceOf reducedCost valueOf allFit isWithin isAt keepsRule testQuestions pairQuestions onlyWhere noFlowWhere fits supplyLess costAdded dropped lowerBack figure restored quoteAt upward nextFrom ruleFrom runBy runOf wayBack closed bare bareNode bareBack forcedOut single singleArc singleBack isOpenRoot isCostlier hasPair costlyArc sameSign tighter imageOf gained merged kept two twoArcs twoBack hasSignAt signedAfter isFree isApart crossedArc crossedAt crossing crossingBack ratioOf isTimes joined alike parallelArc parallelBack arcRank spreadOf stackRecord Stack.stackOf sameWords isRoomy reduceTable isRoomyBack offerTable runTable restoreTable broughtBack pairFigure pairWords separator digit pieces valueFrom wordsIn wordsOf digitsIn digits behindSpaces spaced lineOf recordLines reduceText stackSplit splitSized splitOf restoreText
+marked = (refl, (refl, (refl, (refl, (refl, (refl, (refl, (refl, (refl, (refl, (refl, (worked, tt))))))))))))
