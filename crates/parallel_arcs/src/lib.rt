@@ -2,6 +2,8 @@
 ghost use mathlib.Core.Path.{_≡_};
 ghost use Rattle.fraction.specs.declared.Worked.the-variants.{Fits};
 ghost use Rattle.fraction.specs.Formula.{_⊖_, _⊘_};
+ghost use Rattle.network.specs.declared.pair.Pair.{Pair};
+ghost use Rattle.network.specs.Pair.{flowAt};
 ghost use Rattle.parallel_arcs.specs.ParallelArcs.{ratioOf, isTimes, lowBound, highBound, highEnd, upperSum, joining as joiningBy, joined, alike as alikeOf, parallelArc, parallelBack};
 ghost use Rattle.parallel_arcs.specs.internal.Multiple.{isPassing};
 use fraction::Fraction;
@@ -10,7 +12,6 @@ use network::ARC_PLACES;
 use network::Arc;
 use network::ArcUpdate;
 use network::Net;
-use network::pair::Pair;
 use step::Change;
 use step::Old;
 use step::Outcome;
@@ -194,15 +195,14 @@ pub fn parallel_arc(net: Net, j: usize) -> Outcome
     Outcome::Passes
 }
 
-// Its way back.
-pub fn parallel_back(old: Old, pair: Pair) -> Undone
-    ensures { λ x. ⌜ x ≡ parallelBack old pair ⌝ }
+// Its way back, where the kept arc has this flow.
+pub fn parallel_back(old: Old, flow: Fraction) -> Undone
+    ensures { λ x. ⌜ ((pair : Pair) → flowAt pair (old .one .number) ≡ flow → x ≡ parallelBack old pair) ⌝ }
 {
     let one = old.one;
     let two = old.two;
     let tj = one.arc;
     let tk = two.arc;
-    let flow = network::pair::flow_at(pair, one.number);
     let Worked::Fits(g) = ratio(tj, tk) else {
         return Undone::Wide;
     };
