@@ -1,1 +1,2 @@
 // The definitions stand in specs/, the theory in proofs/.
+#![tactic(auto)]

@@ -1,4 +1,6 @@
 // From the bytes of a text to the bytes of the answer that a program prints.
+#![tactic(auto)]
+
 ghost use Rattle.std.specs.Prelude.{◌≡◌, [], ◌∷◌, ◌++◌, ◌+◌, ◌*◌, ◌≤◌, length};
 ghost use Rattle.fraction.specs.Words.{word_of};
 ghost use Rattle.records.specs.Limits.{network_room, stack_room};

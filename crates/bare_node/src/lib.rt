@@ -1,4 +1,6 @@
 // Rule 2: bare node.
+#![tactic(auto)]
+
 ghost use Rattle.std.specs.Prelude.{◌≡◌};
 ghost use Rattle.network.specs.declared.pair.Pair.{Pair};
 ghost use Rattle.bare_node.specs.BareNode.{bare, bare_back};

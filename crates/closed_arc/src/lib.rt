@@ -1,4 +1,6 @@
 // Rule 1: closed arc.
+#![tactic(auto)]
+
 ghost use Rattle.std.specs.Prelude.{◌≡◌};
 ghost use Rattle.closed_arc.specs.ClosedArc.{closed};
 

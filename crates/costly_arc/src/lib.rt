@@ -1,4 +1,6 @@
 // Rule 4: costly arc. A run keeps when each arc was put, and when a pair was sought for it in vain: no pair of root arcs is tried again.
+#![tactic(auto)]
+
 ghost use Rattle.std.specs.Prelude.{◌≡◌, get_or};
 ghost use Rattle.fraction.specs.Exact.{no_figure};
 ghost use Rattle.network.specs.Limits.{max_arcs};

@@ -1,5 +1,7 @@
 // The figures of the test: balances, reduced costs and the value; and its questions 9 to 12. The loops read an arc in place,
 // so that no network is copied for one; beyond the last number there is none.
+#![tactic(auto)]
+
 ghost use Rattle.std.specs.Prelude.{◌≡◌, cond, ◌&&◌, not, [], ◌∷◌, ℕ, ◌+◌, ◌<◌, eqb, get_or};
 ghost use Rattle.loops.specs.Loops.{all};
 ghost use Rattle.fraction.specs.Exact.{no_figure, is_same};

@@ -1,6 +1,8 @@
 // Exact fractions of 32-bit words (01, "The problem and its figures"): a numerator over a denominator,
 // in lowest terms, and the two marks of an absent bound. Every operation answers the fraction or that
 // it does not fit.
+#![tactic(auto)]
+
 ghost use Rattle.std.specs.Prelude.{◌≡◌, ◌&&◌, ◌*◌, pos, nat_abs, ◌+ℤ◌, ◌*ℤ◌};
 ghost use Rattle.std.specs.Int.Signed.{lt_z};
 ghost use Rattle.fraction.specs.Exact.{no_lower, no_upper, Operand, is_operand, is_proper, is_same, is_zero, is_less, fitted, reduce_of, sum_of, difference_of, product_of, quotient_of, negation_of, reciprocal_of, from_words, den_word};

@@ -20,17 +20,17 @@ sfits-by {w} {z} h = record { sfits = lt_of_le_of_lt (mag-le z) h }
 -- ---- words of 32 bits, at their whole range
 
 pub back32 : (z : ℤ) → mag z < 2147483648 → to_z w32 (of_z w32 z) ≡ z
-back32 z h = to_z-of_z (record { sfits = h })
+back32 z h = to_z-of_z {w = w32} (record { sfits = h })
 
 -- a result of 64 bits, by its `.ok`
 pub back64 : (z : ℤ) → mag z < 9223372036854775808 → to_z w64 (of_z w64 z) ≡ z
-back64 z h = to_z-of_z (sfits_of h)
+back64 z h = to_z-of_z {w = w64} (sfits_of h)
 
 pub widened : (z : ℤ) → mag z < 2147483648 → SFits w64 (to_z w32 (of_z w32 z))
 widened z h = rw (back32 z h) (sfits-by (omega (arith, nat_abs-le z h)))
 
 pub wide : (z : ℤ) → mag z < 2147483648 → to_z w64 (of_z w64 (to_z w32 (of_z w32 z))) ≡ z
-wide z h = rw (back32 z h) (to_z-of_z (sfits-by (omega (arith, nat_abs-le z h))))
+wide z h = rw (back32 z h) (to_z-of_z {w = w64} (sfits-by (omega (arith, nat_abs-le z h))))
 
 pub unsigned : (d : ℕ) → d < 4294967296 → to_z w64 d ≡ pos d
 unsigned d h = to_z_pos w64 (omega arith)

@@ -1,4 +1,6 @@
 // Whole numbers of the machine: the greatest common divisor, size and sign, exact products.
+#![tactic(auto)]
+
 ghost use Rattle.std.specs.Prelude.{◌≡◌, pos, nat_abs, ◌*ℤ◌};
 ghost use Rattle.integer.specs.Gcd.{gcd as gcd_of, DivisorFrom};
 ghost use Rattle.integer.specs.Whole.{signed};

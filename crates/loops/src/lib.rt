@@ -1,4 +1,6 @@
 // The shapes of loops, and the writing of words that the records share.
+#![tactic(auto)]
+
 ghost use Rattle.std.specs.Prelude.{◌≡◌, length, set};
 ghost use Rattle.loops.specs.Loops.{zeros};
 

@@ -1,4 +1,6 @@
 // A network (01, "The problem and its figures") as a reduction works on it.
+#![tactic(auto)]
+
 ghost use Rattle.std.specs.Prelude.{◌≡◌, ◌≤◌, List, get_or};
 ghost use Rattle.network.specs.declared.Arc.{Arc};
 ghost use Rattle.fraction.specs.Exact.{no_figure};

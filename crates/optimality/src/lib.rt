@@ -1,4 +1,6 @@
 // The optimality test (01, "The optimality test"): a pair of prices and flows is passed exactly when it proves itself optimal.
+#![tactic(auto)]
+
 ghost use Rattle.std.specs.Prelude.{length};
 ghost use Rattle.optimality.specs.Test.{Examines, Tested};
 

@@ -1,4 +1,6 @@
 // The library for other languages: reducing, the test and restoring with a code as answer.
+#![tactic(auto)]
+
 ghost use Rattle.std.specs.Prelude.{length};
 ghost use Rattle.patskvime.specs.Codes.{ReductionCode, TestCode, RestorationCode};
 

@@ -2,6 +2,8 @@
 // first. A record of 204 words comes in for each question, and its first word says which: 0 an operation on fractions
 // (operation.rt), 1 a rule at a place (rule.rt), 2 the optimality test (test.rt), 3 the way back over a step (back.rt).
 // 62 words go out: the answer, and zeros behind it; zeros alone where the first word is another.
+#![tactic(auto)]
+
 ghost use Rattle.std.specs.Prelude.{◌≤◌, ◌<◌};
 
 mod back;

@@ -1,4 +1,6 @@
 // The records of 01, "Records": network, stack, pair and values, each with its questions, its reading and its writing.
+#![tactic(auto)]
+
 ghost use Rattle.std.specs.Prelude.{◌≡◌, ◌++◌, ◌+◌, ◌-◌, ◌≤◌, length, set};
 ghost use Rattle.loops.specs.Loops.{zeros};
 ghost use Rattle.fraction.specs.Exact.{den_word};

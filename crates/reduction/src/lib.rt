@@ -1,6 +1,8 @@
 // Reducing a network: the entry.
 // The next line is for tools/lift.py:
 // lent: network::Arc [i8; 56]
+#![tactic(auto)]
+
 ghost use Rattle.std.specs.Prelude.{◌≡◌, length};
 ghost use Rattle.loops.specs.Loops.{zeros};
 ghost use Rattle.network.specs.ArcList.{joined};

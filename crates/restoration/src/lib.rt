@@ -1,6 +1,8 @@
 // Restoring: the pair of a reduced network, tested there, goes back over the steps to the original network.
 // The next line is for tools/lift.py:
 // lent: network::Arc [i8; 56]
+#![tactic(auto)]
+
 ghost use Rattle.std.specs.Prelude.{◌≡◌, length};
 ghost use Rattle.loops.specs.Loops.{zeros};
 ghost use Rattle.network.specs.ArcList.{joined};

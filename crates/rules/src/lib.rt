@@ -1,4 +1,6 @@
 // The table of the rules, in code: the step and the way back of each, by its number.
+#![tactic(auto)]
+
 ghost use Rattle.std.specs.Prelude.{◌≡◌};
 ghost use Rattle.step.specs.Run.{rule_of};
 ghost use Rattle.rules.specs.Table.{rules};

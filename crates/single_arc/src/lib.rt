@@ -1,4 +1,6 @@
 // Rule 3: single arc.
+#![tactic(auto)]
+
 ghost use Rattle.std.specs.Prelude.{◌≡◌};
 ghost use Rattle.fraction.specs.declared.Worked.TheVariants.{Fits};
 ghost use Rattle.fraction.specs.Formula.{◌⊘◌};

@@ -1,4 +1,6 @@
 // The price rule of one arc (01, "The optimality test"): complementary slackness.
+#![tactic(auto)]
+
 ghost use Rattle.std.specs.Prelude.{◌≡◌};
 ghost use Rattle.slackness.specs.Slackness.{is_at, keeps_rule};
 

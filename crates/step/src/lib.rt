@@ -1,4 +1,6 @@
 // One step of a reduction: what a rule answers at a place (01, "The six reductions"), and what its way back answers.
+#![tactic(auto)]
+
 ghost use Rattle.std.specs.Prelude.{◌≡◌, true, ◌≤◌};
 ghost use Rattle.network.specs.Network.{is_number};
 ghost use Rattle.network.specs.declared.pair.Pair.{Pair};

@@ -1,4 +1,6 @@
 // The log: the steps of a run in the lent words, as many words for each.
+#![tactic(auto)]
+
 ghost use Rattle.std.specs.Prelude.{◌≡◌, ◌+◌, ◌*◌, ◌≤◌, length};
 ghost use Rattle.fraction.specs.Words.{word};
 ghost use Rattle.fraction.specs.Words.{whole_of};

@@ -1,4 +1,6 @@
 // What is left of a network, numbered from 1, and a pair of it at the original numbers.
+#![tactic(auto)]
+
 ghost use Rattle.std.specs.Prelude.{◌≡◌, length};
 ghost use Rattle.loops.specs.Loops.{build, upto};
 ghost use Rattle.network.specs.Limits.{max_nodes, max_arcs, node_places, arc_places};

@@ -1,3 +1,5 @@
+#![tactic(auto)]
+
 ghost use Rattle.std.specs.Prelude.{◌≡◌, [], ◌∷◌, ◌≤◌, ◌<◌, ◌^◌, length, replicate, pos, nat_abs};
 ghost use Rattle.text.specs.Text.{separator, digit, limit, with_sign, Read};
 ghost use Rattle.text.specs.Line.{digits, decimal, item_of, Line};

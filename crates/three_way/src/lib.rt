@@ -1,4 +1,6 @@
 // Rule 8: three-way junctions.
+#![tactic(auto)]
+
 ghost use Rattle.std.specs.Prelude.{◌≡◌, cond, not, ◌&&◌};
 ghost use Rattle.fraction.specs.declared.Worked.TheVariants.{Fits};
 ghost use Rattle.fraction.specs.Formula.{◌⊕◌, ◌⊖◌, ◌⊗◌, ◌⊘◌, ⊝◌};

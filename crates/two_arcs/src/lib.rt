@@ -1,4 +1,6 @@
 // Rule 5: two arcs.
+#![tactic(auto)]
+
 ghost use Rattle.std.specs.Prelude.{◌≡◌, cond, eqb};
 ghost use Rattle.fraction.specs.declared.Worked.TheVariants.{Fits};
 ghost use Rattle.fraction.specs.Exact.{zero_fraction, no_figure};

@@ -1,5 +1,7 @@
 // (r - a × l) ÷ (a × b), of which only the result must fit (02, 2026-03): step by step where each step fits, else in
 // full in numbers of two words.
+#![tactic(auto)]
+
 ghost use Rattle.std.specs.Prelude.{◌≡◌, ◌+◌, ◌*◌, ◌-◌, ◌<◌, ◌≤◌, leb, ltb, pos, ◌&&◌};
 ghost use Rattle.fraction.specs.Exact.{Operand, most, is_operand, fitted, reduce_of};
 ghost use Rattle.integer.specs.Gcd.{gcd as gcd_of};
