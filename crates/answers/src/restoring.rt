@@ -10,7 +10,7 @@ use restoration::Answer;
 use text::Reading;
 
 // Where the network and where the stack ends in the words of a text, or the number of the refusal.
-#[derive(Drop)]
+#[derive(Clone, Copy)]
 pub enum Split {
     Parts(usize, usize),
     No(usize),

@@ -11,7 +11,7 @@ use fraction::{Fraction, Worked};
 use network::{ARC_PLACES, Arc, NODE_PLACES, Net};
 
 // For each node, a time after those at which its root arcs without upper bound were put; 0 where it has none.
-#[derive(Drop)]
+#[derive(Clone, Copy)]
 pub struct Times {
     pub at: [usize; NODE_PLACES],
 }
@@ -108,7 +108,7 @@ fn way_at(old: bool, x: Arc, i: usize, e: Fraction) -> Fraction
 }
 
 // The costs by way of a root arc, at the from node and at the to node of an arc.
-#[derive(Drop)]
+#[derive(Clone, Copy)]
 struct Both {
     from: Fraction,
     to: Fraction,
@@ -131,7 +131,7 @@ fn both_ways(t: Arc, x: Arc, put: u8, p: u8, q: u8) -> Both
 }
 
 // The costs by way of each root arc, at both ends of an arc.
-#[derive(Drop)]
+#[derive(Clone, Copy)]
 struct Ways {
     from: [Fraction; ARC_PLACES],
     to: [Fraction; ARC_PLACES],

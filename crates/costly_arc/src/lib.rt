@@ -17,14 +17,14 @@ use step::{Next, Outcome, Step};
 mod due;
 
 // When each arc was put, and when a pair was last sought for it, in vain; 0 is before every search.
-#[derive(Drop)]
+#[derive(Clone, Copy)]
 pub struct Seen {
     pub put: [u8; ARC_PLACES],
     pub sought: [u8; ARC_PLACES],
 }
 
 // What the search finds, and what is known then.
-#[derive(Drop)]
+#[derive(Clone, Copy)]
 pub struct Found {
     pub next: Next,
     pub seen: Seen,

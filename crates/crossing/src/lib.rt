@@ -15,14 +15,14 @@ use network::{Arc, ArcUpdate};
 use step::{Around, Change, FlowUpdate, Numbers, Old, Outcome, PriceUpdate, Restored, Undone};
 
 // A new arc, or that some figure of it doesn't fit.
-#[derive(Drop)]
+#[derive(Clone, Copy)]
 enum Made {
     Wide,
     Puts(Arc),
 }
 
 // Of the arcs at a node, the first two of a sign; number 0 where there is none.
-#[derive(Drop)]
+#[derive(Clone, Copy)]
 struct Signed {
     first: ArcUpdate,
     second: ArcUpdate,

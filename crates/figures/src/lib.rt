@@ -18,14 +18,14 @@ use network::pair::Pair;
 use network::{Arc, MAX_ARCS, MAX_NODES, NODE_PLACES, Net};
 
 // The first of the questions 9 to 12 that is answered by no, 0 where none is; and the value.
-#[derive(Drop)]
+#[derive(Clone, Copy)]
 pub struct Judged {
     pub refused: usize,
     pub value: Fraction,
 }
 
 // The balance of a node.
-#[derive(Drop)]
+#[derive(Clone, Copy)]
 struct Sum {
     w: Worked,
 }
@@ -33,20 +33,20 @@ struct Sum {
 // The places of balances: those of nodes, and one that is no node's.
 const SUM_PLACES: usize = NODE_PLACES + 1;
 
-#[derive(Drop)]
+#[derive(Clone, Copy)]
 struct Sums {
     at: [Sum; SUM_PLACES],
 }
 
 // Whether all balances fit, and whether every node is balanced.
-#[derive(Drop)]
+#[derive(Clone, Copy)]
 struct Nodes {
     fit: bool,
     balanced: bool,
 }
 
 // Whether all reduced costs fit, all flows are within bounds, and the price rule is kept.
-#[derive(Drop)]
+#[derive(Clone, Copy)]
 struct Arcs {
     fit: bool,
     within: bool,

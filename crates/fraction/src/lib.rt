@@ -11,14 +11,14 @@ ghost use Rattle.fraction.specs.Formula.{pair_of, is_fit, figure_of, ◌⊕◌, 
 pub mod words;
 
 // A figure: a numerator over a denominator, or a mark, which is written over 0.
-#[derive(Drop)]
+#[derive(Clone, Copy)]
 pub struct Fraction {
     pub num: i32,
     pub den: u32,
 }
 
 // What an operation answers: the exact result, or that it does not fit.
-#[derive(Drop)]
+#[derive(Clone, Copy)]
 pub enum Worked {
     Fits(Fraction),
     Misfit,
@@ -283,7 +283,7 @@ fn denominator(x: Fraction, y: Fraction) -> u64
 }
 
 // The two fractions of an operation, where both fitted.
-#[derive(Drop)]
+#[derive(Clone, Copy)]
 enum Pair {
     Both(Fraction, Fraction),
     Neither,

@@ -32,7 +32,7 @@ pub const MAX_STEPS: usize = MAX_NODES + MAX_ARCS;
 
 // An arc's seven figures: its from and to node, cost c, lower bound l, upper bound u, multipliers a and b.
 // A number not in use has from 0.
-#[derive(Drop)]
+#[derive(Clone, Copy)]
 pub struct Arc {
     pub from: usize,
     pub to: usize,
@@ -45,7 +45,7 @@ pub struct Arc {
 
 // n nodes and m arcs were given, and the constant of the value. Each node and arc stands at its number, from 1: whether the
 // node is in use, its supply r, and the arc.
-#[derive(Drop)]
+#[derive(Clone, Copy)]
 pub struct Net {
     pub n: usize,
     pub m: usize,
@@ -56,7 +56,7 @@ pub struct Net {
 }
 
 // What a network is beside its arcs, which may stand in a lent list.
-#[derive(Drop)]
+#[derive(Clone, Copy)]
 pub struct Nodes {
     pub n: usize,
     pub m: usize,
@@ -66,21 +66,21 @@ pub struct Nodes {
 }
 
 // An arc for a number; none where the number is 0.
-#[derive(Drop)]
+#[derive(Clone, Copy)]
 pub struct ArcUpdate {
     pub number: usize,
     pub arc: Arc,
 }
 
 // A supply for a node; none where the node is 0.
-#[derive(Drop)]
+#[derive(Clone, Copy)]
 pub struct SupplyUpdate {
     pub node: usize,
     pub supply: Fraction,
 }
 
 // What a step changes: at most four arcs, two supplies, the node that is dropped, or 0, and the constant.
-#[derive(Drop)]
+#[derive(Clone, Copy)]
 pub struct Edit {
     pub one: ArcUpdate,
     pub two: ArcUpdate,
@@ -93,7 +93,7 @@ pub struct Edit {
 }
 
 // An arc at node i: its multiplier e there, the multiplier o at its other end, and that end, which is 0 for a root arc.
-#[derive(Drop)]
+#[derive(Clone, Copy)]
 pub struct Side {
     pub e: Fraction,
     pub o: Fraction,
@@ -247,7 +247,7 @@ pub fn touches(t: Arc, i: usize) -> bool
 }
 
 // The degree of each node, at its number.
-#[derive(Drop)]
+#[derive(Clone, Copy)]
 pub struct Degrees {
     pub at: [usize; NODE_PLACES],
 }
@@ -277,7 +277,7 @@ pub(crate) fn count_ends(at: &mut [usize; NODE_PLACES], t: Arc)
 pub(crate) const END_PLACES: usize = NODE_PLACES * NODE_PLACES;
 
 // The next parallel arc of each arc, one with the same from and to, at its number; 0 where there is none.
-#[derive(Drop)]
+#[derive(Clone, Copy)]
 pub struct Parallels {
     pub next: [u8; ARC_PLACES],
 }

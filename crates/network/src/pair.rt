@@ -5,7 +5,7 @@ ghost use Rattle.network.specs.Pair.{no_pair, price_at, flow_at};
 use crate::{ARC_PLACES, NODE_PLACES};
 use fraction::Fraction;
 
-#[derive(Drop)]
+#[derive(Clone, Copy)]
 pub struct Pair {
     pub price: [Fraction; NODE_PLACES],
     pub flow: [Fraction; ARC_PLACES],

@@ -9,14 +9,14 @@ use network::Net;
 use network::pair::Pair;
 
 // A pair that is passed, or the number of the question that is answered by no.
-#[derive(Drop)]
+#[derive(Clone, Copy)]
 pub enum Answer {
     Passed,
     Refused(usize),
 }
 
 // The first of the questions 8 to 12 that is answered by no, 0 where none is; then the pair, and its value.
-#[derive(Drop)]
+#[derive(Clone, Copy)]
 pub struct Examined {
     pub refused: usize,
     pub pair: Pair,

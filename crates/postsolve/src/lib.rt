@@ -16,7 +16,7 @@ use network::{Arc, Edit};
 use step::{Old, Undone};
 
 // A pair on its way back; fits is false where a figure was too wide.
-#[derive(Drop)]
+#[derive(Clone, Copy)]
 pub struct Back {
     pub fits: bool,
     pub pair: Pair,

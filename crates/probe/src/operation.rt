@@ -3,7 +3,7 @@
 // the order 1 where the first figure is less, otherwise 0.
 use fraction::{Fraction, Worked};
 
-#[derive(Drop)]
+#[derive(Clone, Copy)]
 struct Told {
     status: i32,
     num: i32,

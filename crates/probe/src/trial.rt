@@ -4,14 +4,14 @@ use network::{ARC_PLACES, ArcUpdate, Net};
 use step::{Around, Outcome};
 
 // What the rule answers; refused where a question about the record is answered by no, or it is longer.
-#[derive(Drop)]
+#[derive(Clone, Copy)]
 pub(crate) enum Tried {
     Refused,
     Answers(Outcome),
 }
 
 // The arcs at a node: how many, and their numbers, upward.
-#[derive(Drop)]
+#[derive(Clone, Copy)]
 struct Near {
     count: usize,
     numbers: [usize; ARC_PLACES],

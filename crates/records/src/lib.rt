@@ -41,7 +41,7 @@ pub const VALUE_WORDS: usize = 4;
 pub const SCRATCH_WORDS: usize = step_log::LOG_WORDS;
 
 // A size within its limit.
-#[derive(Drop)]
+#[derive(Clone, Copy)]
 pub enum Size {
     Is(usize),
     Off,

@@ -18,7 +18,7 @@ use search::{Ends, Ran};
 pub mod plain;
 
 // A reduced network; no flow, with the rule and the place that show it; or the number of the question that is answered by no.
-#[derive(Drop)]
+#[derive(Clone, Copy)]
 pub enum Answer {
     Reduced,
     NoFlow(usize, usize),

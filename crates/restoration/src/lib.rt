@@ -28,7 +28,7 @@ use search::{Ends, Ran};
 pub mod plain;
 
 // A restored pair, or the number of the question that is answered by no.
-#[derive(Drop)]
+#[derive(Clone, Copy)]
 pub enum Answer {
     Restored,
     Refused(usize),
@@ -36,7 +36,7 @@ pub enum Answer {
 
 // The first of questions 6 to 12 that is answered by no; where none is, the pair of the reduced network at the original numbers,
 // and its value there.
-#[derive(Drop)]
+#[derive(Clone, Copy)]
 pub struct Offer {
     pub refused: usize,
     pub pair: Pair,

@@ -7,7 +7,7 @@ ghost use Rattle.rules.specs.Found.{no_step, found_of};
 use step::{Change, Next, Outcome, Step};
 
 // Nothing, no flow with its rule and place, or the next step.
-#[derive(Drop)]
+#[derive(Clone, Copy)]
 pub struct Found {
     pub found: bool,
     pub refuted: bool,

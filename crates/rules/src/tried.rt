@@ -47,7 +47,7 @@ pub fn at_arc(constant: Fraction, supply: [Fraction; NODE_PLACES], j: usize, t: 
 // ---- the rules of nodes
 
 // How many places a rule has, the degree that it asks for, and whether it asks for supply 0.
-#[derive(Drop)]
+#[derive(Clone, Copy)]
 pub struct Asks {
     pub places: usize,
     pub degree: usize,
@@ -135,7 +135,7 @@ pub fn at_node(
 // ---- rule 4
 
 // What the search finds, and what rule 4 knows then.
-#[derive(Drop)]
+#[derive(Clone, Copy)]
 pub struct Looked {
     pub found: Found,
     pub seen: Seen,

@@ -20,14 +20,14 @@ use rules::tried::Looked;
 mod scan;
 
 // What a run ends with: no rule applies, or no flow, with the rule and the place that show it.
-#[derive(Drop)]
+#[derive(Clone, Copy)]
 pub enum Ends {
     Stops,
     NoFlow(usize, usize),
 }
 
 // A run: the question that is answered by no, or 0; and then what is left beside the arcs, how many steps were taken, and the end.
-#[derive(Drop)]
+#[derive(Clone, Copy)]
 pub struct Ran {
     pub refused: usize,
     pub nodes: Nodes,
@@ -36,7 +36,7 @@ pub struct Ran {
 }
 
 // A run under way, beside its arcs and its log: where it is not active, the end, with rule and place where it is no flow.
-#[derive(Drop)]
+#[derive(Clone, Copy)]
 struct Progress {
     nodes: Nodes,
     steps: usize,

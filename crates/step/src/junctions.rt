@@ -9,7 +9,7 @@ use network::pair::Pair;
 use network::{Arc, ArcUpdate};
 
 // A new arc, or none: some figure of it doesn't fit, or its bounds cross.
-#[derive(Drop)]
+#[derive(Clone, Copy)]
 pub enum Made {
     Wide,
     Puts(Arc),

@@ -15,7 +15,7 @@ use network::{Arc, ArcUpdate, MAX_ARCS, MAX_NODES, Side, SupplyUpdate};
 pub mod junctions;
 
 // The numbers that a step's new arcs took, in the order in which the rule names them.
-#[derive(Drop)]
+#[derive(Clone, Copy)]
 pub struct Numbers {
     pub first: usize,
     pub second: usize,
@@ -25,7 +25,7 @@ pub struct Numbers {
 
 // What the way back needs of a step: the node that it drops, or 0, with its supply; the old arcs, each at its number,
 // in the order in which the rule names them; and the numbers of the new arcs.
-#[derive(Drop)]
+#[derive(Clone, Copy)]
 pub struct Old {
     pub node: usize,
     pub supply: Fraction,
@@ -37,14 +37,14 @@ pub struct Old {
 }
 
 // What a step changes in the network, and what its way back needs.
-#[derive(Drop)]
+#[derive(Clone, Copy)]
 pub struct Change {
     pub edit: network::Edit,
     pub old: Old,
 }
 
 // The arcs that touch a node, upward, as many as its degree, up to four.
-#[derive(Drop)]
+#[derive(Clone, Copy)]
 pub struct Around {
     pub one: ArcUpdate,
     pub two: ArcUpdate,
@@ -53,7 +53,7 @@ pub struct Around {
 }
 
 // A rule doesn't apply, shows no flow, or is the next step.
-#[derive(Drop)]
+#[derive(Clone, Copy)]
 pub enum Outcome {
     Passes,
     NoFlow,
@@ -61,21 +61,21 @@ pub enum Outcome {
 }
 
 // A flow for an arc; none where the arc is 0.
-#[derive(Drop)]
+#[derive(Clone, Copy)]
 pub struct FlowUpdate {
     pub arc: usize,
     pub flow: Fraction,
 }
 
 // A price for a node; none where the node is 0.
-#[derive(Drop)]
+#[derive(Clone, Copy)]
 pub struct PriceUpdate {
     pub node: usize,
     pub price: Fraction,
 }
 
 // The figures that the way back over a step restores.
-#[derive(Drop)]
+#[derive(Clone, Copy)]
 pub struct Restored {
     pub one: FlowUpdate,
     pub two: FlowUpdate,
@@ -85,14 +85,14 @@ pub struct Restored {
 }
 
 // What the way back answers: these figures, or that some figure doesn't fit.
-#[derive(Drop)]
+#[derive(Clone, Copy)]
 pub enum Undone {
     Wide,
     Restores(Restored),
 }
 
 // A step taken: its rule's number, its place, and its change.
-#[derive(Drop)]
+#[derive(Clone, Copy)]
 pub struct Step {
     pub rule: usize,
     pub place: usize,
@@ -100,7 +100,7 @@ pub struct Step {
 }
 
 // What the search finds: nothing, no flow with its rule and place, or the next step.
-#[derive(Drop)]
+#[derive(Clone, Copy)]
 pub enum Next {
     Stops,
     Refuted(usize, usize),

@@ -13,7 +13,7 @@ pub const MAX_BYTES: usize = 24576;
 pub const MAX_WORDS: usize = MAX_BYTES / 2;
 
 // What reading a text answers: how many words it has, or that it is refused.
-#[derive(Drop)]
+#[derive(Clone, Copy)]
 pub enum Reading {
     Words(usize),
     Refused,
@@ -21,7 +21,7 @@ pub enum Reading {
 
 // Where a pass through a text stands: between words, behind a minus sign, behind digits (whether a minus sign is before them, and their
 // value), or behind something that is refused.
-#[derive(Drop)]
+#[derive(Clone, Copy)]
 enum State {
     Between,
     Minus,

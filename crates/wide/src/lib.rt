@@ -11,21 +11,21 @@ ghost use Rattle.wide.specs.Share.{ratio_of, share_of};
 use fraction::{Fraction, Worked};
 
 // high × 2^64 + low.
-#[derive(Drop)]
+#[derive(Clone, Copy)]
 struct Wide {
     high: u64,
     low: u64,
 }
 
 // A number with a sign.
-#[derive(Drop)]
+#[derive(Clone, Copy)]
 struct Whole {
     neg: bool,
     size: Wide,
 }
 
 // A quotient and what is left.
-#[derive(Drop)]
+#[derive(Clone, Copy)]
 struct Division {
     quot: Wide,
     rest: Wide,
