@@ -1,7 +1,6 @@
 -- The rational numbers: fractions, up to being one number; their operations and their order.
 use Rattle.std.specs.Prelude.{refl, Bool, T, ℤ, pos}
 use Rattle.std.proofs.Math.Bool.{Bool-set}
-use mathlib.Core.Quot
 use mathlib.Core.Quot.{Quot, sound, Quot-set, lift, ind}
 use Rattle.std.specs.Int.Signed.{non_neg}
 use Rattle.algebra.specs.Ratio.{Frac, rel, add_f, mul_f, neg_f, int_f, inv_f}

@@ -1,7 +1,7 @@
 -- What rules 1, 3 and 4 share: column j is taken out at the flow ξ. Its share of each row goes into the right-hand side, its cost into the constant.
 use mathlib.Core.Path.{◌≡◌, refl, sym, ◌∙◌, subst}
 use mathlib.Core.List.{[], ◌∷◌, Memᴰ}
-use mathlib.Core.Option.{none, some}
+use mathlib.Core.Option.{some}
 use Prim.Native.Nat.{ℕ}
 use Rattle.algebra.proofs.Ring.{combo3}
 use Rattle.algebra.proofs.Solver.{◌:+◌, ◌:*◌, ◌:-◌, :neg, :0, :1, ◌:=◌, ring7}
