@@ -32,11 +32,11 @@ small : {x y : Fraction} → Operand x → Operand y → nat_abs (x.num *ℤ pos
 small p q = rw nat_abs_mul (mul-le-mul p.num_in q.den_in)
 
 back : (z : ℤ) → nat_abs z ≤ 4611686014132420609 → to_z w64 (of_z w64 z) ≡ z
-back z h = to_z-of_z (sfits-by (omega arith))
+back z h = to_z-of_z {w = w64} (sfits-by (omega arith))
 
 -- 0 less a numerator
 read-num : {x : Fraction} → Operand x → to_z w32 (of_z w32 x.num) ≡ x.num
-read-num p = to_z-of_z (sfits-by (omega (arith, p.num_in)))
+read-num p = to_z-of_z {w = w32} (sfits-by (omega (arith, p.num_in)))
 
 negated_fits : {x : Fraction} → Operand x → SFits w32 (neg_ℤ x.num)
 negated_fits {x} p = sfits-by (rw nat_abs-neg_ℤ (omega (arith, p.num_in)))

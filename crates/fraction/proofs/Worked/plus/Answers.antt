@@ -1,0 +1,11 @@
+use Rattle.fraction.specs.Formula.{◌⊕◌}
+use borrow.Author.Rules.{rules}
+use Rattle.fraction.proofs.Worked.plus.Goals as goal
+
+pub returns-in-Both : goal.returns-in-Both
+unfolding ◌⊕◌
+returns-in-Both c = rw (← c.both.ensures, c.in-Both.is) c.sum.ensures
+
+pub returns-in-Neither : goal.returns-in-Neither
+unfolding ◌⊕◌
+returns-in-Neither c = rw (← c.both.ensures, c.in-Neither.is)
