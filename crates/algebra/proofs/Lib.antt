@@ -1,4 +1,5 @@
 pub mod Ring
+pub mod Normal
 pub mod Solver
 pub mod Ordered
 pub mod Int
