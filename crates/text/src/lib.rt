@@ -21,7 +21,7 @@ pub enum Reading {
 
 // Where a pass through a text stands: between words, behind a minus sign, behind digits (whether a minus sign is before them, and their
 // value), or behind something that is refused.
-#[derive(Drop)]
+#[derive(Clone, Copy)]
 enum State {
     Between,
     Minus,
