@@ -1,0 +1,11 @@
+use borrow.Author.Tests.{le-leb, lt-leb}
+use Rattle.text.specs.Text.{digit}
+use Rattle.text.proofs.is_digit.Goals as goal
+
+pub returns-then-b-ge48 : goal.returns-then-b-ge48
+unfolding digit
+returns-then-b-ge48 c = rw (le-leb _ _ c.if-b-ge48.true)
+
+pub returns-else-b-ge48 : goal.returns-else-b-ge48
+unfolding digit
+returns-else-b-ge48 c = rw (lt-leb _ _ c.if-b-ge48.false)
