@@ -6,5 +6,4 @@ pub mod Sane
 pub mod Bounds
 pub mod First
 pub mod Linked
-pub mod Lent
 pub mod Lists

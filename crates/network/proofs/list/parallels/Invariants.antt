@@ -1,0 +1,15 @@
+use borrow.Author.Rules.{rules}
+use mathlib.Core.Path.{◌≡◌, ◌∙◌, subst}
+use native.Mathlib.Omega.{arith}
+use Rattle.network.proofs.Linked.{Linked, linked-none, linked-more, linked-all}
+use Rattle.network.proofs.Lists.{arc-is}
+use Rattle.network.specs.ArcList.{net_in}
+use Rattle.network.specs.Legal.{Legal}
+use Rattle.network.specs.declared.Nodes.{Nodes}
+use Rattle.network.proofs.list.parallels.Given as goal
+
+abbrev pub invariant-loop-j : goal.invariant-loop-j
+invariant-loop-j l = (nodes : Nodes) → nodes.m ≡ l.m → Legal (net_in nodes l.arcs) → Linked (net_in nodes l.arcs) l.next l.last l.j
+
+abbrev pub decreases-loop-j : goal.decreases-loop-j
+decreases-loop-j l = l.j

@@ -1,0 +1,17 @@
+use Prim.Native.Nat.{◌+◌, ◌-◌}
+use Rattle.loops.proofs.Laws.{Scanned, scanned-all, scanned-none}
+use Rattle.network.proofs.Laws.{sought-no, sought-past, sought-yes}
+use Rattle.network.proofs.Lists.{arc-is}
+use Rattle.network.specs.ArcList.{net_in}
+use Rattle.network.specs.Network.{or_next, touch_at, touching_after}
+use Rattle.network.specs.declared.Nodes.{Nodes}
+use borrow.Author.Rules.{rules}
+use mathlib.Core.Path.{◌∙◌}
+use native.Mathlib.Omega.{arith}
+use Rattle.network.proofs.list.touching.Given as goal
+
+abbrev pub invariant-loop-j : goal.invariant-loop-j
+invariant-loop-j l = (nodes : Nodes) → Scanned or_next 0 (touch_at (net_in nodes l.arcs) l.i) (96 - l.k) (l.k + 1) l.j
+
+abbrev pub decreases-loop-j : goal.decreases-loop-j
+decreases-loop-j l = 97 - l.j
