@@ -47,6 +47,10 @@ unfoldable pub choose : {A : Type 0} → Dec A → ℚ → ℚ → ℚ
 choose (yes a) u v = u
 choose (no n) u v = v
 
+-- the greater of two numbers
+unfoldable pub larger : ℚ → ℚ → ℚ
+larger a b = choose (le_dec b a) a b
+
 pick : {a b : ℚ} → Dec (a ≤ℚ b) → ℚ → ℚ → ℚ
 pick (yes h) u v = v
 pick (no h) u v = u

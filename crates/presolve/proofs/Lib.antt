@@ -5,11 +5,13 @@ pub mod Step
 pub mod Frame
 pub mod Price
 pub mod Spoke
+pub mod Gone
 pub mod Removed
 pub mod Closed
 pub mod Bare
 pub mod Single
 pub mod Costly
+pub mod NewBounds
 pub mod TwoArcs
 pub mod Junction
 pub mod Crossing
@@ -19,4 +21,5 @@ pub mod Spare
 pub mod Net
 pub mod TakeOut
 pub mod Rewire
+pub mod Share
 pub mod Parallel

@@ -14,12 +14,13 @@ use Rattle.algebra.proofs.Inverse.{mul-cancel, le-cancel}
 use Rattle.algebra.proofs.Sum.{Absent, Once}
 use Rattle.algebra.specs.Sum.{only}
 use Rattle.presolve.proofs.Named.{once-mem, puts, puts-at, puts-off}
-use Rattle.presolve.proofs.Bounds.{some_inj, none-some, map_o, map_o-is, map_o-some, map_o-each, merge_u, capped, capped_is, merge_u-or, merge_u-l, merge_u-r}
+use Rattle.presolve.proofs.Bounds.{some_inj, none-some, map_o, map_o-is, map_o-some, map_o-each, merge_u, capped_is, merge_u-or, merge_u-l, merge_u-r}
 use Rattle.presolve.specs.Bounds.{Fits, Within}
 use Rattle.presolve.specs.LP.{LP, Column, Pair, Feasible, Solved, InBounds, worth, reduced}
 use Rattle.presolve.specs.Net.{Arc, touch}
 use Rattle.presolve.proofs.Step.{SoundStep}
 use Rattle.presolve.proofs.Frame.{Frame, two-frame, Matched, Paid, frame-value, frame_on, frame-solved, agree_same, rule-new, within_new}
+pub use Rattle.presolve.proofs.Share.{own-share}
 use Rattle.presolve.proofs.Removed.{Gone, gone-within}
 use Rattle.presolve.proofs.Price.{reduced-blend, only-scale}
 
@@ -146,10 +147,7 @@ pub record ParallelArcs (N N' : LP) (j k : ℕ) (g L : ℚ) (lo hi : Option ℚ)
   pub rhs_is : (s : ℕ) → Memᴰ s N.rows → N'.rhs s ≡ N.rhs s
   pub constant_is : N'.constant ≡ N.constant
 
--- postsolve: j takes what its upper bound and the image's lower end let it, and k the rest
-abbrev pub own-share : LP → (j : ℕ) (L : ℚ) → (ℕ → ℚ) → ℚ
-own-share N j L x = capped (N.col j).upper (x j +ℚ -ℚ L)
-
+-- postsolve: j takes its own share, and k the rest
 abbrev pub parallel-flow : LP → (j k : ℕ) (g L : ℚ) → (ℕ → ℚ) → ℕ → ℚ
 parallel-flow N j k g L x = puts (j ∷ k ∷ []) (own-share N j L x ∷ (x j +ℚ -ℚ own-share N j L x) *ℚ inv g ∷ []) x
 

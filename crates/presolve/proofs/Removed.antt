@@ -1,36 +1,20 @@
 -- What rules 1, 3 and 4 share: column j is taken out at the flow ξ. Its share of each row goes into the right-hand side, its cost into the constant.
 use mathlib.Core.Path.{◌≡◌, refl, sym, ◌∙◌, subst}
-use mathlib.Core.List.{[], ◌∷◌, Memᴰ}
-use mathlib.Core.Option.{some}
+use mathlib.Core.List.{[], ◌∷◌}
 use Prim.Native.Nat.{ℕ}
 use Rattle.algebra.proofs.Ring.{combo3}
 use Rattle.algebra.proofs.Solver.{◌:+◌, ◌:*◌, ◌:-◌, :neg, :0, :1, ◌:=◌, ring7}
-use Rattle.algebra.specs.Rat.{ℚ, ◌+ℚ◌, ◌*ℚ◌, -ℚ◌, ◌≤ℚ◌, 0_ℚ as 𝟘, 1_ℚ as 𝟙}
+use Rattle.algebra.specs.Rat.{ℚ, -ℚ◌, ◌≤ℚ◌, 0_ℚ as 𝟘, 1_ℚ as 𝟙}
 use Rattle.algebra.proofs.Rat.{ℚ-ring}
 use Rattle.algebra.proofs.Order.{le_refl}
 use Rattle.algebra.proofs.Sum.{Absent, Once, upd_same, upd_other}
 use Rattle.algebra.specs.Sum.{upd}
 use Rattle.algebra.proofs.Sum as Sum
+pub use Rattle.presolve.proofs.Gone.{Gone, Removed}
 use Rattle.presolve.proofs.Named.{nil, cons, apart, perm-refl}
 use Rattle.presolve.proofs.Bounds.{some_inj}
 use Rattle.presolve.specs.LP.{LP, Column, Feasible, Solved, InBounds, PriceRule, value}
 use Rattle.presolve.proofs.Frame.{Frame, Matched, Paid, Agree, frame-value, frame_on, frame-solved}
-
--- a column that is taken out
-pub record Gone (c : Column) : Type 0 where
-  pub coef_0 : (s : ℕ) → c.coef s ≡ 𝟘
-  pub cost_0 : c.cost ≡ 𝟘
-  pub lower_0 : c.lower ≡ some 𝟘
-  pub upper_0 : c.upper ≡ some 𝟘
-
-pub record Removed (N N' : LP) (j : ℕ) (ξ : ℚ) : Type 0 where
-  pub rows_same : N'.rows ≡ N.rows
-  pub cols_same : N'.cols ≡ N.cols
-  pub listed : Once j N.cols
-  pub same : (c : ℕ) → Memᴰ c N.cols → ¬ (c ≡ j) → N'.col c ≡ N.col c
-  pub gone : Gone (N'.col j)
-  pub rhs_is : (s : ℕ) → Memᴰ s N.rows → N'.rhs s ≡ N.rhs s +ℚ -ℚ ((N.col j).coef s *ℚ ξ)
-  pub constant_is : N'.constant ≡ N.constant +ℚ (N.col j).cost *ℚ ξ
 
 -- a column that is gone has the flow 0
 pub gone-within : (c : Column) → Gone c → InBounds c 𝟘

@@ -12,6 +12,7 @@ use Rattle.algebra.proofs.Inverse.{le-cancel, inv-nn}
 use native.Mathlib.Decide.{ℕ_discrete}
 use Rattle.algebra.proofs.Sum.{Once, only-other}
 use Rattle.algebra.specs.Sum.{only, upd}
+unfoldable pub use Rattle.presolve.proofs.Bounds.{larger}
 use Rattle.presolve.proofs.Bounds.{choose, capped, capped-case, fits-above}
 use Rattle.presolve.specs.LP.{LP, Column, PriceRule, reduced}
 use Rattle.presolve.proofs.Price.{Blend, reduced-blend, reduced-unseen, reduced-at, Ends, Other, ends_at, ends-breakeven, only-scale, only-share}
@@ -161,9 +162,6 @@ pub mul-pos : {a b : ℚ} → 𝟘 <ℚ a → 𝟘 <ℚ b → 𝟘 <ℚ a *ℚ b
 mul-pos {a} {b} h k g = k (le-cancel h (le-by (sub-nn g) (ring2 ℚ-ring a b (λ a b. a :* :0 :- a :* b := :0 :- a :* b) refl)))
 
 -- ---- the greater and the lesser of two
-
-unfoldable pub larger : ℚ → ℚ → ℚ
-larger a b = choose (le_dec b a) a b
 
 -- with a fact that holds of both, and what the choice says
 pub larger-is : (a b : ℚ) (P : ℚ → Type 0) → (b ≤ℚ a → P a) → (a ≤ℚ b → P b) → P (larger a b)

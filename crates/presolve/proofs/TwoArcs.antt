@@ -14,25 +14,13 @@ use Rattle.algebra.specs.Sum.{only, upd}
 use Rattle.presolve.proofs.Named.{apart, further, once-mem, all-mem, sum-at-named}
 use Rattle.presolve.proofs.Bounds.{map_o, map_o-is, map_o-each, map_o-some, merge_l, merge_u, merge_l-or, merge_u-or, merge_l-l, merge_l-r, merge_u-l, merge_u-r, merge_l-both, merge_u-both, fits-dec, fits-zero, choose}
 use Rattle.presolve.specs.Bounds.{Fits}
-use Rattle.presolve.specs.LP.{LP, Column, Pair, Feasible, Solved, InBounds, PriceRule, reduced, brings}
+use Rattle.presolve.specs.LP.{LP, Pair, Feasible, Solved, InBounds, PriceRule, reduced, brings}
+pub use Rattle.presolve.proofs.NewBounds.{image, NewBounds, exchanged, straight}
 use Rattle.presolve.proofs.Removed.{Gone, gone-within}
 use Rattle.presolve.proofs.Step.{SoundStep}
 use Rattle.presolve.proofs.Frame.{Frame, two-frame, Matched, Paid, frame-value, frame_on, frame-solved, agree-upd, rule-new, within_new}
 use Rattle.presolve.proofs.Price.{Blend, reduced-blend, reduced-unseen, Ends, ends-reduced-at, only-scale, only-share}
 use Rattle.presolve.proofs.Spoke.{Spoke, SpokeAt, quote, spoke-e, spoke-reduced, rhs-shift}
-
--- the flow of j at which k's flow is z
-abbrev pub image : (r ej ek z : ℚ) → ℚ
-image r ej ek z = (r +ℚ -ℚ (ek *ℚ z)) *ℚ inv ej
-
--- j's new bounds: the tighter of its own and the images of k's, exchanged where e_j and e_k have the same sign
-pub data NewBounds (j k j' : Column) (r ej ek : ℚ) : Type 0 where
-  exchanged : 𝟘 <ℚ ej *ℚ ek
-      → j'.lower ≡ merge_l j.lower (map_o (image r ej ek) k.upper)
-      → j'.upper ≡ merge_u j.upper (map_o (image r ej ek) k.lower) → NewBounds j k j' r ej ek
-  straight : ej *ℚ ek <ℚ 𝟘
-      → j'.lower ≡ merge_l j.lower (map_o (image r ej ek) k.lower)
-      → j'.upper ≡ merge_u j.upper (map_o (image r ej ek) k.upper) → NewBounds j k j' r ej ek
 
 -- the kept arc j and the dropped arc k; a root arc k has k.o = 0
 pub record TwoArcs (N N' : LP) (i : ℕ) (j k : Spoke) : Type 0 where
