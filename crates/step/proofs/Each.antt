@@ -26,6 +26,7 @@ none_any P (x ∷ xs) n (inr a) = none_any P xs n.1 a
 -- ---- numbers
 
 pub any-mem : {x : ℕ} (xs : List ℕ) → Any (λ y. x ≡ y) xs → Memᴰ x xs
+any-mem [] a = elim a [ ]
 any-mem (y ∷ ys) (inl e) = Memᴰ.head e
 any-mem (y ∷ ys) (inr a) = Memᴰ.tail (any-mem ys a)
 
