@@ -1,0 +1,7 @@
+use Rattle.bare_node.specs.BareNode.{bare_back}
+use borrow.Author.Rules.{rules}
+use Rattle.bare_node.proofs.bare_back.Goals as goal
+
+pub returns : goal.returns
+unfolding bare_back
+returns c = (λ c pair. rw c.price_only.ensures) c

@@ -1,0 +1,20 @@
+use Rattle.single_arc.specs.SingleArc.{forced_out}
+use Rattle.step.specs.Outcome.{fits, no_flow_where}
+use borrow.Author.Rules.{rules}
+use Rattle.single_arc.proofs.force.Goals as goal
+
+pub returns-in_default : goal.returns-in_default
+unfolding fits forced_out no_flow_where
+returns-in_default c = rw (← c.before.before.before.before.before.before.before.forced.ensures, c.before.before.before.before.before.v.given.1, ← c.before.before.before.less.ensures, c.before.before.if1.false, ← c.before.less2.ensures, c.if2.true)
+
+pub returns-then-less-2 : goal.returns-then-less-2
+unfolding fits forced_out no_flow_where
+returns-then-less-2 c = rw (← c.before.before.before.before.before.before.before.before.before.before.forced.ensures, c.before.before.before.before.before.before.before.before.v.given.1, ← c.before.before.before.before.before.before.less.ensures, c.before.before.before.before.before.if1.false, ← c.before.before.before.before.less2.ensures, c.before.before.before.if2.false, ← c.before.before.supply-less.ensures, c.enum-told2.given.1)
+
+pub returns-in_default-cost_added : goal.returns-in_default-cost_added
+unfolding fits forced_out no_flow_where
+returns-in_default-cost_added c = rw (← c.forced.ensures, c.in-Fits.is, ← c.less.ensures, c.if-less.false, ← c.less-2.ensures, c.if-less-2.false, ← c.supply_less.ensures, c.in-Fits-supply_less.is, ← c.cost_added.ensures, c.in_default-cost_added.is)
+
+pub returns : goal.returns
+unfolding fits forced_out no_flow_where
+returns c = rw (← c.forced.ensures, c.in-Fits.is, ← c.less.ensures, c.if-less.false, ← c.less-2.ensures, c.if-less-2.false, ← c.supply_less.ensures, c.in-Fits-supply_less.is, ← c.cost_added.ensures, c.in-Fits-cost_added.is, c.dropping-edit.ensures, c.no_figure.ensures, c.old_one-old.ensures)

@@ -1,0 +1,12 @@
+use Rattle.single_arc.specs.SingleArc.{single_back}
+use Rattle.step.specs.Back.{figure}
+use borrow.Author.Rules.{rules}
+use Rattle.single_arc.proofs.single_back.Goals as goal
+
+pub returns-in_default-quote : goal.returns-in_default-quote
+unfolding figure single_back
+returns-in_default-quote c = rw (← c.side_at-w.ensures, ← c.forced.ensures, c.in-Fits.is, ← c.price_at-q.ensures, ← c.quote.ensures, c.in_default-quote.is)
+
+pub returns : goal.returns
+unfolding figure single_back
+returns c = rw (← c.side_at-w.ensures, ← c.forced.ensures, c.in-Fits.is, ← c.price_at-q.ensures, ← c.quote.ensures, c.in-Fits-quote.is, c.flow_and_price.ensures)
