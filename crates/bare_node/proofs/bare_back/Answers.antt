@@ -4,4 +4,4 @@ use Rattle.bare_node.proofs.bare_back.Goals as goal
 
 pub returns : goal.returns
 unfolding bare_back
-returns c = (λ c pair. rw c.price_only.ensures) c
+returns c = λ pair. rw c.price_only.ensures

@@ -15,8 +15,8 @@ returns-then-less c = rw (ne_eqb _ _ c.if-t-eq0.false, ← c.less.ensures, c.if-
 
 pub returns-then-not-same : goal.returns-then-not-same
 unfolding closed no_flow_where only_where
-returns-then-not-same c = rw (ne_eqb _ _ c.if-t-eq0.false, ← c.less.ensures, c.if-less.false, ← c.same.ensures, unmet c.same.result c.if-not-same.true)
+returns-then-not-same c = rw (ne_eqb _ _ c.if-t-eq0.false, ← c.less.ensures, c.if-less.false, ← c.same.ensures, c.if-not-same.true)
 
 pub returns : goal.returns
 unfolding closed no_flow_where only_where
-returns c = rw (ne_eqb _ _ c.if-t-eq0.false, ← c.less.ensures, c.if-less.false, ← c.same.ensures, met c.same.result c.if-not-same.false) c.drop_arc.ensures
+returns c = rw (ne_eqb _ _ c.if-t-eq0.false, ← c.less.ensures, c.if-less.false, ← c.same.ensures, c.if-not-same.false) c.drop_arc.ensures

@@ -5,11 +5,19 @@ use Rattle.single_arc.proofs.force.Goals as goal
 
 pub returns-in_default : goal.returns-in_default
 unfolding fits forced_out no_flow_where
-returns-in_default c = rw (← c.before.before.before.before.before.before.before.forced.ensures, c.before.before.before.before.before.v.given.1, ← c.before.before.before.less.ensures, c.before.before.if1.false, ← c.before.less2.ensures, c.if2.true)
+returns-in_default c = rw (← c.forced.ensures, c.in_default.is)
+
+pub returns-then-less : goal.returns-then-less
+unfolding fits forced_out no_flow_where
+returns-then-less c = rw (← c.forced.ensures, c.in-Fits.is, ← c.less.ensures, c.if-less.true)
 
 pub returns-then-less-2 : goal.returns-then-less-2
 unfolding fits forced_out no_flow_where
-returns-then-less-2 c = rw (← c.before.before.before.before.before.before.before.before.before.before.forced.ensures, c.before.before.before.before.before.before.before.before.v.given.1, ← c.before.before.before.before.before.before.less.ensures, c.before.before.before.before.before.if1.false, ← c.before.before.before.before.less2.ensures, c.before.before.before.if2.false, ← c.before.before.supply-less.ensures, c.enum-told2.given.1)
+returns-then-less-2 c = rw (← c.forced.ensures, c.in-Fits.is, ← c.less.ensures, c.if-less.false, ← c.less-2.ensures, c.if-less-2.true)
+
+pub returns-in_default-supply_less : goal.returns-in_default-supply_less
+unfolding fits forced_out no_flow_where
+returns-in_default-supply_less c = rw (← c.forced.ensures, c.in-Fits.is, ← c.less.ensures, c.if-less.false, ← c.less-2.ensures, c.if-less-2.false, ← c.supply_less.ensures, c.in_default-supply_less.is)
 
 pub returns-in_default-cost_added : goal.returns-in_default-cost_added
 unfolding fits forced_out no_flow_where

@@ -3,6 +3,10 @@ use Rattle.step.specs.Back.{figure}
 use borrow.Author.Rules.{rules}
 use Rattle.single_arc.proofs.single_back.Goals as goal
 
+pub returns-in_default : goal.returns-in_default
+unfolding figure single_back
+returns-in_default c = rw (← c.side_at-w.ensures, ← c.forced.ensures, c.in_default.is)
+
 pub returns-in_default-quote : goal.returns-in_default-quote
 unfolding figure single_back
 returns-in_default-quote c = rw (← c.side_at-w.ensures, ← c.forced.ensures, c.in-Fits.is, ← c.price_at-q.ensures, ← c.quote.ensures, c.in_default-quote.is)
