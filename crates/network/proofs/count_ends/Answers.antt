@@ -1,4 +1,3 @@
-use Rattle.network.proofs.Tally.{raised-few}
 use Rattle.network.specs.Network.{is_root}
 use borrow.Author.Tests.{eq-eqb, ne_eqb}
 use Rattle.network.proofs.count_ends.Goals as goal

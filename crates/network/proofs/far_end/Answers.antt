@@ -1,5 +1,4 @@
 use Rattle.network.specs.Network.{far_end}
-use borrow.Author.Rules.{rules}
 use Rattle.network.proofs.far_end.Goals as goal
 
 pub returns-then-is_root : goal.returns-then-is_root

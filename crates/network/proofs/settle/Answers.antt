@@ -2,7 +2,6 @@ use mathlib.Core.Path.{◌∙◌, ap}
 use Rattle.network.specs.declared.Nodes.{Nodes}
 use Rattle.network.specs.Network.{with_arc, with_supply, without, with_constant, with_updates, updates_of, applied}
 use Rattle.network.specs.ArcList.{nodes_of, joined}
-use borrow.Author.Rules.{rules}
 use Rattle.network.proofs.settle.Goals as goal
 
 pub returns : goal.returns

@@ -1,5 +1,4 @@
 use Rattle.network.specs.Network.{side_of}
-use borrow.Author.Rules.{rules}
 use borrow.Author.Tests.{eq-eqb, ne_eqb}
 use Rattle.network.proofs.side_at.Goals as goal
 

@@ -1,11 +1,7 @@
-use mathlib.Core.Path.{◌∙◌}
-use native.Mathlib.Omega.{arith}
 use Prim.Native.Nat.{◌-◌}
 use lib.ListN.{length}
-use Rattle.network.proofs.Lists.{filled_next}
 use Rattle.network.specs.Network.{no_arc}
-use Rattle.loops.proofs.Laws.{Filled, filled_none, filled-whole, build-const}
-use borrow.Author.Rules.{rules}
+use Rattle.loops.proofs.Laws.{Filled}
 use Rattle.network.proofs.list.clear.Given as goal
 
 abbrev pub invariant-loop-i : goal.invariant-loop-i

@@ -1,12 +1,9 @@
-use Prim.Native.Nat.{◌-◌}
 use Rattle.network.proofs.Lists.{arc-is}
-use Rattle.network.proofs.Tally.{TalliedTo, tallied-le, tallied-more, tallied-none, tallied-to}
-use Rattle.network.specs.ArcList.{net_in, nodes_of}
+use Rattle.network.proofs.Tally.{tallied-le, tallied-more, tallied-none, tallied-to}
+use Rattle.network.specs.ArcList.{nodes_of}
 use Rattle.fraction.specs.Exact.{no_figure}
 use Rattle.network.specs.Network.{empty_net}
-use Rattle.network.specs.declared.Nodes.{Nodes}
 use mathlib.Core.Logic.{inl, inr}
-use borrow.Author.Rules.{rules}
 use mathlib.Core.Path.{◌∙◌}
 use native.Mathlib.Omega.{arith}
 use Rattle.network.proofs.list.degrees.Goals as goal

@@ -1,11 +1,8 @@
-use borrow.Author.Rules.{rules}
 use mathlib.Core.Path.{◌≡◌, ◌∙◌, subst}
 use native.Mathlib.Omega.{arith}
 use Rattle.network.proofs.Linked.{Linked, linked-none, linked-more, linked-all}
 use Rattle.network.proofs.Lists.{arc-is}
 use Rattle.network.specs.ArcList.{net_in}
-use Rattle.network.specs.Legal.{Legal}
-use Rattle.network.specs.declared.Nodes.{Nodes}
 use Rattle.network.proofs.list.parallels.Goals as goal
 
 -- `network::list::parallels` meets its contract.

@@ -1,8 +1,5 @@
-use borrow.Author.Rules.{rules}
-use mathlib.Core.Path.{◌≡◌, ◌∙◌, subst}
-use native.Mathlib.Omega.{arith}
-use Rattle.network.proofs.Linked.{Linked, linked-none, linked-more, linked-all}
-use Rattle.network.proofs.Lists.{arc-is}
+use mathlib.Core.Path.{◌≡◌}
+use Rattle.network.proofs.Linked.{Linked}
 use Rattle.network.specs.ArcList.{net_in}
 use Rattle.network.specs.Legal.{Legal}
 use Rattle.network.specs.declared.Nodes.{Nodes}

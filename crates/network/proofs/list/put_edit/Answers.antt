@@ -1,5 +1,4 @@
 use Rattle.network.specs.ArcList.{replaced_all}
-use borrow.Author.Rules.{rules}
 use Rattle.network.proofs.list.put_edit.Goals as goal
 
 -- `network::list::put_edit` meets its contract.

@@ -1,7 +1,6 @@
 use native.Mathlib.Omega.{arith}
 use mathlib.Core.Path.{◌∙◌}
 use Rattle.network.proofs.Lists.{record-low, record-in, record-past}
-use borrow.Author.Rules.{rules}
 use Rattle.network.proofs.list.read.Goals as goal
 
 -- `network::list::read` meets its contract.

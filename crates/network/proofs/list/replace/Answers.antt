@@ -1,6 +1,5 @@
 use native.Mathlib.Omega.{arith}
 use Rattle.network.proofs.Lists.{replaced-low, replaced-in, replaced-past}
-use borrow.Author.Rules.{rules}
 use Rattle.network.proofs.list.replace.Goals as goal
 
 -- `network::list::replace` meets its contract.

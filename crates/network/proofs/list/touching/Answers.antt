@@ -1,11 +1,7 @@
-use Prim.Native.Nat.{◌+◌, ◌-◌}
-use Rattle.loops.proofs.Laws.{Scanned, scanned-all, scanned-none}
+use Rattle.loops.proofs.Laws.{scanned-all, scanned-none}
 use Rattle.network.proofs.Laws.{sought-no, sought-past, sought-yes}
 use Rattle.network.proofs.Lists.{arc-is}
-use Rattle.network.specs.ArcList.{net_in}
-use Rattle.network.specs.Network.{or_next, touch_at, touching_after}
-use Rattle.network.specs.declared.Nodes.{Nodes}
-use borrow.Author.Rules.{rules}
+use Rattle.network.specs.Network.{touching_after}
 use mathlib.Core.Path.{◌∙◌}
 use native.Mathlib.Omega.{arith}
 use Rattle.network.proofs.list.touching.Goals as goal

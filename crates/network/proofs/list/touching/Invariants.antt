@@ -1,13 +1,8 @@
 use Prim.Native.Nat.{◌+◌, ◌-◌}
-use Rattle.loops.proofs.Laws.{Scanned, scanned-all, scanned-none}
-use Rattle.network.proofs.Laws.{sought-no, sought-past, sought-yes}
-use Rattle.network.proofs.Lists.{arc-is}
+use Rattle.loops.proofs.Laws.{Scanned}
 use Rattle.network.specs.ArcList.{net_in}
-use Rattle.network.specs.Network.{or_next, touch_at, touching_after}
+use Rattle.network.specs.Network.{or_next, touch_at}
 use Rattle.network.specs.declared.Nodes.{Nodes}
-use borrow.Author.Rules.{rules}
-use mathlib.Core.Path.{◌∙◌}
-use native.Mathlib.Omega.{arith}
 use Rattle.network.proofs.list.touching.Given as goal
 
 abbrev pub invariant-loop-j : goal.invariant-loop-j

@@ -1,7 +1,6 @@
 use native.Mathlib.Omega.{arith}
-use Prim.Native.Nat.{◌-◌}
-use Rattle.network.specs.ArcList.{record_at, arcs_in}
-use Rattle.loops.proofs.Laws.{Filled, filled_none, filled_more, filled-whole}
+use Rattle.network.specs.ArcList.{arcs_in}
+use Rattle.loops.proofs.Laws.{filled_none, filled_more, filled-whole}
 use borrow.Author.Rules.{rules}
 use Rattle.network.proofs.list.view.Goals as goal
 

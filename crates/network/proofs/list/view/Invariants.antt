@@ -1,8 +1,6 @@
-use native.Mathlib.Omega.{arith}
 use Prim.Native.Nat.{◌-◌}
-use Rattle.network.specs.ArcList.{record_at, arcs_in}
-use Rattle.loops.proofs.Laws.{Filled, filled_none, filled_more, filled-whole}
-use borrow.Author.Rules.{rules}
+use Rattle.network.specs.ArcList.{record_at}
+use Rattle.loops.proofs.Laws.{Filled}
 use Rattle.network.proofs.list.view.Given as goal
 
 abbrev pub invariant-loop-j : goal.invariant-loop-j
