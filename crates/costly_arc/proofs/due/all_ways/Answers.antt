@@ -1,0 +1,14 @@
+use Prim.Native.Nat.{◌-◌}
+use mathlib.Core.Path.{ap}
+use Rattle.costly_arc.specs.Seen.{is_old}
+use Rattle.costly_arc.specs.declared.due.Both.{Both}
+use Rattle.costly_arc.specs.internal.Due.{way_of, ways_of}
+use Rattle.loops.proofs.Laws.{Filled, filled_more, filled_none, filled-whole}
+use Rattle.network.specs.Network.{arc_at}
+use borrow.Author.Rules.{rules}
+use native.Mathlib.Omega.{arith}
+use Rattle.costly_arc.proofs.due.all_ways.Goals as goal
+
+pub returns : goal.returns
+unfolding ways_of
+returns c = let h = c.loop-k.invariant in (filled-whole h.0 (omega arith) (search rules), filled-whole h.1 (omega arith) (search rules))

@@ -1,0 +1,16 @@
+use Prim.Native.Nat.{◌-◌}
+use mathlib.Core.Path.{ap}
+use Rattle.costly_arc.specs.Seen.{is_old}
+use Rattle.costly_arc.specs.declared.due.Both.{Both}
+use Rattle.costly_arc.specs.internal.Due.{way_of, ways_of}
+use Rattle.loops.proofs.Laws.{Filled, filled_more, filled_none, filled-whole}
+use Rattle.network.specs.Network.{arc_at}
+use borrow.Author.Rules.{rules}
+use native.Mathlib.Omega.{arith}
+use Rattle.costly_arc.proofs.due.all_ways.Given as goal
+
+abbrev pub invariant-loop-k : goal.invariant-loop-k
+invariant-loop-k l = Filled (λ l.k. way_of (is_old l.seen l.p l.k) (arc_at l.net l.k) l.t.from l.t.a) 97 l.initial.from l.from l.k × Filled (λ l.k. way_of (is_old l.seen l.q l.k) (arc_at l.net l.k) l.t.to l.t.b) 97 l.initial.to l.to l.k
+
+abbrev pub decreases-loop-k : goal.decreases-loop-k
+decreases-loop-k l = 97 - l.k

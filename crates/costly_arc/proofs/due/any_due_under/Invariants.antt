@@ -1,0 +1,15 @@
+use Prim.Native.Nat.{◌-◌}
+use Rattle.costly_arc.proofs.Pairs.{none-due}
+use Rattle.costly_arc.specs.internal.Due.{is_due_under}
+use Rattle.loops.proofs.Laws.{Missed, missed-all, missed-found, missed_more, missed-none}
+use borrow.Author.Rules.{rules}
+use borrow.Author.Tests.{le-ltb, lt-ltb}
+use mathlib.Core.Logic.{⊎_elim}
+use native.Mathlib.Omega.{arith}
+use Rattle.costly_arc.proofs.due.any_due_under.Given as goal
+
+abbrev pub invariant-loop-k : goal.invariant-loop-k
+invariant-loop-k l = Missed (is_due_under l.seen l.w l.q l.to l.c) 97 l.k
+
+abbrev pub decreases-loop-k : goal.decreases-loop-k
+decreases-loop-k l = 97 - l.k

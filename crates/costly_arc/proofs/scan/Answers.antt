@@ -1,0 +1,25 @@
+use Prim.Native.Nat.{◌-◌}
+use Rattle.costly_arc.proofs.Going.{Going, going-covers, going-found, going-idle, going-past, going-vain}
+use Rattle.costly_arc.proofs.Upward.{reached-all, reached-none}
+use Rattle.costly_arc.proofs.Passing.{passes_kept}
+use Rattle.costly_arc.specs.Seen.{Known}
+use borrow.Author.Rules.{rules}
+use mathlib.Core.Logic.{⊎_elim}
+use mathlib.Core.Path.{◌∙◌, refl, sym}
+use native.Mathlib.Omega.{arith}
+use Rattle.costly_arc.proofs.scan.Goals as goal
+
+pub all_times-times-requires : goal.all_times-times-requires
+all_times-times-requires c = λ k. record { reached = reached-none _ _ _ _; known = k; put = refl }
+
+pub returns-then-has_pair : goal.returns-then-has_pair
+returns-then-has_pair c = λ k. let h = c.loop-j.invariant k in let times = c.all_times-times in let pair = c.has_pair.ensures (h.known.vain _) (going-covers h times.result.at times.ensures) in going-found h (omega (arith, c.loop-j-test.true)) times.result.at _ (sym c.is_due.ensures ∙ c.if-is_due.true) (sym pair ∙ c.if-has_pair.true) c.at_lower.ensures c.in-Changes.is
+
+pub bounds-known-j-in-Changes : goal.bounds-known-j-in-Changes
+bounds-known-j-in-Changes c = omega (arith, c.loop-j-test.true)
+
+pub loop-j-preserved : goal.loop-j-preserved
+loop-j-preserved c = λ k. let h = c.loop-j.invariant k in let times = c.all_times-times in ⊎_elim (λ w. going-vain h (omega arith) (sym (w.7.ensures (h.known.vain _) (going-covers h times.result.at times.ensures)) ∙ w.8.left) w.9) (⊎_elim (λ v. going-past h (omega arith) (passes_kept _ _ _ v.2.ensures v.3.keys2) v.4) (λ v. going-idle h (omega arith) times.result.at times.ensures (sym c.is_due.ensures ∙ v.0.left) v.1)) c.if-is_due.branch
+
+pub returns : goal.returns
+returns c = λ k. let h = c.loop-j.invariant k in (reached-all _ _ _ _ h.reached (omega (arith, c.loop-j-test.false)), h.known)

@@ -1,0 +1,7 @@
+use Rattle.crossing.specs.Tried.{signed_of}
+use borrow.Author.Rules.{rules}
+use Rattle.crossing.proofs.by_sign.Goals as goal
+
+pub returns : goal.returns
+unfolding signed_of
+returns c = cc

@@ -1,0 +1,7 @@
+use Rattle.crossing.specs.Crossing.{is_apart}
+use borrow.Author.Rules.{rules}
+use Rattle.crossing.proofs.is_apart.Goals as goal
+
+pub returns : goal.returns
+unfolding is_apart
+returns c = rw (← c.side_at-w.ensures, ← c.side_at-v.ensures)

@@ -1,7 +1,0 @@
--- `crossing::quote` meets its contract.
-use borrow.Author.Rules.{rules}
-use Rattle.crossing.proofs.quote.Statement.{statement}
-use Rattle.crossing.proofs.quote.Tie as tie
-
-pub quote-spec : {M : Type 1} → statement M
-quote-spec = tie.close (tie.spec (search rules) (search rules) (search rules) (λ c. rw (← c.before.before.side-at.ensures, ← c.before.price-at.ensures) c.quote.ensures))

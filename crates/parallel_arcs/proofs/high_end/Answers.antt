@@ -1,0 +1,14 @@
+use Rattle.fraction.specs.Formula.{pair_of, ◌⊗◌}
+use Rattle.fraction.specs.Exact.{is_finite}
+use Rattle.parallel_arcs.specs.ParallelArcs.{high_end}
+use borrow.Author.Tests.{eq-eqb, ne_eqb}
+use borrow.Author.Rules.{rules}
+use Rattle.parallel_arcs.proofs.high_end.Goals as goal
+
+pub returns-then-z-eq0 : goal.returns-then-z-eq0
+unfolding high_end is_finite pair_of ◌⊗◌
+returns-then-z-eq0 c = rw (eq-eqb _ _ c.if-z-eq0.true) c.fit.ensures
+
+pub returns : goal.returns
+unfolding high_end is_finite pair_of ◌⊗◌
+returns c = rw (ne_eqb _ _ c.if-z-eq0.false) c.product.ensures

@@ -1,0 +1,8 @@
+use Rattle.fraction.specs.Formula.{pair_of, ◌⊘◌}
+use Rattle.parallel_arcs.specs.ParallelArcs.{ratio_of}
+use borrow.Author.Rules.{rules}
+use Rattle.parallel_arcs.proofs.ratio.Goals as goal
+
+pub returns : goal.returns
+unfolding ratio_of pair_of ◌⊘◌
+returns c = c.quotient.ensures
