@@ -1,4 +1,4 @@
-use Rattle.fraction.proofs.Machine.{cross-sum-fits, cross-sum-is}
+use Rattle.fraction.proofs.Machine.{cross-sum-is}
 use borrow.Author.Rules.{rules}
 use Rattle.fraction.proofs.cross_sum.Goals as goal
 
