@@ -1,5 +1,5 @@
 -- The loop keeps the divisor, and its last step is in one word.
-use Rattle.std.proofs.Common.{◌≡◌, ◌<◌, refl, sym, ap₂, ◌∙◌, zero-add, le_of_lt, le_trans, rules, arith}
+use Rattle.std.proofs.Common.{◌≡◌, ◌<◌, sym, ap₂, ◌∙◌, zero-add, le_of_lt, le_trans, rules, arith}
 use Rattle.integer.specs.Gcd.{gcd, gcd-zero, gcd-step}
 use Rattle.wide.specs.internal.Wide.{amount}
 use Rattle.wide.proofs.Arith.{above, flat, high_le, light, rest-is}

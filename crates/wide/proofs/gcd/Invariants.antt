@@ -6,11 +6,11 @@ use Rattle.wide.proofs.gcd.Given as goal
 
 abbrev pub invariant-loop-y : goal.invariant-loop-y
 invariant-loop-y l = record {
-    divisor : gcd (amount l.x) (amount l.y) ≡ gcd (amount l.fn.a) (amount l.fn.b);
-    x_in : l.x.high < 9223372036854775808;
-    y_in : l.y.high < 9223372036854775808;
-    low_in : l.y.low < 18446744073709551616
-  }
+  divisor : gcd (amount l.x) (amount l.y) ≡ gcd (amount l.fn.a) (amount l.fn.b);
+  x_in : l.x.high < 9223372036854775808;
+  y_in : l.y.high < 9223372036854775808;
+  low_in : l.y.low < 18446744073709551616;
+}
 
 abbrev pub decreases-loop-y : goal.decreases-loop-y
 decreases-loop-y l = amount l.y
