@@ -1,5 +1,4 @@
 use Rattle.fraction.specs.Formula.{pair_of}
-use borrow.Author.Rules.{rules}
 use Rattle.fraction.proofs.both.Goals as goal
 
 pub returns-in-Fits-y : goal.returns-in-Fits-y

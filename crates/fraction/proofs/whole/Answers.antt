@@ -1,4 +1,4 @@
-use Rattle.fraction.proofs.OverOne.{fits_whole, narrow, too-high, too-low}
+use Rattle.fraction.proofs.OverOne.{fits_whole, too-high, too-low}
 use Rattle.fraction.proofs.whole.Goals as goal
 
 pub returns-then-z-ltminus2147483647 : goal.returns-then-z-ltminus2147483647

@@ -1,5 +1,4 @@
 use Rattle.fraction.specs.Exact.{den_word}
-use Rattle.integer.specs.Machine.{sfits-by}
 use borrow.Author.Tests.{le-leb, lt-leb}
 use mir.Facts.{to_z_pos}
 use mir.Syntax.{w32}

@@ -1,5 +1,4 @@
 use Rattle.fraction.specs.Exact.{difference_of}
-use borrow.Author.Rules.{rules}
 use Rattle.fraction.proofs.Fraction.difference.Goals as goal
 
 pub returns-in-Fits : goal.returns-in-Fits

@@ -1,4 +1,4 @@
-use Rattle.fraction.proofs.Machine.{from-negative, from-unsigned, unsigned-ok}
+use Rattle.fraction.proofs.Machine.{from-negative, from-unsigned}
 use borrow.Author.Rules.{rules}
 use Rattle.fraction.proofs.Fraction.from_words.Goals as goal
 

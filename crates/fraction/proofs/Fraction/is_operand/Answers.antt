@@ -1,5 +1,4 @@
 use Rattle.fraction.specs.Exact.{is_operand}
-use borrow.Author.Rules.{rules}
 use borrow.Author.Tests.{le-leb, le-ltb, lt-leb, lt-ltb}
 use native.Mathlib.Omega.{arith}
 use Rattle.fraction.proofs.Fraction.is_operand.Goals as goal

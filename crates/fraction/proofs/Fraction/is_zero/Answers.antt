@@ -1,4 +1,3 @@
-use borrow.Author.Rules.{rules}
 use Rattle.fraction.specs.Exact.{is_zero}
 use Rattle.fraction.proofs.Fraction.is_zero.Goals as goal
 

@@ -2,7 +2,6 @@ use Rattle.fraction.proofs.Machine.{minus-fits, minus_is}
 use Rattle.fraction.specs.Exact.{negation_of, over}
 use Rattle.fraction.proofs.Laws.{operand-is}
 use Rattle.fraction.specs.declared.Worked.TheVariants.{Fits}
-use borrow.Author.Rules.{rules}
 use lib.IntN.{ℤ}
 use mathlib.Core.Path.{◌∙◌, ap, sym}
 use Rattle.fraction.proofs.Fraction.negation.Goals as goal

@@ -1,5 +1,4 @@
 use Rattle.fraction.specs.Exact.{quotient_of}
-use borrow.Author.Rules.{rules}
 use Rattle.fraction.proofs.Fraction.quotient.Goals as goal
 
 pub returns-in-Fits : goal.returns-in-Fits

@@ -2,13 +2,12 @@ use Rattle.fraction.proofs.Machine.{narrow-fits, narrow-is}
 use Rattle.fraction.specs.Exact.{Operand, over, reciprocal_of}
 use Rattle.fraction.proofs.Laws.{operand-is}
 use Rattle.fraction.specs.declared.Worked.TheVariants.{Fits}
-use Rattle.integer.specs.Machine.{wide, widened}
+use Rattle.integer.specs.Machine.{wide}
 use Rattle.integer.specs.Whole.{signed}
 use borrow.Author.Rules.{rules}
 use borrow.Author.Tests.{eq-eqb, ne_eqb}
 use lib.IntN.{ℤ}
 use mathlib.Core.Path.{◌∙◌, ◌≡◌, ap, sym}
-use native.Mathlib.Omega.{arith}
 use Rattle.fraction.proofs.Fraction.reciprocal.Goals as goal
 
 operand : (c : goal.After-with_sign-num) → Operand c.args.self

@@ -1,12 +1,11 @@
 use Prim.Native.Nat.{ℕ, ◌*◌, ◌/◌, ◌<◌, ◌≤◌}
-use Rattle.fraction.proofs.Machine.{narrow-fits, narrow-is}
+use Rattle.fraction.proofs.Machine.{narrow-is}
 use Rattle.fraction.proofs.OverOne.{reduce-whole}
 use Rattle.fraction.specs.Exact.{fitted, over, reduce_of}
 use Rattle.fraction.proofs.Laws.{fitted-no-den, fitted-no-num, fitted-yes, reduce-by, reduce-zero}
 use Rattle.fraction.specs.declared.Worked.TheVariants.{Fits}
 use Rattle.integer.specs.Gcd.{gcd, gcd-pos, DivisorFrom}
 use Rattle.integer.specs.Whole.{nat_abs-signed, signed}
-use borrow.Author.Rules.{rules}
 use borrow.Author.Tests.{ltb-false, ltb-true}
 use lib.Dec.{ltb}
 use lib.IntN.{nat_abs, ℤ}

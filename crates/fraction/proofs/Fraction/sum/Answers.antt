@@ -1,7 +1,6 @@
 use Rattle.fraction.specs.Exact.{reduce_of, sum_of}
 use Rattle.fraction.proofs.Laws.{operands-are}
 use Rattle.integer.specs.Machine.{back64}
-use borrow.Author.Rules.{rules}
 use lib.IntN.{ℤ}
 use mathlib.Core.Path.{◌∙◌, ap, sym}
 use Rattle.fraction.proofs.Fraction.sum.Goals as goal

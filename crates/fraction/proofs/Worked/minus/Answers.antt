@@ -1,5 +1,4 @@
 use Rattle.fraction.specs.Formula.{◌⊖◌}
-use borrow.Author.Rules.{rules}
 use Rattle.fraction.proofs.Worked.minus.Goals as goal
 
 pub returns-in-Both : goal.returns-in-Both

@@ -1,5 +1,4 @@
 use Rattle.fraction.specs.Formula.{⊝◌}
-use borrow.Author.Rules.{rules}
 use Rattle.fraction.proofs.Worked.negated.Goals as goal
 
 pub returns-in-Fits : goal.returns-in-Fits

@@ -1,4 +1,3 @@
-use Rattle.integer.specs.Machine.{sfits-by}
 use Rattle.fraction.specs.Words.{word_of}
 use borrow.Author.Tests.{le-leb, lt-leb}
 use mir.Facts.{to_z_pos}
