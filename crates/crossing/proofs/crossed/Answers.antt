@@ -11,12 +11,12 @@ returns-in_default c = fun_ext (λ rest. rw (← c.side_at-w.ensures, ← c.side
 
 pub returns-in_default-quotient : goal.returns-in_default-quotient
 unfolding crossed fits goes_on
-returns-in_default-quotient c = let s0 = c.before.before.before.before.before.before.before.before in fun_ext (λ rest. rw (← s0.before.side-at.ensures, ← s0.side-at2.ensures, ← c.quotient.ensures, ← c.negated.ensures, c.in-Fits.is, ← c.quotient-2.ensures, c.in_default-quotient.is))
+returns-in_default-quotient c = fun_ext (λ rest. rw (← c.side_at-w.ensures, ← c.side_at-v.ensures, ← c.quotient.ensures, ← c.negated.ensures, c.in-Fits.is, ← c.quotient-2.ensures, c.in_default-quotient.is))
 
 pub returns-in_default-plus : goal.returns-in_default-plus
 unfolding crossed fits goes_on
-returns-in_default-plus c = let s1 = c.before.before.before.before.before.before.before.before.before.before in let s0 = s1.before.before.before.before.before in fun_ext (λ rest. rw (← s0.before.side-at.ensures, ← s0.side-at2.ensures, ← s1.before.before.before.before.quotient.ensures, ← s1.before.before.before.negated.ensures, s1.before.a.given.1, ← c.quotient-2.ensures, c.in-Fits-quotient.is, ← c.quotient-3.ensures, ← c.negated-2.ensures, ← c.quotient-4.ensures, ← c.plus.ensures, c.in_default-plus.is))
+returns-in_default-plus c = fun_ext (λ rest. rw (← c.side_at-w.ensures, ← c.side_at-v.ensures, ← c.quotient.ensures, ← c.negated.ensures, c.in-Fits.is, ← c.quotient-2.ensures, c.in-Fits-quotient.is, ← c.quotient-3.ensures, ← c.negated-2.ensures, ← c.quotient-4.ensures, ← c.plus.ensures, c.in_default-plus.is))
 
 pub returns : goal.returns
 unfolding crossed fits goes_on
-returns c = let s1 = c.before.before.before.before.before.before.before.before.before.before.before in let s0 = s1.before.before.before.before.before in fun_ext (λ rest. rw (← s0.before.side-at.ensures, ← s0.side-at2.ensures, ← s1.before.before.before.before.quotient.ensures, ← s1.before.before.before.negated.ensures, s1.before.a.given.1, ← c.quotient-2.ensures, c.in-Fits-quotient.is, ← c.quotient-3.ensures, ← c.negated-2.ensures, ← c.quotient-4.ensures, ← c.plus.ensures, c.in-Fits-plus.is))
+returns c = fun_ext (λ rest. rw (← c.side_at-w.ensures, ← c.side_at-v.ensures, ← c.quotient.ensures, ← c.negated.ensures, c.in-Fits.is, ← c.quotient-2.ensures, c.in-Fits-quotient.is, ← c.quotient-3.ensures, ← c.negated-2.ensures, ← c.quotient-4.ensures, ← c.plus.ensures, c.in-Fits-plus.is))

@@ -15,12 +15,12 @@ returns-then-not-is_zero c = rw (eq-eqb _ _ c.if-degree-ne4.false, ← c.is_zero
 
 pub returns-then-n-eq0 : goal.returns-then-n-eq0
 unfolding crossing_by only_where
-returns-then-n-eq0 c = rw (eq-eqb _ _ c.if-degree-ne4.false, ← c.is_zero.ensures, c.if-not-is_zero.false, ← c.before.before.by_sign_lem.ensures, eq-eqb _ _ c.if-n-eq0.true)
+returns-then-n-eq0 c = rw (eq-eqb _ _ c.if-degree-ne4.false, ← c.is_zero.ensures, c.if-not-is_zero.false, ← c.by_sign-n.ensures, eq-eqb _ _ c.if-n-eq0.true)
 
 pub returns-then-p-eq0 : goal.returns-then-p-eq0
 unfolding crossing_by only_where
-returns-then-p-eq0 c = rw (eq-eqb _ _ c.if-degree-ne4.false, ← c.is_zero.ensures, c.if-not-is_zero.false, ← c.before.before.before.before.before.by_sign_lem.ensures, ne_eqb _ _ c.if-n-eq0.false, ← c.by_sign-p.ensures, eq-eqb _ _ c.if-p-eq0.true)
+returns-then-p-eq0 c = rw (eq-eqb _ _ c.if-degree-ne4.false, ← c.is_zero.ensures, c.if-not-is_zero.false, ← c.by_sign-n.ensures, ne_eqb _ _ c.if-n-eq0.false, ← c.by_sign-p.ensures, eq-eqb _ _ c.if-p-eq0.true)
 
 pub returns : goal.returns
 unfolding crossing_by only_where
-returns c = rw (eq-eqb _ _ c.if-degree-ne4.false, ← c.is_zero.ensures, c.if-not-is_zero.false, ← c.before.before.before.before.before.before.by_sign_lem.ensures, ne_eqb _ _ c.if-n-eq0.false, ← c.by_sign-p.ensures, ne_eqb _ _ c.if-p-eq0.false) c.cross.ensures
+returns c = rw (eq-eqb _ _ c.if-degree-ne4.false, ← c.is_zero.ensures, c.if-not-is_zero.false, ← c.by_sign-n.ensures, ne_eqb _ _ c.if-n-eq0.false, ← c.by_sign-p.ensures, ne_eqb _ _ c.if-p-eq0.false) c.cross.ensures

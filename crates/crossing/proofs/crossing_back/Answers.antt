@@ -9,24 +9,24 @@ returns-in_default c = rw (← c.flow_at-a.ensures, ← c.flow_at-b.ensures, ←
 
 pub returns-in_default-negated : goal.returns-in_default-negated
 unfolding crossing_back figure
-returns-in_default-negated c = let s0 = c.before.before.before.before.before.before.before.before.before in rw (← s0.before.before.before.flow-at.ensures, ← s0.before.before.flow-at2.ensures, ← s0.before.flow-at3.ensures, ← s0.flow-at4.ensures, ← c.share.ensures, ← c.negated.ensures, c.in-Fits.is, ← c.share-2.ensures, ← c.negated-2.ensures, c.in_default-negated.is)
+returns-in_default-negated c = rw (← c.flow_at-a.ensures, ← c.flow_at-b.ensures, ← c.flow_at-c.ensures, ← c.flow_at-d.ensures, ← c.share.ensures, ← c.negated.ensures, c.in-Fits.is, ← c.share-2.ensures, ← c.negated-2.ensures, c.in_default-negated.is)
 
 pub returns-in_default-share : goal.returns-in_default-share
 unfolding crossing_back figure
-returns-in_default-share c = let s1 = c.before.before.before.before.before.before.before.before in let s0 = s1.before.before.before.before.before in rw (← s0.before.before.before.flow-at.ensures, ← s0.before.before.flow-at2.ensures, ← s0.before.flow-at3.ensures, ← s0.flow-at4.ensures, ← s1.before.before.before.before.share.ensures, ← s1.before.before.before.negated.ensures, s1.before.x.given.1, ← c.share-2.ensures, ← c.negated-2.ensures, c.in-Fits-negated.is, ← c.share-3.ensures, c.in_default-share.is)
+returns-in_default-share c = rw (← c.flow_at-a.ensures, ← c.flow_at-b.ensures, ← c.flow_at-c.ensures, ← c.flow_at-d.ensures, ← c.share.ensures, ← c.negated.ensures, c.in-Fits.is, ← c.share-2.ensures, ← c.negated-2.ensures, c.in-Fits-negated.is, ← c.share-3.ensures, c.in_default-share.is)
 
 pub returns-in_default-share-2 : goal.returns-in_default-share-2
 unfolding crossing_back figure
-returns-in_default-share-2 c = let s2 = c.before.before.before.before.before.before.before in let s1 = s2.before.before.before.before.before in let s0 = s1.before.before.before.before.before in rw (← s0.before.before.before.flow-at.ensures, ← s0.before.before.flow-at2.ensures, ← s0.before.flow-at3.ensures, ← s0.flow-at4.ensures, ← s1.before.before.before.before.share.ensures, ← s1.before.before.before.negated.ensures, s1.before.x.given.1, ← s2.before.before.before.before.share2.ensures, ← s2.before.before.before.negated2.ensures, s2.before.y.given.1, ← c.share-3.ensures, c.in-Fits-share.is, ← c.share-4.ensures, c.in_default-share-2.is)
+returns-in_default-share-2 c = rw (← c.flow_at-a.ensures, ← c.flow_at-b.ensures, ← c.flow_at-c.ensures, ← c.flow_at-d.ensures, ← c.share.ensures, ← c.negated.ensures, c.in-Fits.is, ← c.share-2.ensures, ← c.negated-2.ensures, c.in-Fits-negated.is, ← c.share-3.ensures, c.in-Fits-share.is, ← c.share-4.ensures, c.in_default-share-2.is)
 
 pub returns-in_default-quote : goal.returns-in_default-quote
 unfolding crossing_back figure
-returns-in_default-quote c = let s3 = c.before.before.before.before.before.before.before in let s2 = s3.before.before.before.before in let s1 = s2.before.before.before.before.before in let s0 = s1.before.before.before.before.before in rw (← s0.before.before.before.flow-at.ensures, ← s0.before.before.flow-at2.ensures, ← s0.before.flow-at3.ensures, ← s0.flow-at4.ensures, ← s1.before.before.before.before.share.ensures, ← s1.before.before.before.negated.ensures, s1.before.x.given.1, ← s2.before.before.before.before.share2.ensures, ← s2.before.before.before.negated2.ensures, s2.before.y.given.1, ← s3.before.before.before.share3.ensures, s3.before.z.given.1, ← c.share-4.ensures, c.in-Fits-share-2.is, ← c.quote.ensures, c.in_default-quote.is)
+returns-in_default-quote c = rw (← c.flow_at-a.ensures, ← c.flow_at-b.ensures, ← c.flow_at-c.ensures, ← c.flow_at-d.ensures, ← c.share.ensures, ← c.negated.ensures, c.in-Fits.is, ← c.share-2.ensures, ← c.negated-2.ensures, c.in-Fits-negated.is, ← c.share-3.ensures, c.in-Fits-share.is, ← c.share-4.ensures, c.in-Fits-share-2.is, ← c.quote.ensures, c.in_default-quote.is)
 
 pub returns-in_default-quote-2 : goal.returns-in_default-quote-2
 unfolding crossing_back figure
-returns-in_default-quote-2 c = let s4 = c.before.before.before.before.before.before.before in let s3 = s4.before.before.before.before in let s2 = s3.before.before.before.before in let s1 = s2.before.before.before.before.before in let s0 = s1.before.before.before.before.before in rw (← s0.before.before.before.flow-at.ensures, ← s0.before.before.flow-at2.ensures, ← s0.before.flow-at3.ensures, ← s0.flow-at4.ensures, ← s1.before.before.before.before.share.ensures, ← s1.before.before.before.negated.ensures, s1.before.x.given.1, ← s2.before.before.before.before.share2.ensures, ← s2.before.before.before.negated2.ensures, s2.before.y.given.1, ← s3.before.before.before.share3.ensures, s3.before.z.given.1, ← s4.before.before.before.share4.ensures, s4.before.w.given.1, ← c.quote.ensures, c.in-Fits-quote.is, ← c.quote-2.ensures, c.in_default-quote-2.is)
+returns-in_default-quote-2 c = rw (← c.flow_at-a.ensures, ← c.flow_at-b.ensures, ← c.flow_at-c.ensures, ← c.flow_at-d.ensures, ← c.share.ensures, ← c.negated.ensures, c.in-Fits.is, ← c.share-2.ensures, ← c.negated-2.ensures, c.in-Fits-negated.is, ← c.share-3.ensures, c.in-Fits-share.is, ← c.share-4.ensures, c.in-Fits-share-2.is, ← c.quote.ensures, c.in-Fits-quote.is, ← c.quote-2.ensures, c.in_default-quote-2.is)
 
 pub returns : goal.returns
 unfolding crossing_back figure
-returns c = let s5 = c.before.before.before.before.before.before.before.before.before in let s4 = s5.before.before.before.before in let s3 = s4.before.before.before.before in let s2 = s3.before.before.before.before in let s1 = s2.before.before.before.before.before in let s0 = s1.before.before.before.before.before in rw (← s0.before.before.before.flow-at.ensures, ← s0.before.before.flow-at2.ensures, ← s0.before.flow-at3.ensures, ← s0.flow-at4.ensures, ← s1.before.before.before.before.share.ensures, ← s1.before.before.before.negated.ensures, s1.before.x.given.1, ← s2.before.before.before.before.share2.ensures, ← s2.before.before.before.negated2.ensures, s2.before.y.given.1, ← s3.before.before.before.share3.ensures, s3.before.z.given.1, ← s4.before.before.before.share4.ensures, s4.before.w.given.1, ← s5.before.before.before.quote.ensures, s5.before.p.given.1, ← c.quote-2.ensures, c.in-Fits-quote-2.is, c.price.ensures, c.flow-4.ensures, c.flow-3.ensures, c.flow-2.ensures, c.flow.ensures)
+returns c = rw (← c.flow_at-a.ensures, ← c.flow_at-b.ensures, ← c.flow_at-c.ensures, ← c.flow_at-d.ensures, ← c.share.ensures, ← c.negated.ensures, c.in-Fits.is, ← c.share-2.ensures, ← c.negated-2.ensures, c.in-Fits-negated.is, ← c.share-3.ensures, c.in-Fits-share.is, ← c.share-4.ensures, c.in-Fits-share-2.is, ← c.quote.ensures, c.in-Fits-quote.is, ← c.quote-2.ensures, c.in-Fits-quote-2.is, c.price.ensures, c.flow-4.ensures, c.flow-3.ensures, c.flow-2.ensures, c.flow.ensures)

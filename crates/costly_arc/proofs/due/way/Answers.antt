@@ -2,6 +2,7 @@ use Rattle.costly_arc.specs.internal.Due.{way_of}
 use borrow.Author.Rules.{rules}
 use mathlib.Core.Logic.{⊎_elim}
 use Rattle.costly_arc.proofs.due.way.Goals as goal
+use Rattle.costly_arc.proofs.due.way.Goals.{else-is_open_root-via-else-is_open_root, else-is_open_root-via-then-is_open_root+else-is_positive}
 
 pub returns-then-old : goal.returns-then-old
 unfolding way_of
@@ -13,4 +14,4 @@ returns-then-is_positive c = rw (c.if-old.false, ← c.is_open_root.ensures, c.i
 
 pub returns : goal.returns
 unfolding way_of
-returns c = ⊎_elim (λ w. rw (c.if-old.false, ← c.is_open_root.ensures, w.0.taken, ← c.fit-a.ensures, ← c.fit-a1.ensures, ← w.1.ensures, ← w.2.ensures, w.3.left) c.no_figure-2.ensures) (λ w. rw (c.if-old.false, ← c.is_open_root.ensures, w.left) c.no_figure-2.ensures) c.else-is_open_root.branch
+returns c = elim c.else-is_open_root.branch [ else-is_open_root-via-then-is_open_root+else-is_positive w ↦ rw (c.if-old.false, ← c.is_open_root.ensures, w.if-is_open_root.true, ← c.fit-a.ensures, ← c.fit-a1.ensures, ← w.over.ensures, ← w.is_positive.ensures, w.if-is_positive.false) c.no_figure-2.ensures | else-is_open_root-via-else-is_open_root w ↦ rw (c.if-old.false, ← c.is_open_root.ensures, w.if-is_open_root.false) c.no_figure-2.ensures ]
