@@ -19,7 +19,7 @@ pub bounds-known-j-in-Changes : goal.bounds-known-j-in-Changes
 bounds-known-j-in-Changes c = omega (arith, c.loop-j-test.true)
 
 pub loop-j-preserved : goal.loop-j-preserved
-loop-j-preserved c = λ k. let h = c.loop-j.invariant k in let times = c.all_times-times in ⊎_elim (λ w. going-vain h (omega arith) (sym (w.7.ensures (h.known.vain _) (going-covers h times.result.at times.ensures)) ∙ w.8.left) w.9) (⊎_elim (λ v. going-past h (omega arith) (passes_kept _ _ _ v.2.ensures v.3.keys2) v.4) (λ v. going-idle h (omega arith) times.result.at times.ensures (sym c.is_due.ensures ∙ v.0.left) v.1)) c.if-is_due.branch
+loop-j-preserved c = λ k. let h = c.loop-j.invariant k in let times = c.all_times-times in ⊎_ELIM (λ w. going-vain h (omega arith) (sym (w.7.ensures (h.known.vain _) (going-covers h times.result.at times.ensures)) ∙ w.8.left) w.9) (⊎_elim (λ v. going-past h (omega arith) (passes_kept _ _ _ v.2.ensures v.3.keys2) v.4) (λ v. going-idle h (omega arith) times.result.at times.ensures (sym c.is_due.ensures ∙ v.0.left) v.1)) c.if-is_due.branch
 
 pub returns : goal.returns
 returns c = λ k. let h = c.loop-j.invariant k in (reached-all _ _ _ _ h.reached (omega (arith, c.loop-j-test.false)), h.known)
