@@ -4,17 +4,16 @@ use mathlib.Core.Bool.{Bool, true, false, cond, ◌&&◌, not}
 use mathlib.Core.Logic.{◌⊎◌, ⊎_elim}
 use Prim.Native.Nat.{ℕ, ◌<◌}
 use native.Mathlib.Omega.{arith}
-use denote.Enum.Declared.{tag_of}
 use Rattle.fraction.specs.Exact.{is_finite}
 use Rattle.network.specs.declared.Net.{Net}
 use Rattle.network.specs.Network.{arc_at, is_root}
+use Rattle.step.specs.declared.Change.{Change}
 use Rattle.step.specs.declared.Outcome.{Outcome}
 use Rattle.step.specs.declared.Outcome.TheVariants.{Passes, NoFlow, Changes}
 use Rattle.step.specs.declared.Next.{Next}
 use Rattle.step.specs.Outcome.{only_where}
 use Rattle.step.specs.Dropped.{dropped_at}
 use Rattle.step.specs.Run.{upward}
-use Rattle.step.specs.contracts.Outcome.{the_type}
 use Rattle.step.proofs.Removing.{dropped-shows}
 use Rattle.step.proofs.Lines.{split}
 use Rattle.step.proofs.Touch.{unlike}
@@ -38,10 +37,10 @@ module _ (net : Net) (j : ℕ) where
   passes-vain h = split (is_candidate (arc_at net j)) (λ e. costly-is ∙ rw (e, h e)) (λ e. costly-is ∙ rw e)
 
   -- the arc stays for a figure that doesn't fit: a drop shows no flow nowhere
-  pub passes_kept : (x : Outcome) → x ≡ dropped_at net j (arc_at net j).lower → (tag_of the_type x ≡ 0) ⊎ (tag_of the_type x ≡ 1) → costly_arc net j ≡ Passes
+  pub passes_kept : (x : Outcome) → x ≡ dropped_at net j (arc_at net j).lower → ((d : Change) → x ≡ Changes d → ⊥) → costly_arc net j ≡ Passes
   passes_kept Passes e w = costly-is ∙ rw (← e) (split (is_candidate (arc_at net j) && has_pair net (arc_at net j)) (λ f. rw f refl) (λ f. rw f refl))
   passes_kept NoFlow e w = dropped-shows net j _ (sym e)
-  passes_kept (Changes c) e w = ⊎_elim (λ e. let h : ◌≡◌ {A = ℕ} 2 0 = e in absurd (omega arith)) (λ e. let h : ◌≡◌ {A = ℕ} 2 1 = e in absurd (omega arith)) w
+  passes_kept (Changes c) e w = absurd (w c refl)
 
 -- where no arc is a root arc without upper bound, the whole search may be left out
 pub no-open-root : (net : Net) (rest : Next) → ((k : ℕ) → k < 97 → is_open_root (arc_at net k) (arc_at net k).from ≡ false) → upward (costly_arc net) 4 96 1 rest ≡ rest

@@ -5,12 +5,16 @@ use mathlib.Core.Logic.{⊎_elim}
 use mathlib.Core.Path.{◌∙◌, sym}
 use native.Mathlib.Omega.{arith}
 use Rattle.costly_arc.proofs.due.all_times.Goals as goal
+use Rattle.costly_arc.proofs.due.all_times.Goals.{then-is_open_root, else-is_open_root}
 
 pub loop-k-init : goal.loop-k-init
 loop-k-init c = timed-none _ _
 
-pub loop-k-preserved : goal.loop-k-preserved
-loop-k-preserved c = ⊎_ELIM (λ w. timed-more c.loop-k.invariant (omega arith) w.3.ensures (w.5 ∙ w.4.ensures)) (λ w. timed-skip c.loop-k.invariant (omega arith) (sym c.is_open_root.ensures ∙ w.0.left) w.1) c.if-is_open_root.branch
-
 pub returns : goal.returns
 returns c = timed-all c.loop-k.invariant (omega arith)
+
+pub loop-k-preserved : goal.loop-k-preserved
+loop-k-preserved c =
+    elim c.if-is_open_root.branch
+    [ then-is_open_root w ↦ timed-more c.loop-k.invariant (omega arith) w.after.ensures (w.at-is ∙ w.put_time.ensures)
+    | else-is_open_root w ↦ timed-skip c.loop-k.invariant (omega arith) (sym c.is_open_root.ensures ∙ w.if-is_open_root.false) w.at-is ]

@@ -9,10 +9,6 @@ use borrow.Author.Rules.{rules}
 use native.Mathlib.Omega.{arith}
 use Rattle.costly_arc.proofs.due.all_ways.Goals as goal
 
-pub no_figure-z-requires : goal.no_figure-z-requires
-unfolding ways_of
-no_figure-z-requires c = (filled_none _ _ _, filled_none _ _ _)
-
 pub loop-k-preserved : goal.loop-k-preserved
 unfolding ways_of
 loop-k-preserved c = let h = c.loop-k.invariant in let e = c.both_ways-both.ensures in (filled_more h.0 (omega arith) (search rules) (ap (λ (b : Both). b.from) e), filled_more h.1 (omega arith) (search rules) (ap (λ (b : Both). b.to) e))
@@ -20,3 +16,6 @@ loop-k-preserved c = let h = c.loop-k.invariant in let e = c.both_ways-both.ensu
 pub returns : goal.returns
 unfolding ways_of
 returns c = let h = c.loop-k.invariant in (filled-whole h.0 (omega arith) (search rules), filled-whole h.1 (omega arith) (search rules))
+
+pub loop-k-init : goal.loop-k-init
+loop-k-init c = (filled_none _ _ _, filled_none _ _ _)

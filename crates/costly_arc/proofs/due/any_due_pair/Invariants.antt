@@ -1,0 +1,14 @@
+use Prim.Native.Nat.{◌-◌}
+use Rattle.costly_arc.proofs.Pairs.{none_from}
+use Rattle.costly_arc.specs.internal.Due.{is_due_from}
+use Rattle.loops.proofs.Laws.{Missed, missed-all, missed-found, missed_more, missed-none}
+use borrow.Author.Rules.{rules}
+use mathlib.Core.Logic.{⊎_elim}
+use native.Mathlib.Omega.{arith}
+use Rattle.costly_arc.proofs.due.any_due_pair.Given as goal
+
+abbrev pub invariant-loop-k : goal.invariant-loop-k
+invariant-loop-k l = Missed (is_due_from l.seen l.w l.ways.from l.ways.to l.c) 97 l.k
+
+abbrev pub decreases-loop-k : goal.decreases-loop-k
+decreases-loop-k l = 97 - l.k
