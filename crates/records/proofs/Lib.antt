@@ -7,6 +7,5 @@ pub mod Legal
 pub mod Paired
 pub mod Written
 pub mod Logged
-pub mod Lent
 pub mod Loaded
 pub mod Put

@@ -92,6 +92,10 @@ sizes-are xs e =
     let b = and_both (is_size 96 (word xs 1)) _ a.1 in
     record { few_nodes = size_few (word xs 0) 32 a.0; few_arcs = size_few (word xs 1) 96 b.0; long = sym (eqb-true _ _ b.1) }
 
+-- the same, of the sizes that were read
+pub sized_by : {xs : List ℤ} {n m : ℕ} → sizes_right xs ≡ true → n ≡ n_of xs → m ≡ m_of xs → Sized xs n m
+sized_by {xs} s e f = rw (e, f) (sizes-are xs s)
+
 -- and by the sizes that were read
 module _ (xs : List ℤ) where
   pub no-nodes : size_of (word xs 0) 32 ≡ Off → false ≡ sizes_right xs

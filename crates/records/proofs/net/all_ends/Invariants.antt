@@ -1,0 +1,14 @@
+use Prim.Native.Nat.{◌-◌}
+use Rattle.loops.proofs.Laws.{Passed, passed-all, passed-fails, passed-more, passed_none}
+use Rattle.records.specs.Network.{has_ends}
+use Rattle.records.proofs.Turns.{turn-less}
+use borrow.Author.Rules.{rules}
+use mathlib.Core.Path.{◌∙◌, sym}
+use native.Mathlib.Omega.{arith}
+use Rattle.records.proofs.net.all_ends.Given as goal
+
+abbrev pub invariant-loop-j : goal.invariant-loop-j
+invariant-loop-j l = Passed (has_ends l.xs l.n l.t) l.m l.j
+
+abbrev pub decreases-loop-j : goal.decreases-loop-j
+decreases-loop-j l = l.m - l.j

@@ -1,0 +1,15 @@
+use Prim.Native.Nat.{◌-◌}
+use Rattle.algebra.proofs.Solver.{at}
+use Rattle.loops.proofs.Laws.{Passed, passed-all, passed-fails, passed-more, passed_none}
+use Rattle.records.specs.Network.{is_in_form}
+use Rattle.records.proofs.Turns.{turn-less}
+use borrow.Author.Rules.{rules}
+use mathlib.Core.Path.{◌∙◌, sym}
+use native.Mathlib.Omega.{arith}
+use Rattle.records.proofs.net.all_in_form.Given as goal
+
+abbrev pub invariant-loop-k : goal.invariant-loop-k
+invariant-loop-k l = Passed (is_in_form l.xs l.n l.t) l.t l.k
+
+abbrev pub decreases-loop-k : goal.decreases-loop-k
+decreases-loop-k l = l.t - l.k

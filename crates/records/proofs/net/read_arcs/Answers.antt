@@ -1,0 +1,21 @@
+use Prim.Native.Nat.{◌-◌}
+use Rattle.loops.proofs.Laws.{Folded, folded-all, folded_more, folded-none}
+use Rattle.network.proofs.Numbers.{number}
+use Rattle.network.specs.declared.Nodes.{Nodes}
+use Rattle.network.specs.Network.{with_arc}
+use Rattle.network.specs.ArcList.{joined, no_arcs}
+use Rattle.records.specs.Network.{arc_turn}
+use Rattle.records.proofs.Turns.{turn-less}
+use borrow.Author.Rules.{rules}
+use native.Mathlib.Omega.{arith}
+use Rattle.records.proofs.net.read_arcs.Goals as goal
+
+pub returns : goal.returns
+returns c = λ nodes. folded-all _ (c.loop-j.invariant nodes) (omega arith)
+
+pub loop-j-init : goal.loop-j-init
+loop-j-init c = λ nodes. rw c.no_arc-z.ensures (folded-none _ _ _)
+
+pub loop-j-preserved : goal.loop-j-preserved
+unfolding with_arc
+loop-j-preserved c = λ nodes. folded_more _ (c.loop-j.invariant nodes) (omega arith) (rw (number 96 c.loop-j.j (omega arith), c.arc_in-a.ensures))

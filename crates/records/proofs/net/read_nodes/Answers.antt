@@ -1,0 +1,23 @@
+use mathlib.Core.List.{List}
+use Prim.Native.Nat.{◌-◌}
+use Rattle.loops.proofs.Laws.{Folded, folded-all, folded_more, folded-none}
+use Rattle.network.proofs.Numbers.{number}
+use Rattle.network.specs.declared.Arc.{Arc}
+use Rattle.network.specs.Network.{empty_net, with_node, with_supply}
+use Rattle.network.specs.ArcList.{joined, nodes_of}
+use Rattle.records.specs.Arrays.{figure_at}
+use Rattle.records.specs.Network.{node_turn}
+use Rattle.records.proofs.Turns.{turn-less}
+use borrow.Author.Rules.{rules}
+use native.Mathlib.Omega.{arith}
+use Rattle.records.proofs.net.read_nodes.Goals as goal
+
+pub returns : goal.returns
+returns c = λ arcs. folded-all _ (c.loop-i.invariant arcs) (omega arith)
+
+pub loop-i-init : goal.loop-i-init
+loop-i-init c = λ arcs. rw (c.no_nodes-at.ensures, c.figure_in.ensures) (folded-none _ _ _)
+
+pub loop-i-preserved : goal.loop-i-preserved
+unfolding with_node with_supply
+loop-i-preserved c = λ arcs. folded_more _ (c.loop-i.invariant arcs) (omega arith) (rw (number 32 c.loop-i.i (omega arith), c.figure_in-f.ensures))

@@ -1,0 +1,18 @@
+use Prim.Native.Nat.{◌-◌}
+use Rattle.algebra.proofs.Solver.{at}
+use Rattle.loops.proofs.Laws.{Passed, passed-all, passed-fails, passed-more, passed_none}
+use Rattle.records.specs.Pair.{is_fraction}
+use Rattle.records.proofs.Turns.{turn-less}
+use borrow.Author.Rules.{rules}
+use mathlib.Core.Path.{◌∙◌, sym}
+use native.Mathlib.Omega.{arith}
+use Rattle.records.proofs.pair.all_fractions.Goals as goal
+
+pub returns-else-is_proper : goal.returns-else-is_proper
+returns-else-is_proper c = passed-fails c.loop-k.invariant c.loop-k-test.true (sym (rw c.figure_at-f.ensures at c.is_proper.ensures) ∙ c.if-is_proper.false)
+
+pub loop-k-init : goal.loop-k-init
+loop-k-init c = passed_none _ _
+
+pub loop-k-preserved : goal.loop-k-preserved
+loop-k-preserved c = passed-more c.loop-k.invariant c.loop-k-test.true (sym (rw c.figure_at-f.ensures at c.is_proper.ensures) ∙ c.if-is_proper.true)

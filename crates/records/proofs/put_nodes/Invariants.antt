@@ -1,0 +1,13 @@
+use Prim.Native.Nat.{◌-◌, ◌+◌}
+use lib.ListN.{set}
+use Rattle.records.specs.internal.Put.{dens_at, nums_at, put_from}
+use Rattle.records.proofs.Put.{Turned, turned-all, turned_more, turned_none}
+use Rattle.records.proofs.Turns.{turn-less}
+use borrow.Author.Rules.{rules}
+use Rattle.records.proofs.put_nodes.Given as goal
+
+abbrev pub invariant-loop-i : goal.invariant-loop-i
+invariant-loop-i l = Turned (λ r s. set s (l.k + r) (nums_at l.at r)) l.n l.initial.out l.out l.i × Turned (λ r s. set s (l.k + r) (dens_at l.at r)) l.n l.initial.dens l.dens l.i
+
+abbrev pub decreases-loop-i : goal.decreases-loop-i
+decreases-loop-i l = l.n - l.i
