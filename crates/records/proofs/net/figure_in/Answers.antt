@@ -1,8 +1,8 @@
+-- `records::figure_in` meets its contract.
 use Prim.Native.Nat.{◌+◌}
 use Rattle.integer.specs.Machine.{back32}
 use Rattle.records.specs.Arrays.{figure_at}
 use Rattle.fraction.specs.Words.{word}
-use borrow.Author.Rules.{rules}
 use Rattle.records.proofs.net.figure_in.Goals as goal
 
 pub returns : goal.returns

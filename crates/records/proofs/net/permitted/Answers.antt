@@ -1,5 +1,5 @@
+-- `records::net::permitted` meets its contract.
 use Rattle.records.specs.Network.{role_of, is_permitted}
-use borrow.Author.Rules.{rules}
 use borrow.Author.Tests.{le-leb, lt-leb, ne_eqb}
 use Rattle.records.proofs.net.permitted.Goals as goal
 
