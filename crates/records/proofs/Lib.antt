@@ -1,6 +1,5 @@
 pub mod Questions
 pub mod Tables
-mod Turns
 pub mod Pairs
 pub mod Arrays
 pub mod Legal

@@ -1,3 +1,4 @@
+-- `records::figure_at` meets its contract.
 use Rattle.integer.specs.Machine.{back32}
 use Rattle.records.specs.Arrays.{figure_at}
 use borrow.Author.Rules.{rules}

@@ -1,3 +1,4 @@
+-- `records::has_room` meets its contract.
 use Rattle.records.specs.Arrays.{has_room}
 use borrow.Author.Tests.{le-leb, lt-leb}
 use Rattle.records.proofs.has_room.Goals as goal

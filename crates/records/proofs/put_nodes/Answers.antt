@@ -1,9 +1,6 @@
-use Prim.Native.Nat.{◌-◌, ◌+◌}
-use lib.ListN.{set}
-use Rattle.records.specs.internal.Put.{dens_at, nums_at, put_from}
-use Rattle.records.proofs.Put.{Turned, turned-all, turned_more, turned_none}
-use Rattle.records.proofs.Turns.{turn-less}
-use borrow.Author.Rules.{rules}
+-- `records::put_nodes` meets its contract.
+use Rattle.records.specs.internal.Put.{put_from}
+use Rattle.records.proofs.Put.{turned-all, turned_more, turned_none}
 use Rattle.records.proofs.put_nodes.Goals as goal
 
 pub returns : goal.returns

@@ -1,9 +1,7 @@
 use Prim.Native.Nat.{◌-◌, ◌+◌}
 use lib.ListN.{set}
-use Rattle.records.specs.internal.Put.{dens_at, nums_at, put_from}
-use Rattle.records.proofs.Put.{Turned, turned-all, turned_more, turned_none}
-use Rattle.records.proofs.Turns.{turn-less}
-use borrow.Author.Rules.{rules}
+use Rattle.records.specs.internal.Put.{dens_at, nums_at}
+use Rattle.records.proofs.Put.{Turned}
 use Rattle.records.proofs.put_nodes.Given as goal
 
 abbrev pub invariant-loop-i : goal.invariant-loop-i

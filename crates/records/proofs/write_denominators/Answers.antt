@@ -1,11 +1,10 @@
-use Prim.Native.Nat.{◌-◌}
+-- `records::write_denominators` meets its contract.
 use mathlib.Core.Path.{refl}
 use native.Mathlib.Omega.{arith}
 use Rattle.integer.specs.Machine.{back32}
-use Rattle.loops.proofs.Laws.{Filled, filled_more, filled_none, part-back, part-long}
+use Rattle.loops.proofs.Laws.{filled_more, filled_none, part-back, part-long}
 use Rattle.fraction.specs.Words.{word}
 use Rattle.records.proofs.Arrays.{filled-self}
-use Rattle.records.proofs.Turns.{turn-less}
 use borrow.Author.Rules.{rules}
 use Rattle.records.proofs.write_denominators.Goals as goal
 

@@ -1,3 +1,4 @@
+-- `records::write_sizes` meets its contract.
 use mathlib.Core.Path.{◌∙◌, sym}
 use Rattle.integer.specs.Machine.{back32}
 use Rattle.records.specs.internal.Put.{sized}

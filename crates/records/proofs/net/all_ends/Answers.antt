@@ -1,10 +1,6 @@
-use Prim.Native.Nat.{◌-◌}
-use Rattle.loops.proofs.Laws.{Passed, passed-all, passed-fails, passed-more, passed_none}
-use Rattle.records.specs.Network.{has_ends}
-use Rattle.records.proofs.Turns.{turn-less}
-use borrow.Author.Rules.{rules}
+-- `records::all_ends` meets its contract.
+use Rattle.loops.proofs.Laws.{passed-fails, passed-more, passed_none}
 use mathlib.Core.Path.{◌∙◌, sym}
-use native.Mathlib.Omega.{arith}
 use Rattle.records.proofs.net.all_ends.Goals as goal
 
 pub returns-else-has_ends : goal.returns-else-has_ends

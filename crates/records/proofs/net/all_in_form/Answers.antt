@@ -1,11 +1,6 @@
-use Prim.Native.Nat.{◌-◌}
-use Rattle.algebra.proofs.Solver.{at}
-use Rattle.loops.proofs.Laws.{Passed, passed-all, passed-fails, passed-more, passed_none}
-use Rattle.records.specs.Network.{is_in_form}
-use Rattle.records.proofs.Turns.{turn-less}
-use borrow.Author.Rules.{rules}
+-- `records::all_in_form` meets its contract.
+use Rattle.loops.proofs.Laws.{passed-fails, passed-more, passed_none}
 use mathlib.Core.Path.{◌∙◌, sym}
-use native.Mathlib.Omega.{arith}
 use Rattle.records.proofs.net.all_in_form.Goals as goal
 
 pub returns-else-permitted : goal.returns-else-permitted

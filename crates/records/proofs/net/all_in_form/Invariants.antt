@@ -1,11 +1,6 @@
 use Prim.Native.Nat.{◌-◌}
-use Rattle.algebra.proofs.Solver.{at}
-use Rattle.loops.proofs.Laws.{Passed, passed-all, passed-fails, passed-more, passed_none}
+use Rattle.loops.proofs.Laws.{Passed}
 use Rattle.records.specs.Network.{is_in_form}
-use Rattle.records.proofs.Turns.{turn-less}
-use borrow.Author.Rules.{rules}
-use mathlib.Core.Path.{◌∙◌, sym}
-use native.Mathlib.Omega.{arith}
 use Rattle.records.proofs.net.all_in_form.Given as goal
 
 abbrev pub invariant-loop-k : goal.invariant-loop-k

@@ -1,10 +1,7 @@
-use Prim.Native.Nat.{◌-◌}
-use Rattle.loops.proofs.Laws.{Passed, passed-all, passed-fails, passed-more, passed_none}
-use Rattle.records.specs.Network.{is_weighted, is_weighted_at}
-use Rattle.records.proofs.Turns.{turn-less}
-use borrow.Author.Rules.{rules}
+-- `records::all_weighted` meets its contract.
+use Rattle.loops.proofs.Laws.{passed-fails, passed-more, passed_none}
+use Rattle.records.specs.Network.{is_weighted}
 use mathlib.Core.Path.{◌∙◌, ap, sym}
-use native.Mathlib.Omega.{arith}
 use Rattle.records.proofs.net.all_weighted.Goals as goal
 
 pub returns-else-is_weighted : goal.returns-else-is_weighted

@@ -1,11 +1,10 @@
-use Prim.{tt}
+-- `records::arc_in` meets its contract.
 use Prim.Native.Nat.{ℕ, ◌+◌, ◌≤◌, ◌<◌}
 use native.Mathlib.Omega.{arith}
 use lib.Dec.{T, ltb, lit<}
 use mir.Syntax.{w64}
 use mir.Val.{Fits}
 use Rattle.records.specs.Network.{arc_figure, arc_in}
-use borrow.Author.Rules.{rules}
 use Rattle.records.proofs.net.arc_in.Goals as goal
 
 -- an arc's figures are among the t

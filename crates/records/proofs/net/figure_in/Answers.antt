@@ -1,3 +1,4 @@
+-- `records::figure_in` meets its contract.
 use Prim.Native.Nat.{◌+◌}
 use Rattle.integer.specs.Machine.{back32}
 use Rattle.records.specs.Arrays.{figure_at}
@@ -7,4 +8,4 @@ use Rattle.records.proofs.net.figure_in.Goals as goal
 
 pub returns : goal.returns
 unfolding figure_at
-returns c = rw (c.from_words.ensures, back32 (word c.args.xs.now (2 + c.args.k)) c.num-1.given, back32 (word c.args.xs.now (2 + c.args.t + c.args.k)) c.den-1.given)
+returns c = rw (c.from_words.ensures, back32 (word c.args.xs.now (2 + c.args.k)) (search rules), back32 (word c.args.xs.now (2 + c.args.t + c.args.k)) (search rules))

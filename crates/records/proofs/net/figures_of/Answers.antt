@@ -1,7 +1,7 @@
+-- `records::net::figures_of` meets its contract.
 use mathlib.Core.Path.{refl}
 use Rattle.loops.specs.Loops.{build}
 use Rattle.records.specs.Network.{role_figure}
-use borrow.Author.Rules.{rules}
 use Rattle.records.proofs.net.figures_of.Goals as goal
 
 pub returns : goal.returns

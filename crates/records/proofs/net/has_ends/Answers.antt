@@ -1,6 +1,5 @@
-use Rattle.algebra.proofs.Solver.{at}
+-- `records::has_ends` meets its contract.
 use Rattle.records.specs.Network.{has_ends}
-use borrow.Author.Rules.{rules}
 use Rattle.records.proofs.net.has_ends.Goals as goal
 
 pub returns-then-is_end : goal.returns-then-is_end

@@ -1,9 +1,8 @@
+-- `records::net::has_sizes` meets its contract.
 use Prim.Native.Nat.{◌≤◌}
 use Rattle.fraction.specs.Words.{word}
 use Rattle.records.proofs.Questions.{size-le, no-nodes, no-arcs, by_length}
 use mathlib.Core.Path.{◌∙◌, sym}
-use native.Mathlib.Omega.{arith}
-use borrow.Author.Rules.{rules}
 use Rattle.records.proofs.net.has_sizes.Goals as goal
 
 few : (c : goal.In-Is-size_at) → (c.in-Is.n ≤ 32) × (c.in-Is-size_at.m ≤ 96)

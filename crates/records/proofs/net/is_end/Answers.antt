@@ -1,5 +1,5 @@
+-- `records::is_end` meets its contract.
 use Rattle.records.specs.Network.{is_end}
-use borrow.Author.Rules.{rules}
 use borrow.Author.Tests.{eq-eqb, le-leb, lt-leb, ne_eqb}
 use Rattle.records.proofs.net.is_end.Goals as goal
 

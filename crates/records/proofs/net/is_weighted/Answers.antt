@@ -1,6 +1,6 @@
+-- `records::net::is_weighted` meets its contract.
 use Rattle.network.specs.Network.{is_root}
 use Rattle.records.specs.Network.{is_weighted}
-use borrow.Author.Rules.{rules}
 use borrow.Author.Tests.{eq-eqb, ne_eqb}
 use Rattle.records.proofs.net.is_weighted.Goals as goal
 

@@ -1,6 +1,5 @@
 -- `records::net::load_arcs` meets its contract.
 use Rattle.loops.proofs.Laws.{folded-all, folded_more, folded-none}
-use Rattle.algebra.proofs.Solver.{at}
 use native.Mathlib.Omega.{arith}
 use Rattle.records.proofs.net.load_arcs.Goals as goal
 

@@ -1,9 +1,6 @@
-use Rattle.records.proofs.Loaded.{length-turns}
-use native.Mathlib.Omega.{arith}
 use Prim.Native.Nat.{◌-◌}
 use Rattle.records.specs.Network.{load_turn}
-use Rattle.loops.proofs.Laws.{Folded, folded-all, folded_more, folded-none}
-use borrow.Author.Rules.{rules}
+use Rattle.loops.proofs.Laws.{Folded}
 use Rattle.records.proofs.net.load_arcs.Given as goal
 
 abbrev pub invariant-loop-j : goal.invariant-loop-j

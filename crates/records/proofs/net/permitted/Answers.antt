@@ -1,6 +1,8 @@
+-- `records::net::permitted` meets its contract.
 use Rattle.records.specs.Network.{role_of, is_permitted}
-use borrow.Author.Rules.{rules}
 use borrow.Author.Tests.{le-leb, lt-leb, ne_eqb}
+use borrow.Author.Rules.{rules}
+use Prim.Native.Nat.{◌-◌, ◌%◌}
 use Rattle.records.proofs.net.permitted.Goals as goal
 
 pub returns-then-is_proper : goal.returns-then-is_proper
@@ -21,4 +23,4 @@ returns-in-4 c = rw (← c.is_proper.ensures, c.if-is_proper.false, lt-leb _ _ c
 
 pub returns-in_default : goal.returns-in_default
 unfolding is_permitted role_of
-returns-in_default c = rw (← c.is_proper.ensures, c.if-is_proper.false, lt-leb _ _ c.if-k-n.false, ne_eqb _ _ c.in_default.in_default-own.rest.0.1, ne_eqb _ _ c.in_default.in_default-own.rest.1)
+returns-in_default c = rw (← c.is_proper.ensures, c.if-is_proper.false, lt-leb _ _ c.if-k-n.false, ne_eqb ((c.args.k - c.args.n - 1) % 7) 3 (search rules), ne_eqb ((c.args.k - c.args.n - 1) % 7) 4 (search rules))

@@ -1,10 +1,6 @@
-use Prim.Native.Nat.{◌-◌, ◌+◌}
-use lib.ListN.{set}
-use native.Mathlib.Omega.{arith}
-use Rattle.records.specs.internal.Put.{dens_in, nums_in, put_from}
-use Rattle.records.proofs.Put.{Turned, turned-all, turned_more, turned_none}
-use Rattle.records.proofs.Turns.{turn-less}
-use borrow.Author.Rules.{rules}
+-- `records::net::put_seven` meets its contract.
+use Rattle.records.specs.internal.Put.{put_from}
+use Rattle.records.proofs.Put.{turned-all, turned_more, turned_none}
 use Rattle.records.proofs.net.put_seven.Goals as goal
 
 pub returns : goal.returns

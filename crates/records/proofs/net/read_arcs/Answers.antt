@@ -1,12 +1,7 @@
-use Prim.Native.Nat.{◌-◌}
-use Rattle.loops.proofs.Laws.{Folded, folded-all, folded_more, folded-none}
+-- `records::read_arcs` meets its contract.
+use Rattle.loops.proofs.Laws.{folded-all, folded_more, folded-none}
 use Rattle.network.proofs.Numbers.{number}
-use Rattle.network.specs.declared.Nodes.{Nodes}
 use Rattle.network.specs.Network.{with_arc}
-use Rattle.network.specs.ArcList.{joined, no_arcs}
-use Rattle.records.specs.Network.{arc_turn}
-use Rattle.records.proofs.Turns.{turn-less}
-use borrow.Author.Rules.{rules}
 use native.Mathlib.Omega.{arith}
 use Rattle.records.proofs.net.read_arcs.Goals as goal
 

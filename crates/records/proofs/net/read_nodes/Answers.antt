@@ -1,14 +1,7 @@
-use mathlib.Core.List.{List}
-use Prim.Native.Nat.{◌-◌}
-use Rattle.loops.proofs.Laws.{Folded, folded-all, folded_more, folded-none}
+-- `records::read_nodes` meets its contract.
+use Rattle.loops.proofs.Laws.{folded-all, folded_more, folded-none}
 use Rattle.network.proofs.Numbers.{number}
-use Rattle.network.specs.declared.Arc.{Arc}
-use Rattle.network.specs.Network.{empty_net, with_node, with_supply}
-use Rattle.network.specs.ArcList.{joined, nodes_of}
-use Rattle.records.specs.Arrays.{figure_at}
-use Rattle.records.specs.Network.{node_turn}
-use Rattle.records.proofs.Turns.{turn-less}
-use borrow.Author.Rules.{rules}
+use Rattle.network.specs.Network.{with_node, with_supply}
 use native.Mathlib.Omega.{arith}
 use Rattle.records.proofs.net.read_nodes.Goals as goal
 

@@ -2,7 +2,6 @@
 use mathlib.Core.Path.{◌∙◌, sym}
 use native.Mathlib.Omega.{arith}
 use Rattle.loops.proofs.Laws.{part-long, part-sized}
-use Rattle.algebra.proofs.Solver.{at}
 use Rattle.fraction.specs.Words.{word_of}
 use Rattle.records.specs.Arrays.{record_of}
 use Rattle.records.specs.Network.{network_of}

@@ -1,10 +1,7 @@
 use Prim.Native.Nat.{◌-◌, ◌+◌}
 use lib.ListN.{set}
-use native.Mathlib.Omega.{arith}
-use Rattle.records.specs.internal.Put.{dens_at, nums_at, put_from}
-use Rattle.records.proofs.Put.{Turned, turned-all, turned_more, turned_none}
-use Rattle.records.proofs.Turns.{turn-less}
-use borrow.Author.Rules.{rules}
+use Rattle.records.specs.internal.Put.{dens_at, nums_at}
+use Rattle.records.proofs.Put.{Turned}
 use Rattle.records.proofs.pair.put_flows.Given as goal
 
 abbrev pub invariant-loop-j : goal.invariant-loop-j

@@ -1,11 +1,6 @@
 use Prim.Native.Nat.{◌-◌}
-use Rattle.loops.proofs.Laws.{Folded, folded-all, folded_more, folded-none}
-use Rattle.network.proofs.Numbers.{number}
+use Rattle.loops.proofs.Laws.{Folded}
 use Rattle.records.specs.Pair.{flow_turn}
-use Rattle.network.specs.Pair.{with_flow}
-use Rattle.records.proofs.Turns.{turn-less}
-use borrow.Author.Rules.{rules}
-use native.Mathlib.Omega.{arith}
 use Rattle.records.proofs.pair.read_flows.Given as goal
 
 abbrev pub invariant-loop-j : goal.invariant-loop-j

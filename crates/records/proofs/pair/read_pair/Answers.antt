@@ -1,5 +1,4 @@
 -- `records::pair::read_pair` meets its contract.
-use Rattle.algebra.proofs.Solver.{at}
 use Rattle.records.specs.Pair.{pair_of}
 use borrow.Author.Tests.{le-leb, lt-leb}
 use Rattle.records.proofs.pair.read_pair.Goals as goal

@@ -1,11 +1,6 @@
 use Prim.Native.Nat.{◌-◌}
-use Rattle.loops.proofs.Laws.{Folded, folded-all, folded_more, folded-none}
-use Rattle.network.proofs.Numbers.{number}
+use Rattle.loops.proofs.Laws.{Folded}
 use Rattle.records.specs.Pair.{price_turn}
-use Rattle.network.specs.Pair.{with_price}
-use Rattle.records.proofs.Turns.{turn-less}
-use borrow.Author.Rules.{rules}
-use native.Mathlib.Omega.{arith}
 use Rattle.records.proofs.pair.read_prices.Given as goal
 
 abbrev pub invariant-loop-i : goal.invariant-loop-i

@@ -1,3 +1,4 @@
+-- `records::word_at` meets its contract.
 use Rattle.records.specs.Logged.{stack_word}
 use Rattle.integer.specs.Machine.{back32}
 use borrow.Author.Rules.{rules}

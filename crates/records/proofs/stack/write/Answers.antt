@@ -1,9 +1,8 @@
-use Prim.Native.Nat.{◌+◌, ◌*◌, ◌-◌}
+-- `records::stack::write` meets its contract.
 use Rattle.integer.specs.Machine.{back32}
-use Rattle.loops.proofs.Laws.{Filled, filled-all, filled_more, filled_none}
+use Rattle.loops.proofs.Laws.{filled-all, filled_more, filled_none}
 use borrow.Author.Tests.{le-leb, lt-leb}
-use Rattle.records.specs.Logged.{stack_word, with_stack}
-use Rattle.records.proofs.Turns.{turn-less}
+use Rattle.records.specs.Logged.{with_stack}
 use borrow.Author.Rules.{rules}
 use native.Mathlib.Omega.{arith}
 use Rattle.records.proofs.stack.write.Goals as goal

@@ -1,11 +1,6 @@
-use Prim.Native.Nat.{◌+◌, ◌*◌, ◌-◌}
-use Rattle.integer.specs.Machine.{back32}
-use Rattle.loops.proofs.Laws.{Filled, filled-all, filled_more, filled_none}
-use borrow.Author.Tests.{le-leb, lt-leb}
-use Rattle.records.specs.Logged.{stack_word, with_stack}
-use Rattle.records.proofs.Turns.{turn-less}
-use borrow.Author.Rules.{rules}
-use native.Mathlib.Omega.{arith}
+use Prim.Native.Nat.{◌-◌}
+use Rattle.loops.proofs.Laws.{Filled}
+use Rattle.records.specs.Logged.{stack_word}
 use Rattle.records.proofs.stack.write.Given as goal
 
 abbrev pub invariant-loop-k : goal.invariant-loop-k

@@ -1,3 +1,4 @@
+-- `records::values::write` meets its contract.
 use lib.Seq.{set_out}
 use mathlib.Core.Path.{sym}
 use native.Mathlib.Omega.{arith}
