@@ -1,4 +1,3 @@
-pub mod Lent
 pub mod AtNode
 pub mod Scans
 pub mod Pairs

@@ -1,0 +1,6 @@
+use Rattle.search.proofs.AtNode.{old-is}
+use borrow.Author.Rules.{rules}
+use Rattle.search.proofs.scan.arc_after.Goals as goal
+
+pub returns : goal.returns
+returns c = λ nodes. old-is nodes _ _ _ c.numbered.ensures c.read.ensures (c.touching-j.ensures nodes)

@@ -1,0 +1,20 @@
+use Prim.Native.Nat.{◌-◌, ◌≤◌}
+use Rattle.closed_arc.specs.ClosedArc.{closed_arc}
+use Rattle.costly_arc.proofs.Upward.{Reached, reached-more, reached-none}
+use Rattle.network.proofs.Lists.{arc-is}
+use Rattle.network.specs.ArcList.{net_in}
+use Rattle.search.proofs.Scans.{reached-answer, reached-end, reached-on}
+use Rattle.rules.proofs.Tests.{closed-open}
+use Rattle.rules.proofs.Whole.{closed-beyond}
+use Rattle.step.specs.declared.Next.TheVariants.{Stops}
+use borrow.Author.Rules.{rules}
+use mathlib.Core.Logic.{⊎_elim}
+use mathlib.Core.Path.{◌∙◌, sym}
+use native.Mathlib.Omega.{arith}
+use Rattle.search.proofs.scan.scan_closed.Given as goal
+
+abbrev pub invariant-loop-j : goal.invariant-loop-j
+invariant-loop-j l = (l.nodes.m ≤ 96) × Reached (closed_arc (net_in l.nodes l.arcs)) 1 96 Stops l.j
+
+abbrev pub decreases-loop-j : goal.decreases-loop-j
+decreases-loop-j l = 97 - l.j

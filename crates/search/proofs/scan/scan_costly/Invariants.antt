@@ -1,0 +1,15 @@
+use Prim.Native.Nat.{◌+◌, ◌-◌, ◌≤◌}
+use Rattle.loops.proofs.Laws.{Missed, missed-all, missed_more, missed-none}
+use Rattle.network.proofs.Lists.{arc-is}
+use Rattle.network.specs.ArcList.{net_in}
+use Rattle.search.proofs.Scans.{no_root, root_at, unused-none}
+use borrow.Author.Rules.{rules}
+use mathlib.Core.Path.{◌∙◌, sym}
+use native.Mathlib.Omega.{arith}
+use Rattle.search.proofs.scan.scan_costly.Given as goal
+
+abbrev pub invariant-loop-j : goal.invariant-loop-j
+invariant-loop-j l = (l.nodes.m ≤ 96) × Missed (root_at (net_in l.nodes l.arcs)) (l.nodes.m + 1) l.j
+
+abbrev pub decreases-loop-j : goal.decreases-loop-j
+decreases-loop-j l = 97 - l.j

@@ -1,0 +1,19 @@
+use Prim.Native.Nat.{◌-◌, ◌≤◌}
+use Rattle.costly_arc.proofs.Upward.{Reached, reached-more, reached-none}
+use Rattle.network.specs.ArcList.{net_in}
+use Rattle.search.proofs.Scans.{reached-answer, reached-end, reached-on}
+use Rattle.rules.proofs.Whole.{node-unused}
+use Rattle.rules.specs.Table.{rules}
+use Rattle.search.proofs.AtNode.{answered, elsewhere, not-supplied}
+use Rattle.step.specs.Run.{rule_of}
+use Rattle.step.specs.declared.Next.TheVariants.{Stops}
+use mathlib.Core.Logic.{⊎_elim}
+use mathlib.Core.Path.{◌∙◌, sym}
+use native.Mathlib.Omega.{arith}
+use Rattle.search.proofs.scan.scan_nodes.Given as goal
+
+abbrev pub invariant-loop-i : goal.invariant-loop-i
+invariant-loop-i l = (1 ≤ l.i) × (l.nodes.n ≤ 32) × Reached ((rule_of rules l.k).at (net_in l.nodes l.arcs)) l.k 32 Stops l.i
+
+abbrev pub decreases-loop-i : goal.decreases-loop-i
+decreases-loop-i l = 33 - l.i
