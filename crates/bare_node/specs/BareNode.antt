@@ -11,7 +11,7 @@ use Rattle.step.specs.declared.Outcome.{Outcome}
 use Rattle.step.specs.declared.Outcome.TheVariants.{Changes}
 use Rattle.step.specs.declared.Undone.{Undone}
 use Rattle.step.specs.declared.Undone.TheVariants.{Restores}
-use Rattle.step.specs.Outcome.{◌>>=◌, ◌>>◌, only_where, no_flow_where}
+use Rattle.step.specs.Outcome.{◌>>◌, only_where, no_flow_where}
 use Rattle.step.specs.Back.{old_one, price_only}
 use Rattle.step.specs.Run.{Rule}
 

@@ -16,7 +16,7 @@ use Rattle.step.specs.declared.Outcome.{Outcome}
 use Rattle.step.specs.declared.Outcome.TheVariants.{Changes}
 use Rattle.step.specs.declared.Undone.{Undone}
 use Rattle.step.specs.declared.Undone.TheVariants.{Restores}
-use Rattle.step.specs.Outcome.{◌>>=◌, ◌>>◌, fits}
+use Rattle.step.specs.Outcome.{◌>>=◌, fits}
 use Rattle.step.specs.Back.{old_one, flow_only}
 
 -- the supply s at an end less its multiplier e × the flow v; no supply where there is no end

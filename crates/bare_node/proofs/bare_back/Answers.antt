@@ -1,5 +1,4 @@
 use Rattle.bare_node.specs.BareNode.{bare_back}
-use borrow.Author.Rules.{rules}
 use Rattle.bare_node.proofs.bare_back.Goals as goal
 
 pub returns : goal.returns

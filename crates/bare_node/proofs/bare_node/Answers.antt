@@ -1,6 +1,5 @@
 use Rattle.bare_node.specs.BareNode.{bare}
 use Rattle.step.specs.Outcome.{only_where, no_flow_where}
-use borrow.Author.Rules.{rules}
 use borrow.Author.Tests.{eq-eqb, ne_eqb}
 use Rattle.bare_node.proofs.bare_node.Goals as goal
 

@@ -1,7 +1,5 @@
 use Rattle.closed_arc.specs.ClosedArc.{closed}
-use Rattle.step.proofs.Lines.{met, unmet}
 use Rattle.step.specs.Outcome.{no_flow_where, only_where}
-use borrow.Author.Rules.{rules}
 use borrow.Author.Tests.{eq-eqb, ne_eqb}
 use Rattle.closed_arc.proofs.closed_arc.Goals as goal
 

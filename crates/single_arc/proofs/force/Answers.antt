@@ -1,6 +1,5 @@
 use Rattle.single_arc.specs.SingleArc.{forced_out}
 use Rattle.step.specs.Outcome.{fits, no_flow_where}
-use borrow.Author.Rules.{rules}
 use Rattle.single_arc.proofs.force.Goals as goal
 
 pub returns-in_default : goal.returns-in_default

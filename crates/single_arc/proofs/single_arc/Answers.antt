@@ -1,6 +1,5 @@
 use Rattle.single_arc.specs.SingleArc.{single}
 use Rattle.step.specs.Outcome.{only_where}
-use borrow.Author.Rules.{rules}
 use borrow.Author.Tests.{eq-eqb, ne_eqb}
 use Rattle.single_arc.proofs.single_arc.Goals as goal
 

@@ -1,6 +1,5 @@
 use Rattle.single_arc.specs.SingleArc.{single_back}
 use Rattle.step.specs.Back.{figure}
-use borrow.Author.Rules.{rules}
 use Rattle.single_arc.proofs.single_back.Goals as goal
 
 pub returns-in_default : goal.returns-in_default

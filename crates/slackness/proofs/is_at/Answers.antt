@@ -1,6 +1,5 @@
 use Rattle.fraction.specs.Exact.{is_finite}
 use Rattle.slackness.specs.Slackness.{is_at}
-use borrow.Author.Rules.{rules}
 use borrow.Author.Tests.{eq-eqb, ne_eqb}
 use mathlib.Core.Path.{refl}
 use Rattle.slackness.proofs.is_at.Goals as goal

@@ -1,5 +1,4 @@
 use Rattle.slackness.specs.Slackness.{keeps_rule}
-use borrow.Author.Rules.{rules}
 use mathlib.Core.Path.{refl}
 use Rattle.slackness.proofs.keeps_rule.Goals as goal
 

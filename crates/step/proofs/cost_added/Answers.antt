@@ -1,5 +1,4 @@
 use Rattle.step.specs.Dropped.{cost_added}
-use borrow.Author.Rules.{rules}
 use Rattle.step.proofs.cost_added.Goals as goal
 
 pub returns : goal.returns

@@ -1,6 +1,5 @@
 use Rattle.step.specs.Dropped.{dropped}
 use Rattle.step.specs.Outcome.{fits}
-use borrow.Author.Rules.{rules}
 use Rattle.step.proofs.drop_arc.Goals as goal
 
 pub returns-in_default : goal.returns-in_default

@@ -1,5 +1,4 @@
 use Rattle.step.specs.Dropped.{gained}
-use borrow.Author.Rules.{rules}
 use Rattle.step.proofs.gained.Goals as goal
 
 pub returns : goal.returns

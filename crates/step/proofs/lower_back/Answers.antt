@@ -1,5 +1,4 @@
 use Rattle.step.specs.Dropped.{lower_back}
-use borrow.Author.Rules.{rules}
 use Rattle.step.proofs.lower_back.Goals as goal
 
 pub returns : goal.returns

@@ -1,5 +1,4 @@
 use Rattle.step.specs.Back.{quote_at}
-use borrow.Author.Rules.{rules}
 use borrow.Author.Tests.{eq-eqb, ne_eqb}
 use Rattle.step.proofs.quote.Goals as goal
 

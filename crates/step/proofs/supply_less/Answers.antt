@@ -1,5 +1,4 @@
 use Rattle.step.specs.Dropped.{supply_less}
-use borrow.Author.Rules.{rules}
 use borrow.Author.Tests.{eq-eqb, ne_eqb}
 use Rattle.step.proofs.supply_less.Goals as goal
 

@@ -1,5 +1,4 @@
 use Rattle.step_log.specs.Log.{numbers_in}
-use borrow.Author.Rules.{rules}
 use Rattle.step_log.proofs.numbers_in.Goals as goal
 
 pub returns : goal.returns

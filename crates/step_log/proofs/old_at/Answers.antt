@@ -1,5 +1,4 @@
 use Rattle.step_log.specs.Log.{old_from, old_in}
-use borrow.Author.Rules.{rules}
 use Rattle.step_log.proofs.old_at.Goals as goal
 
 pub returns : goal.returns

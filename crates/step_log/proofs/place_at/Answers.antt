@@ -1,5 +1,4 @@
 use Rattle.step_log.specs.Log.{place_in}
-use borrow.Author.Rules.{rules}
 use Rattle.step_log.proofs.place_at.Goals as goal
 
 pub returns : goal.returns

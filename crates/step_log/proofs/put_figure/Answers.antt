@@ -1,7 +1,6 @@
 use Rattle.integer.specs.Machine.{back32}
 use Rattle.step_log.specs.Log.{with_figure}
-use borrow.Author.Rules.{rules, Below-set}
-use native.Mathlib.Omega.{arith}
+use borrow.Author.Rules.{rules}
 use Rattle.step_log.proofs.put_figure.Goals as goal
 
 pub returns : goal.returns

@@ -1,8 +1,7 @@
 use Rattle.fraction.specs.Exact.{den_word}
 use Rattle.integer.specs.Machine.{back32}
 use Rattle.step_log.specs.Log.{with_figure}
-use borrow.Author.Rules.{rules, Below-set}
-use native.Mathlib.Omega.{arith}
+use borrow.Author.Rules.{rules}
 use Rattle.step_log.proofs.put_number.Goals as goal
 
 pub returns : goal.returns

@@ -1,5 +1,4 @@
 use Rattle.step_log.proofs.Writes.{four-written}
-use borrow.Author.Rules.{rules}
 use Rattle.step_log.proofs.put_numbers.Goals as goal
 
 pub returns : goal.returns

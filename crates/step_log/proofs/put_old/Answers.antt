@@ -1,5 +1,4 @@
 use Rattle.step_log.proofs.Writes.{step-written}
-use borrow.Author.Rules.{rules}
 use Rattle.step_log.proofs.put_old.Goals as goal
 
 pub returns : goal.returns

@@ -1,5 +1,4 @@
 use Rattle.step_log.proofs.Writes.{eight-written}
-use borrow.Author.Rules.{rules}
 use Rattle.step_log.proofs.put_update.Goals as goal
 
 pub returns : goal.returns

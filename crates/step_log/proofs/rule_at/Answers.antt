@@ -1,5 +1,4 @@
 use Rattle.step_log.specs.Log.{rule_in}
-use borrow.Author.Rules.{rules}
 use Rattle.step_log.proofs.rule_at.Goals as goal
 
 pub returns : goal.returns

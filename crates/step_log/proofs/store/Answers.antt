@@ -1,7 +1,5 @@
 use Rattle.step_log.specs.Log.{with_step}
-use borrow.Author.Rules.{rules}
 use borrow.Author.Tests.{le-leb, lt-leb, le-ltb, lt-ltb}
-use native.Mathlib.Omega.{arith}
 use Rattle.step_log.proofs.store.Goals as goal
 
 pub returns-then-k-words : goal.returns-then-k-words

@@ -1,5 +1,4 @@
 use Rattle.step_log.specs.Log.{update_in}
-use borrow.Author.Rules.{rules}
 use Rattle.step_log.proofs.update_in.Goals as goal
 
 pub returns : goal.returns

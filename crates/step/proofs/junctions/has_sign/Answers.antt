@@ -1,5 +1,4 @@
 use Rattle.step.specs.Junction.{has_sign_at}
-use borrow.Author.Rules.{rules}
 use Rattle.step.proofs.junctions.has_sign.Goals as goal
 
 pub returns-then-below : goal.returns-then-below

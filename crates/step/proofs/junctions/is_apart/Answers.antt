@@ -1,5 +1,4 @@
 use Rattle.step.specs.Junction.{is_apart}
-use borrow.Author.Rules.{rules}
 use Rattle.step.proofs.junctions.is_apart.Goals as goal
 
 pub returns : goal.returns

@@ -1,5 +1,4 @@
 use Rattle.step.specs.Junction.{is_free}
-use borrow.Author.Rules.{rules}
 use Rattle.step.proofs.junctions.is_free.Goals as goal
 
 pub returns-then-is_root : goal.returns-then-is_root
