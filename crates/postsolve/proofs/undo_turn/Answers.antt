@@ -1,0 +1,7 @@
+use Rattle.network.specs.ArcList.{replaced_all}
+use borrow.Author.Rules.{rules}
+use Rattle.postsolve.proofs.undo_turn.Goals as goal
+
+pub returns : goal.returns
+unfolding replaced_all
+returns c = (rw (c.undo_step.ensures, c.rule_at.ensures, c.old_at-old.ensures), rw (c.put_edit.ensures, c.old_edit.ensures, c.old_at-old.ensures))
