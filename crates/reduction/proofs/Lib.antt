@@ -3,4 +3,3 @@ pub mod Sizes
 pub mod ReadBack
 pub mod Entry
 pub mod Found
-pub mod Lent
