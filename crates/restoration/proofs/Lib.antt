@@ -3,4 +3,3 @@ pub mod Parts
 pub mod Optimum
 pub mod Passed
 pub mod Entry
-pub mod Lent
