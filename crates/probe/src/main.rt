@@ -6,6 +6,9 @@
 
 ghost use Rattle.std.specs.Prelude.{◌≤◌, ◌<◌};
 
+use std::io;
+use std::io::Write;
+
 mod back;
 mod operation;
 mod rule;
@@ -44,32 +47,33 @@ fn answer_all(input: &[u8; 26112], out: &mut [u8; 7936], count: usize)
 }
 
 // Writes the first answers.
-fn write_all(out: &[u8; 7936], count: usize)
+fn write_all(rt: &HostRuntime, out: &[u8; 7936], count: usize) -> io::Result<()>
     requires { count ≤ 32 }
 {
     let all = &out[..];
     let end = 248 * count;
-    io::write_all(libc::STDOUT_FILENO, &all[0..end]);
+    rt.stdout().write_all(&all[0..end])
 }
 
 // Reads some records, answers them, and says whether more may come.
-fn answer_some() -> bool {
+fn answer_some(rt: &HostRuntime) -> io::Result<bool> {
     let mut input = [0u8; 26112];
-    let n = io::read_full(libc::STDIN_FILENO, &mut input);
+    let n = input::read_full(&mut rt.stdin(), &mut input)?;
     let mut out = [0u8; 7936];
     let count = n / 816;
     answer_all(&input, &mut out, count);
-    write_all(&out, count);
-    n == 26112
+    write_all(rt, &out, count)?;
+    Ok(n == 26112)
 }
 
-fn main() {
+fn main(rt: HostRuntime) -> io::Result<()> {
     let mut turns: u64 = 1000000;
     while 0 < turns {
-        if answer_some() {
+        if answer_some(&rt)? {
             turns -= 1;
         } else {
             turns = 0;
         }
     }
+    Ok(())
 }

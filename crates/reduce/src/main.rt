@@ -2,10 +2,13 @@
 // that a longer one is seen.
 #![tactic(auto)]
 
-fn main() {
+use std::io;
+use std::io::Write;
+
+fn main(rt: HostRuntime) -> io::Result<()> {
     let mut input = [0u8; text::MAX_BYTES + 1];
-    let n = io::read_full(libc::STDIN_FILENO, &mut input);
-    let mut out = io::large_buffer();
+    let n = input::read_full(&mut rt.stdin(), &mut input)?;
+    let mut out = [0u8; 65536];
     let end = answers::reduce_text(&input[..n], &mut out);
-    io::write_all(libc::STDOUT_FILENO, &out[..end]);
+    rt.stdout().write_all(&out[..end])
 }
