@@ -1,0 +1,9 @@
+use Rattle.answers.proofs.Printing.{printed-most}
+use Rattle.answers.proofs.Splitting.{split-inside}
+use borrow.Author.Rules.{rules}
+use lib.Dec.{lit≤}
+use mathlib.Core.Path.{◌∙◌, sym}
+use Rattle.answers.proofs.restoring.restore_words.Goals as goal
+
+pub restore_split-requires : goal.restore_split-requires
+restore_split-requires c = split-inside _ _ _ (sym c.split_words.ensures ∙ c.in-Parts.is)
