@@ -8,13 +8,10 @@ use mathlib.Core.Path.{sym}
 use lib.Seq.{length-take-le}
 use Rattle.answers.proofs.reduce_text.Goals as goal
 
-found : (c : goal.In-Words-2) → Found c.args.text.now 12288 c.read_words.new.1.0 (lit≤ tt) c.in-Words.n
-found c = read_some c.args.text.now 12288 c.read_words.new.1.0 (lit≤ tt) c.in-Words.n (rw c.in-Words.is at c.read_words.ensures)
-
 pub returns-in-Words : goal.returns-in-Words
 unfolding reduce_text
-returns-in-Words c = (rw (found c.before.before.before.before.before.before).is (rw c.clear.ensures at c.reduce_words.ensures), no-flow-right _)
+returns-in-Words c = (rw (read_some c.args.text.now 12288 c.read_words.new.words (lit≤ tt) c.in-Words.n (rw c.in-Words.is at c.read_words.ensures)).is (rw c.clear.ensures at c.reduce_words.ensures), no-flow-right _)
 
 pub returns-in-Refused : goal.returns-in-Refused
 unfolding reduce_text
-returns-in-Refused c = (rw (read_none c.args.text.now 12288 c.read_words.new.1.0 (lit≤ tt) (rw c.in-Refused.is at c.read_words.ensures)) (printed-most (rw c.clear.ensures at c.put_refusal.ensures) (lit≤ tt)), no-flow-right _)
+returns-in-Refused c = (rw (read_none c.args.text.now 12288 c.read_words.new.words (lit≤ tt) (rw c.in-Refused.is at c.read_words.ensures)) (printed-most (rw c.clear.ensures at c.put_refusal.ensures) (lit≤ tt)), no-flow-right _)
