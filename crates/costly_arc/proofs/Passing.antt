@@ -1,9 +1,7 @@
 -- Where rule 4 passes, and where the search for it may be left out.
 use mathlib.Core.Path.{◌≡◌, refl, sym, ◌∙◌}
 use mathlib.Core.Bool.{Bool, true, false, cond, ◌&&◌, not}
-use mathlib.Core.Logic.{◌⊎◌, ⊎_elim}
 use Prim.Native.Nat.{ℕ, ◌<◌}
-use native.Mathlib.Omega.{arith}
 use Rattle.fraction.specs.Exact.{is_finite}
 use Rattle.network.specs.declared.Net.{Net}
 use Rattle.network.specs.Network.{arc_at, is_root}

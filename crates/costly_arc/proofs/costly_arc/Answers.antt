@@ -1,7 +1,5 @@
 use Rattle.costly_arc.proofs.Known.{searched-never}
 use Rattle.costly_arc.proofs.Passing.{costly-is}
-use Rattle.step.proofs.Lines.{met, unmet}
-use borrow.Author.Rules.{rules}
 use mathlib.Core.Bool.{and-false}
 use Rattle.costly_arc.proofs.costly_arc.Goals as goal
 

@@ -1,7 +1,5 @@
 use Rattle.costly_arc.specs.Seen.{is_candidate}
 use Rattle.fraction.specs.Exact.{is_finite}
-use Rattle.step.proofs.Lines.{met, unmet}
-use borrow.Author.Rules.{rules}
 use mathlib.Core.Path.{refl}
 use Rattle.costly_arc.proofs.is_candidate.Goals as goal
 

@@ -1,6 +1,4 @@
 use Rattle.costly_arc.specs.CostlyArc.{is_open_root}
-use Rattle.step.proofs.Lines.{met, unmet}
-use borrow.Author.Rules.{rules}
 use borrow.Author.Tests.{eq-eqb, ne_eqb}
 use Rattle.costly_arc.proofs.is_open_root.Goals as goal
 

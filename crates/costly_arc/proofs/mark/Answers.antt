@@ -1,5 +1,4 @@
 use Rattle.costly_arc.specs.Seen.{marked}
-use borrow.Author.Rules.{rules}
 use borrow.Author.Tests.{le-ltb, lt-ltb}
 use Rattle.costly_arc.proofs.mark.Goals as goal
 

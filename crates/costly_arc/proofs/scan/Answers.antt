@@ -1,10 +1,6 @@
-use Prim.Native.Nat.{◌-◌}
-use Rattle.costly_arc.proofs.Going.{Going, going-covers, going-found, going-idle, going-past, going-vain}
+use Rattle.costly_arc.proofs.Going.{going-covers, going-found, going-idle, going-past, going-vain}
 use Rattle.costly_arc.proofs.Upward.{reached-all, reached-none}
 use Rattle.costly_arc.proofs.Passing.{passes_kept}
-use Rattle.costly_arc.specs.Seen.{Known}
-use borrow.Author.Rules.{rules}
-use mathlib.Core.Logic.{⊎_elim}
 use mathlib.Core.Path.{◌∙◌, refl, sym}
 use native.Mathlib.Omega.{arith}
 use Rattle.costly_arc.proofs.scan.Goals as goal
@@ -26,7 +22,8 @@ pub loop-j-preserved : goal.loop-j-preserved
 loop-j-preserved c = λ k.
     let h = c.loop-j.invariant k in
     let times = c.all_times-times in
-    elim c.if-is_due.branch
-    [ then-is_due+in-Changes+else-has_pair w ↦ going-vain h (omega arith) (sym (w.has_pair.ensures (h.known.vain _) (going-covers h times.result.at times.ensures)) ∙ w.if-has_pair.false) w.known-is
-    | then-is_due+in_default w ↦ going-past h (omega arith) (passes_kept _ _ _ w.at_lower.ensures w.in_default.not-Changes) w.known-is
-    | else-is_due w ↦ going-idle h (omega arith) times.result.at times.ensures (sym c.is_due.ensures ∙ w.if-is_due.false) w.known-is ]
+    elim c.if-is_due.branch [
+      | then-is_due+in-Changes+else-has_pair w ↦ going-vain h (omega arith) (sym (w.has_pair.ensures (h.known.vain _) (going-covers h times.result.at times.ensures)) ∙ w.if-has_pair.false) w.known-is
+      | then-is_due+in_default w ↦ going-past h (omega arith) (passes_kept _ _ _ w.at_lower.ensures w.in_default.not-Changes) w.known-is
+      | else-is_due w ↦ going-idle h (omega arith) times.result.at times.ensures (sym c.is_due.ensures ∙ w.if-is_due.false) w.known-is
+    ]

@@ -1,5 +1,4 @@
 use Rattle.crossing.specs.Tried.{signed_of}
-use borrow.Author.Rules.{rules}
 use Rattle.crossing.proofs.by_sign.Goals as goal
 
 pub returns : goal.returns

@@ -1,8 +1,6 @@
 use Rattle.step.specs.Outcome.{only_where}
-use Rattle.step.proofs.Lines.{met, unmet}
 use Rattle.crossing.specs.Crossing.{crossed_at}
 use Rattle.crossing.specs.internal.Made.{goes_on}
-use borrow.Author.Rules.{rules}
 use Rattle.crossing.proofs.cross.Goals as goal
 
 pub returns-then-not-all_free : goal.returns-then-not-all_free

@@ -2,7 +2,6 @@ use mathlib.Core.Path.{fun_ext}
 use Rattle.step.specs.Outcome.{fits}
 use Rattle.crossing.specs.Crossing.{crossed}
 use Rattle.crossing.specs.internal.Made.{goes_on}
-use borrow.Author.Rules.{rules}
 use Rattle.crossing.proofs.crossed.Goals as goal
 
 pub returns-in_default : goal.returns-in_default

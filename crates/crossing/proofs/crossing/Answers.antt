@@ -1,7 +1,5 @@
 use Rattle.crossing.specs.Tried.{crossing_by}
 use Rattle.step.specs.Outcome.{only_where}
-use Rattle.step.proofs.Lines.{met, unmet}
-use borrow.Author.Rules.{rules}
 use borrow.Author.Tests.{eq-eqb, ne_eqb}
 use Rattle.crossing.proofs.crossing.Goals as goal
 

@@ -1,6 +1,5 @@
 use Rattle.step.specs.Back.{figure}
 use Rattle.crossing.specs.Crossing.{crossing_back}
-use borrow.Author.Rules.{rules}
 use Rattle.crossing.proofs.crossing_back.Goals as goal
 
 pub returns-in_default : goal.returns-in_default

@@ -1,5 +1,4 @@
 use Rattle.crossing.specs.Crossing.{has_sign_at}
-use borrow.Author.Rules.{rules}
 use Rattle.crossing.proofs.has_sign.Goals as goal
 
 pub returns-then-below : goal.returns-then-below

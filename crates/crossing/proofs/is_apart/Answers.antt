@@ -1,5 +1,4 @@
 use Rattle.crossing.specs.Crossing.{is_apart}
-use borrow.Author.Rules.{rules}
 use Rattle.crossing.proofs.is_apart.Goals as goal
 
 pub returns : goal.returns

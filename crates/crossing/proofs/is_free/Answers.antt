@@ -1,5 +1,4 @@
 use Rattle.crossing.specs.Crossing.{is_free}
-use borrow.Author.Rules.{rules}
 use Rattle.crossing.proofs.is_free.Goals as goal
 
 pub returns-then-is_root : goal.returns-then-is_root

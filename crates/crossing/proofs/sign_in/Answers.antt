@@ -1,5 +1,4 @@
 use Rattle.crossing.specs.Tried.{signed_in}
-use borrow.Author.Rules.{rules}
 use borrow.Author.Tests.{eq-eqb, ne_eqb}
 use Rattle.crossing.proofs.sign_in.Goals as goal
 

@@ -1,8 +1,6 @@
 use Rattle.parallel_arcs.specs.ParallelArcs.{alike}
-use Rattle.step.proofs.Lines.{met, unmet}
 use Rattle.step.specs.Outcome.{only_where, fits}
 use borrow.Author.Tests.{eq-eqb, ne_eqb}
-use borrow.Author.Rules.{rules}
 use Rattle.parallel_arcs.proofs.alike.Goals as goal
 
 pub returns-then-tk-tj : goal.returns-then-tk-tj

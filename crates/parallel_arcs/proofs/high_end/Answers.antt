@@ -2,7 +2,6 @@ use Rattle.fraction.specs.Formula.{pair_of, ◌⊗◌}
 use Rattle.fraction.specs.Exact.{is_finite}
 use Rattle.parallel_arcs.specs.ParallelArcs.{high_end}
 use borrow.Author.Tests.{eq-eqb, ne_eqb}
-use borrow.Author.Rules.{rules}
 use Rattle.parallel_arcs.proofs.high_end.Goals as goal
 
 pub returns-then-z-eq0 : goal.returns-then-z-eq0

@@ -1,6 +1,5 @@
 use Rattle.fraction.specs.Formula.{pair_of, ◌⊗◌}
 use Rattle.parallel_arcs.specs.ParallelArcs.{is_times}
-use borrow.Author.Rules.{rules}
 use Rattle.parallel_arcs.proofs.is_times.Goals as goal
 
 pub returns-in_default : goal.returns-in_default

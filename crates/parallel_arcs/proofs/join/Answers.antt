@@ -3,7 +3,6 @@ use Rattle.fraction.specs.Exact.{is_finite}
 use Rattle.parallel_arcs.specs.ParallelArcs.{low_end, joined}
 use Rattle.step.specs.Outcome.{only_where, fits}
 use borrow.Author.Tests.{eq-eqb, ne_eqb}
-use borrow.Author.Rules.{rules}
 use Rattle.parallel_arcs.proofs.join.Goals as goal
 
 pub returns-then-tj-eq0 : goal.returns-then-tj-eq0

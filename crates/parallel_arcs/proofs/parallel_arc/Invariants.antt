@@ -1,15 +1,8 @@
 use Prim.Native.Nat.{◌+◌, ◌-◌}
-use Rattle.loops.proofs.Laws.{Scanned, scanned-all, scanned-none}
+use Rattle.loops.proofs.Laws.{Scanned}
 use Rattle.network.specs.Network.{arc_at}
-use Rattle.parallel_arcs.proofs.Search.{past, found, goes_on_lem}
-use Rattle.parallel_arcs.specs.ParallelArcs.{alike, or_next, parallel_arc}
-use Rattle.step.proofs.Lines.{met, unmet}
-use Rattle.step.specs.Outcome.{only_where}
+use Rattle.parallel_arcs.specs.ParallelArcs.{alike, or_next}
 use Rattle.step.specs.declared.Outcome.TheVariants.{Passes}
-use mathlib.Core.Path.{sym, ◌∙◌}
-use native.Mathlib.Omega.{arith}
-use borrow.Author.Tests.{eq-eqb, ne_eqb}
-use borrow.Author.Rules.{rules}
 use Rattle.parallel_arcs.proofs.parallel_arc.Given as goal
 
 abbrev pub invariant-loop-k : goal.invariant-loop-k

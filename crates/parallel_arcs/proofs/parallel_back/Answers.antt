@@ -1,7 +1,6 @@
 use Rattle.fraction.specs.Formula.{pair_of, ◌⊖◌, ◌⊗◌}
 use Rattle.parallel_arcs.specs.ParallelArcs.{low_end, parallel_back}
 use Rattle.step.specs.Back.{figure}
-use borrow.Author.Rules.{rules}
 use Rattle.parallel_arcs.proofs.parallel_back.Goals as goal
 
 pub returns-in_default : goal.returns-in_default

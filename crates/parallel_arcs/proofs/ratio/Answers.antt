@@ -1,6 +1,5 @@
 use Rattle.fraction.specs.Formula.{pair_of, ◌⊘◌}
 use Rattle.parallel_arcs.specs.ParallelArcs.{ratio_of}
-use borrow.Author.Rules.{rules}
 use Rattle.parallel_arcs.proofs.ratio.Goals as goal
 
 pub returns : goal.returns

@@ -2,7 +2,6 @@ use Rattle.fraction.specs.Formula.{pair_of, ◌⊕◌}
 use Rattle.fraction.specs.Exact.{is_finite}
 use Rattle.parallel_arcs.specs.ParallelArcs.{upper_sum}
 use borrow.Author.Tests.{eq-eqb, ne_eqb}
-use borrow.Author.Rules.{rules}
 use Rattle.parallel_arcs.proofs.upper_sum.Goals as goal
 
 pub returns-then-u-eq0 : goal.returns-then-u-eq0

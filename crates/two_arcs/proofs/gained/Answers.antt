@@ -1,5 +1,4 @@
 use Rattle.two_arcs.specs.TwoArcs.{gained}
-use borrow.Author.Rules.{rules}
 use Rattle.two_arcs.proofs.gained.Goals as goal
 
 pub returns : goal.returns

@@ -1,5 +1,4 @@
 use Rattle.two_arcs.specs.TwoArcs.{image_of}
-use borrow.Author.Rules.{rules}
 use Rattle.two_arcs.proofs.image.Goals as goal
 
 pub returns : goal.returns

@@ -1,6 +1,5 @@
 use Rattle.step.specs.Outcome.{only_where}
 use Rattle.two_arcs.specs.TwoArcs.{kept}
-use borrow.Author.Rules.{rules}
 use borrow.Author.Tests.{eq-eqb, ne_eqb}
 use Rattle.two_arcs.proofs.keep.Goals as goal
 

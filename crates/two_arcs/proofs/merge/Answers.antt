@@ -1,6 +1,5 @@
 use Rattle.step.specs.Outcome.{fits}
 use Rattle.two_arcs.specs.TwoArcs.{merged}
-use borrow.Author.Rules.{rules}
 use Rattle.two_arcs.proofs.merge.Goals as goal
 
 pub returns-in_default : goal.returns-in_default

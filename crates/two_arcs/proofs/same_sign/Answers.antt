@@ -1,5 +1,4 @@
 use Rattle.two_arcs.specs.TwoArcs.{same_sign}
-use borrow.Author.Rules.{rules}
 use Rattle.two_arcs.proofs.same_sign.Goals as goal
 
 pub returns-then-less : goal.returns-then-less

@@ -1,6 +1,5 @@
 use Rattle.fraction.specs.Exact.{is_finite}
 use Rattle.two_arcs.specs.TwoArcs.{tighter}
-use borrow.Author.Rules.{rules}
 use borrow.Author.Tests.{eq-eqb, ne_eqb}
 use Rattle.two_arcs.proofs.tighter_lower.Goals as goal
 

@@ -1,6 +1,5 @@
 use Rattle.two_arcs.specs.TwoArcs.{two}
 use Rattle.step.specs.Outcome.{only_where}
-use borrow.Author.Rules.{rules}
 use borrow.Author.Tests.{eq-eqb, ne_eqb}
 use Rattle.two_arcs.proofs.two_arcs.Goals as goal
 

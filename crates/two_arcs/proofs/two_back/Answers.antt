@@ -1,6 +1,5 @@
 use Rattle.step.specs.Back.{figure}
 use Rattle.two_arcs.specs.TwoArcs.{two_back}
-use borrow.Author.Rules.{rules}
 use Rattle.two_arcs.proofs.two_back.Goals as goal
 
 pub returns-in_default : goal.returns-in_default

@@ -1,12 +1,8 @@
 use Prim.Native.Nat.{◌-◌}
-use mathlib.Core.Path.{ap}
 use Rattle.costly_arc.specs.Seen.{is_old}
-use Rattle.costly_arc.specs.declared.due.Both.{Both}
-use Rattle.costly_arc.specs.internal.Due.{way_of, ways_of}
-use Rattle.loops.proofs.Laws.{Filled, filled_more, filled_none, filled-whole}
+use Rattle.costly_arc.specs.internal.Due.{way_of}
+use Rattle.loops.proofs.Laws.{Filled}
 use Rattle.network.specs.Network.{arc_at}
-use borrow.Author.Rules.{rules}
-use native.Mathlib.Omega.{arith}
 use Rattle.costly_arc.proofs.due.all_ways.Given as goal
 
 abbrev pub invariant-loop-k : goal.invariant-loop-k

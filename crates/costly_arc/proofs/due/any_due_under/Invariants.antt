@@ -1,11 +1,6 @@
 use Prim.Native.Nat.{◌-◌}
-use Rattle.costly_arc.proofs.Pairs.{none-due}
 use Rattle.costly_arc.specs.internal.Due.{is_due_under}
-use Rattle.loops.proofs.Laws.{Missed, missed-all, missed-found, missed_more, missed-none}
-use borrow.Author.Rules.{rules}
-use borrow.Author.Tests.{le-ltb, lt-ltb}
-use mathlib.Core.Logic.{⊎_elim}
-use native.Mathlib.Omega.{arith}
+use Rattle.loops.proofs.Laws.{Missed}
 use Rattle.costly_arc.proofs.due.any_due_under.Given as goal
 
 abbrev pub invariant-loop-k : goal.invariant-loop-k

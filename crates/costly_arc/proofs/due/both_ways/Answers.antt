@@ -1,7 +1,5 @@
 use mathlib.Core.Path.{sym, ◌∙◌}
 use Rattle.costly_arc.proofs.Pairs.{no_way}
-use borrow.Author.Rules.{rules}
-use borrow.Author.Tests.{not-true}
 use Rattle.costly_arc.proofs.due.both_ways.Goals as goal
 
 pub returns-then-not-is_open_root : goal.returns-then-not-is_open_root

@@ -1,5 +1,4 @@
 use Rattle.costly_arc.proofs.Pairs.{due-is}
-use borrow.Author.Rules.{rules}
 use mathlib.Core.Path.{◌∙◌}
 use Rattle.costly_arc.proofs.due.has_pair.Goals as goal
 

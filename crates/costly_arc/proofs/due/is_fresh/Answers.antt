@@ -1,5 +1,4 @@
 use Rattle.costly_arc.specs.internal.Due.{is_fresh}
-use borrow.Author.Rules.{rules}
 use borrow.Author.Tests.{le-leb, lt-leb}
 use mathlib.Core.Path.{refl}
 use Rattle.costly_arc.proofs.due.is_fresh.Goals as goal

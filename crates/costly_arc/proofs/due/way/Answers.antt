@@ -1,6 +1,4 @@
 use Rattle.costly_arc.specs.internal.Due.{way_of}
-use borrow.Author.Rules.{rules}
-use mathlib.Core.Logic.{⊎_elim}
 use Rattle.costly_arc.proofs.due.way.Goals as goal
 use Rattle.costly_arc.proofs.due.way.Goals.{else-is_open_root-via-else-is_open_root, else-is_open_root-via-then-is_open_root+else-is_positive}
 

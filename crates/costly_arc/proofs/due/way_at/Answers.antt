@@ -1,6 +1,5 @@
 use mathlib.Core.Path.{sym, ◌∙◌}
 use Rattle.costly_arc.proofs.Pairs.{other_way}
-use borrow.Author.Rules.{rules}
 use Rattle.costly_arc.proofs.due.way_at.Goals as goal
 
 pub returns-then-x-i : goal.returns-then-x-i

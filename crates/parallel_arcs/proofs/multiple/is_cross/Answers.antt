@@ -1,5 +1,4 @@
 use Rattle.parallel_arcs.specs.internal.Multiple.{is_cross}
-use Rattle.step.proofs.Lines.{met, unmet}
 use Rattle.integer.specs.Machine.{back32, back64}
 use borrow.Author.Rules.{rules}
 use Rattle.parallel_arcs.proofs.multiple.is_cross.Goals as goal

@@ -1,5 +1,4 @@
 use Rattle.parallel_arcs.specs.internal.Multiple.{is_multiple}
-use borrow.Author.Rules.{rules}
 use Rattle.parallel_arcs.proofs.multiple.is_multiple.Goals as goal
 
 pub returns-then-is_cross : goal.returns-then-is_cross

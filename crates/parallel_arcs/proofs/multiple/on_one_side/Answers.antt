@@ -1,6 +1,5 @@
 use mir.Facts.{to_z-of_z}
 use Rattle.parallel_arcs.specs.internal.Multiple.{on_one_side}
-use borrow.Author.Rules.{rules}
 use Rattle.parallel_arcs.proofs.multiple.on_one_side.Goals as goal
 
 pub returns-then-n-lt0 : goal.returns-then-n-lt0
