@@ -29,7 +29,7 @@ passes net i = by (is_here net i) (eqb (degree_of net i) 3) (is_zero (supply_at 
     by true false z x e = refl
     by false d z x e = refl
 
--- what a rule of nodes is asked for: it passes at a node of another degree. That it passes at supply 0 too is `passes`, of which a trial says nothing
+-- the part of it that a row's trial has fields for: the trial doesn't say that the rule asks for a supply that is not 0
 pub elsewhere : (net : Net) (i : ℕ) → eqb (degree_of net i) 3 ≡ false → three_way net i ≡ Passes
 elsewhere net i e = passes net i (by (not (is_zero (supply_at net i)) && true) _ e)
   where

@@ -2,7 +2,6 @@ use Rattle.step.specs.Outcome.{only_where, fits}
 use Rattle.step.specs.internal.Made.{goes_on}
 use Rattle.three_way.specs.ThreeWay.{added}
 use mathlib.Core.Path.{fun_ext}
-use borrow.Author.Rules.{rules}
 use Rattle.three_way.proofs.added.Goals as goal
 
 pub returns-in_default : goal.returns-in_default

@@ -1,7 +1,6 @@
 use Rattle.fraction.specs.Exact.{is_finite}
 use Rattle.three_way.specs.ThreeWay.{is_rising}
 use borrow.Author.Tests.{eq-eqb, ne_eqb}
-use borrow.Author.Rules.{rules}
 use Rattle.three_way.proofs.is_rising.Goals as goal
 
 pub returns-then-is_root : goal.returns-then-is_root

@@ -1,7 +1,6 @@
 use Rattle.step.specs.Outcome.{fits}
 use Rattle.step.specs.internal.Made.{goes_on}
 use Rattle.three_way.specs.ThreeWay.{joined}
-use borrow.Author.Rules.{rules}
 use Rattle.three_way.proofs.join.Goals as goal
 
 pub returns-in_default : goal.returns-in_default

@@ -1,7 +1,5 @@
 use Rattle.step.specs.Outcome.{only_where}
-use Rattle.step.proofs.Lines.{met, unmet}
 use Rattle.three_way.specs.ThreeWay.{sorted}
-use borrow.Author.Rules.{rules}
 use Rattle.three_way.proofs.sort.Goals as goal
 
 pub returns-then-not-signs_suit : goal.returns-then-not-signs_suit

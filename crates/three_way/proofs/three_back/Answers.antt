@@ -1,6 +1,5 @@
 use Rattle.step.specs.Back.{figure}
 use Rattle.three_way.specs.ThreeWay.{three_back}
-use borrow.Author.Rules.{rules}
 use Rattle.three_way.proofs.three_back.Goals as goal
 
 pub returns-in_default : goal.returns-in_default

@@ -1,8 +1,6 @@
 use Rattle.step.specs.Outcome.{only_where}
-use Rattle.step.proofs.Lines.{met, unmet}
 use borrow.Author.Tests.{eq-eqb, ne_eqb}
 use Rattle.three_way.specs.ThreeWay.{three}
-use borrow.Author.Rules.{rules}
 use Rattle.three_way.proofs.three_way.Goals as goal
 
 pub returns-then-degree-ne3 : goal.returns-then-degree-ne3

@@ -1,5 +1,4 @@
 use Rattle.three_way.specs.ThreeWay.{turned}
-use borrow.Author.Rules.{rules}
 use Rattle.three_way.proofs.turned.Goals as goal
 
 pub returns-then-below : goal.returns-then-below
