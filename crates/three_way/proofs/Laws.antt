@@ -64,7 +64,7 @@ use Rattle.step.proofs.Junction.{Signed, sign-is, open-upper, zero-bound, Free, 
 use Rattle.step.proofs.Laws.{supply-small, no_old, Right, right_of, RuleLaws}
 use Rattle.three_way.specs.ThreeWay.{is_below, turned, is_rising, altered_arc, altered, added_arc, between, low_of, high_of, added, old_three, joining, joined, sorted, three, three_way, three_back, rule}
 use Rattle.three_way.proofs.BothSigns.{side_by, turned-exactly, turned-inverse, with-sign, against-sign, nearer-is}
-use Rattle.three_way.proofs.Tried.{passes, tried}
+use Rattle.three_way.proofs.Tried.{elsewhere, tried}
 
 -- ---- what an answer says
 
@@ -482,4 +482,4 @@ unused net i e = rw e
 
 -- RULE 8
 pub laws : {P : Net → Type 0} → RuleLaws P rule
-laws = record { few_places = omega arith; unused = λ net g. unused net; at_nodes = λ e. record { elsewhere = passes; given = tried }; no_flow = λ net g p i e. not-shown (three-met net g i tt e).3.is; right = λ net g p i e. right net g i _ _ _ (three-met net g i tt e).3 }
+laws = record { few_places = omega arith; unused = λ net g. unused net; at_nodes = λ e. record { elsewhere = elsewhere; given = tried }; no_flow = λ net g p i e. not-shown (three-met net g i tt e).3.is; right = λ net g p i e. right net g i _ _ _ (three-met net g i tt e).3 }

@@ -29,6 +29,14 @@ passes net i = by (is_here net i) (eqb (degree_of net i) 3) (is_zero (supply_at 
     by true false z x e = refl
     by false d z x e = refl
 
+-- the part of it that a row's trial has fields for: the trial doesn't say that the rule asks for a supply that is not 0
+pub elsewhere : (net : Net) (i : ℕ) → eqb (degree_of net i) 3 ≡ false → three_way net i ≡ Passes
+elsewhere net i e = passes net i (by (not (is_zero (supply_at net i)) && true) _ e)
+  where
+    by : (a d : Bool) → d ≡ false → (a && d) ≡ false
+    by true d e = e
+    by false d e = refl
+
 pub tried : {net : Net} {constant : Fraction} {supply : List Fraction} {i d : ℕ} {near : Around} → Given net constant supply i d near → three constant supply i d near.one near.two near.three ≡ three_way net i
 unfolding three_way three only_where
 tried {net} {i = i} {d = d} {near} g =

@@ -1,5 +1,5 @@
 -- Rule 8, three-way junctions (02, 2026-03; document 000, section 3.1), for both signs of supply.
-use Rattle.std.specs.Prelude.{Bool, false, true, cond, ◌&&◌, not, List, ℕ, eqb, get_or}
+use Rattle.std.specs.Prelude.{Bool, false, cond, ◌&&◌, not, List, ℕ, eqb, get_or}
 use Rattle.fraction.specs.declared.Fraction.{Fraction}
 use Rattle.fraction.specs.declared.Worked.{Worked}
 use Rattle.fraction.specs.declared.Worked.TheVariants.{Fits}

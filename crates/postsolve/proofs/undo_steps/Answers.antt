@@ -1,4 +1,4 @@
-use mathlib.Core.Path.{◌≡◌, ◌∙◌}
+use mathlib.Core.Path.{◌∙◌}
 use native.Mathlib.Omega.{arith}
 use Rattle.postsolve.proofs.Steps.{descended-none, descended-more, descended-all, way_back_lem}
 use Rattle.postsolve.proofs.undo_steps.Goals as goal

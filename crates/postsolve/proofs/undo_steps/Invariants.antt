@@ -1,5 +1,3 @@
-use mathlib.Core.Path.{◌≡◌}
-use lib.ListN.{length}
 use Rattle.postsolve.specs.Postsolve.{way_of, arcs_turn}
 use Rattle.postsolve.specs.internal.Turn.{back_turn}
 use Rattle.postsolve.proofs.Steps.{Descended}

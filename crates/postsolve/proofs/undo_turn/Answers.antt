@@ -1,5 +1,4 @@
 use Rattle.network.specs.ArcList.{replaced_all}
-use borrow.Author.Rules.{rules}
 use Rattle.postsolve.proofs.undo_turn.Goals as goal
 
 pub returns : goal.returns
