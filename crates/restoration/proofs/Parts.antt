@@ -17,7 +17,7 @@ use Rattle.network.specs.declared.Nodes.{Nodes}
 use Rattle.network.specs.declared.pair.Pair.{Pair}
 use Rattle.network.specs.ArcList.{arcs_in, nodes_of, joined}
 use Rattle.step.specs.declared.Next.{Next}
-use Rattle.step.specs.Run.{Run, back_of, Way, wide, at, way_back}
+use Rattle.step.specs.Run.{Run, back_of, Way, at, way_back}
 use Rattle.rules.specs.Table.{rules, reduced}
 use Rattle.records.specs.Questions.{Question, first_no}
 use Rattle.records.specs.Network.{questions, read_of}

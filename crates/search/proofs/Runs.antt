@@ -36,7 +36,6 @@ use Rattle.search.proofs.Questions.{AllYes, all_yes, legal-read}
 use Rattle.search.proofs.Behind.{within, replaced-behind, loaded-behind, drop-none, list-of}
 use Rattle.search.specs.declared.Progress.{Progress}
 use Rattle.search.specs.declared.Ends.{Ends}
-use Rattle.search.specs.declared.Ends.TheVariants as Ends
 use Rattle.search.specs.declared.Ran.{Ran}
 use Rattle.rules.specs.Found.{found_of}
 use Rattle.search.specs.Search.{refusal_of, refused_by, ends_of, list_of, Searched}

@@ -10,7 +10,6 @@ use Rattle.records.specs.Limits.{scratch_room}
 use Rattle.records.specs.Questions.{◌asks◌, first_no}
 use Rattle.records.specs.Network.{questions, read_of}
 use Rattle.step.specs.declared.Next.{Next}
-use Rattle.step.specs.declared.Next.TheVariants as Next
 use Rattle.rules.specs.Table.{reduced}
 use Rattle.step_log.specs.Log.{logged}
 use Rattle.search.specs.declared.Ends.{Ends}

@@ -1,8 +1,7 @@
-use mathlib.Core.Path.{◌∙◌, sym, ap}
+use mathlib.Core.Path.{◌∙◌, ap}
 use Rattle.loops.specs.Loops.{zeros}
 use Rattle.network.specs.ArcList.{no_arcs}
 use Rattle.reduction.proofs.Entry.{says}
-use borrow.Author.Rules.{rules}
 use Rattle.reduction.proofs.reduce.Goals as goal
 
 pub returns : goal.returns

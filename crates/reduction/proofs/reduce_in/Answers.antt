@@ -1,7 +1,6 @@
 use mathlib.Core.Path.{◌∙◌, sym}
 use native.Mathlib.Omega.{arith}
 use Rattle.reduction.proofs.Found.{found, finished, refused, has_room_lem, no-out, no_stack}
-use borrow.Author.Rules.{rules}
 use Rattle.reduction.proofs.reduce_in.Goals as goal
 
 pub returns-then-out-lt-NETWORK_WORDS : goal.returns-then-out-lt-NETWORK_WORDS

@@ -1,6 +1,5 @@
 use native.Mathlib.Omega.{arith}
 use Rattle.restoration.specs.Restore.{offer_table}
-use borrow.Author.Rules.{rules}
 use Rattle.restoration.proofs.ask_run.Goals as goal
 
 pub returns-then-is_stack : goal.returns-then-is_stack

@@ -3,7 +3,6 @@ use native.Mathlib.Omega.{arith}
 use Rattle.network.specs.ArcList.{arcs_in}
 use Rattle.reduction.proofs.Found.{found}
 use Rattle.restoration.proofs.Parts.{no-out, no_values, search_no, search-yes, offer-no, refused, arcs-first, offered, went_back}
-use borrow.Author.Rules.{rules}
 use Rattle.restoration.proofs.restore_in.Goals as goal
 
 pub returns-then-out-lt-PAIR_WORDS : goal.returns-then-out-lt-PAIR_WORDS

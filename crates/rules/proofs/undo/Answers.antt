@@ -23,11 +23,11 @@ returns-in-4 c = rw c.in-4.is (c.lower_back-in-4.ensures _)
 
 pub returns-in-5 : goal.returns-in-5
 unfolding rule_from
-returns-in-5 c = rw c.in-5.is c.two_back.ensures
+returns-in-5 c = rw c.in-5.is (search rules)
 
 pub returns-in-6 : goal.returns-in-6
 unfolding rule_from
-returns-in-6 c = rw c.in-6.is c.crossing_back.ensures
+returns-in-6 c = rw c.in-6.is (search rules)
 
 pub returns-in-7 : goal.returns-in-7
 unfolding rule_from

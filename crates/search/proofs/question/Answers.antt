@@ -1,5 +1,4 @@
 use Rattle.search.specs.Search.{refusal_of}
-use borrow.Author.Rules.{rules}
 use borrow.Author.Tests.{le-leb, lt-leb}
 use Rattle.search.proofs.question.Goals as goal
 

@@ -1,6 +1,5 @@
 use Rattle.network.specs.ArcList.{no_arcs}
-use Rattle.search.proofs.Runs.{begins, refused_is, run_is}
-use borrow.Author.Rules.{rules}
+use Rattle.search.proofs.Runs.{begins, run_is}
 use mathlib.Core.Path.{◌∙◌, ◌≡◌, ap, refl, sym}
 use native.Mathlib.Omega.{arith}
 use Rattle.search.proofs.run.Goals as goal

@@ -1,7 +1,4 @@
-use Rattle.network.specs.ArcList.{net_in}
-use Rattle.rules.specs.Table.{reduced}
-use Rattle.search.proofs.Runs.{Underway, left, underway-ends, underway-more, underway-none}
-use borrow.Author.Rules.{rules}
+use Rattle.search.proofs.Runs.{underway-ends, underway-more, underway-none}
 use Rattle.search.proofs.run_on.Goals as goal
 
 pub loop-at-init : goal.loop-at-init

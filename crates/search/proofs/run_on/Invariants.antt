@@ -1,7 +1,6 @@
 use Rattle.network.specs.ArcList.{net_in}
 use Rattle.rules.specs.Table.{reduced}
-use Rattle.search.proofs.Runs.{Underway, left, underway-ends, underway-more, underway-none}
-use borrow.Author.Rules.{rules}
+use Rattle.search.proofs.Runs.{Underway, left}
 use Rattle.search.proofs.run_on.Given as goal
 
 abbrev pub invariant-loop-at : goal.invariant-loop-at

@@ -19,7 +19,6 @@ use Rattle.rules.specs.Found.{found_of}
 use Rattle.rules.specs.Table.{next_of}
 use Rattle.step_log.specs.Log.{with_step, logged}
 use Rattle.search.specs.declared.Ends.{Ends}
-use Rattle.search.specs.declared.Ends.TheVariants as Ends
 use Rattle.search.specs.declared.Ran.{Ran}
 use Rattle.search.specs.declared.Progress.{Progress}
 use Rattle.search.specs.Search.{ends_of}

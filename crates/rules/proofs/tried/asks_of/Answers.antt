@@ -1,6 +1,5 @@
 use native.Mathlib.Omega.{arith}
 use Rattle.step.specs.Run.{rule_from}
-use borrow.Author.Rules.{rules}
 use borrow.Author.Tests.{ne_eqb}
 use Rattle.rules.proofs.tried.asks_of.Goals as goal
 

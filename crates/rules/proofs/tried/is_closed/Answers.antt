@@ -1,5 +1,4 @@
 use Rattle.rules.specs.Tried.{is_closed}
-use borrow.Author.Rules.{rules}
 use borrow.Author.Tests.{eq-eqb, ne_eqb}
 use Rattle.rules.proofs.tried.is_closed.Goals as goal
 

@@ -2,7 +2,6 @@ use native.Mathlib.Omega.{arith}
 use Rattle.step.specs.Run.{rule_from}
 use Rattle.step.proofs.Lines.{split}
 use lib.Dec.{eqb}
-use borrow.Author.Rules.{rules}
 use borrow.Author.Tests.{ne_eqb}
 use Rattle.rules.proofs.tried.try_node.Goals as goal
 

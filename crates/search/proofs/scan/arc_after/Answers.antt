@@ -1,5 +1,4 @@
 use Rattle.search.proofs.AtNode.{old-is}
-use borrow.Author.Rules.{rules}
 use Rattle.search.proofs.scan.arc_after.Goals as goal
 
 pub returns : goal.returns

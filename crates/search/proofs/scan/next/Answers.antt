@@ -1,12 +1,5 @@
-use Prim.Native.Nat.{◌+◌, ◌-◌, ◌≤◌}
-use Rattle.costly_arc.specs.Seen.{Known}
-use Rattle.network.specs.ArcList.{net_in}
-use Rattle.rules.specs.Table.{rules, last_rule}
-use Rattle.step.specs.Run.{rule_of}
-use lib.Dec.{ltb}
-use Rattle.search.proofs.Scans.{of-nodes, is_within_lem, none_left, by-nodes, by-costly, by-parallel, From, closed-here, closed-later, from_here, from_more, from-done}
-use mathlib.Core.Logic.{⊎_elim}
-use mathlib.Core.Path.{◌≡◌, sym, ◌∙◌}
+use Rattle.search.proofs.Scans.{of-nodes, is_within_lem, none_left, by-nodes, by-costly, by-parallel, closed-here, closed-later, from_here, from_more, from-done}
+use mathlib.Core.Path.{sym, ◌∙◌}
 use native.Mathlib.Omega.{arith}
 use Rattle.search.proofs.scan.next.Goals as goal
 use Rattle.search.proofs.scan.next.Goals.{then-k-eq4+else-x, else-k-eq4+then-k-eq7+else-x-2, else-k-eq4+else-k-eq7+else-x-3}
@@ -47,12 +40,12 @@ loop-more-smaller c = omega (arith, is_within_lem _ (sym c.loop-more.invariant.3
 pub returns : goal.returns
 returns c = let h = c.loop-more.invariant in (from-done h.1 (none_left _ h.0 (sym h.3 ∙ c.loop-more-test.false)) c.nothing-found.ensures, h.2)
 
-
 pub loop-more-preserved : goal.loop-more-preserved
 loop-more-preserved c =
     let h = c.loop-more.invariant in
     let t = is_within_lem _ (sym c.loop-more.invariant.3 ∙ c.loop-more-test.true) in
-    elim c.if-k-eq4.branch
-    [ then-k-eq4+else-x w ↦ (omega (arith, h.0), from_more h.1 t (by-costly _ c.loop-more.k w.if-k-eq4.true w.scan_costly-x.ensures.0) w.if-x.false, rw w.seen-is w.scan_costly-x.ensures.1, c.is_rule-more-in-loop-more.ensures)
-    | else-k-eq4+then-k-eq7+else-x-2 w ↦ (omega (arith, h.0), from_more h.1 t (by-parallel _ c.loop-more.k w.if-k-eq7.true w.scan_parallel-x.ensures) w.if-x-2.false, rw w.seen-is h.2, c.is_rule-more-in-loop-more.ensures)
-    | else-k-eq4+else-k-eq7+else-x-3 w ↦ (omega (arith, h.0), from_more h.1 t (by-nodes _ c.loop-more.k (of-nodes c.loop-more.k c.loop-more.invariant.0 t w.if-k-eq4.false w.if-k-eq7.false) w.scan_nodes-x.ensures) w.if-x-3.false, rw w.seen-is h.2, c.is_rule-more-in-loop-more.ensures) ]
+    elim c.if-k-eq4.branch [
+      | then-k-eq4+else-x w ↦ (omega (arith, h.0), from_more h.1 t (by-costly _ c.loop-more.k w.if-k-eq4.true w.scan_costly-x.ensures.0) w.if-x.false, rw w.seen-is w.scan_costly-x.ensures.1, c.is_rule-more-in-loop-more.ensures)
+      | else-k-eq4+then-k-eq7+else-x-2 w ↦ (omega (arith, h.0), from_more h.1 t (by-parallel _ c.loop-more.k w.if-k-eq7.true w.scan_parallel-x.ensures) w.if-x-2.false, rw w.seen-is h.2, c.is_rule-more-in-loop-more.ensures)
+      | else-k-eq4+else-k-eq7+else-x-3 w ↦ (omega (arith, h.0), from_more h.1 t (by-nodes _ c.loop-more.k (of-nodes c.loop-more.k c.loop-more.invariant.0 t w.if-k-eq4.false w.if-k-eq7.false) w.scan_nodes-x.ensures) w.if-x-3.false, rw w.seen-is h.2, c.is_rule-more-in-loop-more.ensures)
+    ]

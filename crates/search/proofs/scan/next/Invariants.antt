@@ -4,10 +4,8 @@ use Rattle.network.specs.ArcList.{net_in}
 use Rattle.rules.specs.Table.{rules, last_rule}
 use Rattle.step.specs.Run.{rule_of}
 use lib.Dec.{ltb}
-use Rattle.search.proofs.Scans.{of-nodes, is_within_lem, none_left, by-nodes, by-costly, by-parallel, From, closed-here, closed-later, from_here, from_more, from-done}
-use mathlib.Core.Logic.{⊎_elim}
-use mathlib.Core.Path.{◌≡◌, sym, ◌∙◌}
-use native.Mathlib.Omega.{arith}
+use Rattle.search.proofs.Scans.{From}
+use mathlib.Core.Path.{◌≡◌}
 use Rattle.search.proofs.scan.next.Given as goal
 
 abbrev pub invariant-loop-more : goal.invariant-loop-more

@@ -1,14 +1,8 @@
-use Prim.Native.Nat.{◌-◌, ◌≤◌}
-use Rattle.closed_arc.specs.ClosedArc.{closed_arc}
-use Rattle.costly_arc.proofs.Upward.{Reached, reached-more, reached-none}
+use Rattle.costly_arc.proofs.Upward.{reached-more, reached-none}
 use Rattle.network.proofs.Lists.{arc-is}
-use Rattle.network.specs.ArcList.{net_in}
 use Rattle.search.proofs.Scans.{reached-answer, reached-end, reached-on}
 use Rattle.rules.proofs.Tests.{closed-open}
 use Rattle.rules.proofs.Whole.{closed-beyond}
-use Rattle.step.specs.declared.Next.TheVariants.{Stops}
-use borrow.Author.Rules.{rules}
-use mathlib.Core.Logic.{⊎_elim}
 use mathlib.Core.Path.{◌∙◌, sym}
 use native.Mathlib.Omega.{arith}
 use Rattle.search.proofs.scan.scan_closed.Goals as goal
@@ -23,11 +17,13 @@ returns-then-x c = let h = c.loop-j.invariant in reached-answer h.1 (omega arith
 pub returns : goal.returns
 returns c = reached-end c.loop-j.invariant.1 c.nothing.ensures (λ j l. closed-beyond c.requires j (omega (arith, l, c.loop-j-test.false)))
 
-
 pub loop-j-preserved : goal.loop-j-preserved
 loop-j-preserved c =
     let h = c.loop-j.invariant in
-    let q = arc-is c.args.nodes c.args.arcs.now c.loop-j.j (omega (arith, h.0)) in
-    (h.0, elim c.if-is_closed.branch
-        [ then-is_closed+else-x w ↦ reached-on h.1 (omega (arith, h.0)) (rw (w.read-then-is_closed.ensures ∙ q) at w.at_arc-x.ensures) w.if-x.false
-        | else-is_closed w ↦ reached-more _ _ _ _ h.1 (omega (arith, h.0)) (closed-open c.requires _ (c.read.ensures ∙ q) (sym c.is_closed.ensures ∙ w.if-is_closed.false)) ])
+    let q = arc-is c.args.nodes c.args.arcs.now c.loop-j.j (omega (arith, h.0)) in (
+      h.0,
+      elim c.if-is_closed.branch [
+        | then-is_closed+else-x w ↦ reached-on h.1 (omega (arith, h.0)) (rw (w.read-then-is_closed.ensures ∙ q) at w.at_arc-x.ensures) w.if-x.false
+        | else-is_closed w ↦ reached-more _ _ _ _ h.1 (omega (arith, h.0)) (closed-open c.requires _ (c.read.ensures ∙ q) (sym c.is_closed.ensures ∙ w.if-is_closed.false))
+      ],
+    )

@@ -1,16 +1,8 @@
 use Prim.Native.Nat.{◌-◌, ◌≤◌}
 use Rattle.closed_arc.specs.ClosedArc.{closed_arc}
-use Rattle.costly_arc.proofs.Upward.{Reached, reached-more, reached-none}
-use Rattle.network.proofs.Lists.{arc-is}
+use Rattle.costly_arc.proofs.Upward.{Reached}
 use Rattle.network.specs.ArcList.{net_in}
-use Rattle.search.proofs.Scans.{reached-answer, reached-end, reached-on}
-use Rattle.rules.proofs.Tests.{closed-open}
-use Rattle.rules.proofs.Whole.{closed-beyond}
 use Rattle.step.specs.declared.Next.TheVariants.{Stops}
-use borrow.Author.Rules.{rules}
-use mathlib.Core.Logic.{⊎_elim}
-use mathlib.Core.Path.{◌∙◌, sym}
-use native.Mathlib.Omega.{arith}
 use Rattle.search.proofs.scan.scan_closed.Given as goal
 
 abbrev pub invariant-loop-j : goal.invariant-loop-j

@@ -1,9 +1,6 @@
-use Prim.Native.Nat.{◌+◌, ◌-◌, ◌≤◌}
-use Rattle.loops.proofs.Laws.{Missed, missed-all, missed_more, missed-none}
+use Rattle.loops.proofs.Laws.{missed-all, missed_more, missed-none}
 use Rattle.network.proofs.Lists.{arc-is}
-use Rattle.network.specs.ArcList.{net_in}
-use Rattle.search.proofs.Scans.{no_root, root_at, unused-none}
-use borrow.Author.Rules.{rules}
+use Rattle.search.proofs.Scans.{no_root, unused-none}
 use mathlib.Core.Path.{◌∙◌, sym}
 use native.Mathlib.Omega.{arith}
 use Rattle.search.proofs.scan.scan_costly.Goals as goal

@@ -1,11 +1,7 @@
 use Prim.Native.Nat.{◌+◌, ◌-◌, ◌≤◌}
-use Rattle.loops.proofs.Laws.{Missed, missed-all, missed_more, missed-none}
-use Rattle.network.proofs.Lists.{arc-is}
+use Rattle.loops.proofs.Laws.{Missed}
 use Rattle.network.specs.ArcList.{net_in}
-use Rattle.search.proofs.Scans.{no_root, root_at, unused-none}
-use borrow.Author.Rules.{rules}
-use mathlib.Core.Path.{◌∙◌, sym}
-use native.Mathlib.Omega.{arith}
+use Rattle.search.proofs.Scans.{root_at}
 use Rattle.search.proofs.scan.scan_costly.Given as goal
 
 abbrev pub invariant-loop-j : goal.invariant-loop-j

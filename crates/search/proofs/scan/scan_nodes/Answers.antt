@@ -1,13 +1,8 @@
-use Prim.Native.Nat.{◌-◌, ◌≤◌}
-use Rattle.costly_arc.proofs.Upward.{Reached, reached-more, reached-none}
-use Rattle.network.specs.ArcList.{net_in}
+use Prim.Native.Nat.{◌≤◌}
+use Rattle.costly_arc.proofs.Upward.{reached-more, reached-none}
 use Rattle.search.proofs.Scans.{reached-answer, reached-end, reached-on}
 use Rattle.rules.proofs.Whole.{node-unused}
-use Rattle.rules.specs.Table.{rules}
 use Rattle.search.proofs.AtNode.{answered, elsewhere, not-supplied}
-use Rattle.step.specs.Run.{rule_of}
-use Rattle.step.specs.declared.Next.TheVariants.{Stops}
-use mathlib.Core.Logic.{⊎_elim}
 use mathlib.Core.Path.{◌∙◌, sym}
 use native.Mathlib.Omega.{arith}
 use Rattle.search.proofs.scan.scan_nodes.Goals as goal
@@ -19,18 +14,20 @@ returns-then-x c = let l : c.loop-i.i ≤ 32 = omega (arith, c.loop-i.invariant,
 pub returns : goal.returns
 returns c = reached-end c.loop-i.invariant.2 c.nothing.ensures (λ j l. node-unused c.requires.0 c.args.k j c.requires.2 (c.requires.0.nodes_beyond j (omega (arith, l, c.loop-i-test.false))))
 
-
 pub loop-i-init : goal.loop-i-init
 loop-i-init c = (omega arith, c.requires.0.few_nodes, reached-none _ _ _ _)
-
 
 pub loop-i-preserved : goal.loop-i-preserved
 loop-i-preserved c =
     let h = c.loop-i.invariant in
     let r = c.requires in
     let l : c.loop-i.i ≤ 32 = omega (arith, h, c.loop-i-test.true) in
-    let at = sym c.has_degree.ensures in
-    (omega arith, h.1, elim c.if-has_degree.branch
-        [ then-has_degree+then-may_apply+else-x w ↦ reached-on h.2 l (answered r.0 c.args.degrees.at r.1 c.loop-i.i (omega (arith, l)) c.args.k r.2 c.asks_of-asks.ensures (at ∙ w.if-has_degree.true) (w.gather-near.ensures c.args.nodes) w.at_node-x.ensures) w.if-x.false
+    let at = sym c.has_degree.ensures in (
+      omega arith,
+      h.1,
+      elim c.if-has_degree.branch [
+        | then-has_degree+then-may_apply+else-x w ↦ reached-on h.2 l (answered r.0 c.args.degrees.at r.1 c.loop-i.i (omega (arith, l)) c.args.k r.2 c.asks_of-asks.ensures (at ∙ w.if-has_degree.true) (w.gather-near.ensures c.args.nodes) w.at_node-x.ensures) w.if-x.false
         | then-has_degree+else-may_apply w ↦ reached-more _ _ _ _ h.2 l (not-supplied r.0 c.args.degrees.at r.1 c.loop-i.i (omega (arith, l)) c.args.k r.2 c.asks_of-asks.ensures (sym w.may_apply.ensures ∙ w.if-may_apply.false))
-        | else-has_degree w ↦ reached-more _ _ _ _ h.2 l (elsewhere r.0 c.args.degrees.at r.1 c.loop-i.i (omega (arith, l)) c.args.k r.2 c.asks_of-asks.ensures h.0 (at ∙ w.if-has_degree.false)) ])
+        | else-has_degree w ↦ reached-more _ _ _ _ h.2 l (elsewhere r.0 c.args.degrees.at r.1 c.loop-i.i (omega (arith, l)) c.args.k r.2 c.asks_of-asks.ensures h.0 (at ∙ w.if-has_degree.false))
+      ],
+    )

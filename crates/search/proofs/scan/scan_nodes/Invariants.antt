@@ -1,15 +1,9 @@
 use Prim.Native.Nat.{◌-◌, ◌≤◌}
-use Rattle.costly_arc.proofs.Upward.{Reached, reached-more, reached-none}
+use Rattle.costly_arc.proofs.Upward.{Reached}
 use Rattle.network.specs.ArcList.{net_in}
-use Rattle.search.proofs.Scans.{reached-answer, reached-end, reached-on}
-use Rattle.rules.proofs.Whole.{node-unused}
 use Rattle.rules.specs.Table.{rules}
-use Rattle.search.proofs.AtNode.{answered, elsewhere, not-supplied}
 use Rattle.step.specs.Run.{rule_of}
 use Rattle.step.specs.declared.Next.TheVariants.{Stops}
-use mathlib.Core.Logic.{⊎_elim}
-use mathlib.Core.Path.{◌∙◌, sym}
-use native.Mathlib.Omega.{arith}
 use Rattle.search.proofs.scan.scan_nodes.Given as goal
 
 abbrev pub invariant-loop-i : goal.invariant-loop-i

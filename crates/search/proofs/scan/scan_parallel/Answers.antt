@@ -1,14 +1,8 @@
-use Prim.Native.Nat.{◌-◌, ◌≤◌}
-use Rattle.costly_arc.proofs.Upward.{Reached, reached-more, reached-none}
-use Rattle.network.specs.ArcList.{net_in}
-use Rattle.parallel_arcs.specs.ParallelArcs.{parallel_arc}
+use Rattle.costly_arc.proofs.Upward.{reached-more, reached-none}
 use Rattle.search.proofs.Pairs.{no_pairs, pairs-used, pairs-beyond}
 use Rattle.search.proofs.Scans.{reached-answer, reached-end, reached-on}
-use Rattle.step.specs.declared.Next.TheVariants.{Stops}
-use mathlib.Core.Logic.{⊎_elim}
 use mathlib.Core.Path.{refl}
 use native.Mathlib.Omega.{arith}
-use borrow.Author.Rules.{rules}
 use Rattle.search.proofs.scan.scan_parallel.Goals as goal
 use Rattle.search.proofs.scan.scan_parallel.Goals.{then-parallels-j-ne0+else-x, else-parallels-j-ne0}
 
@@ -21,15 +15,16 @@ returns-then-x c = let h = c.loop-j.invariant in reached-answer h.1 (omega (arit
 pub returns : goal.returns
 returns c = reached-end c.loop-j.invariant.1 c.nothing.ensures (λ j l. pairs-beyond _ j c.requires (omega (arith, l, c.loop-j-test.false)))
 
-
 pub loop-j-init : goal.loop-j-init
 loop-j-init c = (c.requires.few_arcs, reached-none _ _ _ _)
-
 
 pub loop-j-preserved : goal.loop-j-preserved
 loop-j-preserved c =
     let h = c.loop-j.invariant in
-    let l = c.loop-j-test.true in
-    (h.0, elim c.if-parallels-j-ne0.branch
-        [ then-parallels-j-ne0+else-x w ↦ reached-on h.1 (omega (arith, h.0, l)) w.scan_pairs-x.ensures w.if-x.false
-        | else-parallels-j-ne0 w ↦ reached-more _ _ _ _ h.1 (omega (arith, h.0, l)) (no_pairs _ _ c.requires c.parallels-parallels.result.next (c.parallels-parallels.ensures c.args.nodes refl c.requires) w.if-parallels-j-ne0.false) ])
+    let l = c.loop-j-test.true in (
+      h.0,
+      elim c.if-parallels-j-ne0.branch [
+        | then-parallels-j-ne0+else-x w ↦ reached-on h.1 (omega (arith, h.0, l)) w.scan_pairs-x.ensures w.if-x.false
+        | else-parallels-j-ne0 w ↦ reached-more _ _ _ _ h.1 (omega (arith, h.0, l)) (no_pairs _ _ c.requires c.parallels-parallels.result.next (c.parallels-parallels.ensures c.args.nodes refl c.requires) w.if-parallels-j-ne0.false)
+      ],
+    )

@@ -1,14 +1,8 @@
 use Prim.Native.Nat.{◌-◌, ◌≤◌}
-use Rattle.costly_arc.proofs.Upward.{Reached, reached-more, reached-none}
+use Rattle.costly_arc.proofs.Upward.{Reached}
 use Rattle.network.specs.ArcList.{net_in}
 use Rattle.parallel_arcs.specs.ParallelArcs.{parallel_arc}
-use Rattle.search.proofs.Pairs.{no_pairs, pairs-used, pairs-beyond}
-use Rattle.search.proofs.Scans.{reached-answer, reached-end, reached-on}
 use Rattle.step.specs.declared.Next.TheVariants.{Stops}
-use mathlib.Core.Logic.{⊎_elim}
-use mathlib.Core.Path.{refl}
-use native.Mathlib.Omega.{arith}
-use borrow.Author.Rules.{rules}
 use Rattle.search.proofs.scan.scan_parallel.Given as goal
 
 abbrev pub invariant-loop-j : goal.invariant-loop-j
