@@ -1,7 +1,5 @@
 // The lent list of arc records (01, "Records"): the working arcs, one record for each number, from 1. What takes the list counts,
 // reads, replaces and clears its records, and no more; functions on an arc by value do the arithmetic.
-// The next line is for tools/lift.py:
-// lent: Arc [i8; 56]
 ghost use Rattle.std.specs.Prelude.{◌≡◌, ◌+◌, length};
 ghost use Rattle.network.specs.declared.Nodes.{Nodes};
 ghost use Rattle.network.specs.ArcList.{record_at, replaced, replaced_all, no_arcs, arcs_in, net_in};

@@ -1,6 +1,4 @@
 // Postsolve: the way back from a pair of the reduced network to one of the network given.
-// The next line is for tools/lift.py:
-// lent: network::Arc [i8; 56]
 #![tactic(auto)]
 
 ghost use Rattle.std.specs.Prelude.{◌≡◌, List, length};

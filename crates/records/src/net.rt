@@ -1,6 +1,4 @@
 // A network's record: the questions 2 to 5 before work, the network that it holds, and the record of a network.
-// The next line is for tools/lift.py:
-// lent: network::Arc [i8; 56]
 ghost use Rattle.std.specs.Prelude.{◌≡◌, List, ◌+◌, ◌*◌, ◌≤◌, ◌<◌, length};
 ghost use Rattle.loops.specs.Loops.{all, upto, build};
 ghost use Rattle.network.specs.declared.Arc.{Arc};

@@ -1,6 +1,4 @@
 // Reducing a network: the entry.
-// The next line is for tools/lift.py:
-// lent: network::Arc [i8; 56]
 #![tactic(auto)]
 
 ghost use Rattle.std.specs.Prelude.{◌≡◌, length};

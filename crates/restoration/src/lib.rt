@@ -1,6 +1,4 @@
 // Restoring: the pair of a reduced network, tested there, goes back over the steps to the original network.
-// The next line is for tools/lift.py:
-// lent: network::Arc [i8; 56]
 #![tactic(auto)]
 
 ghost use Rattle.std.specs.Prelude.{◌≡◌, length};

@@ -1,6 +1,4 @@
 // The reduction of a network: the search for the next step, and steps until none applies.
-// The next line is for tools/lift.py:
-// lent: network::Arc [i8; 56]
 #![tactic(auto)]
 
 ghost use Rattle.std.specs.Prelude.{◌≡◌, List, ◌+◌, ◌≤◌, length};
