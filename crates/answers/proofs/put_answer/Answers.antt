@@ -1,6 +1,4 @@
-use Rattle.algebra.proofs.Solver.{at}
 use Rattle.answers.proofs.Printing.{printed-append, printed-most}
-use borrow.Author.Rules.{rules}
 use mathlib.Core.List.{append_assoc}
 use native.Mathlib.Omega.{arith}
 use Rattle.answers.proofs.put_answer.Goals as goal

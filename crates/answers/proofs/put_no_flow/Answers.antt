@@ -1,7 +1,5 @@
-use Rattle.algebra.proofs.Solver.{at}
 use Rattle.answers.proofs.Printing.{printed-line}
 use Rattle.integer.specs.Machine.{back32}
-use borrow.Author.Rules.{rules}
 use lib.Dec.{lit≤}
 use Rattle.answers.proofs.put_no_flow.Goals as goal
 

@@ -1,6 +1,5 @@
 use Rattle.answers.proofs.Printing.{printed-append, printed-most}
 use Rattle.answers.specs.Answers.{record_lines}
-use borrow.Author.Rules.{rules}
 use native.Mathlib.Omega.{arith}
 use Rattle.answers.proofs.put_record.Goals as goal
 

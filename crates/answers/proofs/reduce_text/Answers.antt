@@ -1,11 +1,8 @@
 use Rattle.answers.proofs.Printing.{printed-most}
-use Rattle.answers.proofs.Reading.{Found, read_none, read_some}
+use Rattle.answers.proofs.Reading.{read_none, read_some}
 use Rattle.answers.specs.Answers.{reduce_text}
 use Rattle.answers.proofs.Right.{no-flow-right}
-use borrow.Author.Rules.{rules}
 use lib.Dec.{lit≤}
-use mathlib.Core.Path.{sym}
-use lib.Seq.{length-take-le}
 use Rattle.answers.proofs.reduce_text.Goals as goal
 
 pub returns-in-Words : goal.returns-in-Words

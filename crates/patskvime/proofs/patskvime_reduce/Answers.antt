@@ -2,7 +2,6 @@ use native.Mathlib.Omega.{arith}
 use Rattle.reduction.specs.declared.Answer.TheVariants.{NoFlow}
 use Rattle.patskvime.specs.Codes.{Ranged}
 use Rattle.patskvime.proofs.Ranges.{ranged}
-use borrow.Author.Rules.{rules}
 use Rattle.patskvime.proofs.patskvime_reduce.Goals as goal
 
 -- rule and place of no flow are small

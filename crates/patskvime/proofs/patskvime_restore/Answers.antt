@@ -1,6 +1,4 @@
-use native.Mathlib.Omega.{arith}
 use Rattle.patskvime.proofs.Ranges.{restore-ranged}
-use borrow.Author.Rules.{rules}
 use Rattle.patskvime.proofs.patskvime_restore.Goals as goal
 
 pub returns-in-Refused : goal.returns-in-Refused

@@ -1,6 +1,4 @@
 use Rattle.answers.proofs.Printing.{printed, printed-append, printed-most}
-use Rattle.fraction.specs.Exact.{most}
-use borrow.Author.Rules.{rules}
 use lib.Dec.{lit≤}
 use native.Mathlib.Omega.{arith}
 use Rattle.answers.proofs.restoring.put_restored.Goals as goal

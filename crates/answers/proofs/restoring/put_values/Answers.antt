@@ -1,5 +1,4 @@
 use Rattle.answers.proofs.Printing.{printed-append, printed-most}
-use borrow.Author.Rules.{rules}
 use native.Mathlib.Omega.{arith}
 use Rattle.answers.proofs.restoring.put_values.Goals as goal
 

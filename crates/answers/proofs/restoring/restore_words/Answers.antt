@@ -1,7 +1,4 @@
-use Rattle.answers.proofs.Printing.{printed-most}
 use Rattle.answers.proofs.Splitting.{split-inside}
-use borrow.Author.Rules.{rules}
-use lib.Dec.{lit≤}
 use mathlib.Core.Path.{◌∙◌, sym}
 use Rattle.answers.proofs.restoring.restore_words.Goals as goal
 

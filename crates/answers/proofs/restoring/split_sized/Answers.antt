@@ -1,5 +1,4 @@
 use Rattle.answers.specs.Restoring.{split_sized}
-use borrow.Author.Rules.{rules}
 use borrow.Author.Tests.{le-leb, lt-leb}
 use Rattle.answers.proofs.restoring.split_sized.Goals as goal
 

@@ -1,10 +1,5 @@
 use Rattle.answers.specs.Restoring.{stack_split}
-use Rattle.records.proofs.Questions.{size-le}
-use Rattle.fraction.specs.Words.{word}
-use borrow.Author.Rules.{rules}
 use borrow.Author.Tests.{le-leb, lt-leb}
-use mathlib.Core.Path.{◌∙◌, sym}
-use native.Mathlib.Omega.{arith}
 use Rattle.answers.proofs.restoring.split_stack.Goals as goal
 
 pub returns-in-Off : goal.returns-in-Off

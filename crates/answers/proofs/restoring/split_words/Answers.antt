@@ -1,8 +1,4 @@
 use Rattle.answers.specs.Restoring.{split_of}
-use Rattle.records.proofs.Questions.{size-le}
-use Rattle.fraction.specs.Words.{word}
-use borrow.Author.Rules.{rules}
-use mathlib.Core.Path.{◌∙◌, sym}
 use Rattle.answers.proofs.restoring.split_words.Goals as goal
 
 pub returns-in-Off : goal.returns-in-Off
