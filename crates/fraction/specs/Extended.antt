@@ -1,4 +1,4 @@
--- The one order of fractions and both marks: an absent lower bound lies below everything, an absent upper bound above everything (proofs `Extended`: `isLess` is this order).
+-- The one order of fractions and both marks: an absent lower bound lies below everything, an absent upper bound above everything (proofs `Extended`: `is_less` is this order).
 use Rattle.std.specs.Prelude.{ℕ, suc, ℤ}
 use Rattle.algebra.specs.Rat.{ℚ, ◌<ℚ◌}
 use Rattle.fraction.specs.declared.Fraction.{Fraction}

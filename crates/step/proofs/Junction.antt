@@ -1,4 +1,4 @@
--- Arcs that meet at a node, in exact numbers: their signs there, free arcs, and new arcs between their other ends. What rules 6 and 8 share.
+-- Arcs that meet at a node, in exact numbers: their signs there, free arcs, and new arcs between their other ends. For rule 8.
 use mathlib.Core.Path.{◌≡◌, refl, sym, ap, ◌∙◌}
 use mathlib.Core.Bool.{Bool, true, false, cond, not}
 use mathlib.Core.Logic.{inr}

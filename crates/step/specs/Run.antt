@@ -14,7 +14,7 @@ use Rattle.step.specs.declared.Next.TheVariants.{Stops, Refuted, Takes}
 use Rattle.step.specs.Around.{Trial, no_trial}
 use Rattle.step.specs.Back.{restored}
 
--- a rule: its last place (`maxArcs` for arcs, `maxNodes` for nodes), what it answers at a place, and its way back
+-- a rule: its last place (`max_arcs` for arcs, `max_nodes` for nodes), what it answers at a place, and its way back
 pub record Rule : Type 0 where
   pub last : ℕ
   pub at : Net → ℕ → Outcome
