@@ -1,24 +1,23 @@
 // Input read into a lent buffer.
 #![tactic(auto)]
 
-ghost use Rattle.std.specs.Prelude.{◌≤◌, IfOk, length};
+ghost use Rattle.std.specs.Prelude.{◌≤◌, ◌<◌, IfOk, length, take};
+ghost use Rattle.std.specs.Io.KnownBytes.{Consumes, IsAtEnd};
 
 use std::io;
 use std::io::Read;
 
-// Reads until the buffer is full or the input ends: how many bytes came.
+// Reads until the buffer is full or the input ends: how many bytes came. They stand at the buffer's front, in their order.
 pub fn read_full<R: Read>(reader: &mut R, buf: &mut [u8]) -> io::Result<usize>
-    ensures { IfOk result (λ n. n ≤ length buf.old) }
+    ensures within { IfOk result (λ n. n ≤ length buf.old) }
+    ensures bytes { IfOk result (λ n. Consumes (R.remaining reader.old) (R.remaining reader.new) (take n buf.new)) }
+    ensures end { IfOk result (λ n. n < length buf.old → IsAtEnd (R.remaining reader.new)) }
 {
     let mut n = 0;
-    for _ in 0..u64::MAX {
-        let rest = &mut buf[n..];
-        if rest.is_empty() {
-            break;
-        }
-        let got = reader.read(rest)?;
+    while n < buf.len() {
+        let got = reader.read(&mut buf[n..])?;
         if got == 0 {
-            break;
+            return Ok(n);
         }
         n += got;
     }
