@@ -11,8 +11,8 @@ use Rattle.presolve.proofs.Removed.{Removed}
 use Rattle.presolve.proofs.Costly.{CostlyArc, costly-sound}
 use Rattle.presolve.proofs.TakeOut.{costly-arc}
 use Rattle.fraction.specs.declared.Fraction.{Fraction}
-use Rattle.fraction.specs.declared.Worked.{Worked}
-use Rattle.fraction.specs.declared.Worked.TheVariants.{Fits, Misfit}
+use Rattle.fraction.specs.Exact.{Worked}
+use Rattle.std.specs.Prelude.{Ok, Err}
 use Rattle.fraction.specs.Exact.{Proper, is_finite, is_less}
 use Rattle.fraction.specs.Value.{value}
 use Rattle.fraction.proofs.Value.{same-is}
@@ -47,13 +47,13 @@ use Rattle.costly_arc.specs.CostlyArc.{is_positive, is_under, is_open_root, is_c
 
 -- a formula that fits and is above 0, or below c
 module _ {q : ℚ} where
-  positive-is : (w : Worked) → Gives w q → ((z : Fraction) → w ≡ Fits z → Proper z) → is_positive w ≡ true → 0_ℚ <ℚ q
-  positive-is Misfit h p e = never cc
-  positive-is (Fits x) h p e = rw (← h x refl, ← zero_is) (less-value zero-proper (p x refl) e)
+  positive-is : (w : Worked) → Gives w q → ((z : Fraction) → w ≡ Ok z → Proper z) → is_positive w ≡ true → 0_ℚ <ℚ q
+  positive-is (Err m) h p e = never cc
+  positive-is (Ok x) h p e = rw (← h x refl, ← zero_is) (less-value zero-proper (p x refl) e)
 
-  under-is : (w : Worked) (c : Fraction) → Proper c → Gives w q → ((z : Fraction) → w ≡ Fits z → Proper z) → is_under w c ≡ true → q <ℚ value c
-  under-is Misfit c k h p e = never cc
-  under-is (Fits x) c k h p e = rw (← h x refl) (less-value (p x refl) k e)
+  under-is : (w : Worked) (c : Fraction) → Proper c → Gives w q → ((z : Fraction) → w ≡ Ok z → Proper z) → is_under w c ≡ true → q <ℚ value c
+  under-is (Err m) c k h p e = never cc
+  under-is (Ok x) c k h p e = rw (← h x refl) (less-value (p x refl) k e)
 
 module _ (net : Net) (g : Legal net) where
   -- a root arc at node i without upper bound
@@ -80,9 +80,9 @@ module _ (net : Net) (g : Legal net) where
     m : ℕ
     first : is_open_root (arc_at net k) (arc_at net j).from ≡ true
     second : is_open_root (arc_at net m) (arc_at net j).to ≡ true
-    rate₁ : is_positive (Fits (arc_at net j).a ⊘ Fits (arc_at net k).a) ≡ true
-    rate₂ : is_positive (Fits (arc_at net j).b ⊘ Fits (arc_at net m).a) ≡ true
-    under : is_under (Fits (arc_at net k).cost ⊗ Fits (arc_at net j).a ⊘ Fits (arc_at net k).a ⊕ Fits (arc_at net m).cost ⊗ Fits (arc_at net j).b ⊘ Fits (arc_at net m).a) (arc_at net j).cost ≡ true
+    rate₁ : is_positive (Ok (arc_at net j).a ⊘ Ok (arc_at net k).a) ≡ true
+    rate₂ : is_positive (Ok (arc_at net j).b ⊘ Ok (arc_at net m).a) ≡ true
+    under : is_under (Ok (arc_at net k).cost ⊗ Ok (arc_at net j).a ⊘ Ok (arc_at net k).a ⊕ Ok (arc_at net m).cost ⊗ Ok (arc_at net j).b ⊘ Ok (arc_at net m).a) (arc_at net j).cost ≡ true
 
   costly-met : (j : ℕ) {o : Outcome} → Answers o → costly_arc net j ≡ o → Costly j o
   unfolding costly_arc has_pair is_costlier
@@ -95,8 +95,8 @@ module _ (net : Net) (g : Legal net) where
       let y = and_both (is_open_root (arc_at net x.0) t.from) _ x.2 in
       let z = any_some _ 97 y.1 in
       let u = and_both (is_open_root (arc_at net z.0) t.to) _ z.2 in
-      let v = and_both (is_positive (Fits t.a ⊘ Fits (arc_at net x.0).a)) _ u.1 in
-      let q = and_both (is_positive (Fits t.b ⊘ Fits (arc_at net z.0).a)) _ v.1 in
+      let v = and_both (is_positive (Ok t.a ⊘ Ok (arc_at net x.0).a)) _ u.1 in
+      let q = and_both (is_positive (Ok t.b ⊘ Ok (arc_at net z.0).a)) _ v.1 in
       record { no_root = not-true _ r.0; finite = f.0; dropped = p.1; k = x.0; m = z.0; first = y.0; second = u.0; rate₁ = v.0; rate₂ = q.0; under = q.1 }
 
   -- an arc that is no root arc is in use
@@ -118,10 +118,10 @@ module _ (net : Net) (g : Legal net) where
     abbrev y : Arc
     y = arc_at net w.m
 
-    ratio : (a b : Fraction) → is_positive (Fits a ⊘ Fits b) ≡ true → 0_ℚ <ℚ value a *ℚ inv_ℚ (value b)
-    ratio a b e = positive-is (Fits a ⊘ Fits b) (over-gives (given a) (given b)) (λ z q. (over-fits q).is.proper) e
+    ratio : (a b : Fraction) → is_positive (Ok a ⊘ Ok b) ≡ true → 0_ℚ <ℚ value a *ℚ inv_ℚ (value b)
+    ratio a b e = positive-is (Ok a ⊘ Ok b) (over-gives (given a) (given b)) (λ z q. (over-fits q).is.proper) e
 
-    share : (c a b : Fraction) → Gives (Fits c ⊗ Fits a ⊘ Fits b) (value c *ℚ value a *ℚ inv_ℚ (value b))
+    share : (c a b : Fraction) → Gives (Ok c ⊗ Ok a ⊘ Ok b) (value c *ℚ value a *ℚ inv_ℚ (value b))
     share c a b = over-gives (times-gives (given c) (given a)) (given b)
 
     pair-arc : (c : Edit) → Removed (program_of net) (program_of (applied net c)) j (value t.lower)

@@ -13,10 +13,10 @@ use lib.ListN.{get_or}
 use Rattle.loops.specs.Loops.{any}
 use Rattle.loops.proofs.Laws.{any_some, get_or-build}
 use Rattle.fraction.specs.declared.Fraction.{Fraction}
-use Rattle.fraction.specs.declared.Worked.{Worked}
-use Rattle.fraction.specs.declared.Worked.TheVariants.{Fits, Misfit}
+use Rattle.fraction.specs.Exact.{Worked}
+use Rattle.std.specs.Prelude.{Ok, Err}
 use Rattle.fraction.specs.Exact.{no_figure, is_operand, sum_of, is_same, no_upper}
-use Rattle.fraction.specs.Formula.{figure_of, pair_of, ◌⊕◌, ◌⊘◌}
+use Rattle.fraction.specs.Formula.{figure_of, pair_of, ◌⊕◌, ◌⊘◌, added}
 use Rattle.fraction.proofs.Laws.{and_both}
 use Rattle.step.proofs.Lines.{split, or-neither}
 use Rattle.step.proofs.Touch.{unlike}
@@ -83,12 +83,12 @@ none_from seen w q to c e = any_none _ 97 (λ k l. rw (none_left q (get_or to k 
 
 -- the sum of two figures is that of the formulas, where none stands for a misfit
 sum-way : (a b : Bool) (u v : Worked) (c : Fraction) → is_under (sum_of (cond a (figure_of u) no_figure) (cond b (figure_of v) no_figure)) c ≡ (a && (b && is_under (u ⊕ v) c))
-unfolding sum_of is_operand ◌⊕◌ pair_of
+unfolding sum_of is_operand added pair_of
 sum-way false b u v c = refl
 sum-way true false u v c = rw (and-false (is_operand (figure_of u)))
-sum-way true true (Fits x) (Fits y) c = refl
-sum-way true true (Fits x) Misfit c = rw (and-false (is_operand x))
-sum-way true true Misfit v c = refl
+sum-way true true (Ok x) (Ok y) c = refl
+sum-way true true (Ok x) (Err m) c = rw (and-false (is_operand x))
+sum-way true true (Err m) v c = refl
 
 -- by an arc that is no root arc without upper bound there is no way
 pub no_way : (x : Arc) → is_open_root x x.from ≡ false → (old : Bool) (i : ℕ) (e : Fraction) → way_of old x i e ≡ no_figure
@@ -110,9 +110,9 @@ pair-way : (t x y : Arc) (o u : Bool) → is_under (sum_of (way_of o x t.from t.
 unfolding way_of is_pair is_costlier
 pair-way t x y o u =
     let r = is_open_root x t.from in
-    let s = is_positive (Fits t.a ⊘ Fits x.a) in
+    let s = is_positive (Ok t.a ⊘ Ok x.a) in
     let q = is_open_root y t.to in
-    let v = is_positive (Fits t.b ⊘ Fits y.a) in
+    let v = is_positive (Ok t.b ⊘ Ok y.a) in
     sum-way (not o && (r && s)) (not u && (q && v)) _ _ t.cost ∙ by o r s u q v _
   where
     by : (o r s u q v z : Bool) → ((not o && (r && s)) && ((not u && (q && v)) && z)) ≡ (not o && (not u && (r && (q && (s && (v && z))))))

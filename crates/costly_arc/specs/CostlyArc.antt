@@ -2,8 +2,8 @@
 use Rattle.std.specs.Prelude.{Bool, false, ◌&&◌, not, ℕ, eqb}
 use Rattle.loops.specs.Loops.{any}
 use Rattle.fraction.specs.declared.Fraction.{Fraction}
-use Rattle.fraction.specs.declared.Worked.{Worked}
-use Rattle.fraction.specs.declared.Worked.TheVariants.{Fits, Misfit}
+use Rattle.fraction.specs.Exact.{Worked}
+use Rattle.std.specs.Prelude.{Ok, Err}
 use Rattle.fraction.specs.Exact.{zero_fraction, no_upper, is_finite, is_less, is_same}
 use Rattle.fraction.specs.Formula.{◌⊕◌, ◌⊗◌, ◌⊘◌}
 use Rattle.network.specs.declared.Arc.{Arc}
@@ -18,12 +18,12 @@ use Rattle.step.specs.Run.{Rule}
 
 -- a result that fits and is above 0; one that fits and is below c
 abbrev pub is_positive : Worked → Bool
-is_positive (Fits x) = is_less zero_fraction x
-is_positive Misfit = false
+is_positive (Ok x) = is_less zero_fraction x
+is_positive (Err m) = false
 
 abbrev pub is_under : Worked → Fraction → Bool
-is_under (Fits x) c = is_less x c
-is_under Misfit c = false
+is_under (Ok x) c = is_less x c
+is_under (Err m) c = false
 
 -- "some root arc .. at the from node, some .. at the to node, both without upper bound"
 unfoldable pub is_open_root : Arc → ℕ → Bool
@@ -32,9 +32,9 @@ is_open_root x i = is_root x && (eqb x.from i && is_same x.upper no_upper)
 -- "a ÷ a1 > 0, b ÷ a2 > 0, and c > c1 × a ÷ a1 + c2 × b ÷ a2"
 unfoldable pub is_costlier : Arc → Arc → Arc → Bool
 is_costlier t x y =
-    is_positive (Fits t.a ⊘ Fits x.a)
-    && (is_positive (Fits t.b ⊘ Fits y.a)
-    && is_under (Fits x.cost ⊗ Fits t.a ⊘ Fits x.a ⊕ Fits y.cost ⊗ Fits t.b ⊘ Fits y.a) t.cost)
+    is_positive (Ok t.a ⊘ Ok x.a)
+    && (is_positive (Ok t.b ⊘ Ok y.a)
+    && is_under (Ok x.cost ⊗ Ok t.a ⊘ Ok x.a ⊕ Ok y.cost ⊗ Ok t.b ⊘ Ok y.a) t.cost)
 
 -- "one pair of root arcs whose figures all fit is enough"
 unfoldable pub has_pair : Net → Arc → Bool

@@ -18,7 +18,7 @@ use Rattle.presolve.proofs.Price.{only_zero}
 use Rattle.presolve.proofs.Crossing.{four, crossing_back_lem, crossing-sound}
 use Rattle.presolve.proofs.Rewire.{OpenArc, cross-arc, crossing-of}
 use Rattle.fraction.specs.declared.Fraction.{Fraction}
-use Rattle.fraction.specs.declared.Worked.TheVariants.{Fits}
+use Rattle.std.specs.Prelude.{Ok}
 use Rattle.fraction.specs.Exact.{zero_fraction, no_upper, is_zero}
 use Rattle.fraction.specs.Formula.{◌⊕◌, ◌⊘◌, ⊝◌}
 use Rattle.fraction.proofs.Laws.{and_both}
@@ -87,9 +87,9 @@ record New (net : Net) (i n p : ℕ) : Type 0 where
   a : Fraction
   b : Fraction
   c : Fraction
-  a_fits : ⊝ (Fits (side_of (arc_at net n) i).o ⊘ Fits (side_of (arc_at net n) i).e) ≡ Fits a
-  b_fits : (Fits (side_of (arc_at net p) i).o ⊘ Fits (side_of (arc_at net p) i).e) ≡ Fits b
-  c_fits : (⊝ (Fits (arc_at net n).cost ⊘ Fits (side_of (arc_at net n) i).e) ⊕ Fits (arc_at net p).cost ⊘ Fits (side_of (arc_at net p) i).e) ≡ Fits c
+  a_fits : ⊝ (Ok (side_of (arc_at net n) i).o ⊘ Ok (side_of (arc_at net n) i).e) ≡ Ok a
+  b_fits : (Ok (side_of (arc_at net p) i).o ⊘ Ok (side_of (arc_at net p) i).e) ≡ Ok b
+  c_fits : (⊝ (Ok (arc_at net n).cost ⊘ Ok (side_of (arc_at net n) i).e) ⊕ Ok (arc_at net p).cost ⊘ Ok (side_of (arc_at net p) i).e) ≡ Ok c
 
 abbrev arc_of : {net : Net} {i n p : ℕ} → New net i n p → Arc
 arc_of {net} {i} {n} {p} w = new_arc (side_of (arc_at net n) i) (side_of (arc_at net p) i) w.a w.b w.c

@@ -2,8 +2,8 @@
 use Rattle.std.specs.Prelude.{Bool, true, false, cond, ◌&&◌, not, ℕ, ◌+◌, ◌-◌, eqb}
 use Rattle.loops.specs.Loops.{scan}
 use Rattle.fraction.specs.declared.Fraction.{Fraction}
-use Rattle.fraction.specs.declared.Worked.{Worked}
-use Rattle.fraction.specs.declared.Worked.TheVariants.{Fits}
+use Rattle.fraction.specs.Exact.{Worked}
+use Rattle.std.specs.Prelude.{Ok}
 use Rattle.fraction.specs.Exact.{zero_fraction, no_upper, is_zero, is_less, is_same}
 use Rattle.fraction.specs.Formula.{◌⊕◌, ◌⊘◌, ⊝◌}
 use Rattle.network.specs.declared.Arc.{Arc}
@@ -77,9 +77,9 @@ unfoldable pub crossed : ℕ → Arc → Arc → (Arc → Outcome) → Outcome
 crossed i n p rest = do
   let wn = side_of n i
   let wp = side_of p i
-  a ← fits (⊝ (Fits wn.o ⊘ Fits wn.e))
-  b ← fits (Fits wp.o ⊘ Fits wp.e)
-  c ← fits (⊝ (Fits n.cost ⊘ Fits wn.e) ⊕ Fits p.cost ⊘ Fits wp.e)
+  a ← fits (⊝ (Ok wn.o ⊘ Ok wn.e))
+  b ← fits (Ok wp.o ⊘ Ok wp.e)
+  c ← fits (⊝ (Ok n.cost ⊘ Ok wn.e) ⊕ Ok p.cost ⊘ Ok wp.e)
   rest (new_arc wn wp a b c)
 
 abbrev pub put_of : ℕ → Arc → ArcUpdate
@@ -115,7 +115,7 @@ crossing net i = do
 
 -- the sum of two flows ÷ e of an arc at node i
 abbrev pub share_of : Fraction → Fraction → Arc → ℕ → Worked
-share_of x y t i = (Fits x ⊕ Fits y) ⊘ Fits (side_of t i).e
+share_of x y t i = (Ok x ⊕ Ok y) ⊘ Ok (side_of t i).e
 
 abbrev pub flow_of : ArcUpdate → Fraction → FlowUpdate
 flow_of old x = record { arc = old.number; flow = x }

@@ -9,8 +9,8 @@ use lib.ListN.{length, get_or, set, length-set}
 use lib.Seq.{get_or-set_same, get_or-set_other}
 use borrow.Author.Tests.{eqb-true, eqb-false, eq-eqb}
 use Rattle.fraction.specs.declared.Fraction.{Fraction}
-use Rattle.fraction.specs.declared.Worked.{Worked}
-use Rattle.fraction.specs.declared.Worked.TheVariants.{Fits}
+use Rattle.fraction.specs.Exact.{Worked}
+use Rattle.std.specs.Prelude.{Ok}
 use Rattle.fraction.specs.Exact.{no_figure}
 use Rattle.fraction.specs.Formula.{◌⊕◌, ◌⊗◌}
 use Rattle.network.specs.declared.Arc.{Arc}
@@ -22,17 +22,17 @@ use Rattle.figures.specs.internal.Listed.{sum_at}
 -- one balance replaced: there, and elsewhere
 module _ (s r : Sums) (k : ℕ) (v : Worked) (e : r.at ≡ set s.at k (record { w = v })) where
   at_same : k < length s.at → sum_at r k ≡ v
-  at_same h = ap (λ (l : List Sum). (get_or l k (record { w = Fits no_figure })).w) e ∙ ap (λ (z : Sum). z.w) (get_or-set_same s.at k _ _ h)
+  at_same h = ap (λ (l : List Sum). (get_or l k (record { w = Ok no_figure })).w) e ∙ ap (λ (z : Sum). z.w) (get_or-set_same s.at k _ _ h)
 
   at_other : (i : ℕ) → (i ≡ k → ⊥) → sum_at r i ≡ sum_at s i
-  at_other i ne = ap (λ (l : List Sum). (get_or l i (record { w = Fits no_figure })).w) e ∙ ap (λ (z : Sum). z.w) (get_or-set_other s.at k i _ _ ne)
+  at_other i ne = ap (λ (l : List Sum). (get_or l i (record { w = Ok no_figure })).w) e ∙ ap (λ (z : Sum). z.w) (get_or-set_other s.at k i _ _ ne)
 
 abbrev pub put : Sums → ℕ → Worked → Sums
 put s k v = record { at = set s.at k (record { w = v }) }
 
 -- an arc adds at the places of its nodes: at the last where there is no such node
-module _ (s : Sums) (t : Arc) (x : Fraction) (p q : ℕ) (v w : Worked) (n : length s.at ≡ 34) (from : (i : ℕ) → i < 33 → eqb p i ≡ eqb t.from i) (to : (i : ℕ) → i < 33 → eqb q i ≡ (not (is_root t) && eqb t.to i)) (d : v ≡ sum_at s p ⊕ Fits t.a ⊗ Fits x) (e : w ≡ sum_at (put s p v) q ⊕ Fits t.b ⊗ Fits x) where
-  pub added : (i : ℕ) → i < 33 → sum_at (put (put s p v) q w) i ≡ cond (is_touching t i) (sum_at s i ⊕ Fits (side_of t i).e ⊗ Fits x) (sum_at s i)
+module _ (s : Sums) (t : Arc) (x : Fraction) (p q : ℕ) (v w : Worked) (n : length s.at ≡ 34) (from : (i : ℕ) → i < 33 → eqb p i ≡ eqb t.from i) (to : (i : ℕ) → i < 33 → eqb q i ≡ (not (is_root t) && eqb t.to i)) (d : v ≡ sum_at s p ⊕ Ok t.a ⊗ Ok x) (e : w ≡ sum_at (put s p v) q ⊕ Ok t.b ⊗ Ok x) where
+  pub added : (i : ℕ) → i < 33 → sum_at (put (put s p v) q w) i ≡ cond (is_touching t i) (sum_at s i ⊕ Ok (side_of t i).e ⊗ Ok x) (sum_at s i)
   unfolding is_touching is_root side_of
   added i h = by (eqb t.from i) refl (eqb t.to i) refl
     where
@@ -49,7 +49,7 @@ module _ (s : Sums) (t : Arc) (x : Fraction) (p q : ℕ) (v w : Worked) (n : len
       off-to : eqb q i ≡ false → sum_at two i ≡ sum_at one i
       off-to f = at_other one two q w refl i (λ z. eqb-false q i f (sym z))
 
-      by : (b : Bool) → eqb t.from i ≡ b → (c : Bool) → eqb t.to i ≡ c → sum_at two i ≡ cond (is_touching t i) (sum_at s i ⊕ Fits (side_of t i).e ⊗ Fits x) (sum_at s i)
+      by : (b : Bool) → eqb t.from i ≡ b → (c : Bool) → eqb t.to i ≡ c → sum_at two i ≡ cond (is_touching t i) (sum_at s i ⊕ Ok (side_of t i).e ⊗ Ok x) (sum_at s i)
       by true f c g =
           let k = eqb-true p i (from i h ∙ f) in
           rw f (off-to (to i h ∙ apart c g) ∙ rw (← k) (at_same s one p v refl (omega (arith, n, k, h)) ∙ d))
@@ -61,6 +61,6 @@ module _ (s : Sums) (t : Arc) (x : Fraction) (p q : ℕ) (v w : Worked) (n : len
           let j = eqb-true t.to i g in
           let r : eqb t.from t.to ≡ false = rw j f in
           let k = eqb-true q i (to i h ∙ rw (r, g)) in
-          let m : sum_at two i ≡ (sum_at one i ⊕ Fits t.b ⊗ Fits x) = rw (← k) (at_same one two q w refl (rw length-set (omega (arith, n, k, h))) ∙ e) in
+          let m : sum_at two i ≡ (sum_at one i ⊕ Ok t.b ⊗ Ok x) = rw (← k) (at_same one two q w refl (rw length-set (omega (arith, n, k, h))) ∙ e) in
           rw (f, g) (m ∙ rw (off-from (from i h ∙ f)))
       by false f false g = rw (f, g) (off-to (to i h ∙ rw (g, and-false)) ∙ off-from (from i h ∙ f))

@@ -22,8 +22,8 @@ use Rattle.presolve.proofs.Net.{column-in, column-out, touch-off, reduced-of}
 use Rattle.presolve.specs.Net as Exact
 use Rattle.presolve.proofs.Net as ExactLaws
 use Rattle.fraction.specs.declared.Fraction.{Fraction}
-use Rattle.fraction.specs.declared.Worked.{Worked}
-use Rattle.fraction.specs.declared.Worked.TheVariants.{Fits}
+use Rattle.fraction.specs.Exact.{Worked}
+use Rattle.std.specs.Prelude.{Ok}
 use Rattle.fraction.specs.Exact.{Proper, zero_fraction}
 use Rattle.fraction.specs.Formula.{◌⊕◌, ◌⊗◌}
 use Rattle.fraction.specs.Value.{value}
@@ -41,11 +41,11 @@ use Rattle.step.proofs.Lines.{split}
 use Rattle.figures.specs.Figures.{balance_turn, balance_of, reduced_cost, value_turn, value_of}
 
 -- one term more
-term-exactly : {w : Worked} {s : ℚ} (e x : Fraction) → Exactly w s → Exactly (w ⊕ Fits e ⊗ Fits x) (s +ℚ value e *ℚ value x)
+term-exactly : {w : Worked} {s : ℚ} (e x : Fraction) → Exactly w s → Exactly (w ⊕ Ok e ⊗ Ok x) (s +ℚ value e *ℚ value x)
 term-exactly e x k = plus-exactly (gives k) (times-gives (given e) (given x))
 
 -- a fraction in form
-alone-exactly : (x : Fraction) → Proper x → Exactly (Fits x) (value x)
+alone-exactly : (x : Fraction) → Proper x → Exactly (Ok x) (value x)
 alone-exactly x p = λ z e. let q : z ≡ x = cc in (rw q p, ap value q)
 
 -- ---- sums that start at w, of value b, and "run over the arcs upward"
@@ -84,7 +84,7 @@ module _ (e : Exact.Arc) where
   touch-to n = ap₂ ◌+ℚ◌ (only-other e.from e.to e.a n) (only_same e.to e.b) ∙ ring1 ℚ-ring e.b (λ b. :0 :+ b := b) refl
 
 -- a turn of a balance
-turn-exactly : (t : Arc) → ExactLaws.Legal (exact_arc t) → (i : ℕ) (x : Fraction) (w : Worked) (s : ℚ) → Exactly w s → Exactly (cond (is_touching t i) (w ⊕ Fits (side_of t i).e ⊗ Fits x) w) (s +ℚ touch (exact_arc t) i *ℚ value x)
+turn-exactly : (t : Arc) → ExactLaws.Legal (exact_arc t) → (i : ℕ) (x : Fraction) (w : Worked) (s : ℚ) → Exactly w s → Exactly (cond (is_touching t i) (w ⊕ Ok (side_of t i).e ⊗ Ok x) w) (s +ℚ touch (exact_arc t) i *ℚ value x)
 unfolding is_touching side_of
 turn-exactly t l i x w s k =
     split (eqb t.from i)

@@ -2,8 +2,8 @@
 use Rattle.std.specs.Prelude.{Bool, cond, ◌&&◌, not, List, [], ◌∷◌, ℕ, ◌+◌}
 use Rattle.loops.specs.Loops.{all, upto}
 use Rattle.fraction.specs.declared.Fraction.{Fraction}
-use Rattle.fraction.specs.declared.Worked.{Worked}
-use Rattle.fraction.specs.declared.Worked.TheVariants.{Fits}
+use Rattle.fraction.specs.Exact.{Worked}
+use Rattle.std.specs.Prelude.{Ok}
 use Rattle.fraction.specs.Exact.{zero_fraction, is_less, is_same}
 use Rattle.fraction.specs.Formula.{is_fit, figure_of, ◌⊕◌, ◌⊖◌, ◌⊗◌}
 use Rattle.network.specs.declared.Arc.{Arc}
@@ -17,25 +17,25 @@ use Rattle.records.specs.Questions.{Question, ◌asks◌}
 -- ---- the balance of node i: multiplier × flow over the arcs touching it; "sums start at 0 and run over the arcs upward"
 
 abbrev pub balance_turn : Net → Pair → ℕ → ℕ → Worked → Worked
-balance_turn net pair i j w = cond (is_touching (arc_at net (j + 1)) i) (w ⊕ Fits (side_of (arc_at net (j + 1)) i).e ⊗ Fits (flow_at pair (j + 1))) w
+balance_turn net pair i j w = cond (is_touching (arc_at net (j + 1)) i) (w ⊕ Ok (side_of (arc_at net (j + 1)) i).e ⊗ Ok (flow_at pair (j + 1))) w
 
 unfoldable pub balance_of : Net → Pair → ℕ → Worked
-balance_of net pair i = upto (balance_turn net pair i) net.m (Fits zero_fraction)
+balance_of net pair i = upto (balance_turn net pair i) net.m (Ok zero_fraction)
 
 -- ---- "reduced cost d = c - a × price(from) - b × price(to), the last term absent for a root arc"
 
 unfoldable pub reduced_cost : Arc → Pair → Worked
 reduced_cost t pair =
-    cond (is_root t) (Fits t.cost ⊖ Fits t.a ⊗ Fits (price_at pair t.from))
-    (Fits t.cost ⊖ Fits t.a ⊗ Fits (price_at pair t.from) ⊖ Fits t.b ⊗ Fits (price_at pair t.to))
+    cond (is_root t) (Ok t.cost ⊖ Ok t.a ⊗ Ok (price_at pair t.from))
+    (Ok t.cost ⊖ Ok t.a ⊗ Ok (price_at pair t.from) ⊖ Ok t.b ⊗ Ok (price_at pair t.to))
 
 -- ---- "the value is the sum of c × flow, arcs upward"; "A network record now has a constant, .. and the value's sum starts from it" (02, 2026-01)
 
 abbrev pub value_turn : Net → Pair → ℕ → Worked → Worked
-value_turn net pair j w = w ⊕ Fits (arc_at net (j + 1)).cost ⊗ Fits (flow_at pair (j + 1))
+value_turn net pair j w = w ⊕ Ok (arc_at net (j + 1)).cost ⊗ Ok (flow_at pair (j + 1))
 
 unfoldable pub value_of : Net → Pair → Worked
-value_of net pair = upto (value_turn net pair) net.m (Fits net.constant)
+value_of net pair = upto (value_turn net pair) net.m (Ok net.constant)
 
 -- ---- 9. "Do all balances, reduced costs and the value fit?" Nodes and arcs are counted from 0 here
 

@@ -3,8 +3,8 @@ use mathlib.Core.Path.{◌≡◌, refl, subst}
 use mathlib.Core.Bool.{true}
 use Rattle.algebra.specs.Rat.{ℚ, ◌+ℚ◌}
 use Rattle.fraction.specs.declared.Fraction.{Fraction}
-use Rattle.fraction.specs.declared.Worked.{Worked}
-use Rattle.fraction.specs.declared.Worked.TheVariants.{Fits, Misfit}
+use Rattle.fraction.specs.Exact.{Worked}
+use Rattle.std.specs.Prelude.{Ok, Err}
 use Rattle.fraction.specs.Exact.{Proper}
 use Rattle.fraction.specs.Formula.{◌⊕◌, ◌⊖◌, is_fit, figure_of}
 use Rattle.fraction.proofs.Laws.{never}
@@ -13,7 +13,7 @@ use Rattle.fraction.proofs.Formulas.{Gives, less_ℚ, plus-fits, minus-fits, plu
 
 -- q is the value of w, where w fits, and the result is then in form
 abbrev pub Exactly : Worked → ℚ → Type 0
-Exactly w q = (z : Fraction) → w ≡ Fits z → Proper z × (value z ≡ q)
+Exactly w q = (z : Fraction) → w ≡ Ok z → Proper z × (value z ≡ q)
 
 pub gives : {w : Worked} {q : ℚ} → Exactly w q → Gives w q
 gives k z e = (k z e).1
@@ -30,5 +30,5 @@ module _ {x y : Worked} {p q : ℚ} (g : Gives x p) (h : Gives y q) where
 
 -- what fits is in form and exact
 pub fit_is : (w : Worked) {q : ℚ} → Exactly w q → is_fit w ≡ true → Proper (figure_of w) × (value (figure_of w) ≡ q)
-fit_is (Fits z) k e = k z refl
-fit_is Misfit k e = never cc
+fit_is (Ok z) k e = k z refl
+fit_is (Err m) k e = never cc

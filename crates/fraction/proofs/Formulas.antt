@@ -14,13 +14,13 @@ use Rattle.algebra.proofs.Rat.{ℚ-ring, mul_ℚ-inv, one≢zero_ℚ}
 use Rattle.algebra.proofs.Frac.{frac-int, frac-exact}
 use Rattle.algebra.proofs.Inverse.{mul-ne}
 use Rattle.fraction.specs.declared.Fraction.{Fraction}
-use Rattle.fraction.specs.declared.Worked.{Worked}
-use Rattle.fraction.specs.declared.Worked.TheVariants.{Fits, Misfit}
+use Rattle.fraction.specs.Exact.{Worked, misfit}
+use Rattle.std.specs.Prelude.{Ok, Err}
 use Rattle.fraction.specs.Exact.{Operand, Proper, zero_fraction, is_operand, is_proper, is_zero, and_then, sum_of, difference_of, product_of, quotient_of, negation_of, reciprocal_of}
 use Rattle.fraction.proofs.Laws.{never, operand-is, operands-are, proper-is}
 use Rattle.fraction.specs.Value.{value, Works}
 use Rattle.fraction.proofs.Value.{minus, minus-operand, minus-value, negation-is, sum-works, product-works, quotient-works, quotient-by-zero, zero-value, value-unique, same-is, is_same_lem}
-use Rattle.fraction.specs.Formula.{worked, pair_of, ◌⊕◌, ◌⊖◌, ◌⊗◌, ◌⊘◌, ⊝◌}
+use Rattle.fraction.specs.Formula.{worked, ◌⊕◌, ◌⊖◌, ◌⊗◌, ◌⊘◌, ⊝◌, divided, subtracted, negated, added, multiplied}
 
 -- ---- zero
 
@@ -67,12 +67,12 @@ abbrev pub over_ℚ : ℚ → ℚ → ℚ
 over_ℚ p q = p *ℚ inv_ℚ q
 
 -- what an operation answers that tests its operands first
-pub tested : (t : Bool) (w : Worked) (z : Fraction) → cond t w Misfit ≡ Fits z → t ≡ true
+pub tested : (t : Bool) (w : Worked) (z : Fraction) → cond t w (Err misfit) ≡ Ok z → t ≡ true
 tested true w z e = refl
 tested false w z e = never cc
 
 -- the record of an operation, from its operands and its law
-exact-of : {op : ℚ → ℚ → ℚ} {x y z : Fraction} {w : Worked} → Operand x × Operand y → Works w (op (value x) (value y)) → w ≡ Fits z → Exact op x y z
+exact-of : {op : ℚ → ℚ → ℚ} {x y z : Fraction} {w : Worked} → Operand x × Operand y → Works w (op (value x) (value y)) → w ≡ Ok z → Exact op x y z
 exact-of {z = z} o k e = record { left_operand = o.0; right_operand = o.1; proper = k.proper z e; exact = k.exact z e }
 
 -- a numerator other than 0 has a value other than 0
@@ -82,11 +82,11 @@ numerator-nonzero x p h e =
     let z = ap nat_abs (frac-exact x.num x.den (pos 0) 1 p.den_pos (omega arith) (e ∙ sym (frac-int (pos 0)))) in
     omega (arith, sym (nat_abs_mul x.num (pos 1)) ∙ z ∙ nat_abs_mul (pos 0) (pos x.den))
 
-sum_fits : (x y z : Fraction) → sum_of x y ≡ Fits z → Exact ◌+ℚ◌ x y z
+sum_fits : (x y z : Fraction) → sum_of x y ≡ Ok z → Exact ◌+ℚ◌ x y z
 unfolding sum_of
 sum_fits x y z e = let o = operands-are x y (tested _ _ z e) in exact-of o (sum-works x y o.0 o.1) e
 
-product-fits : (x y z : Fraction) → product_of x y ≡ Fits z → Exact ◌*ℚ◌ x y z
+product-fits : (x y z : Fraction) → product_of x y ≡ Ok z → Exact ◌*ℚ◌ x y z
 unfolding product_of
 product-fits x y z e = let o = operands-are x y (tested _ _ z e) in exact-of o (product-works x y o.0 o.1) e
 
@@ -96,38 +96,38 @@ pub record Negated (x z : Fraction) : Type 0 where
   pub proper : Proper x → Proper z
   pub exact : value z ≡ -ℚ (value x)
 
-pub negation-fits : {x z : Fraction} → negation_of x ≡ Fits z → Negated x z
+pub negation-fits : {x z : Fraction} → negation_of x ≡ Ok z → Negated x z
 unfolding negation_of
 negation-fits {x} {z} e =
     let o = operand-is x (tested _ _ z e) in
     let is : z ≡ minus x = let f = sym e ∙ negation-is x o in cc in
     record { operand = o; proper = λ p. rw is (record { operand = minus-operand x o; coprime = rw nat_abs-neg_ℤ p.coprime }); exact = rw is (minus-value x o) }
 
-difference-fits : (x y z : Fraction) → difference_of x y ≡ Fits z → Exact less_ℚ x y z
+difference-fits : (x y z : Fraction) → difference_of x y ≡ Ok z → Exact less_ℚ x y z
 unfolding difference_of
 difference-fits x y z e = by (negation_of y) refl e
   where
-    by : (w : Worked) → negation_of y ≡ w → and_then w (sum_of x) ≡ Fits z → Exact less_ℚ x y z
-    by Misfit f e = never cc
-    by (Fits n) f e =
+    by : (w : Worked) → negation_of y ≡ w → and_then w (sum_of x) ≡ Ok z → Exact less_ℚ x y z
+    by (Err m) f e = never cc
+    by (Ok n) f e =
         let s = sum_fits x n z e in
         let k = negation-fits f in
         record { left_operand = s.left_operand; right_operand = k.operand; proper = s.proper; exact = s.exact ∙ ap (λ (q : ℚ). value x +ℚ q) k.exact }
 
-quotient-operands : (x y z : Fraction) → quotient_of x y ≡ Fits z → Operand x × Operand y
+quotient-operands : (x y z : Fraction) → quotient_of x y ≡ Ok z → Operand x × Operand y
 unfolding quotient_of reciprocal_of
 quotient-operands x y z e = by (reciprocal_of y) refl e
   where
-    by : (w : Worked) → reciprocal_of y ≡ w → and_then w (product_of x) ≡ Fits z → Operand x × Operand y
-    by Misfit f e = never cc
-    by (Fits t) f e = ((product-fits x t z e).left_operand, operand-is y (tested _ _ t f))
+    by : (w : Worked) → reciprocal_of y ≡ w → and_then w (product_of x) ≡ Ok z → Operand x × Operand y
+    by (Err m) f e = never cc
+    by (Ok t) f e = ((product-fits x t z e).left_operand, operand-is y (tested _ _ t f))
 
 -- there is no quotient by 0
-divisor-nonzero : (x y z : Fraction) → quotient_of x y ≡ Fits z → ¬ (value y ≡ 0_ℚ)
+divisor-nonzero : (x y z : Fraction) → quotient_of x y ≡ Ok z → ¬ (value y ≡ 0_ℚ)
 divisor-nonzero x y z e =
     ⊎_elim (λ h. never (let f = sym e ∙ quotient-by-zero x y h in cc)) (λ h. numerator-nonzero y (quotient-operands x y z e).1 h) (eq-zero-or-pos (nat_abs y.num))
 
-quotient_fits : (x y z : Fraction) → quotient_of x y ≡ Fits z → Exact over_ℚ x y z
+quotient_fits : (x y z : Fraction) → quotient_of x y ≡ Ok z → Exact over_ℚ x y z
 quotient_fits x y z e =
     let o = quotient-operands x y z e in
     exact-of o (quotient-works x y o.0 o.1 (divisor-nonzero x y z e)) e
@@ -137,53 +137,52 @@ quotient_fits x y z e =
 pub record Operands (op : ℚ → ℚ → ℚ) (x y : Worked) (z : Fraction) : Type 0 where
   pub left : Fraction
   pub right : Fraction
-  pub left_fits : x ≡ Fits left
-  pub right_fits : y ≡ Fits right
+  pub left_fits : x ≡ Ok left
+  pub right_fits : y ≡ Ok right
   pub is : Exact op left right z
 
-both-fit : {op : Fraction → Fraction → Worked} {f : ℚ → ℚ → ℚ} → ((x y z : Fraction) → op x y ≡ Fits z → Exact f x y z) → {z : Fraction} (x y : Worked) → worked op (pair_of x y) ≡ Fits z → Operands f x y z
-unfolding pair_of
-both-fit law (Fits x) (Fits y) e = record { left = x; right = y; left_fits = refl; right_fits = refl; is = law x y _ e }
-both-fit law (Fits x) Misfit e = never cc
-both-fit law Misfit y e = never cc
+both-fit : {op : Fraction → Fraction → Worked} {f : ℚ → ℚ → ℚ} → ((x y z : Fraction) → op x y ≡ Ok z → Exact f x y z) → {z : Fraction} (x y : Worked) → worked op x y ≡ Ok z → Operands f x y z
+both-fit law (Ok x) (Ok y) e = record { left = x; right = y; left_fits = refl; right_fits = refl; is = law x y _ e }
+both-fit law (Ok x) (Err m) e = never cc
+both-fit law (Err m) y e = never cc
 
 module _ {x y : Worked} {z : Fraction} where
-  pub plus-fits : x ⊕ y ≡ Fits z → Operands ◌+ℚ◌ x y z
-  unfolding ◌⊕◌
+  pub plus-fits : x ⊕ y ≡ Ok z → Operands ◌+ℚ◌ x y z
+  unfolding added
   plus-fits e = both-fit sum_fits x y e
 
-  pub minus-fits : x ⊖ y ≡ Fits z → Operands less_ℚ x y z
-  unfolding ◌⊖◌
+  pub minus-fits : x ⊖ y ≡ Ok z → Operands less_ℚ x y z
+  unfolding subtracted
   minus-fits e = both-fit difference-fits x y e
 
-  pub times-fits : x ⊗ y ≡ Fits z → Operands ◌*ℚ◌ x y z
-  unfolding ◌⊗◌
+  pub times-fits : x ⊗ y ≡ Ok z → Operands ◌*ℚ◌ x y z
+  unfolding multiplied
   times-fits e = both-fit product-fits x y e
 
-  pub over-fits : x ⊘ y ≡ Fits z → Operands over_ℚ x y z
-  unfolding ◌⊘◌
+  pub over-fits : x ⊘ y ≡ Ok z → Operands over_ℚ x y z
+  unfolding divided
   over-fits e = both-fit quotient_fits x y e
 
 -- the same of a negation
 pub record Opposite (x : Worked) (z : Fraction) : Type 0 where
   pub of : Fraction
-  pub of_fits : x ≡ Fits of
+  pub of_fits : x ≡ Ok of
   pub is : Negated of z
 
-pub negated_fits : {x : Worked} {z : Fraction} → ⊝ x ≡ Fits z → Opposite x z
-unfolding ⊝◌
+pub negated_fits : {x : Worked} {z : Fraction} → ⊝ x ≡ Ok z → Opposite x z
+unfolding negated
 negated_fits {x} {z} e = by x e
   where
-    by : (x : Worked) → and_then x negation_of ≡ Fits z → Opposite x z
-    by (Fits x) e = record { of = x; of_fits = refl; is = negation-fits e }
-    by Misfit e = never cc
+    by : (x : Worked) → and_then x negation_of ≡ Ok z → Opposite x z
+    by (Ok x) e = record { of = x; of_fits = refl; is = negation-fits e }
+    by (Err m) e = never cc
 
 -- ---- the value of a formula: q is the value of w, where w fits
 
 abbrev pub Gives : Worked → ℚ → Type 0
-Gives w q = (z : Fraction) → w ≡ Fits z → value z ≡ q
+Gives w q = (z : Fraction) → w ≡ Ok z → value z ≡ q
 
-pub given : (x : Fraction) → Gives (Fits x) (value x)
+pub given : (x : Fraction) → Gives (Ok x) (value x)
 given x z e = let f : z ≡ x = cc in ap value f
 
 operands-give : {op : ℚ → ℚ → ℚ} {x y : Worked} {z : Fraction} {p q : ℚ} → Gives x p → Gives y q → Operands op x y z → value z ≡ op p q
@@ -203,11 +202,11 @@ module _ {x y : Worked} {p q : ℚ} (g : Gives x p) (h : Gives y q) where
   over-gives z e = operands-give g h (over-fits e)
 
 -- the divisor of what fits is not zero
-pub over-nonzero : (x y : Worked) (q : ℚ) {z : Fraction} → Gives y q → x ⊘ y ≡ Fits z → ¬ (q ≡ 0_ℚ)
-unfolding ◌⊘◌ pair_of
-over-nonzero (Fits x) (Fits y) q {z} g e n = divisor-nonzero x y z e (g y refl ∙ n)
-over-nonzero (Fits x) Misfit q {z} g e n = never cc
-over-nonzero Misfit y q {z} g e n = never cc
+pub over-nonzero : (x y : Worked) (q : ℚ) {z : Fraction} → Gives y q → x ⊘ y ≡ Ok z → ¬ (q ≡ 0_ℚ)
+unfolding divided
+over-nonzero (Ok x) (Ok y) q {z} g e n = divisor-nonzero x y z e (g y refl ∙ n)
+over-nonzero (Ok x) (Err m) q {z} g e n = never cc
+over-nonzero (Err m) y q {z} g e n = never cc
 
 pub negated-gives : {x : Worked} {p : ℚ} → Gives x p → Gives (⊝ x) (-ℚ p)
 negated-gives g z e = let o = negated_fits e in o.is.exact ∙ ap (λ (q : ℚ). -ℚ q) (g _ o.of_fits)
@@ -221,9 +220,9 @@ pub record Nonzero (z : Fraction) : Type 0 where
 
 -- w is not zero, where it fits
 abbrev pub Unvanishing : Worked → Type 0
-Unvanishing w = (z : Fraction) → w ≡ Fits z → Nonzero z
+Unvanishing w = (z : Fraction) → w ≡ Ok z → Nonzero z
 
-pub unvanishing : {x : Fraction} → Nonzero x → Unvanishing (Fits x)
+pub unvanishing : {x : Fraction} → Nonzero x → Unvanishing (Ok x)
 unvanishing {x} n z e = let f : z ≡ x = cc in rw f n
 
 by_value : {z : Fraction} {q : ℚ} → Proper z → value z ≡ q → ¬ (q ≡ 0_ℚ) → Nonzero z

@@ -10,8 +10,8 @@ use lib.IntN.{ℤ, pos, nat_abs, ◌*ℤ◌}
 use Rattle.integer.specs.Gcd.{gcd, gcd-pos, coprime-quotients, left-product, right-product, right-pos, lowest}
 use Rattle.integer.specs.Whole.{signed, nat_abs-signed, nat_abs_mul, same-ratio, same_sign}
 use Rattle.fraction.specs.declared.Fraction.{Fraction}
-use Rattle.fraction.specs.declared.Worked.TheVariants.{Fits, Misfit}
-use Rattle.fraction.specs.Exact.{Operand, Proper, is_operand, is_proper, over, most, fitted, reduce_of}
+use Rattle.std.specs.Prelude.{Ok, Err, IsErr}
+use Rattle.fraction.specs.Exact.{Worked, Operand, Proper, is_operand, is_proper, over, most, fitted, reduce_of, misfit}
 
 -- two different numbers are not equal
 pub never {ℓ} : {X : Type ℓ} → ◌≡◌ {A = ℕ} 0 1 → X
@@ -47,33 +47,39 @@ is-proper x h = rw (is-operand x h.operand, eq-eqb _ _ h.coprime)
 
 -- ---- when a reduced fraction fits
 
-pub fitted-yes : (n : ℤ) (d : ℕ) → nat_abs n ≤ most → d ≤ most → fitted n d ≡ Fits (over n d)
+pub fitted-yes : (n : ℤ) (d : ℕ) → nat_abs n ≤ most → d ≤ most → fitted n d ≡ Ok (over n d)
 unfolding fitted
 fitted-yes n d h k = rw (le-leb _ _ h, le-leb _ _ k)
 
-pub fitted-no-num : (n : ℤ) (d : ℕ) → most < nat_abs n → fitted n d ≡ Misfit
+-- there is one misfit
+pub misfit_is : (w : Worked) → IsErr w → w ≡ Err misfit
+misfit_is (Ok x) e = never cc
+misfit_is (Err m) e = refl
+
+
+pub fitted-no-num : (n : ℤ) (d : ℕ) → most < nat_abs n → fitted n d ≡ (Err misfit)
 unfolding fitted
 fitted-no-num n d h = rw (lt-leb _ _ h)
 
-pub fitted-no-den : (n : ℤ) (d : ℕ) → most < d → fitted n d ≡ Misfit
+pub fitted-no-den : (n : ℤ) (d : ℕ) → most < d → fitted n d ≡ (Err misfit)
 unfolding fitted
 fitted-no-den n d h = rw (lt-leb d most h) (no (leb (nat_abs n) most))
   where
-    no : (t : Bool) → cond (t && false) (Fits (over n d)) Misfit ≡ Misfit
+    no : (t : Bool) → cond (t && false) (Ok (over n d)) (Err misfit) ≡ (Err misfit)
     no true = refl
     no false = refl
 
 -- of a result that fits: its parts are within range, and which they are
-fitted-is : (n : ℤ) (d : ℕ) (w : Fraction) → fitted n d ≡ Fits w → (nat_abs n ≤ most) × (d ≤ most) × (w ≡ over n d)
+fitted-is : (n : ℤ) (d : ℕ) (w : Fraction) → fitted n d ≡ Ok w → (nat_abs n ≤ most) × (d ≤ most) × (w ≡ over n d)
 unfolding fitted
 fitted-is n d w e = by (leb (nat_abs n) most) (leb d most) (leb-true _ _) (leb-true _ _) e
   where
-    by : (s t : Bool) → (s ≡ true → nat_abs n ≤ most) → (t ≡ true → d ≤ most) → cond (s && t) (Fits (over n d)) Misfit ≡ Fits w → (nat_abs n ≤ most) × (d ≤ most) × (w ≡ over n d)
+    by : (s t : Bool) → (s ≡ true → nat_abs n ≤ most) → (t ≡ true → d ≤ most) → cond (s && t) (Ok (over n d)) (Err misfit) ≡ Ok w → (nat_abs n ≤ most) × (d ≤ most) × (w ≡ over n d)
     by true true f g e = (f refl, g refl, cc)
     by true false f g e = absurd (let b : ◌≡◌ {A = ℕ} 0 1 = cc in omega arith)
     by false t f g e = absurd (let b : ◌≡◌ {A = ℕ} 0 1 = cc in omega arith)
 
-pub reduce-zero : (z : ℤ) (d : ℕ) → d ≡ 0 → reduce_of z d ≡ Misfit
+pub reduce-zero : (z : ℤ) (d : ℕ) → d ≡ 0 → reduce_of z d ≡ (Err misfit)
 unfolding reduce_of
 reduce-zero z d h = rw (eq-eqb d 0 h)
 
@@ -87,12 +93,12 @@ reduced z d h = reduce-by z d (nat_abs z) (gcd (nat_abs z) d) (λ e. omega arith
 
 -- ---- what is reduced: exact, in form, and complete
 
-pub reduce-exact : (z : ℤ) (d : ℕ) (w : Fraction) → 0 < d → reduce_of z d ≡ Fits w → w.num *ℤ pos d ≡ z *ℤ pos w.den
+pub reduce-exact : (z : ℤ) (d : ℕ) (w : Fraction) → 0 < d → reduce_of z d ≡ Ok w → w.num *ℤ pos d ≡ z *ℤ pos w.den
 reduce-exact z d w h e =
     let p = (fitted-is _ _ w (sym (reduced z d h) ∙ e)).2 in
     rw p (same-ratio z d (nat_abs z / gcd (nat_abs z) d) (d / gcd (nat_abs z) d) (gcd (nat_abs z) d) (left-product (nat_abs z) d) (right-product (nat_abs z) d))
 
-pub reduce-proper : (z : ℤ) (d : ℕ) (w : Fraction) → 0 < d → reduce_of z d ≡ Fits w → Proper w
+pub reduce-proper : (z : ℤ) (d : ℕ) (w : Fraction) → 0 < d → reduce_of z d ≡ Ok w → Proper w
 reduce-proper z d w h e =
     let p = fitted-is _ _ w (sym (reduced z d h) ∙ e) in
     subst⁻¹ Proper p.2
@@ -101,7 +107,7 @@ reduce-proper z d w h e =
       coprime = rw (nat_abs-signed z (nat_abs z / gcd (nat_abs z) d)) (coprime-quotients (nat_abs z) d h);
     })
 
-pub reduce-complete : (z : ℤ) (d : ℕ) (w : Fraction) → 0 < d → Proper w → w.num *ℤ pos d ≡ z *ℤ pos w.den → reduce_of z d ≡ Fits w
+pub reduce-complete : (z : ℤ) (d : ℕ) (w : Fraction) → 0 < d → Proper w → w.num *ℤ pos d ≡ z *ℤ pos w.den → reduce_of z d ≡ Ok w
 reduce-complete z d w h p e =
     reduced z d h
     ∙ ap (λ (x : Fraction). fitted x.num x.den) (ap (λ k. over (signed z k) m) (sym same.0) ∙ ap (λ k. over k m) (same_sign z w.num d w.den h p.operand.den_pos e) ∙ ap (λ k. over w.num k) (sym same.1))

@@ -15,8 +15,8 @@ use Rattle.integer.specs.Gcd.{gcd, gcd-pos, gcd-le}
 use Rattle.integer.specs.Whole.{signed}
 use Rattle.integer.specs.Machine.{back32, sfits-by}
 use Rattle.fraction.specs.declared.Fraction.{Fraction}
-use Rattle.fraction.specs.declared.Worked.TheVariants.{Fits, Misfit}
-use Rattle.fraction.specs.Exact.{over, is_operand, is_proper, fitted, reduce_of}
+use Rattle.std.specs.Prelude.{Ok, Err}
+use Rattle.fraction.specs.Exact.{over, is_operand, is_proper, fitted, reduce_of, misfit}
 use Rattle.fraction.proofs.Laws.{never, fitted-yes, fitted-no-num, reduce-by}
 
 gcd-one : (a : ℕ) → gcd a 1 ≡ 1
@@ -45,14 +45,14 @@ proper-whole x h e = rw (back32 x.num h, e, gcd-one (nat_abs x.num)) (by x.num h
 
 -- a number of 64 bits, by the tests of its two limits
 module _ (z : ℤ) (h : SFits w64 z) where
-  pub too-low : lt_z (to_z w64 (of_z w64 z)) (negsuc 2147483646) ≡ true → Misfit ≡ fitted z 1
+  pub too-low : lt_z (to_z w64 (of_z w64 z)) (negsuc 2147483646) ≡ true → (Err misfit) ≡ fitted z 1
   too-low e = sym (fitted-no-num z 1 (by z (rw (to_z-of_z h) at e)))
     where
       by : (z : ℤ) → lt_z z (negsuc 2147483646) ≡ true → 2147483647 < nat_abs z
       by (pos n) e = never cc
       by (negsuc n) e = omega (arith, ltb-true 2147483646 n e)
 
-  pub too-high : lt_z (pos 2147483647) (to_z w64 (of_z w64 z)) ≡ true → Misfit ≡ fitted z 1
+  pub too-high : lt_z (pos 2147483647) (to_z w64 (of_z w64 z)) ≡ true → (Err misfit) ≡ fitted z 1
   too-high e = sym (fitted-no-num z 1 (by z (rw (to_z-of_z h) at e)))
     where
       by : (z : ℤ) → lt_z (pos 2147483647) z ≡ true → 2147483647 < nat_abs z
@@ -70,5 +70,5 @@ module _ (z : ℤ) (h : SFits w64 z) where
     pub narrow : SFits w32 (to_z w64 (of_z w64 z))
     narrow = rw (to_z-of_z h) (sfits-by (omega (arith, within)))
 
-    pub fits_whole : Fits (over (to_z w32 (of_z w32 (to_z w64 (of_z w64 z)))) 1) ≡ fitted z 1
-    fits_whole = ap (λ (n : ℤ). Fits (over n 1)) (to_z-of_z narrow ∙ to_z-of_z h) ∙ sym (fitted-yes z 1 within (omega arith))
+    pub fits_whole : Ok (over (to_z w32 (of_z w32 (to_z w64 (of_z w64 z)))) 1) ≡ fitted z 1
+    fits_whole = ap (λ (n : ℤ). Ok (over n 1)) (to_z-of_z narrow ∙ to_z-of_z h) ∙ sym (fitted-yes z 1 within (omega arith))

@@ -7,13 +7,14 @@ use native.Mathlib.Nat.{mul-pos, eq-zero-or-pos}
 use native.Mathlib.Omega.{arith}
 use borrow.Author.Tests.{eq-eqb, ne_eqb, eqb-true, le-leb}
 use lib.IntN.{ℤ, pos, negsuc, neg_ℤ, nat_abs, zero-*ℤ}
-use Rattle.integer.specs.Whole.{signed, eq_z-true, eq_z-refl, nat_abs-neg_ℤ, nat_abs-signed}
+use Rattle.std.proofs.lemmas.Bool.Decides.{Decides-int_eq}
+use Rattle.integer.specs.Whole.{signed, nat_abs-neg_ℤ, nat_abs-signed}
 use Rattle.algebra.specs.Rat.{◌+ℚ◌, ◌*ℚ◌, -ℚ◌, inv_ℚ, 0_ℚ}
 use Rattle.algebra.specs.Frac.{frac}
 use Rattle.algebra.proofs.Frac.{frac-int, frac-eq, frac-exact, frac-add, frac-mul, frac-neg, frac-inv}
 use Rattle.fraction.specs.declared.Fraction.{Fraction}
-use Rattle.fraction.specs.declared.Worked.TheVariants.{Fits, Misfit}
-use Rattle.fraction.specs.Exact.{Operand, Proper, over, most, and_then, is_operand, is_same, reduce_of, sum_of, difference_of, product_of, quotient_of, negation_of, reciprocal_of, from_words, den_word}
+use Rattle.std.specs.Prelude.{Ok, Err}
+use Rattle.fraction.specs.Exact.{Operand, Proper, over, most, and_then, is_operand, is_same, reduce_of, sum_of, difference_of, product_of, quotient_of, negation_of, reciprocal_of, from_words, den_word, misfit}
 use Rattle.fraction.specs.Value.{value, Works}
 use Rattle.fraction.proofs.Laws.{and_both, is-operand, reduce-exact, reduce-proper, reduce-complete}
 
@@ -47,7 +48,7 @@ minus x = over (neg_ℤ x.num) x.den
 pub minus-operand : (x : Fraction) → Operand x → Operand (minus x)
 minus-operand x p = record { num_in = rw nat_abs-neg_ℤ p.num_in; den_pos = p.den_pos; den_in = p.den_in }
 
-pub negation-is : (x : Fraction) → Operand x → negation_of x ≡ Fits (minus x)
+pub negation-is : (x : Fraction) → Operand x → negation_of x ≡ Ok (minus x)
 unfolding negation_of
 negation-is x p = rw (is-operand x p)
 
@@ -61,7 +62,7 @@ turned x = over (signed x.num x.den) (nat_abs x.num)
 turned-operand : (x : Fraction) → Operand x → 0 < nat_abs x.num → Operand (turned x)
 turned-operand x p h = record { num_in = rw nat_abs-signed p.den_in; den_pos = h; den_in = p.num_in }
 
-reciprocal_is : (x : Fraction) → Operand x → 0 < nat_abs x.num → reciprocal_of x ≡ Fits (turned x)
+reciprocal_is : (x : Fraction) → Operand x → 0 < nat_abs x.num → reciprocal_of x ≡ Ok (turned x)
 unfolding reciprocal_of
 reciprocal_is x p h = let k : nat_abs x.num ≡ 0 → ⊥ = λ e. omega arith in rw (is-operand x p, ne_eqb _ _ k)
 
@@ -90,11 +91,11 @@ quotient-works x y p q n =
     (eq-zero-or-pos (nat_abs y.num))
 
 -- there is no quotient by 0
-pub quotient-by-zero : (x y : Fraction) → nat_abs y.num ≡ 0 → quotient_of x y ≡ Misfit
+pub quotient-by-zero : (x y : Fraction) → nat_abs y.num ≡ 0 → quotient_of x y ≡ (Err misfit)
 unfolding quotient_of reciprocal_of
 quotient-by-zero x y h = rw (eq-eqb _ _ h) (either (is_operand y))
   where
-    either : (t : Bool) → and_then (cond t Misfit Misfit) (product_of x) ≡ Misfit
+    either : (t : Bool) → and_then (cond t (Err misfit) (Err misfit)) (product_of x) ≡ (Err misfit)
     either true = refl
     either false = refl
 
@@ -103,17 +104,17 @@ quotient-by-zero x y h = rw (eq-eqb _ _ h) (either (is_operand y))
 pub value-unique : (x y : Fraction) → Proper x → Proper y → value x ≡ value y → x ≡ y
 unfolding value
 value-unique x y p q e =
-    let a : reduce_of y.num y.den ≡ Fits x = (reduce-works y.num y.den q.operand.den_pos).complete x p e in
-    let b : reduce_of y.num y.den ≡ Fits y = (reduce-works y.num y.den q.operand.den_pos).complete y q refl in
-    let c : Fits x ≡ Fits y = sym a ∙ b in cc
+    let a : reduce_of y.num y.den ≡ Ok x = (reduce-works y.num y.den q.operand.den_pos).complete x p e in
+    let b : reduce_of y.num y.den ≡ Ok y = (reduce-works y.num y.den q.operand.den_pos).complete y q refl in
+    let c : Ok x ≡ Ok y = sym a ∙ b in cc
 
 pub same-is : (x y : Fraction) → is_same x y ≡ true → x ≡ y
 unfolding is_same
-same-is x y e = let a = and_both _ _ e in ap (λ (n : ℤ). over n x.den) (eq_z-true _ _ a.0) ∙ ap (over y.num) (eqb-true _ _ a.1)
+same-is x y e = let a = and_both _ _ e in ap (λ (n : ℤ). over n x.den) ((Decides-int_eq _ _).0 a.0) ∙ ap (over y.num) (eqb-true _ _ a.1)
 
 pub is_same_lem : (x : Fraction) → is_same x x ≡ true
 unfolding is_same
-is_same_lem x = rw (eq_z-refl x.num, eq-eqb x.den x.den refl)
+is_same_lem x = rw ((Decides-int_eq x.num x.num).1 refl, eq-eqb x.den x.den refl)
 
 -- ---- words: what was read is written back
 

@@ -1,11 +1,19 @@
 -- What each operation on fractions answers, over numbers of any size (01, "The problem and its figures").
 use Rattle.std.specs.Prelude.{◌≡◌, Bool, cond, ◌&&◌, not, ℕ, ◌*◌, ◌/◌, ◌≤◌, ◌<◌, ℤ, pos, negsuc, neg_ℤ, nat_abs, ◌+ℤ◌, ◌*ℤ◌, leb, ltb, eqb}
 use Rattle.std.specs.Int.Signed.{lt_z}
+use Rattle.std.specs.Ordering.{int_eq}
 use Rattle.integer.specs.Gcd.{gcd}
-use Rattle.integer.specs.Whole.{signed, eq_z}
+use Rattle.integer.specs.Whole.{signed}
 use Rattle.fraction.specs.declared.Fraction.{Fraction}
-use Rattle.fraction.specs.declared.Worked.{Worked}
-use Rattle.fraction.specs.declared.Worked.TheVariants.{Fits, Misfit}
+use Rattle.fraction.specs.declared.Misfit.{Misfit}
+use Rattle.std.specs.Prelude.{Result, Ok, Err}
+
+-- what an operation answers: the exact result, or that it does not fit
+abbrev pub Worked : Type 0
+Worked = Result Fraction Misfit
+
+abbrev pub misfit : Misfit
+misfit = record {}
 
 abbrev pub over : ℤ → ℕ → Fraction
 over n d = record { num = n; den = d }
@@ -53,29 +61,29 @@ is_proper x = is_operand x && eqb (gcd (nat_abs x.num) x.den) 1
 
 -- "fits": the parts are within range
 unfoldable pub fitted : ℤ → ℕ → Worked
-fitted n d = cond (leb (nat_abs n) most && leb d most) (Fits (over n d)) Misfit
+fitted n d = cond (leb (nat_abs n) most && leb d most) (Ok (over n d)) (Err misfit)
 
 -- z over d, fully reduced; there is no fraction over 0
 unfoldable pub reduce_of : ℤ → ℕ → Worked
-reduce_of z d = cond (eqb d 0) Misfit (fitted (signed z (nat_abs z / gcd (nat_abs z) d)) (d / gcd (nat_abs z) d))
+reduce_of z d = cond (eqb d 0) (Err misfit) (fitted (signed z (nat_abs z / gcd (nat_abs z) d)) (d / gcd (nat_abs z) d))
 
 unfoldable pub sum_of : Fraction → Fraction → Worked
-sum_of x y = cond (is_operand x && is_operand y) (reduce_of (x.num *ℤ pos y.den +ℤ y.num *ℤ pos x.den) (x.den * y.den)) Misfit
+sum_of x y = cond (is_operand x && is_operand y) (reduce_of (x.num *ℤ pos y.den +ℤ y.num *ℤ pos x.den) (x.den * y.den)) (Err misfit)
 
 unfoldable pub product_of : Fraction → Fraction → Worked
-product_of x y = cond (is_operand x && is_operand y) (reduce_of (x.num *ℤ y.num) (x.den * y.den)) Misfit
+product_of x y = cond (is_operand x && is_operand y) (reduce_of (x.num *ℤ y.num) (x.den * y.den)) (Err misfit)
 
 unfoldable pub negation_of : Fraction → Worked
-negation_of x = cond (is_operand x) (Fits (over (neg_ℤ x.num) x.den)) Misfit
+negation_of x = cond (is_operand x) (Ok (over (neg_ℤ x.num) x.den)) (Err misfit)
 
 -- 1 over x: the two parts exchanged, the sign on top; there is none of 0
 unfoldable pub reciprocal_of : Fraction → Worked
-reciprocal_of x = cond (is_operand x) (cond (eqb (nat_abs x.num) 0) Misfit (Fits (over (signed x.num x.den) (nat_abs x.num)))) Misfit
+reciprocal_of x = cond (is_operand x) (cond (eqb (nat_abs x.num) 0) (Err misfit) (Ok (over (signed x.num x.den) (nat_abs x.num)))) (Err misfit)
 
 -- go on with a result that fits
 abbrev pub and_then : Worked → (Fraction → Worked) → Worked
-and_then (Fits x) f = f x
-and_then Misfit f = Misfit
+and_then (Ok x) f = f x
+and_then (Err m) f = Err m
 
 -- x less y is x and the negation of y; x over y is x times 1 over y
 unfoldable pub difference_of : Fraction → Fraction → Worked
@@ -92,7 +100,7 @@ is_less x y = cond (eqb x.den 0 && eqb y.den 0) (lt_z x.num y.num) (lt_z (x.num 
 
 -- two figures are written alike
 unfoldable pub is_same : Fraction → Fraction → Bool
-is_same x y = eq_z x.num y.num && eqb x.den y.den
+is_same x y = int_eq x.num y.num && eqb x.den y.den
 
 unfoldable pub is_zero : Fraction → Bool
 is_zero x = is_same x zero_fraction

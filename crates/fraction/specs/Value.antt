@@ -3,8 +3,8 @@ use Rattle.std.specs.Prelude.{◌≡◌}
 use Rattle.algebra.specs.Rat.{ℚ}
 use Rattle.algebra.specs.Frac.{frac}
 use Rattle.fraction.specs.declared.Fraction.{Fraction}
-use Rattle.fraction.specs.declared.Worked.{Worked}
-use Rattle.fraction.specs.declared.Worked.TheVariants.{Fits}
+use Rattle.fraction.specs.Exact.{Worked}
+use Rattle.std.specs.Prelude.{Ok}
 use Rattle.fraction.specs.Exact.{Proper}
 
 unfoldable pub value : Fraction → ℚ
@@ -12,6 +12,6 @@ value x = frac x.num x.den
 
 -- w is the fraction in form whose value is q, or a misfit where there is none (proofs `Value`: each of the four operations works)
 pub record Works (w : Worked) (q : ℚ) : Type 0 where
-  pub exact : (z : Fraction) → w ≡ Fits z → value z ≡ q
-  pub proper : (z : Fraction) → w ≡ Fits z → Proper z
-  pub complete : (z : Fraction) → Proper z → value z ≡ q → w ≡ Fits z
+  pub exact : (z : Fraction) → w ≡ Ok z → value z ≡ q
+  pub proper : (z : Fraction) → w ≡ Ok z → Proper z
+  pub complete : (z : Fraction) → Proper z → value z ≡ q → w ≡ Ok z

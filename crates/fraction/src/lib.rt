@@ -1,28 +1,27 @@
 // Exact fractions of 32-bit words (01, "The problem and its figures"): a numerator over a denominator,
 // in lowest terms, and the two marks of an absent bound. Every operation answers the fraction or that
 // it does not fit.
-#![tactic(auto)]
+#![tactic(auto, using(crate::proofs::Laws::misfit_is), unfolding(crate::specs::Exact::difference_of, crate::specs::Exact::quotient_of, crate::specs::Exact::is_same, crate::specs::Exact::is_zero, crate::specs::Exact::from_words, crate::specs::Exact::den_word))]
 
 ghost use Rattle.std.specs.Prelude.{◌≡◌, ◌&&◌, ◌*◌, pos, nat_abs, ◌+ℤ◌, ◌*ℤ◌};
 ghost use Rattle.std.specs.Int.Signed.{lt_z};
 ghost use Rattle.fraction.specs.Exact.{no_lower, no_upper, Operand, is_operand, is_proper, is_same, is_zero, is_less, fitted, reduce_of, sum_of, difference_of, product_of, quotient_of, negation_of, reciprocal_of, from_words, den_word};
-ghost use Rattle.fraction.specs.Formula.{pair_of, is_fit, figure_of, ◌⊕◌, ◌⊖◌, ◌⊗◌, ◌⊘◌, ⊝◌};
 
 pub mod words;
 
-// A figure: a numerator over a denominator, or a mark, which is written over 0.
-#[derive(Clone, Copy)]
+// A figure: a numerator over a denominator, or a mark, which is written over 0. Two are equal that are written alike.
+#[derive(Clone, Copy, PartialEq, Eq)]
 pub struct Fraction {
     pub num: i32,
     pub den: u32,
 }
 
+// That a result does not fit.
+#[derive(Clone, Copy, PartialEq, Eq)]
+pub struct Misfit;
+
 // What an operation answers: the exact result, or that it does not fit.
-#[derive(Clone, Copy)]
-pub enum Worked {
-    Fits(Fraction),
-    Misfit,
-}
+pub type Worked = Result<Fraction, Misfit>;
 
 impl Fraction {
     pub const ZERO: Fraction = Fraction { num: 0, den: 1 };
@@ -40,7 +39,7 @@ impl Fraction {
         ensures { result ≡ reduce_of z d }
     {
         if d == 0 {
-            return Worked::Misfit;
+            return Err(Misfit);
         }
         if d == 1 {
             return whole(z);
@@ -51,23 +50,16 @@ impl Fraction {
         let n = size / g;
         let m = d / g;
         if n > 2147483647 {
-            return Worked::Misfit;
+            return Err(Misfit);
         }
         if m > 2147483647 {
-            return Worked::Misfit;
+            return Err(Misfit);
         }
         let num = integer::with_sign(z, n as u32);
-        Worked::Fits(Fraction {
+        Ok(Fraction {
             num: num as i32,
             den: m as u32,
         })
-    }
-
-    // It, as what a formula starts from.
-    pub fn fit(self) -> Worked
-        ensures { result ≡ Worked.Fits self }
-    {
-        Worked::Fits(self)
     }
 
     // Whether an operation can be worked on it: its parts are within range and the denominator is not 0.
@@ -102,7 +94,7 @@ impl Fraction {
         if operands(self, y) {
             return Fraction::reduced(cross_sum(self, y), denominator(self, y));
         }
-        Worked::Misfit
+        Err(Misfit)
     }
 
     pub fn product(self, y: Fraction) -> Worked
@@ -111,19 +103,19 @@ impl Fraction {
         if operands(self, y) {
             return Fraction::reduced(integer::product(self.num, y.num), denominator(self, y));
         }
-        Worked::Misfit
+        Err(Misfit)
     }
 
     pub fn negation(self) -> Worked
         ensures { result ≡ negation_of self }
     {
         if self.is_operand() {
-            return Worked::Fits(Fraction {
+            return Ok(Fraction {
                 num: 0 - self.num,
                 den: self.den,
             });
         }
-        Worked::Misfit
+        Err(Misfit)
     }
 
     // 1 over it; there is none of 0.
@@ -133,33 +125,27 @@ impl Fraction {
         if self.is_operand() {
             let size = num_size(self);
             if size == 0 {
-                return Worked::Misfit;
+                return Err(Misfit);
             }
             let num = integer::with_sign(self.num as i64, self.den);
-            return Worked::Fits(Fraction {
+            return Ok(Fraction {
                 num: num as i32,
                 den: size as u32,
             });
         }
-        Worked::Misfit
+        Err(Misfit)
     }
 
     pub fn difference(self, y: Fraction) -> Worked
         ensures { result ≡ difference_of self y }
     {
-        match y.negation() {
-            Worked::Fits(z) => self.sum(z),
-            Worked::Misfit => Worked::Misfit,
-        }
+        self.sum(y.negation()?)
     }
 
     pub fn quotient(self, y: Fraction) -> Worked
         ensures { result ≡ quotient_of self y }
     {
-        match y.reciprocal() {
-            Worked::Fits(z) => self.product(z),
-            Worked::Misfit => Worked::Misfit,
-        }
+        self.product(y.reciprocal()?)
     }
 
     // Whether it is less than y, in the one order of fractions and both marks.
@@ -175,46 +161,33 @@ impl Fraction {
         cross_less(self, y)
     }
 
-    // Whether it is written as y is.
-    pub fn same(self, y: Fraction) -> bool
-        ensures { result ≡ is_same self y }
-    {
-        self.num == y.num && self.den == y.den
-    }
-
     pub fn is_zero(self) -> bool
         ensures { result ≡ is_zero self }
     {
-        self.same(Fraction::ZERO)
+        self == Fraction::ZERO
     }
 
     // Whether it is the mark of an absent lower bound.
     pub fn is_no_lower(self) -> bool
         ensures { result ≡ is_same self no_lower }
     {
-        self.same(Fraction::NO_LOWER)
+        self == Fraction::NO_LOWER
     }
 
     // Whether it is the mark of an absent upper bound.
     pub fn is_no_upper(self) -> bool
         ensures { result ≡ is_same self no_upper }
     {
-        self.same(Fraction::NO_UPPER)
+        self == Fraction::NO_UPPER
     }
 
     // The figure that two words of a record stand for.
     pub fn from_words(num: i32, den: i32) -> Fraction
         ensures { result ≡ from_words num den }
     {
-        if den < 0 {
-            return Fraction {
-                num,
-                den: 4294967295,
-            };
-        }
         Fraction {
             num,
-            den: den as u32,
+            den: u32::try_from(den).unwrap_or(u32::MAX),
         }
     }
 
@@ -222,11 +195,7 @@ impl Fraction {
     pub fn den_word(self) -> i32
         ensures { result ≡ den_word self.den }
     {
-        if self.den <= 2147483647 {
-            self.den as i32
-        } else {
-            -1
-        }
+        i32::try_from(self.den).unwrap_or(-1)
     }
 }
 
@@ -235,12 +204,12 @@ fn whole(z: i64) -> Worked
     ensures { result ≡ fitted z 1 }
 {
     if z < -2147483647 {
-        return Worked::Misfit;
+        return Err(Misfit);
     }
     if z > 2147483647 {
-        return Worked::Misfit;
+        return Err(Misfit);
     }
-    Worked::Fits(Fraction {
+    Ok(Fraction {
         num: z as i32,
         den: 1,
     })
@@ -280,90 +249,4 @@ fn denominator(x: Fraction, y: Fraction) -> u64
     ensures { result ≡ x.den * y.den }
 {
     (x.den as u64) * (y.den as u64)
-}
-
-// The two fractions of an operation, where both fitted.
-#[derive(Clone, Copy)]
-enum Pair {
-    Both(Fraction, Fraction),
-    Neither,
-}
-
-fn both(x: Worked, y: Worked) -> Pair
-    ensures { result ≡ pair_of x y }
-{
-    match x {
-        Worked::Fits(a) => match y {
-            Worked::Fits(b) => Pair::Both(a, b),
-            Worked::Misfit => Pair::Neither,
-        },
-        Worked::Misfit => Pair::Neither,
-    }
-}
-
-// The operations of a formula: a misfit stays one.
-impl Worked {
-    pub fn plus(self, y: Worked) -> Worked
-        ensures { result ≡ self ⊕ y }
-    {
-        match both(self, y) {
-            Pair::Both(a, b) => a.sum(b),
-            Pair::Neither => Worked::Misfit,
-        }
-    }
-
-    pub fn minus(self, y: Worked) -> Worked
-        ensures { result ≡ self ⊖ y }
-    {
-        match both(self, y) {
-            Pair::Both(a, b) => a.difference(b),
-            Pair::Neither => Worked::Misfit,
-        }
-    }
-
-    pub fn times(self, y: Worked) -> Worked
-        ensures { result ≡ self ⊗ y }
-    {
-        match both(self, y) {
-            Pair::Both(a, b) => a.product(b),
-            Pair::Neither => Worked::Misfit,
-        }
-    }
-
-    pub fn over(self, y: Worked) -> Worked
-        ensures { result ≡ self ⊘ y }
-    {
-        match both(self, y) {
-            Pair::Both(a, b) => a.quotient(b),
-            Pair::Neither => Worked::Misfit,
-        }
-    }
-
-    pub fn negated(self) -> Worked
-        ensures { result ≡ ⊝ self }
-    {
-        match self {
-            Worked::Fits(a) => a.negation(),
-            Worked::Misfit => Worked::Misfit,
-        }
-    }
-
-    pub fn is_fit(self) -> bool
-        ensures { result ≡ is_fit self }
-    {
-        match self {
-            Worked::Fits(_) => true,
-            Worked::Misfit => false,
-        }
-    }
-
-    // The figure; none where it doesn't fit.
-    pub fn figure(self) -> Fraction
-        ensures { result ≡ figure_of self }
-    {
-        match self {
-            Worked::Fits(x) => x,
-            Worked::Misfit => Fraction { num: 0, den: 0 },
-        }
-    }
 }

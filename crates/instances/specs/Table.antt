@@ -4,10 +4,10 @@ use Rattle.std.specs.Prelude.{◌≡◌, refl, Bool, true, false, List, [], ◌�
 use Rattle.integer.specs.Gcd.{gcd, gcd_by}
 use Rattle.loops.specs.Loops.{zeros, build, upto, count, all, any, scan}
 use Rattle.fraction.specs.declared.Fraction.{Fraction}
-use Rattle.fraction.specs.declared.Worked.{Worked}
-use Rattle.fraction.specs.declared.Worked.TheVariants.{Fits, Misfit}
+use Rattle.fraction.specs.Exact.{Worked, misfit}
+use Rattle.std.specs.Prelude.{Ok, Err}
 use Rattle.fraction.specs.Exact.{over, no_upper, is_operand, is_proper, fitted, reduce_of, sum_of, product_of, difference_of, quotient_of, negation_of, reciprocal_of, is_less, is_same, is_zero, from_words, den_word, is_finite}
-use Rattle.fraction.specs.Formula.{pair_of, ◌⊕◌, ◌⊖◌, ◌⊗◌, ◌⊘◌, ⊝◌}
+use Rattle.fraction.specs.Formula.{pair_of, ◌⊕◌, ◌⊖◌, ◌⊗◌, ◌⊘◌, ⊝◌, divided, subtracted, negated, added, multiplied}
 use Rattle.network.specs.declared.Arc.{Arc}
 use Rattle.network.specs.declared.Net.{Net}
 use Rattle.network.specs.Limits.{max_arcs}
@@ -222,7 +222,7 @@ I =
 
 -- J. 2147483647 + 1 doesn't fit; 1/2 + 1/2 is 1 over 1
 abbrev J : Row
-J = row (Worked × Worked) (sum_of (over (pos 2147483647) 1) (over (pos 1) 1), sum_of (over (pos 1) 2) (over (pos 1) 2)) (Misfit, Fits (over (pos 1) 1))
+J = row (Worked × Worked) (sum_of (over (pos 2147483647) 1) (over (pos 1) 1), sum_of (over (pos 1) 2) (over (pos 1) 2)) ((Err misfit), Ok (over (pos 1) 1))
 
 -- ---- K: a worked example of ours, not the papers'
 
@@ -249,7 +249,7 @@ K =
 
 -- computed on its own: it and the rows of whole texts are too much at once
 worked : K.computed ≡ K.documented
-unfolding gcd gcd_by upto scan is_operand fitted reduce_of sum_of product_of difference_of quotient_of negation_of reciprocal_of is_less is_same is_finite pair_of ◌⊕◌ ◌⊖◌ ◌⊗◌ ◌⊘◌ with_arc with_supply with_node with_flow with_price only_where fits figure restored ratio_of is_times low_end high_end upper_sum joined alike parallel_arc parallel_back
+unfolding gcd gcd_by upto scan is_operand fitted reduce_of sum_of product_of difference_of quotient_of negation_of reciprocal_of is_less is_same is_finite pair_of added subtracted multiplied divided with_arc with_supply with_node with_flow with_price only_where fits figure restored ratio_of is_times low_end high_end upper_sum joined alike parallel_arc parallel_back
 worked = refl
 
 -- ---- the table
@@ -278,5 +278,5 @@ abbrev pub table : List Row
 table = A ∷ A-text ∷ A-back ∷ A-back-text ∷ B ∷ E ∷ F ∷ G ∷ H ∷ I ∷ J ∷ K ∷ []
 
 pub marked : All table
-unfolding gcd gcd_by build upto count all any scan is_operand is_proper fitted reduce_of sum_of product_of difference_of quotient_of negation_of reciprocal_of is_less is_same is_zero is_finite from_words den_word pair_of ◌⊕◌ ◌⊖◌ ◌⊗◌ ◌⊘◌ ⊝◌ with_arc with_supply with_node without applied is_touching degree_of touching_after is_root far_end side_of figure_at sizes_right figures_right ends_right multipliers_right questions role_of is_permitted is_end has_ends arc_in is_weighted net_of read_of rank_of pack_node pack_arc packed_of arrays_of word_of role_figure figure_of has_room record_of network_of with_price with_flow has_sizes is_pair pair_read balance_of reduced_cost value_of all_fit is_within is_at keeps_rule test_questions pair_questions only_where no_flow_where fits supply_less cost_added dropped lower_back figure restored quote_at upward next_from rule_from run_by run_of way_back closed bare bare_node bare_back forced_out single single_arc single_back is_open_root is_costlier has_pair costly_arc same_sign tighter image_of gained merged kept two two_arcs two_back has_sign_at signed_after is_free is_apart crossed_arc crossed_at crossing crossing_back ratio_of is_times joined alike parallel_arc parallel_back arc_rank spread_of stack_record Stack.stack_of same_words is_roomy reduce_table is_roomy_back offer_table run_table restore_table brought_back pair_figure pair_words separator digit pieces value_from words_in words_of digits_in digits behind_spaces spaced line_of record_lines reduce_text stack_split split_sized split_of restore_text
+unfolding gcd gcd_by build upto count all any scan is_operand is_proper fitted reduce_of sum_of product_of difference_of quotient_of negation_of reciprocal_of is_less is_same is_zero is_finite from_words den_word pair_of added subtracted multiplied divided negated with_arc with_supply with_node without applied is_touching degree_of touching_after is_root far_end side_of figure_at sizes_right figures_right ends_right multipliers_right questions role_of is_permitted is_end has_ends arc_in is_weighted net_of read_of rank_of pack_node pack_arc packed_of arrays_of word_of role_figure figure_of has_room record_of network_of with_price with_flow has_sizes is_pair pair_read balance_of reduced_cost value_of all_fit is_within is_at keeps_rule test_questions pair_questions only_where no_flow_where fits supply_less cost_added dropped lower_back figure restored quote_at upward next_from rule_from run_by run_of way_back closed bare bare_node bare_back forced_out single single_arc single_back is_open_root is_costlier has_pair costly_arc same_sign tighter image_of gained merged kept two two_arcs two_back has_sign_at signed_after is_free is_apart crossed_arc crossed_at crossing crossing_back ratio_of is_times joined alike parallel_arc parallel_back arc_rank spread_of stack_record Stack.stack_of same_words is_roomy reduce_table is_roomy_back offer_table run_table restore_table brought_back pair_figure pair_words separator digit pieces value_from words_in words_of digits_in digits behind_spaces spaced line_of record_lines reduce_text stack_split split_sized split_of restore_text
 marked = (refl, (refl, (refl, (refl, (refl, (refl, (refl, (refl, (refl, (refl, (refl, (worked, tt))))))))))))

@@ -14,7 +14,7 @@ use Rattle.presolve.proofs.Step.{SoundStep}
 use Rattle.presolve.proofs.Bounds.{capped}
 use Rattle.presolve.proofs.Parallel.{add_o, own-share, parallel-back, parallel-sound, touch-times}
 use Rattle.fraction.specs.declared.Fraction.{Fraction}
-use Rattle.fraction.specs.declared.Worked.TheVariants.{Fits}
+use Rattle.std.specs.Prelude.{Ok}
 use Rattle.fraction.specs.Exact.{Proper, no_figure, no_upper, is_finite, is_less}
 use Rattle.fraction.specs.Formula.{◌⊕◌, ◌⊖◌, ◌⊘◌}
 use Rattle.fraction.specs.Value.{value}
@@ -60,7 +60,7 @@ pub record Met (constant : Fraction) (j : ℕ) (tj : Arc) (k : ℕ) (tk : Arc) (
   pub from_same : tk.from ≡ tj.from
   pub to_same : tk.to ≡ tj.to
   pub g : Fraction
-  pub ratio : ratio_of tj tk ≡ Fits g
+  pub ratio : ratio_of tj tk ≡ Ok g
   pub b_times : is_times g tk.b tj.b ≡ true
   pub cost_times : is_times g tk.cost tj.cost ≡ true
   finite : is_finite tj.lower ≡ true
@@ -69,10 +69,10 @@ pub record Met (constant : Fraction) (j : ℕ) (tj : Arc) (k : ℕ) (tk : Arc) (
   high : Fraction
   lower : Fraction
   upper : Fraction
-  low_fits : low_end g (low_bound tk g) ≡ Fits low
-  high_fits : high_end g (high_bound tk g) ≡ Fits high
-  lower_fits : (Fits tj.lower ⊕ Fits low) ≡ Fits lower
-  upper_fits : upper_sum tj.upper high ≡ Fits upper
+  low_fits : low_end g (low_bound tk g) ≡ Ok low
+  high_fits : high_end g (high_bound tk g) ≡ Ok high
+  lower_fits : (Ok tj.lower ⊕ Ok low) ≡ Ok lower
+  upper_fits : upper_sum tj.upper high ≡ Ok upper
   is : Changes (record { edit = joining constant j tj lower upper k; old = old_two 0 no_figure (record { number = j; arc = tj }) (record { number = k; arc = tk }) }) ≡ x
 
 pub alike-met : (constant : Fraction) (j : ℕ) (tj : Arc) (k : ℕ) (tk : Arc) {x : Outcome} → Answers x → alike constant j tj k tk ≡ x → Met constant j tj k tk x
@@ -223,13 +223,13 @@ module _ (net : Net) (g : Legal net) (j : ℕ) {c : Change} (h : Found net j (Ch
     x = flow_at pair j
 
     -- j's share
-    own-share-is : (rest : Fraction) → (Fits x ⊖ Fits m.low) ≡ Fits rest → Figure (smaller tj.upper rest) (own-share (program_of net) j (value m.low) (exact_pair pair).flow)
+    own-share-is : (rest : Fraction) → (Ok x ⊖ Ok m.low) ≡ Ok rest → Figure (smaller tj.upper rest) (own-share (program_of net) j (value m.low) (exact_pair pair).flow)
     own-share-is rest e =
-        let s = smaller-is legal-j.upper_bound (minus-fits {x = Fits x} {y = Fits m.low} e).is.proper in
+        let s = smaller-is legal-j.upper_bound (minus-fits {x = Ok x} {y = Ok m.low} e).is.proper in
         (s.0, s.1 ∙ ap₂ capped (ap (λ k. k.upper) (sym (column-is net j h.used))) (minus-gives (given x) (given m.low) rest e))
 
     -- g and the image's lower end fit, as they did in the step
-    ends-fit : parallel_back old pair ≡ figure (Fits x ⊖ Fits m.low) (λ rest. figure ((Fits x ⊖ Fits (smaller tj.upper rest)) ⊘ Fits m.g) (λ y. Restores (two_flows k y j (smaller tj.upper rest))))
+    ends-fit : parallel_back old pair ≡ figure (Ok x ⊖ Ok m.low) (λ rest. figure ((Ok x ⊖ Ok (smaller tj.upper rest)) ⊘ Ok m.g) (λ y. Restores (two_flows k y j (smaller tj.upper rest))))
     unfolding parallel_back figure
     ends-fit = rw (m.ratio, m.low_fits)
 

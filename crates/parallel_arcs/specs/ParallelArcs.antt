@@ -2,8 +2,8 @@
 use Rattle.std.specs.Prelude.{Bool, false, cond, ◌&&◌, ℕ, ◌+◌, ◌-◌, eqb}
 use Rattle.loops.specs.Loops.{scan}
 use Rattle.fraction.specs.declared.Fraction.{Fraction}
-use Rattle.fraction.specs.declared.Worked.{Worked}
-use Rattle.fraction.specs.declared.Worked.TheVariants.{Fits, Misfit}
+use Rattle.fraction.specs.Exact.{Worked}
+use Rattle.std.specs.Prelude.{Ok, Err}
 use Rattle.fraction.specs.Exact.{zero_fraction, no_figure, no_upper, is_finite, is_less, is_same}
 use Rattle.fraction.specs.Formula.{◌⊕◌, ◌⊖◌, ◌⊗◌, ◌⊘◌}
 use Rattle.network.specs.declared.Arc.{Arc}
@@ -26,15 +26,15 @@ use Rattle.step.specs.Run.{Rule}
 
 -- "a, b and c of k are a common fraction g times those of j": g is that of a, which must fit
 unfoldable pub ratio_of : Arc → Arc → Worked
-ratio_of tj tk = Fits tk.a ⊘ Fits tj.a
+ratio_of tj tk = Ok tk.a ⊘ Ok tj.a
 
 -- y is exactly g times x: a product that doesn't fit is no figure of an arc
 abbrev pub is_figure : Worked → Fraction → Bool
-is_figure (Fits x) y = is_same x y
-is_figure Misfit y = false
+is_figure (Ok x) y = is_same x y
+is_figure (Err m) y = false
 
 unfoldable pub is_times : Fraction → Fraction → Fraction → Bool
-is_times g y x = is_figure (Fits g ⊗ Fits x) y
+is_times g y x = is_figure (Ok g ⊗ Ok x) y
 
 -- "k's bounds times g, exchanged if g < 0, give an image": the bounds that give its lower and its upper end
 abbrev pub low_bound : Arc → Fraction → Fraction
@@ -44,15 +44,15 @@ abbrev pub high_bound : Arc → Fraction → Fraction
 high_bound tk g = cond (is_less g zero_fraction) tk.lower tk.upper
 
 unfoldable pub low_end : Fraction → Fraction → Worked
-low_end g z = Fits z ⊗ Fits g
+low_end g z = Ok z ⊗ Ok g
 
 -- no upper end where the bound is absent
 unfoldable pub high_end : Fraction → Fraction → Worked
-high_end g z = cond (is_finite z) (Fits z ⊗ Fits g) (Fits no_upper)
+high_end g z = cond (is_finite z) (Ok z ⊗ Ok g) (Ok no_upper)
 
 -- "none above where either has none above"
 unfoldable pub upper_sum : Fraction → Fraction → Worked
-upper_sum u v = cond (is_finite u && is_finite v) (Fits u ⊕ Fits v) (Fits no_upper)
+upper_sum u v = cond (is_finite u && is_finite v) (Ok u ⊕ Ok v) (Ok no_upper)
 
 -- arc j, t, with other bounds, and arc k dropped; the constant stays
 abbrev pub joining : Fraction → ℕ → Arc → Fraction → Fraction → ℕ → Edit
@@ -66,7 +66,7 @@ joined constant j tj k tk g = do
   only_where (is_finite (low_bound tk g))
   low ← fits (low_end g (low_bound tk g))
   high ← fits (high_end g (high_bound tk g))
-  l ← fits (Fits tj.lower ⊕ Fits low)
+  l ← fits (Ok tj.lower ⊕ Ok low)
   u ← fits (upper_sum tj.upper high)
   Changes (record { edit = joining constant j tj l u k; old = old_two 0 no_figure (record { number = j; arc = tj }) (record { number = k; arc = tk }) })
 
@@ -102,9 +102,9 @@ parallel_back old pair = do
   let flow = flow_at pair j
   g ← figure (ratio_of tj tk)
   low ← figure (low_end g (low_bound tk g))
-  rest ← figure (Fits flow ⊖ Fits low)
+  rest ← figure (Ok flow ⊖ Ok low)
   let x = smaller tj.upper rest
-  y ← figure ((Fits flow ⊖ Fits x) ⊘ Fits g)
+  y ← figure ((Ok flow ⊖ Ok x) ⊘ Ok g)
   Restores (two_flows old.two.number y j x)
 
 abbrev pub rule : Rule

@@ -22,8 +22,8 @@ use Rattle.presolve.proofs.Duality.{weak-duality}
 use Rattle.presolve.proofs.Net.{row_out}
 use Rattle.presolve.specs.LP as LP
 use Rattle.fraction.specs.declared.Fraction.{Fraction}
-use Rattle.fraction.specs.declared.Worked.{Worked}
-use Rattle.fraction.specs.declared.Worked.TheVariants.{Fits, Misfit}
+use Rattle.fraction.specs.Exact.{Worked}
+use Rattle.std.specs.Prelude.{Ok, Err}
 use Rattle.fraction.specs.Exact.{Proper, from_words, den_word}
 use Rattle.fraction.specs.Formula.{is_fit, figure_of}
 use Rattle.fraction.proofs.Laws.{never, and_both, is-proper}
@@ -90,12 +90,12 @@ solved-same N s t x p h =
 
 -- ---- a value that fits
 
-fit-some : (w : Worked) → is_fit w ≡ true → w ≡ Fits (figure_of w)
-fit-some (Fits z) e = refl
-fit-some Misfit e = never cc
+fit-some : (w : Worked) → is_fit w ≡ true → w ≡ Ok (figure_of w)
+fit-some (Ok z) e = refl
+fit-some (Err m) e = never cc
 
 -- it is known by the flows of the arcs
-values_same : (net : Net) (p q : Pair) (k : ℕ) → ((j : ℕ) → j < k → flow_at p (j + 1) ≡ flow_at q (j + 1)) → upto (value_turn net p) k (Fits net.constant) ≡ upto (value_turn net q) k (Fits net.constant)
+values_same : (net : Net) (p q : Pair) (k : ℕ) → ((j : ℕ) → j < k → flow_at p (j + 1) ≡ flow_at q (j + 1)) → upto (value_turn net p) k (Ok net.constant) ≡ upto (value_turn net q) k (Ok net.constant)
 unfolding upto
 values_same net p q zero h = refl
 values_same net p q (suc k) h = rw (values_same net p q k (λ j l. h j (omega (arith, add-one k))), h k (omega (arith, add-one k)))

@@ -18,7 +18,7 @@ use Rattle.presolve.proofs.Removed.{Removed}
 use Rattle.presolve.proofs.Single.{SingleAt, forced, single-back, single-sound, single-no-flow}
 use Rattle.presolve.proofs.Spoke.{spoke-e}
 use Rattle.fraction.specs.declared.Fraction.{Fraction}
-use Rattle.fraction.specs.declared.Worked.TheVariants.{Fits}
+use Rattle.std.specs.Prelude.{Ok}
 use Rattle.fraction.specs.Exact.{Proper, no_figure, is_less}
 use Rattle.fraction.specs.Formula.{◌⊘◌}
 use Rattle.fraction.specs.Value.{value}
@@ -66,7 +66,7 @@ record Single (net : Net) (i : ℕ) (x : Outcome) : Type 0 where
   here : is_here net i ≡ true
   single : degree_of net i ≡ 1
   v : Fraction
-  flow : (Fits (supply_at net i) ⊘ Fits (side net i).e) ≡ Fits v
+  flow : (Ok (supply_at net i) ⊘ Ok (side net i).e) ≡ Ok v
 
 -- it is outside the bounds
 abbrev Outside : Arc → Fraction → Type 0
@@ -78,8 +78,8 @@ record Forced (constant : Fraction) (i j : ℕ) (t : Arc) (w : Side) (r r' v : F
   k : Fraction
   not_below : is_less v t.lower ≡ false
   not_above : is_less t.upper v ≡ false
-  supply : supply_less w.other r' w.o v ≡ Fits s
-  cost : cost_added constant t.cost v ≡ Fits k
+  supply : supply_less w.other r' w.o v ≡ Ok s
+  cost : cost_added constant t.cost v ≡ Ok k
   is : Changes (record { edit = dropping j w.other s 0 no_figure i k; old = old_one i r (record { number = j; arc = t }) }) ≡ x
 
 single-met : (net : Net) (i : ℕ) {x : Outcome} → Answers x → single_arc net i ≡ x → (m : Single net i x) × ((Outside (arc_at net (arc net i)) m.v × (NoFlow ≡ x)) ⊎ Forced net.constant i (arc net i) (arc_at net (arc net i)) (side net i) (supply_at net i) (supply_at net (side net i).other) m.v x)
@@ -126,7 +126,7 @@ module _ (net : Net) (g : Legal net) (i : ℕ) {x : Outcome} (m : Single net i x
   flow-is : value v ≡ forced N i (spoke_of net i j)
   flow-is = over-gives (given (supply_at net i)) (given w.e) v m.flow ∙ ap (λ r. r *ℚ inv_ℚ (value w.e)) (sym (rhs_is net i m.here))
 
-  removed : {x z : Fraction} → supply_less w.other (supply_at net w.other) w.o v ≡ Fits x → cost_added net.constant t.cost v ≡ Fits z → Removed N (program_of (applied net (dropping j w.other x 0 no_figure i z))) j (value v)
+  removed : {x z : Fraction} → supply_less w.other (supply_at net w.other) w.o v ≡ Ok x → cost_added net.constant t.cost v ≡ Ok z → Removed N (program_of (applied net (dropping j w.other x 0 no_figure i z))) j (value v)
   unfolding applied with_arc with_supply without
   removed {x} {z} q k = one-removed net g j (record { node = w.other; supply = x }) (record { node = 0; supply = no_figure }) i z (value v) at.used stays (λ h. goes) (cost_added_lem net.constant t.cost v k).1
     where

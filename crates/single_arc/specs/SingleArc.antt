@@ -1,7 +1,7 @@
 -- Rule 3, single arc (01, "The six reductions"): a singleton row.
 use Rattle.std.specs.Prelude.{false, List, ℕ, eqb, get_or}
 use Rattle.fraction.specs.declared.Fraction.{Fraction}
-use Rattle.fraction.specs.declared.Worked.TheVariants.{Fits}
+use Rattle.std.specs.Prelude.{Ok}
 use Rattle.fraction.specs.Exact.{no_figure, is_less}
 use Rattle.fraction.specs.Formula.{◌⊘◌}
 use Rattle.network.specs.declared.Arc.{Arc}
@@ -26,7 +26,7 @@ use Rattle.step.specs.Run.{Rule}
 -- j, t, is the arc at node i of supply r, w its side there, and r' the supply at its other end
 unfoldable pub forced_out : Fraction → ℕ → ℕ → Arc → Side → Fraction → Fraction → Outcome
 forced_out constant i j t w r r' = do
-  v ← fits (Fits r ⊘ Fits w.e)
+  v ← fits (Ok r ⊘ Ok w.e)
   no_flow_where (is_less v t.lower)
   no_flow_where (is_less t.upper v)
   s ← fits (supply_less w.other r' w.o v)
@@ -51,7 +51,7 @@ unfoldable pub single_back : Old → Pair → Undone
 single_back old pair = do
   let i = old.node
   let t = old.one.arc
-  v ← figure (Fits old.supply ⊘ Fits (side_of t i).e)
+  v ← figure (Ok old.supply ⊘ Ok (side_of t i).e)
   p ← figure (quote_of t i pair)
   Restores (flow_and_price old.one.number v i p)
 

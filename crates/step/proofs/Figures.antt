@@ -19,7 +19,7 @@ use Rattle.presolve.proofs.Bare.{bare-back}
 use Rattle.presolve.proofs.Bounds.{choose, merge_l, merge_u, capped, capped_is, none-merge_l, none-merge_u, merge_l-first, merge_l-second, merge_u-first, merge_u-second}
 use Rattle.presolve.proofs.Spoke as Spoke
 use Rattle.fraction.specs.declared.Fraction.{Fraction}
-use Rattle.fraction.specs.declared.Worked.{Worked}
+use Rattle.fraction.specs.Exact.{Worked}
 use Rattle.fraction.specs.Exact.{Proper, no_figure, no_lower, no_upper, zero_fraction, is_less}
 use Rattle.fraction.specs.Formula.{◌⊘◌, ⊝◌}
 use Rattle.fraction.specs.Value.{value}

@@ -4,8 +4,8 @@ use mathlib.Core.Bool.{Bool, true, false, not, ◌||◌}
 use mathlib.Core.Logic.{◌⊎◌, inl, inr}
 use borrow.Author.Tests.{not-true, not-false}
 use Rattle.fraction.specs.declared.Fraction.{Fraction}
-use Rattle.fraction.specs.declared.Worked.{Worked}
-use Rattle.fraction.specs.declared.Worked.TheVariants.{Fits, Misfit}
+use Rattle.fraction.specs.Exact.{Worked}
+use Rattle.std.specs.Prelude.{Ok, Err}
 use Rattle.fraction.proofs.Laws.{never}
 use Rattle.step.specs.declared.Change.{Change}
 use Rattle.step.specs.declared.Outcome.{Outcome}
@@ -28,10 +28,10 @@ module _ {x : Outcome} (a : Answers x) where
   only-met true rest e = (refl, e)
   only-met false rest e = absurd (rw (← e) at a)
 
-  pub fits-met : (w : Worked) (rest : Fraction → Outcome) → fits w rest ≡ x → (v : Fraction) × (w ≡ Fits v) × (rest v ≡ x)
+  pub fits-met : (w : Worked) (rest : Fraction → Outcome) → fits w rest ≡ x → (v : Fraction) × (w ≡ Ok v) × (rest v ≡ x)
   unfolding fits
-  fits-met (Fits v) rest e = (v, refl, e)
-  fits-met Misfit rest e = absurd (rw (← e) at a)
+  fits-met (Ok v) rest e = (v, refl, e)
+  fits-met (Err m) rest e = absurd (rw (← e) at a)
 
 pub flow-met : {x : Outcome} (b : Bool) (rest : Outcome) → no_flow_where b rest ≡ x → ((b ≡ true) × (NoFlow ≡ x)) ⊎ ((b ≡ false) × (rest ≡ x))
 unfolding no_flow_where
@@ -49,10 +49,10 @@ not-changed e = never cc
 
 -- the way back
 module _ {r : Restored} where
-  pub figure-met : (w : Worked) (rest : Fraction → Undone) → figure w rest ≡ Restores r → (x : Fraction) × (w ≡ Fits x) × (rest x ≡ Restores r)
+  pub figure-met : (w : Worked) (rest : Fraction → Undone) → figure w rest ≡ Restores r → (x : Fraction) × (w ≡ Ok x) × (rest x ≡ Restores r)
   unfolding figure
-  figure-met (Fits x) rest e = (x, refl, e)
-  figure-met Misfit rest e = never cc
+  figure-met (Ok x) rest e = (x, refl, e)
+  figure-met (Err m) rest e = never cc
 
   pub restored-is : {q : Restored} → Restores q ≡ Restores r → r ≡ q
   restored-is e = cc

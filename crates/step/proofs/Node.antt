@@ -13,7 +13,7 @@ use Rattle.algebra.specs.Rat.{ℚ, ◌+ℚ◌, ◌*ℚ◌, -ℚ◌, inv_ℚ}
 use Rattle.algebra.proofs.Rat.{ℚ-ring}
 use Rattle.presolve.specs.Net as Exact
 use Rattle.presolve.proofs.Spoke.{SpokeAt, quote}
-use Rattle.fraction.specs.declared.Worked.TheVariants.{Fits}
+use Rattle.std.specs.Prelude.{Ok}
 use Rattle.fraction.specs.Formula.{◌⊖◌, ◌⊗◌, ◌⊘◌}
 use Rattle.fraction.specs.Value.{value}
 use Rattle.fraction.proofs.Formulas.{Nonzero, given, minus-gives, times-gives}
@@ -84,7 +84,7 @@ module _ (net : Net) (g : Legal net) (i : ℕ) (here : is_here net i ≡ true) w
       cost_is : (p : ℚ) → (c +ℚ -ℚ (value w.o *ℚ p)) *ℚ inv_ℚ (value w.e) ≡ (((program_of net).col j).cost +ℚ -ℚ (value w.o *ℚ p)) *ℚ inv_ℚ (value w.e)
       cost_is p = ap (λ k. (k.cost +ℚ -ℚ (value w.o *ℚ p)) *ℚ inv_ℚ (value w.e)) (sym (column-is net j u))
 
-      by : (pair : Pair) (b : Bool) → eqb w.other 0 ≡ b → End net i w → Exactly (cond b (Fits (arc_at net j).cost) (Fits (arc_at net j).cost ⊖ Fits w.o ⊗ Fits (price_at pair w.other)) ⊘ Fits w.e) (quote (program_of net) (spoke_of net i j) (exact_pair pair).price)
+      by : (pair : Pair) (b : Bool) → eqb w.other 0 ≡ b → End net i w → Exactly (cond b (Ok (arc_at net j).cost) (Ok (arc_at net j).cost ⊖ Ok w.o ⊗ Ok (price_at pair w.other)) ⊘ Ok w.e) (quote (program_of net) (spoke_of net i j) (exact_pair pair).price)
       by pair false e d = same (cost_is _) (over-exactly (minus-gives (given _) (times-gives (given _) (given _))) (given _))
       by pair true e (inl (q, o)) =
           let p = value (price_at pair w.other) in

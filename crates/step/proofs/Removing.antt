@@ -20,8 +20,8 @@ use Rattle.presolve.proofs.Removed.{Removed}
 use Rattle.presolve.proofs.Closed.{closed-back}
 use Rattle.presolve.proofs.Net.{gone-out, row_out}
 use Rattle.fraction.specs.declared.Fraction.{Fraction}
-use Rattle.fraction.specs.declared.Worked.{Worked}
-use Rattle.fraction.specs.declared.Worked.TheVariants.{Fits}
+use Rattle.fraction.specs.Exact.{Worked}
+use Rattle.std.specs.Prelude.{Ok}
 use Rattle.fraction.specs.Exact.{Proper, no_figure}
 use Rattle.fraction.specs.Value.{value}
 use Rattle.fraction.specs.Formula.{◌⊖◌, ◌⊗◌}
@@ -52,15 +52,15 @@ use Rattle.step.proofs.Laws.{no_old, Right, right_of}
 -- ---- what is left is legal
 
 -- the supply of an end less what flows there is in form, where there is such an end
-pub less-proper : (end : ℕ) (x y : Worked) {z : Fraction} → cond (eqb end 0) (Fits no_figure) (x ⊖ y) ≡ Fits z → 1 ≤ end → Proper z
+pub less-proper : (end : ℕ) (x y : Worked) {z : Fraction} → cond (eqb end 0) (Ok no_figure) (x ⊖ y) ≡ Ok z → 1 ≤ end → Proper z
 less-proper end x y q l = (minus-fits {x = x} {y = y} (rw (ne_eqb end 0 (λ z. omega arith)) at q)).is.proper
 
-pub supply-less : (end : ℕ) (s e v : Fraction) {x : Fraction} → supply_less end s e v ≡ Fits x → 1 ≤ end → Proper x
+pub supply-less : (end : ℕ) (s e v : Fraction) {x : Fraction} → supply_less end s e v ≡ Ok x → 1 ≤ end → Proper x
 unfolding supply_less
-supply-less end s e v q l = less-proper end (Fits s) (Fits e ⊗ Fits v) q l
+supply-less end s e v q l = less-proper end (Ok s) (Ok e ⊗ Ok v) q l
 
 -- the constant with the cost of a flow added is in form, and exactly that
-pub cost_added_lem : (k c v : Fraction) {z : Fraction} → cost_added k c v ≡ Fits z → Figure z (value k +ℚ value c *ℚ value v)
+pub cost_added_lem : (k c v : Fraction) {z : Fraction} → cost_added k c v ≡ Ok z → Figure z (value k +ℚ value c *ℚ value v)
 unfolding cost_added
 cost_added_lem k c v e = ((plus-fits e).is.proper, plus-gives (given k) (times-gives (given c) (given v)) _ e)
 
@@ -73,7 +73,7 @@ dropped-framed net j left right gone a b proper only =
 -- ---- in exact numbers
 
 -- a supply r less y, at a node or nowhere: what the supplies are then
-pub level-is : (net : Net) (end : ℕ) (r : Fraction) {y : Worked} {p : ℚ} {x : Fraction} → length net.supply ≡ 33 → (1 ≤ end → r ≡ supply_at net end) → Gives y p → cond (eqb end 0) (Fits no_figure) (Fits r ⊖ y) ≡ Fits x → (s : ℕ) → (1 ≤ s) × (s ≤ 32)
+pub level-is : (net : Net) (end : ℕ) (r : Fraction) {y : Worked} {p : ℚ} {x : Fraction} → length net.supply ≡ 33 → (1 ≤ end → r ≡ supply_at net end) → Gives y p → cond (eqb end 0) (Ok no_figure) (Ok r ⊖ y) ≡ Ok x → (s : ℕ) → (1 ≤ s) × (s ≤ 32)
     → value (supply_at (with_supply net end x) s) ≡ value (supply_at net s) +ℚ -ℚ only end p s
 level-is net end r {p = p} {x} h is g q s l =
     split (eqb s end)
@@ -82,7 +82,7 @@ level-is net end r {p = p} {x} h is g q s l =
     (λ e. let n = eqb-false s end e in
     ap value (supply-left net end x s (λ _. n)) ∙ ring1 ℚ-ring (value (supply_at net s)) (λ r. r := r :- :0) refl ∙ ap (λ v. value (supply_at net s) +ℚ -ℚ v) (sym (only-other end s p (λ z. n (sym z)))))
 
-pub level-less : (net : Net) (end : ℕ) (r e v : Fraction) {x : Fraction} → length net.supply ≡ 33 → (1 ≤ end → r ≡ supply_at net end) → supply_less end r e v ≡ Fits x → (s : ℕ) → (1 ≤ s) × (s ≤ 32)
+pub level-less : (net : Net) (end : ℕ) (r e v : Fraction) {x : Fraction} → length net.supply ≡ 33 → (1 ≤ end → r ≡ supply_at net end) → supply_less end r e v ≡ Ok x → (s : ℕ) → (1 ≤ s) × (s ≤ 32)
     → value (supply_at (with_supply net end x) s) ≡ value (supply_at net s) +ℚ -ℚ (only end (value e) s *ℚ value v)
 unfolding supply_less
 level-less net end r e v h is q s l =
@@ -129,9 +129,9 @@ module _ (net : Net) (g : Legal net) where
 
   -- rules 1 and 4: arc j dropped at the flow v
   pub flow-removed : (j : ℕ) (v : Fraction) {x y z : Fraction} → 1 ≤ (arc_at net j).from
-      → supply_less (arc_at net j).from (supply_at net (arc_at net j).from) (arc_at net j).a v ≡ Fits x
-      → supply_less (far_end (arc_at net j)) (supply_at net (arc_at net j).to) (arc_at net j).b v ≡ Fits y
-      → cost_added net.constant (arc_at net j).cost v ≡ Fits z
+      → supply_less (arc_at net j).from (supply_at net (arc_at net j).from) (arc_at net j).a v ≡ Ok x
+      → supply_less (far_end (arc_at net j)) (supply_at net (arc_at net j).to) (arc_at net j).b v ≡ Ok y
+      → cost_added net.constant (arc_at net j).cost v ≡ Ok z
       → Removed (program_of net) (program_of (applied net (dropping j (arc_at net j).from x (far_end (arc_at net j)) y 0 z))) j (value v)
   unfolding applied with_arc with_supply without is_touching side_of far_end is_root
   flow-removed j v {x} {y} {z} used p q e = one-removed j (record { node = t.from; supply = x }) (record { node = far_end t; supply = y }) 0 z (value v) used (λ s h n. stays s h) (λ h. unlike (sym g.no_node ∙ h)) (cost_added_lem net.constant t.cost v e).1
@@ -162,9 +162,9 @@ pub record Dropped (net : Net) (j : ℕ) (v : Fraction) (x : Outcome) : Type 0 w
   pub r : Fraction
   pub s : Fraction
   pub k : Fraction
-  pub r_is : supply_less (arc_at net j).from (supply_at net (arc_at net j).from) (arc_at net j).a v ≡ Fits r
-  pub s_is : supply_less (far_end (arc_at net j)) (supply_at net (arc_at net j).to) (arc_at net j).b v ≡ Fits s
-  pub k_is : cost_added net.constant (arc_at net j).cost v ≡ Fits k
+  pub r_is : supply_less (arc_at net j).from (supply_at net (arc_at net j).from) (arc_at net j).a v ≡ Ok r
+  pub s_is : supply_less (far_end (arc_at net j)) (supply_at net (arc_at net j).to) (arc_at net j).b v ≡ Ok s
+  pub k_is : cost_added net.constant (arc_at net j).cost v ≡ Ok k
   pub is : Changes (record { edit = dropping j (arc_at net j).from r (far_end (arc_at net j)) s 0 k; old = old_one 0 no_figure (old_arc net j) }) ≡ x
 
 dropped-met : (net : Net) (j : ℕ) (v : Fraction) {x : Outcome} → Answers x → dropped_at net j v ≡ x → Dropped net j v x

@@ -1,8 +1,8 @@
 -- How a way back reads: its figures in the paper's order, then the flows and the price that it restores.
 use Rattle.std.specs.Prelude.{cond, List, [], ◌∷◌, ℕ, eqb}
 use Rattle.fraction.specs.declared.Fraction.{Fraction}
-use Rattle.fraction.specs.declared.Worked.{Worked}
-use Rattle.fraction.specs.declared.Worked.TheVariants.{Fits, Misfit}
+use Rattle.fraction.specs.Exact.{Worked}
+use Rattle.std.specs.Prelude.{Ok, Err}
 use Rattle.fraction.specs.Exact.{no_figure}
 use Rattle.fraction.specs.Formula.{◌⊖◌, ◌⊗◌, ◌⊘◌}
 use Rattle.network.specs.declared.Arc.{Arc}
@@ -21,8 +21,8 @@ use Rattle.step.specs.declared.Undone.TheVariants.{Wide}
 
 -- a figure of the way back, which must fit (question 13)
 unfoldable pub figure : Worked → (Fraction → Undone) → Undone
-figure (Fits x) rest = rest x
-figure Misfit rest = Wide
+figure (Ok x) rest = rest x
+figure (Err m) rest = Wide
 
 -- ---- the old arcs that a change hands to its way back
 
@@ -78,7 +78,7 @@ restored pair r = with_price (with_flow_of (with_flow_of (with_flow_of (with_flo
 
 -- (c - o × other price) ÷ e at node i; "o .. absent for a root arc"
 unfoldable pub quote_at : Arc → ℕ → Fraction → Worked
-quote_at t i p = cond (eqb (side_of t i).other 0) (Fits t.cost) (Fits t.cost ⊖ Fits (side_of t i).o ⊗ Fits p) ⊘ Fits (side_of t i).e
+quote_at t i p = cond (eqb (side_of t i).other 0) (Ok t.cost) (Ok t.cost ⊖ Ok (side_of t i).o ⊗ Ok p) ⊘ Ok (side_of t i).e
 
 abbrev pub quote_of : Arc → ℕ → Pair → Worked
 quote_of t i pair = quote_at t i (price_at pair (side_of t i).other)

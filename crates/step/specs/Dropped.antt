@@ -1,8 +1,8 @@
 -- An arc at a known flow is dropped: what rules 1, 3 and 4 share.
 use Rattle.std.specs.Prelude.{cond, ℕ, eqb}
 use Rattle.fraction.specs.declared.Fraction.{Fraction}
-use Rattle.fraction.specs.declared.Worked.{Worked}
-use Rattle.fraction.specs.declared.Worked.TheVariants.{Fits}
+use Rattle.fraction.specs.Exact.{Worked}
+use Rattle.std.specs.Prelude.{Ok}
 use Rattle.fraction.specs.Exact.{no_figure}
 use Rattle.fraction.specs.Formula.{◌⊕◌, ◌⊖◌, ◌⊗◌, ◌⊘◌}
 use Rattle.network.specs.declared.Arc.{Arc}
@@ -21,15 +21,15 @@ use Rattle.step.specs.Back.{old_one, flow_only}
 
 -- the supply s at an end less its multiplier e × the flow v; no supply where there is no end
 unfoldable pub supply_less : ℕ → Fraction → Fraction → Fraction → Worked
-supply_less end s e v = cond (eqb end 0) (Fits no_figure) (Fits s ⊖ Fits e ⊗ Fits v)
+supply_less end s e v = cond (eqb end 0) (Ok no_figure) (Ok s ⊖ Ok e ⊗ Ok v)
 
 -- "add c × flow to it": the constant, and the cost c of a flow v (02, 2026-01)
 unfoldable pub cost_added : Fraction → Fraction → Fraction → Worked
-cost_added constant c v = Fits constant ⊕ Fits c ⊗ Fits v
+cost_added constant c v = Ok constant ⊕ Ok c ⊗ Ok v
 
 -- an arc t of side w takes the supply r of a node with it: the constant gains c × r ÷ e
 unfoldable pub gained : Fraction → Arc → Side → Fraction → Worked
-gained constant t w r = Fits constant ⊕ Fits t.cost ⊗ Fits r ⊘ Fits w.e
+gained constant t w r = Ok constant ⊕ Ok t.cost ⊗ Ok r ⊘ Ok w.e
 
 -- arc j dropped, with supplies for two nodes, a node dropped, and the constant; number 0 means none
 abbrev pub dropping : ℕ → ℕ → Fraction → ℕ → Fraction → ℕ → Fraction → Edit

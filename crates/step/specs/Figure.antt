@@ -1,8 +1,8 @@
 -- Figures that the rules choose between.
 use Rattle.std.specs.Prelude.{cond}
 use Rattle.fraction.specs.declared.Fraction.{Fraction}
-use Rattle.fraction.specs.declared.Worked.{Worked}
-use Rattle.fraction.specs.declared.Worked.TheVariants.{Fits, Misfit}
+use Rattle.fraction.specs.Exact.{Worked, misfit}
+use Rattle.std.specs.Prelude.{Ok, Err}
 use Rattle.fraction.specs.Exact.{is_less}
 
 infixl 60 ◌<$>◌
@@ -15,5 +15,5 @@ smaller x y = cond (is_less y x) y x
 
 -- f of a figure that fits
 abbrev pub ◌<$>◌ : (Fraction → Fraction) → Worked → Worked
-f <$> Fits x = Fits (f x)
-f <$> Misfit = Misfit
+f <$> Ok x = Ok (f x)
+f <$> (Err m) = (Err misfit)

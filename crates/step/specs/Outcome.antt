@@ -1,8 +1,8 @@
 -- How a rule reads: conditions and figures in the paper's order, then the change.
 use Rattle.std.specs.Prelude.{Bool, cond}
 use Rattle.fraction.specs.declared.Fraction.{Fraction}
-use Rattle.fraction.specs.declared.Worked.{Worked}
-use Rattle.fraction.specs.declared.Worked.TheVariants.{Fits, Misfit}
+use Rattle.fraction.specs.Exact.{Worked}
+use Rattle.std.specs.Prelude.{Ok, Err}
 use Rattle.step.specs.declared.Outcome.{Outcome}
 use Rattle.step.specs.declared.Outcome.TheVariants.{Passes, NoFlow}
 
@@ -24,5 +24,5 @@ no_flow_where b rest = cond b NoFlow rest
 
 -- "a rule some of whose figures don't fit doesn't apply at that place"
 unfoldable pub fits : Worked → (Fraction → Outcome) → Outcome
-fits (Fits x) rest = rest x
-fits Misfit rest = Passes
+fits (Ok x) rest = rest x
+fits (Err m) rest = Passes

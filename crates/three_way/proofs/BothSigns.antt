@@ -13,7 +13,7 @@ use Rattle.presolve.proofs.Bounds.{capped}
 use Rattle.presolve.proofs.Spoke.{plus, minus, sgn, sgn-square, nearer}
 use Rattle.presolve.proofs.Spoke as Spoke
 use Rattle.fraction.specs.declared.Fraction.{Fraction}
-use Rattle.fraction.specs.declared.Worked.{Worked}
+use Rattle.fraction.specs.Exact.{Worked}
 use Rattle.fraction.proofs.Exactly.{Exactly, same}
 use Rattle.network.proofs.Bounds.{bound-is}
 use Rattle.step.specs.Figure.{larger, smaller}

@@ -21,7 +21,7 @@ use Rattle.presolve.proofs.ThreeWay.{rate, three_back_lem, three-sound}
 use Rattle.presolve.proofs.Rewire.{RisingArc, SharingArc, three-of}
 use Rattle.presolve.proofs.Rewire as Rewire
 use Rattle.fraction.specs.declared.Fraction.{Fraction}
-use Rattle.fraction.specs.declared.Worked.TheVariants.{Fits}
+use Rattle.std.specs.Prelude.{Ok}
 use Rattle.fraction.specs.Exact.{Proper, is_less, is_finite}
 use Rattle.fraction.specs.Formula.{◌⊕◌, ◌⊖◌, ◌⊗◌, ◌⊘◌, ⊝◌}
 use Rattle.fraction.specs.Value.{value}
@@ -72,8 +72,8 @@ use Rattle.three_way.proofs.Tried.{elsewhere, tried}
 record Altered (i : ℕ) (t third y : Arc) : Type 0 where
   a : Fraction
   c : Fraction
-  a_fits : ⊝ (Fits (side_of third i).o ⊗ Fits (side_of t i).e ⊘ Fits (side_of third i).e) ≡ Fits a
-  c_fits : (Fits t.cost ⊖ Fits third.cost ⊗ Fits (side_of t i).e ⊘ Fits (side_of third i).e) ≡ Fits c
+  a_fits : ⊝ (Ok (side_of third i).o ⊗ Ok (side_of t i).e ⊘ Ok (side_of third i).e) ≡ Ok a
+  c_fits : (Ok t.cost ⊖ Ok third.cost ⊗ Ok (side_of t i).e ⊘ Ok (side_of third i).e) ≡ Ok c
   is : y ≡ altered_arc (side_of t i) (side_of third i) a c
 
 -- the arc y from t's other end to s's with these bounds, whose figures fit
@@ -81,17 +81,17 @@ record Between (i : ℕ) (t s : Arc) (l u : Fraction) (y : Arc) : Type 0 where
   a : Fraction
   b : Fraction
   c : Fraction
-  a_fits : ⊝ (Fits (side_of s i).e ⊗ Fits (side_of t i).o) ≡ Fits a
-  b_fits : (Fits (side_of t i).e ⊗ Fits (side_of s i).o) ≡ Fits b
-  c_fits : (Fits s.cost ⊗ Fits (side_of t i).e ⊖ Fits t.cost ⊗ Fits (side_of s i).e) ≡ Fits c
+  a_fits : ⊝ (Ok (side_of s i).e ⊗ Ok (side_of t i).o) ≡ Ok a
+  b_fits : (Ok (side_of t i).e ⊗ Ok (side_of s i).o) ≡ Ok b
+  c_fits : (Ok s.cost ⊗ Ok (side_of t i).e ⊖ Ok t.cost ⊗ Ok (side_of s i).e) ≡ Ok c
   is : y ≡ added_arc (side_of t i) (side_of s i) l u a b c
 
 -- the added arc y of arcs 1 and 2 at a node of supply r: its bounds are in order
 record Added (i : ℕ) (r : Fraction) (t1 t2 y : Arc) : Type 0 where
   l : Fraction
   u : Fraction
-  l_fits : low_of (is_below r) t2 (side_of t1 i) ≡ Fits l
-  u_fits : high_of (is_below r) r t1 (side_of t1 i) (side_of t2 i) ≡ Fits u
+  l_fits : low_of (is_below r) t2 (side_of t1 i) ≡ Ok l
+  u_fits : high_of (is_below r) r t1 (side_of t1 i) (side_of t2 i) ≡ Ok u
   ordered : is_less u l ≡ false
   runs : Between i (cond (is_below r) t2 t1) (cond (is_below r) t1 t2) l u y
 
@@ -155,9 +155,9 @@ record Met (net : Net) (i n1 n2 n3 : ℕ) (x : Outcome) : Type 0 where
   b_new : Altered i (arc_at net n2) (arc_at net n3) b
   c_new : Added i (supply_at net i) (arc_at net n1) (arc_at net n2) c
   s : Fraction
-  s_fits : (Fits (supply_at net (side_of (arc_at net n1) i).other) ⊖ Fits (supply_at net i) ⊗ Fits (side_of (arc_at net n1) i).o ⊘ Fits (side_of (arc_at net n1) i).e) ≡ Fits s
+  s_fits : (Ok (supply_at net (side_of (arc_at net n1) i).other) ⊖ Ok (supply_at net i) ⊗ Ok (side_of (arc_at net n1) i).o ⊘ Ok (side_of (arc_at net n1) i).e) ≡ Ok s
   total : Fraction
-  total_fits : gained net.constant (arc_at net n1) (side_of (arc_at net n1) i) (supply_at net i) ≡ Fits total
+  total_fits : gained net.constant (arc_at net n1) (side_of (arc_at net n1) i) (supply_at net i) ≡ Ok total
   is : Changes (joining i (supply_at net i) (old_arc net n1) (old_arc net n2) (old_arc net n3) a b c (side_of (arc_at net n1) i).other s total) ≡ x
 
 module _ (net : Net) (g : Legal net) (i : ℕ) (here : is_here net i ≡ true) {x : Outcome} (a : Answers x) where
@@ -436,10 +436,10 @@ module _ (net : Net) (g : Legal net) (i n1 n2 n3 : ℕ) {chg : Change} (m : Met 
     abbrev y3 : Fraction
     y3 = flow_at pair n3
 
-    product-exactly : (x y : Fraction) → Exactly (Fits x ⊗ Fits y) (value x *ℚ value y)
+    product-exactly : (x y : Fraction) → Exactly (Ok x ⊗ Ok y) (value x *ℚ value y)
     product-exactly x y z e = ((times-fits e).is.proper, times-gives (given x) (given y) z e)
 
-    first-exactly : Exactly (Fits r ⊘ Fits w1.e ⊕ Fits y1 ⊖ turned below (Fits w2.e ⊗ Fits y3)) (((program_of net).rhs i +ℚ -ℚ (rate (side_by below) (spoke_of net i n1) (spoke_of net i n2) *ℚ value y3) +ℚ value w1.e *ℚ value y1) *ℚ inv (value w1.e))
+    first-exactly : Exactly (Ok r ⊘ Ok w1.e ⊕ Ok y1 ⊖ turned below (Ok w2.e ⊗ Ok y3)) (((program_of net).rhs i +ℚ -ℚ (rate (side_by below) (spoke_of net i n1) (spoke_of net i n2) *ℚ value y3) +ℚ value w1.e *ℚ value y1) *ℚ inv (value w1.e))
     first-exactly =
         same (combo ℚ-ring (-ℚ (value y1 +ℚ -ℚ (sgn (side_by below) *ℚ (value w2.e *ℚ value y3)))) (mul_inv (value w1.e) (nonzero-e m.one.at))
         (ring7 ℚ-ring (sgn (side_by below)) (value r) (value w1.e) (inv (value w1.e)) (value w2.e) (value y1) (value y3)
@@ -447,14 +447,14 @@ module _ (net : Net) (g : Legal net) (i n1 n2 n3 : ℕ) {chg : Change} (m : Met 
         ∙ ap (λ q. (q +ℚ -ℚ (rate (side_by below) (spoke_of net i n1) (spoke_of net i n2) *ℚ value y3) +ℚ value w1.e *ℚ value y1) *ℚ inv (value w1.e)) (sym (rhs_is net i here)))
         (minus-exactly (plus-gives (over-gives (given r) (given _)) (given y1)) (gives (turned-exactly below (product-exactly w2.e y3))))
 
-    second-exactly : Exactly (Fits y2 ⊕ turned below (Fits w1.e ⊗ Fits y3)) ((rate (side_by below) (spoke_of net i n1) (spoke_of net i n2) *ℚ value y3 +ℚ value w2.e *ℚ value y2) *ℚ inv (value w2.e))
+    second-exactly : Exactly (Ok y2 ⊕ turned below (Ok w1.e ⊗ Ok y3)) ((rate (side_by below) (spoke_of net i n1) (spoke_of net i n2) *ℚ value y3 +ℚ value w2.e *ℚ value y2) *ℚ inv (value w2.e))
     second-exactly =
         same (combo ℚ-ring (-ℚ (value y2 +ℚ sgn (side_by below) *ℚ (value w1.e *ℚ value y3))) (mul_inv (value w2.e) (nonzero-e m.two.at))
         (ring6 ℚ-ring (sgn (side_by below)) (value w1.e) (value w2.e) (inv (value w2.e)) (value y2) (value y3)
         (λ s e f i y t. y :+ s :* (e :* t) :- (s :* (e :* f) :* t :+ f :* y) :* i := :neg (y :+ s :* (e :* t)) :* (f :* i :- :1)) refl))
         (plus-exactly (given y2) (gives (turned-exactly below (product-exactly w1.e y3))))
 
-    third-exactly : Exactly (⊝ ((Fits w1.e ⊗ Fits y1 ⊕ Fits w2.e ⊗ Fits y2) ⊘ Fits w3.e)) (-ℚ ((value w1.e *ℚ value y1 +ℚ value w2.e *ℚ value y2) *ℚ inv (value w3.e)))
+    third-exactly : Exactly (⊝ ((Ok w1.e ⊗ Ok y1 ⊕ Ok w2.e ⊗ Ok y2) ⊘ Ok w3.e)) (-ℚ ((value w1.e *ℚ value y1 +ℚ value w2.e *ℚ value y2) *ℚ inv (value w3.e)))
     third-exactly = negated-exactly (over-exactly (plus-gives (times-gives (given _) (given _)) (times-gives (given _) (given _))) (given _))
 
     agrees : Sized pair → (q : Restored) → three_back old pair ≡ Restores q → Holds (restored pair q) (back (exact_pair pair))

@@ -1,8 +1,8 @@
 -- Rule 8, three-way junctions (02, 2026-03; document 000, section 3.1), for both signs of supply.
 use Rattle.std.specs.Prelude.{Bool, false, cond, ◌&&◌, not, List, ℕ, eqb, get_or}
 use Rattle.fraction.specs.declared.Fraction.{Fraction}
-use Rattle.fraction.specs.declared.Worked.{Worked}
-use Rattle.fraction.specs.declared.Worked.TheVariants.{Fits}
+use Rattle.fraction.specs.Exact.{Worked}
+use Rattle.std.specs.Prelude.{Ok}
 use Rattle.fraction.specs.Exact.{zero_fraction, no_figure, no_upper, is_zero, is_less, is_same, is_finite}
 use Rattle.fraction.specs.Formula.{◌⊕◌, ◌⊖◌, ◌⊗◌, ◌⊘◌, ⊝◌}
 use Rattle.wide.specs.Share.{share_of}
@@ -55,8 +55,8 @@ unfoldable pub altered : ℕ → Arc → Arc → (Arc → Outcome) → Outcome
 altered i t third rest = do
   let w = side_of t i
   let v = side_of third i
-  a ← fits (⊝ (Fits v.o ⊗ Fits w.e ⊘ Fits v.e))
-  c ← fits (Fits t.cost ⊖ Fits third.cost ⊗ Fits w.e ⊘ Fits v.e)
+  a ← fits (⊝ (Ok v.o ⊗ Ok w.e ⊘ Ok v.e))
+  c ← fits (Ok t.cost ⊖ Ok third.cost ⊗ Ok w.e ⊘ Ok v.e)
   rest (altered_arc w v a c)
 
 -- "add arc n from node 1 to node 2, with a_n = -a_2 b_1, b_n = a_1 b_2, c_n = c_2 a_1 - c_1 a_2"; for negative supply
@@ -68,9 +68,9 @@ unfoldable pub between : ℕ → Arc → Arc → Fraction → Fraction → (Arc 
 between i t s l u rest = do
   let w = side_of t i
   let v = side_of s i
-  a ← fits (⊝ (Fits v.e ⊗ Fits w.o))
-  b ← fits (Fits w.e ⊗ Fits v.o)
-  c ← fits (Fits s.cost ⊗ Fits w.e ⊖ Fits t.cost ⊗ Fits v.e)
+  a ← fits (⊝ (Ok v.e ⊗ Ok w.o))
+  b ← fits (Ok w.e ⊗ Ok v.o)
+  c ← fits (Ok s.cost ⊗ Ok w.e ⊖ Ok t.cost ⊗ Ok v.e)
   rest (added_arc w v l u a b c)
 
 -- its bounds: l_n = l_2 / a_1 and u_n = (r_m - a_1 l_1) / a_1 a_2, for negative supply l_n = -l_2 / a_1 and u_n = (a_1 l_1 - r_m) / a_1 a_2.
@@ -78,7 +78,7 @@ between i t s l u rest = do
 -- exchanged if more of it means less on arc 2": more of it means more on arc 2, by e of arc 1 for positive supply and by -e for negative, so
 -- that the two are never exchanged. "Of these only the results must fit"
 abbrev pub low_of : Bool → Arc → Side → Worked
-low_of below t2 w1 = turned below (Fits t2.lower ⊘ Fits w1.e)
+low_of below t2 w1 = turned below (Ok t2.lower ⊘ Ok w1.e)
 
 abbrev pub high_of : Bool → Fraction → Arc → Side → Side → Worked
 high_of below r t1 w1 w2 = turned below (share_of r w1.e t1.lower w2.e)
@@ -121,7 +121,7 @@ unfoldable pub joined : Fraction → ℕ → Fraction → Fraction → ArcUpdate
 joined constant i r r' one two three = do
   let w = side_of one.arc i
   c ← added i r one.arc two.arc
-  s ← fits (Fits r' ⊖ Fits r ⊗ Fits w.o ⊘ Fits w.e)
+  s ← fits (Ok r' ⊖ Ok r ⊗ Ok w.o ⊘ Ok w.e)
   a ← altered i one.arc three.arc
   b ← altered i two.arc three.arc
   z ← fits (gained constant one.arc w r)
@@ -167,14 +167,14 @@ three_back old pair = do
   let t1 = old.one
   let t2 = old.two
   let t3 = old.three
-  let e1 = Fits (side_of t1.arc i).e
-  let e2 = Fits (side_of t2.arc i).e
-  let y1 = Fits (flow_at pair t1.number)
-  let y2 = Fits (flow_at pair t2.number)
-  let y3 = Fits (flow_at pair t3.number)
-  x ← figure (Fits r ⊘ e1 ⊕ y1 ⊖ turned below (e2 ⊗ y3))
+  let e1 = Ok (side_of t1.arc i).e
+  let e2 = Ok (side_of t2.arc i).e
+  let y1 = Ok (flow_at pair t1.number)
+  let y2 = Ok (flow_at pair t2.number)
+  let y3 = Ok (flow_at pair t3.number)
+  x ← figure (Ok r ⊘ e1 ⊕ y1 ⊖ turned below (e2 ⊗ y3))
   y ← figure (y2 ⊕ turned below (e1 ⊗ y3))
-  z ← figure (⊝ ((e1 ⊗ y1 ⊕ e2 ⊗ y2) ⊘ Fits (side_of t3.arc i).e))
+  z ← figure (⊝ ((e1 ⊗ y1 ⊕ e2 ⊗ y2) ⊘ Ok (side_of t3.arc i).e))
   p ← figure (quote_of t1.arc i pair)
   q ← figure (quote_of t2.arc i pair)
   Restores (restored_three t1 x t2 y t3 z i (cond below (larger p q) (smaller p q)))

@@ -23,7 +23,7 @@ use Rattle.presolve.specs.Net.{column}
 use Rattle.presolve.proofs.TwoArcs.{image, two-price, two_back_lem, two-sound}
 use Rattle.presolve.proofs.Rewire.{two-of}
 use Rattle.fraction.specs.declared.Fraction.{Fraction}
-use Rattle.fraction.specs.declared.Worked.TheVariants.{Fits}
+use Rattle.std.specs.Prelude.{Ok}
 use Rattle.fraction.specs.Exact.{Proper, zero_fraction, no_figure, no_lower, no_upper, is_zero}
 use Rattle.fraction.specs.Formula.{◌⊖◌, ◌⊗◌, ◌⊘◌, ⊝◌}
 use Rattle.fraction.proofs.Laws.{never}
@@ -75,12 +75,12 @@ record Merged (constant : Fraction) (i j : ℕ) (tj : Arc) (wj : Side) (k : ℕ)
   b : Fraction
   supply : Fraction
   total : Fraction
-  cost-fits : (Fits tj.cost ⊖ Fits tk.cost ⊗ Fits wj.e ⊘ Fits wk.e) ≡ Fits cost
-  lower_fits : tighter larger tj.lower (cond (same_sign wj.e wk.e) tk.upper tk.lower) (image_of r wj wk (cond (same_sign wj.e wk.e) tk.upper tk.lower)) ≡ Fits lower
-  upper_fits : tighter smaller tj.upper (cond (same_sign wj.e wk.e) tk.lower tk.upper) (image_of r wj wk (cond (same_sign wj.e wk.e) tk.lower tk.upper)) ≡ Fits upper
-  b_fits : cond (eqb wk.other 0) (Fits zero_fraction) (⊝ (Fits wk.o ⊗ Fits wj.e ⊘ Fits wk.e)) ≡ Fits b
-  supply_fits : cond (eqb wk.other 0) (Fits no_figure) (Fits r' ⊖ Fits wk.o ⊗ Fits r ⊘ Fits wk.e) ≡ Fits supply
-  total_fits : gained constant tk wk r ≡ Fits total
+  cost-fits : (Ok tj.cost ⊖ Ok tk.cost ⊗ Ok wj.e ⊘ Ok wk.e) ≡ Ok cost
+  lower_fits : tighter larger tj.lower (cond (same_sign wj.e wk.e) tk.upper tk.lower) (image_of r wj wk (cond (same_sign wj.e wk.e) tk.upper tk.lower)) ≡ Ok lower
+  upper_fits : tighter smaller tj.upper (cond (same_sign wj.e wk.e) tk.lower tk.upper) (image_of r wj wk (cond (same_sign wj.e wk.e) tk.lower tk.upper)) ≡ Ok upper
+  b_fits : cond (eqb wk.other 0) (Ok zero_fraction) (⊝ (Ok wk.o ⊗ Ok wj.e ⊘ Ok wk.e)) ≡ Ok b
+  supply_fits : cond (eqb wk.other 0) (Ok no_figure) (Ok r' ⊖ Ok wk.o ⊗ Ok r ⊘ Ok wk.e) ≡ Ok supply
+  total_fits : gained constant tk wk r ≡ Ok total
   is : Changes (record { edit = merging j (new_arc wj wk cost lower upper b) k wk.other supply i total; old = old_two i r (record { number = j; arc = tj }) (record { number = k; arc = tk }) }) ≡ x
 
 merged-met : (constant : Fraction) (i j : ℕ) (tj : Arc) (wj : Side) (k : ℕ) (tk : Arc) (wk : Side) (r r' : Fraction) {x : Outcome} → Answers x → merged constant i j tj wj k tk wk r r' ≡ x → Merged constant i j tj wj k tk wk r r' x
@@ -218,7 +218,7 @@ module _ (net : Net) (g : Legal net) (i j k : ℕ) {c : Change} (m : Met net i j
       record {
         from_here = m.arcs.far_j.here;
         to_here = x.to_here;
-        cost_proper = (minus-fits {x = Fits tj.cost} {y = Fits tk.cost ⊗ Fits wj.e ⊘ Fits wk.e} m.made.cost-fits).is.proper;
+        cost_proper = (minus-fits {x = Ok tj.cost} {y = Ok tk.cost ⊗ Ok wj.e ⊘ Ok wk.e} m.made.cost-fits).is.proper;
         lower_bound = lower-now.0;
         upper_bound = upper-now.0;
         a_proper = m.arcs.far_j.o_nonzero.proper;
@@ -243,7 +243,7 @@ module _ (net : Net) (g : Legal net) (i j k : ℕ) {c : Change} (m : Met net i j
   framed =
       record {
         arcs = ((record { may = inr ((used-within g j m.arcs.at_j.used).1, new-legal); clear = λ l. rw (ne_eqb wj.other i m.arcs.far_j.apart, ne_eqb _ i (takes m.arcs.at_k.end).apart_i) }, inr (λ l. m.arcs.at_j.used)), (no-arc-puts net i k, (no-arc-puts net i 0, (no-arc-puts net i 0, tt))));
-        left = λ l. less-proper wk.other (Fits (supply_at net wk.other)) _ m.made.supply_fits l;
+        left = λ l. less-proper wk.other (Ok (supply_at net wk.other)) _ m.made.supply_fits l;
         right = no-level;
         constant = total-is.0;
         only = λ x l t. ⊎_elim inl (λ w. inr (⊎_elim inl absurd w)) (m.arcs.all x t);
@@ -305,7 +305,7 @@ module _ (net : Net) (g : Legal net) (i j k : ℕ) {c : Change} (m : Met net i j
     x = flow_at pair j
 
     -- the flow of k
-    flow-exactly : Exactly ((Fits r ⊖ Fits wj.e ⊗ Fits x) ⊘ Fits wk.e) ((N.rhs i +ℚ -ℚ (value wj.e *ℚ value x)) *ℚ inv (value wk.e))
+    flow-exactly : Exactly ((Ok r ⊖ Ok wj.e ⊗ Ok x) ⊘ Ok wk.e) ((N.rhs i +ℚ -ℚ (value wj.e *ℚ value x)) *ℚ inv (value wk.e))
     flow-exactly =
         same (ap (λ r. (r +ℚ -ℚ (value wj.e *ℚ value x)) *ℚ inv (value wk.e)) (sym (rhs_is net i m.here)))
         (over-exactly (minus-gives (given _) (times-gives (given _) (given _))) (given _))
@@ -317,7 +317,7 @@ module _ (net : Net) (g : Legal net) (i j k : ℕ) {c : Change} (m : Met net i j
     abbrev cost-j : ℚ
     cost-j = (N.col j).cost +ℚ -ℚ (value wj.o *ℚ p wj.other) +ℚ -ℚ (value wj.e *ℚ quote N (spoke_of net i k) p)
 
-    module _ {first d : Fraction} (first-is : quote_of tk i pair ≡ Fits first) (d-is : (Fits tj.cost ⊖ Fits wj.o ⊗ Fits (price_at pair wj.other) ⊖ Fits wj.e ⊗ Fits first) ≡ Fits d) where
+    module _ {first d : Fraction} (first-is : quote_of tk i pair ≡ Ok first) (d-is : (Ok tj.cost ⊖ Ok wj.o ⊗ Ok (price_at pair wj.other) ⊖ Ok wj.e ⊗ Ok first) ≡ Ok d) where
       first-now : Figure first (quote N (spoke_of net i k) p)
       first-now = m.arcs.at_k.quotes pair first first-is
 
@@ -328,7 +328,7 @@ module _ (net : Net) (g : Legal net) (i j k : ℕ) {c : Change} (m : Met net i j
           (minus-exactly (minus-gives (given _) (times-gives (given _) (given _))) (times-gives (given _) (given _)))) d d-is
 
       -- the price is k's where j keeps the rule with it, and j's where j doesn't
-      price-now : {π : Fraction} → cond (keeps_rule tj.lower tj.upper x d) (Fits first) (quote_of tj i pair) ≡ Fits π → Figure π (two-price N (spoke_of net i j) (spoke_of net i k) (exact_pair pair).flow p)
+      price-now : {π : Fraction} → cond (keeps_rule tj.lower tj.upper x d) (Ok first) (quote_of tj i pair) ≡ Ok π → Figure π (two-price N (spoke_of net i j) (spoke_of net i k) (exact_pair pair).flow p)
       unfolding two-price
       price-now {π} e =
           let old = m.arcs.at_j.legal in

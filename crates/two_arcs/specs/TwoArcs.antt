@@ -1,8 +1,8 @@
 -- Rule 5, two arcs (01, "The six reductions"): a doubleton row.
 use Rattle.std.specs.Prelude.{Bool, false, cond, not, List, ℕ, eqb, get_or}
 use Rattle.fraction.specs.declared.Fraction.{Fraction}
-use Rattle.fraction.specs.declared.Worked.{Worked}
-use Rattle.fraction.specs.declared.Worked.TheVariants.{Fits}
+use Rattle.fraction.specs.Exact.{Worked}
+use Rattle.std.specs.Prelude.{Ok}
 use Rattle.fraction.specs.Exact.{zero_fraction, no_figure, is_finite, is_less}
 use Rattle.fraction.specs.Formula.{◌⊕◌, ◌⊖◌, ◌⊗◌, ◌⊘◌, ⊝◌}
 use Rattle.network.specs.declared.Arc.{Arc}
@@ -32,15 +32,15 @@ same_sign x y = cond (is_less zero_fraction x) (is_less zero_fraction y) (not (i
 
 -- "each finite bound z of k gives [its image] as a bound of j; the tighter bound of each side stays"
 unfoldable pub tighter : (Fraction → Fraction → Fraction) → Fraction → Fraction → Worked → Worked
-tighter pick own z image = cond (is_finite z) (pick own <$> image) (Fits own)
+tighter pick own z image = cond (is_finite z) (pick own <$> image) (Ok own)
 
 -- "(r - ek × z) ÷ ej"
 unfoldable pub image_of : Fraction → Side → Side → Fraction → Worked
-image_of r wj wk z = (Fits r ⊖ Fits wk.e ⊗ Fits z) ⊘ Fits wj.e
+image_of r wj wk z = (Ok r ⊖ Ok wk.e ⊗ Ok z) ⊘ Ok wj.e
 
 -- "rule 5 adds ck × r ÷ ek" to the constant (02, 2026-01)
 unfoldable pub gained : Fraction → Arc → Side → Fraction → Worked
-gained constant tk wk r = Fits constant ⊕ Fits tk.cost ⊗ Fits r ⊘ Fits wk.e
+gained constant tk wk r = Ok constant ⊕ Ok tk.cost ⊗ Ok r ⊘ Ok wk.e
 
 -- "j now runs from its other end .. to k's other end; if k is a root arc j becomes a root arc"
 abbrev pub new_arc : Side → Side → Fraction → Fraction → Fraction → Fraction → Arc
@@ -55,11 +55,11 @@ unfoldable pub merged : Fraction → ℕ → ℕ → Arc → Side → ℕ → Ar
 merged constant i j tj wj k tk wk r r' = do
   let root = eqb wk.other 0
   let exchanged = same_sign wj.e wk.e
-  c ← fits (Fits tj.cost ⊖ Fits tk.cost ⊗ Fits wj.e ⊘ Fits wk.e)
+  c ← fits (Ok tj.cost ⊖ Ok tk.cost ⊗ Ok wj.e ⊘ Ok wk.e)
   l ← fits (tighter larger tj.lower (cond exchanged tk.upper tk.lower) (image_of r wj wk (cond exchanged tk.upper tk.lower)))
   u ← fits (tighter smaller tj.upper (cond exchanged tk.lower tk.upper) (image_of r wj wk (cond exchanged tk.lower tk.upper)))
-  b ← fits (cond root (Fits zero_fraction) (⊝ (Fits wk.o ⊗ Fits wj.e ⊘ Fits wk.e)))
-  s ← fits (cond root (Fits no_figure) (Fits r' ⊖ Fits wk.o ⊗ Fits r ⊘ Fits wk.e))
+  b ← fits (cond root (Ok zero_fraction) (⊝ (Ok wk.o ⊗ Ok wj.e ⊘ Ok wk.e)))
+  s ← fits (cond root (Ok no_figure) (Ok r' ⊖ Ok wk.o ⊗ Ok r ⊘ Ok wk.e))
   z ← fits (gained constant tk wk r)
   Changes (record { edit = merging j (new_arc wj wk c l u b) k wk.other s i z; old = old_two i r (record { number = j; arc = tj }) (record { number = k; arc = tk }) })
 
@@ -94,10 +94,10 @@ two_back old pair = do
   let wj = side_of tj i
   let wk = side_of tk i
   let x = flow_at pair old.one.number
-  y ← figure ((Fits r ⊖ Fits wj.e ⊗ Fits x) ⊘ Fits wk.e)
+  y ← figure ((Ok r ⊖ Ok wj.e ⊗ Ok x) ⊘ Ok wk.e)
   first ← figure (quote_of tk i pair)
-  d ← figure (Fits tj.cost ⊖ Fits wj.o ⊗ Fits (price_at pair wj.other) ⊖ Fits wj.e ⊗ Fits first)
-  p ← figure (cond (keeps_rule tj.lower tj.upper x d) (Fits first) (quote_of tj i pair))
+  d ← figure (Ok tj.cost ⊖ Ok wj.o ⊗ Ok (price_at pair wj.other) ⊖ Ok wj.e ⊗ Ok first)
+  p ← figure (cond (keeps_rule tj.lower tj.upper x d) (Ok first) (quote_of tj i pair))
   Restores (flow_and_price old.two.number y i p)
 
 abbrev pub rule : Rule

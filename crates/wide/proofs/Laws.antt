@@ -15,8 +15,8 @@ use Rattle.algebra.proofs.Rat.{ℚ-ring}
 use Rattle.algebra.specs.Frac.{frac}
 use Rattle.algebra.proofs.Frac.{frac-eq, frac-sub, frac-mul, frac-inv}
 use Rattle.fraction.specs.declared.Fraction.{Fraction}
-use Rattle.fraction.specs.declared.Worked.TheVariants.{Fits, Misfit}
-use Rattle.fraction.specs.Exact.{Operand, Proper, is_operand}
+use Rattle.std.specs.Prelude.{Ok, Err}
+use Rattle.fraction.specs.Exact.{Operand, Proper, is_operand, misfit}
 use Rattle.fraction.specs.Formula.{◌⊖◌, ◌⊗◌}
 use Rattle.fraction.proofs.Laws.{never, and_both, is-operand, operands-are, reduce-zero}
 use Rattle.fraction.specs.Value.{value, Works}
@@ -94,11 +94,11 @@ module _ (r a l b : Fraction) (pr : Operand r) (pa : Operand a) (pl : Operand l)
 
 module _ (r a l b : Fraction) where
   -- there is none over 0
-  over_zero : nat_abs (a.num *ℤ b.num) ≡ 0 → share_of r a l b ≡ Misfit
+  over_zero : nat_abs (a.num *ℤ b.num) ≡ 0 → share_of r a l b ≡ (Err misfit)
   unfolding share_of ratio_of
   over_zero e = rw (reduce-zero _ (nat_abs (under_of r a l b)) (under-size r a l b ∙ rw (e, zero-times r.den) (zero-times l.den))) (either ((is_operand r && is_operand a) && (is_operand l && is_operand b)))
     where
-      either : (t : Bool) → cond t Misfit Misfit ≡ Misfit
+      either : (t : Bool) → cond t (Err misfit) (Err misfit) ≡ (Err misfit)
       either true = refl
       either false = refl
 
@@ -110,7 +110,7 @@ module _ (r a l b : Fraction) where
     pub proper : Proper z
     pub exact : value z ≡ share_ℚ (value r) (value a) (value l) (value b)
 
-  pub share-fits : (z : Fraction) → share_of r a l b ≡ Fits z → Shared z
+  pub share-fits : (z : Fraction) → share_of r a l b ≡ Ok z → Shared z
   unfolding share_of
   share-fits z e =
       let t = and_both (is_operand r && is_operand a) _ (tested _ _ z e) in
@@ -125,17 +125,17 @@ module _ (r a l b : Fraction) where
       nonzero = ⊎_elim (λ n. never (let f = sym e ∙ over_zero n in cc)) (λ h. h) (eq-zero-or-pos (nat_abs (a.num *ℤ b.num)))
 
   -- where each step of the formula fits, the answer is the same
-  pub share-steps : (z : Fraction) → steps_of r a l b ≡ Fits z → share_of r a l b ≡ Fits z
+  pub share-steps : (z : Fraction) → steps_of r a l b ≡ Ok z → share_of r a l b ≡ Ok z
   share-steps z e =
       let o = over-fits e in
       let m = minus-fits o.left_fits in
       let d = times-fits o.right_fits in
       let t = times-fits m.right_fits in
-      let n = over-nonzero (Fits r ⊖ (Fits a ⊗ Fits l)) (Fits a ⊗ Fits b) (value a *ℚ value b) (times-gives (given a) (given b)) e in
+      let n = over-nonzero (Ok r ⊖ (Ok a ⊗ Ok l)) (Ok a ⊗ Ok b) (value a *ℚ value b) (times-gives (given a) (given b)) e in
       (share-works r a l b (same m.left_fits m.is.left_operand) (same d.left_fits d.is.left_operand) (same t.right_fits t.is.right_operand) (same d.right_fits d.is.right_operand)
       (λ v. n (ap (λ q. q *ℚ value b) v ∙ zero-mul ℚ-ring (value b)))
       (λ v. n (ap (λ q. value a *ℚ q) v ∙ mul-zero ℚ-ring (value a)))
       ).complete z o.is.proper (over-gives (minus-gives (given r) (times-gives (given a) (given l))) (times-gives (given a) (given b)) z e)
     where
-      same : {x y : Fraction} → Fits x ≡ Fits y → Operand y → Operand x
+      same : {x y : Fraction} → Ok x ≡ Ok y → Operand y → Operand x
       same {x} {y} e p = let f : x ≡ y = cc in rw f p

@@ -13,9 +13,9 @@ use Rattle.integer.specs.Gcd.{gcd, right-pos}
 use Rattle.integer.specs.Whole.{signed, nat_abs-neg, neg-*ℤ, *ℤ-un}
 use Rattle.algebra.proofs.Solver.{◌:+◌, ◌:-◌, :neg, ◌:=◌, ring2}
 use Rattle.algebra.proofs.Int.{ℤ-ring}
-use Rattle.fraction.specs.declared.Worked.TheVariants.{Fits, Misfit}
-use Rattle.fraction.specs.Exact.{over, most, fitted, reduce_of}
-use Rattle.fraction.specs.Formula.{⊝◌}
+use Rattle.std.specs.Prelude.{Ok, Err}
+use Rattle.fraction.specs.Exact.{over, most, fitted, reduce_of, misfit}
+use Rattle.fraction.specs.Formula.{⊝◌, negated}
 use Rattle.fraction.proofs.Laws.{never, reduce-by, reduce-zero}
 use Rattle.fraction.proofs.Value.{negation-is}
 use Rattle.wide.specs.internal.Wide.{give}
@@ -70,16 +70,16 @@ signed-turned zero k h = rw (h refl)
 signed-turned (suc n) k h = refl
 
 fitted-turned : (k e : ℕ) → 0 < e → fitted (neg_ℤ (pos k)) e ≡ ⊝ (fitted (pos k) e)
-unfolding fitted ⊝◌
+unfolding fitted negated
 fitted-turned k e h = rw (nat_abs-neg k) (by (leb k most) (leb e most) (leb-true _ _) (leb-true _ _))
   where
-    by : (s t : Bool) → (s ≡ true → k ≤ most) → (t ≡ true → e ≤ most) → cond (s && t) (Fits (over (neg_ℤ (pos k)) e)) Misfit ≡ ⊝ (cond (s && t) (Fits (over (pos k) e)) Misfit)
+    by : (s t : Bool) → (s ≡ true → k ≤ most) → (t ≡ true → e ≤ most) → cond (s && t) (Ok (over (neg_ℤ (pos k)) e)) (Err misfit) ≡ ⊝ (cond (s && t) (Ok (over (pos k) e)) (Err misfit))
     by true true f g = sym (negation-is (over (pos k) e) (record { num_in = f refl; den_pos = h; den_in = g refl }))
     by true false f g = refl
     by false t f g = refl
 
 reduce-turned : (n d : ℕ) → reduce_of (neg_ℤ (pos n)) d ≡ ⊝ (reduce_of (pos n) d)
-unfolding ⊝◌
+unfolding negated
 reduce-turned n d = ⊎_elim none some (eq-zero-or-pos d)
   where
     none : d ≡ 0 → reduce_of (neg_ℤ (pos n)) d ≡ ⊝ (reduce_of (pos n) d)

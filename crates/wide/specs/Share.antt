@@ -2,8 +2,8 @@
 use Rattle.std.specs.Prelude.{cond, ◌&&◌, ℤ, pos, nat_abs, ◌-ℤ◌, ◌*ℤ◌}
 use Rattle.integer.specs.Whole.{signed}
 use Rattle.fraction.specs.declared.Fraction.{Fraction}
-use Rattle.fraction.specs.declared.Worked.{Worked}
-use Rattle.fraction.specs.declared.Worked.TheVariants.{Misfit}
+use Rattle.fraction.specs.Exact.{Worked, misfit}
+use Rattle.std.specs.Prelude.{Err}
 use Rattle.fraction.specs.Exact.{is_operand, reduce_of}
 
 -- n over m, fully reduced, the sign on top; there is no fraction over 0
@@ -19,4 +19,4 @@ under_of r a l b = a.num *ℤ b.num *ℤ pos r.den *ℤ pos l.den
 
 -- so the share is the first times the denominator of b, over the second
 unfoldable pub share_of : Fraction → Fraction → Fraction → Fraction → Worked
-share_of r a l b = cond ((is_operand r && is_operand a) && (is_operand l && is_operand b)) (ratio_of (over_of r a l *ℤ pos b.den) (under_of r a l b)) Misfit
+share_of r a l b = cond ((is_operand r && is_operand a) && (is_operand l && is_operand b)) (ratio_of (over_of r a l *ℤ pos b.den) (under_of r a l b)) (Err misfit)

@@ -2,7 +2,7 @@
 use Rattle.std.specs.Prelude.{◌≡◌, Bool, true, cond, ◌&&◌, ◌||◌, not, List, ℕ, ◌<◌, ltb, leb, get_or, set}
 use Rattle.loops.specs.Loops.{any, build}
 use Rattle.fraction.specs.declared.Fraction.{Fraction}
-use Rattle.fraction.specs.declared.Worked.TheVariants.{Fits}
+use Rattle.std.specs.Prelude.{Ok}
 use Rattle.fraction.specs.Exact.{no_figure, sum_of}
 use Rattle.fraction.specs.Formula.{figure_of, ◌⊗◌, ◌⊘◌}
 use Rattle.network.specs.declared.Arc.{Arc}
@@ -35,7 +35,7 @@ is_due times w t = is_candidate t && (is_fresh times 0 t.from && (is_fresh times
 
 -- c1 × e ÷ a1, the cost by way of the root arc x at node i, where e is the multiplier there; none where x is old or does not serve
 unfoldable pub way_of : Bool → Arc → ℕ → Fraction → Fraction
-way_of old x i e = cond (not old && (is_open_root x i && is_positive (Fits e ⊘ Fits x.a))) (figure_of (Fits x.cost ⊗ Fits e ⊘ Fits x.a)) no_figure
+way_of old x i e = cond (not old && (is_open_root x i && is_positive (Ok e ⊘ Ok x.a))) (figure_of (Ok x.cost ⊗ Ok e ⊘ Ok x.a)) no_figure
 
 -- the ways by each arc's number; those put before the time w are old
 unfoldable pub ways_of : Net → Seen → ℕ → ℕ → Fraction → List Fraction

@@ -3,7 +3,7 @@ use Rattle.std.proofs.Common.{◌≡◌, ◌+◌, arith, length, ◌∙◌, refl
 use Rattle.std.proofs.Math.ListN.{get_or-replicate, length-set}
 use borrow.Author.Rules.{rules}
 use Rattle.fraction.specs.Exact.{no_figure}
-use Rattle.fraction.specs.declared.Worked.TheVariants.{Fits}
+use Rattle.std.specs.Prelude.{Ok}
 use Rattle.loops.proofs.Laws.{folded-all, folded_more, folded-none}
 use Rattle.network.proofs.Laws.{length-mapped}
 use Rattle.network.specs.Network.{arc_at, no_arc}
@@ -16,7 +16,7 @@ use Rattle.figures.proofs.balances.Goals as goal
 use Rattle.figures.proofs.balances.Goals.{then-j-lt-MAX_ARCS, else-j-lt-MAX_ARCS}
 
 pub loop-j-init : goal.loop-j-init
-loop-j-init c = (refl, λ i h. rw (get_or-replicate {A = Sum} 34 i (record { w = c.fit-zero.result }) (record { w = Fits no_figure }) (omega arith), c.fit-zero.ensures) (folded-none _ _ _))
+loop-j-init c = (refl, λ i h. rw (get_or-replicate {A = Sum} 34 i (record { w = c.fit-zero.result }) (record { w = Ok no_figure }) (omega arith), c.fit-zero.ensures) (folded-none _ _ _))
 
 pub loop-j-preserved : goal.loop-j-preserved
 loop-j-preserved c =

@@ -1,8 +1,8 @@
 -- Balances and prices as lists have them.
 use Rattle.std.specs.Prelude.{List, [], ℕ, get_or}
 use Rattle.fraction.specs.declared.Fraction.{Fraction}
-use Rattle.fraction.specs.declared.Worked.{Worked}
-use Rattle.fraction.specs.declared.Worked.TheVariants.{Fits}
+use Rattle.fraction.specs.Exact.{Worked}
+use Rattle.std.specs.Prelude.{Ok}
 use Rattle.fraction.specs.Exact.{no_figure}
 use Rattle.network.specs.declared.Arc.{Arc}
 use Rattle.figures.specs.declared.Sums.{Sums}
@@ -10,7 +10,7 @@ use Rattle.figures.specs.Figures.{reduced_cost}
 
 -- a node's balance, where those of all nodes are listed
 abbrev pub sum_at : Sums → ℕ → Worked
-sum_at s i = (get_or s.at i (record { w = Fits no_figure })).w
+sum_at s i = (get_or s.at i (record { w = Ok no_figure })).w
 
 -- an arc's reduced cost, by a list of prices
 abbrev pub cost_in : List Fraction → Arc → Worked

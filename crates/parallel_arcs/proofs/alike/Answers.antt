@@ -17,12 +17,12 @@ returns-in_default c = rw (eq-eqb _ _ c.if-tk-tj.false, eq-eqb _ _ c.if-tk-tj-2.
 
 pub returns-then-not-is_times : goal.returns-then-not-is_times
 unfolding alike only_where fits
-returns-then-not-is_times c = rw (eq-eqb _ _ c.if-tk-tj.false, eq-eqb _ _ c.if-tk-tj-2.false, ← c.ratio.ensures, c.in-Fits.is, ← c.is_times.ensures, c.if-not-is_times.true)
+returns-then-not-is_times c = rw (eq-eqb _ _ c.if-tk-tj.false, eq-eqb _ _ c.if-tk-tj-2.false, ← c.ratio.ensures, c.in-Ok.is, ← c.is_times.ensures, c.if-not-is_times.true)
 
 pub returns-then-not-is_times-2 : goal.returns-then-not-is_times-2
 unfolding alike only_where fits
-returns-then-not-is_times-2 c = rw (eq-eqb _ _ c.if-tk-tj.false, eq-eqb _ _ c.if-tk-tj-2.false, ← c.ratio.ensures, c.in-Fits.is, ← c.is_times.ensures, c.if-not-is_times.false, ← c.is_times-2.ensures, c.if-not-is_times-2.true)
+returns-then-not-is_times-2 c = rw (eq-eqb _ _ c.if-tk-tj.false, eq-eqb _ _ c.if-tk-tj-2.false, ← c.ratio.ensures, c.in-Ok.is, ← c.is_times.ensures, c.if-not-is_times.false, ← c.is_times-2.ensures, c.if-not-is_times-2.true)
 
 pub returns : goal.returns
 unfolding alike only_where fits
-returns c = rw (eq-eqb _ _ c.if-tk-tj.false, eq-eqb _ _ c.if-tk-tj-2.false, ← c.ratio.ensures, c.in-Fits.is, ← c.is_times.ensures, c.if-not-is_times.false, ← c.is_times-2.ensures, c.if-not-is_times-2.false) c.join.ensures
+returns c = rw (eq-eqb _ _ c.if-tk-tj.false, eq-eqb _ _ c.if-tk-tj-2.false, ← c.ratio.ensures, c.in-Ok.is, ← c.is_times.ensures, c.if-not-is_times.false, ← c.is_times-2.ensures, c.if-not-is_times-2.false) c.join.ensures

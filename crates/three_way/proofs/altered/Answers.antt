@@ -10,8 +10,8 @@ returns-in_default c = fun_ext (λ rest. rw (← c.side_at-w.ensures, ← c.side
 
 pub returns-in_default-altered_cost : goal.returns-in_default-altered_cost
 unfolding altered goes_on fits
-returns-in_default-altered_cost c = fun_ext (λ rest. rw (← c.side_at-w.ensures, ← c.side_at-v.ensures, ← c.altered_multiplier.ensures, c.in-Fits.is, ← c.altered_cost.ensures, c.in_default-altered_cost.is))
+returns-in_default-altered_cost c = fun_ext (λ rest. rw (← c.side_at-w.ensures, ← c.side_at-v.ensures, ← c.altered_multiplier.ensures, c.in-Ok.is, ← c.altered_cost.ensures, c.in_default-altered_cost.is))
 
 pub returns : goal.returns
 unfolding altered goes_on fits
-returns c = fun_ext (λ rest. rw (← c.side_at-w.ensures, ← c.side_at-v.ensures, ← c.altered_multiplier.ensures, c.in-Fits.is, ← c.altered_cost.ensures, c.in-Fits-altered_cost.is))
+returns c = fun_ext (λ rest. rw (← c.side_at-w.ensures, ← c.side_at-v.ensures, ← c.altered_multiplier.ensures, c.in-Ok.is, ← c.altered_cost.ensures, c.in-Ok-altered_cost.is))

@@ -13,16 +13,16 @@ returns-in_default-far_supply c = rw (← c.side_at-w.ensures, c.added.ensures, 
 
 pub returns-in_default-altered : goal.returns-in_default-altered
 unfolding joined goes_on fits
-returns-in_default-altered c = rw (← c.side_at-w.ensures, c.added.ensures, c.in-Puts.is, ← c.far_supply.ensures, c.in-Fits.is, c.altered.ensures, c.in_default-altered.is)
+returns-in_default-altered c = rw (← c.side_at-w.ensures, c.added.ensures, c.in-Puts.is, ← c.far_supply.ensures, c.in-Ok.is, c.altered.ensures, c.in_default-altered.is)
 
 pub returns-in_default-altered-2 : goal.returns-in_default-altered-2
 unfolding joined goes_on fits
-returns-in_default-altered-2 c = rw (← c.side_at-w.ensures, c.added.ensures, c.in-Puts.is, ← c.far_supply.ensures, c.in-Fits.is, c.altered.ensures, c.in-Puts-altered.is, c.altered-2.ensures, c.in_default-altered-2.is)
+returns-in_default-altered-2 c = rw (← c.side_at-w.ensures, c.added.ensures, c.in-Puts.is, ← c.far_supply.ensures, c.in-Ok.is, c.altered.ensures, c.in-Puts-altered.is, c.altered-2.ensures, c.in_default-altered-2.is)
 
 pub returns-in_default-gained : goal.returns-in_default-gained
 unfolding joined goes_on fits
-returns-in_default-gained c = rw (← c.side_at-w.ensures, c.added.ensures, c.in-Puts.is, ← c.far_supply.ensures, c.in-Fits.is, c.altered.ensures, c.in-Puts-altered.is, c.altered-2.ensures, c.in-Puts-altered-2.is, ← c.gained.ensures, c.in_default-gained.is)
+returns-in_default-gained c = rw (← c.side_at-w.ensures, c.added.ensures, c.in-Puts.is, ← c.far_supply.ensures, c.in-Ok.is, c.altered.ensures, c.in-Puts-altered.is, c.altered-2.ensures, c.in-Puts-altered-2.is, ← c.gained.ensures, c.in_default-gained.is)
 
 pub returns : goal.returns
 unfolding joined goes_on fits
-returns c = rw (← c.side_at-w.ensures, c.added.ensures, c.in-Puts.is, ← c.far_supply.ensures, c.in-Fits.is, c.altered.ensures, c.in-Puts-altered.is, c.altered-2.ensures, c.in-Puts-altered-2.is, ← c.gained.ensures, c.in-Fits-gained.is, c.joining.ensures)
+returns c = rw (← c.side_at-w.ensures, c.added.ensures, c.in-Puts.is, ← c.far_supply.ensures, c.in-Ok.is, c.altered.ensures, c.in-Puts-altered.is, c.altered-2.ensures, c.in-Puts-altered-2.is, ← c.gained.ensures, c.in-Ok-gained.is, c.joining.ensures)

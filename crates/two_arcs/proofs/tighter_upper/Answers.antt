@@ -13,4 +13,4 @@ returns-in_default c = rw (ne_eqb _ _ c.if-z-eq0.false, c.in_default.is)
 
 pub returns : goal.returns
 unfolding is_finite tighter
-returns c = rw (ne_eqb _ _ c.if-z-eq0.false, c.in-Fits.is, c.smaller.ensures)
+returns c = rw (ne_eqb _ _ c.if-z-eq0.false, c.in-Ok.is, c.smaller.ensures)

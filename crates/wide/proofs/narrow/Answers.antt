@@ -4,7 +4,7 @@ use borrow.Author.Tests.{leb-true}
 use lib.IntN.{ℤ, pos}
 use mir.Facts.{to_z_pos}
 use mir.Syntax.{w32}
-use Rattle.fraction.specs.declared.Worked.TheVariants.{Fits}
+use Rattle.std.specs.Prelude.{Ok}
 use Rattle.fraction.specs.Exact.{over, fitted}
 use Rattle.fraction.proofs.Laws.{fitted-yes}
 use Rattle.wide.proofs.Arith.{low-in, one_word}
@@ -15,7 +15,7 @@ returns-then-is_part-2 c =
     let a = c.args in
     let h = leb-true _ _ (sym c.is_part.ensures ∙ c.if-is_part.true) in
     let k = leb-true _ _ (sym c.is_part-then-is_part.ensures ∙ c.if-is_part-2.true) in
-    ap₂ (λ (n : ℤ) d. Fits (over n d)) (to_z_pos w32 (low-in a.n h) ∙ ap pos (one_word a.n h)) (one_word a.m k) ∙ sym (fitted-yes _ _ h k)
+    ap₂ (λ (n : ℤ) d. Ok (over n d)) (to_z_pos w32 (low-in a.n h) ∙ ap pos (one_word a.n h)) (one_word a.m k) ∙ sym (fitted-yes _ _ h k)
 
 pub returns-else-is_part-2 : goal.returns-else-is_part-2
 unfolding fitted

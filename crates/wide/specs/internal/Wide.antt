@@ -1,8 +1,8 @@
 -- The formula step by step, and in numbers of two words: what they amount to, and the answers of the operations on them.
 use Rattle.std.specs.Prelude.{◌≡◌, Bool, cond, ℕ, ◌+◌, ◌*◌, ◌≤◌, ◌<◌, ℤ, pos, neg_ℤ, ◌-ℤ◌, ◌*ℤ◌}
 use Rattle.fraction.specs.declared.Fraction.{Fraction}
-use Rattle.fraction.specs.declared.Worked.{Worked}
-use Rattle.fraction.specs.declared.Worked.TheVariants.{Fits}
+use Rattle.fraction.specs.Exact.{Worked}
+use Rattle.std.specs.Prelude.{Ok}
 use Rattle.fraction.specs.Formula.{◌⊖◌, ◌⊗◌, ◌⊘◌}
 use Rattle.wide.specs.declared.Wide.{Wide}
 use Rattle.wide.specs.declared.Whole.{Whole}
@@ -11,7 +11,7 @@ use Rattle.wide.specs.Share.{over_of, under_of}
 
 -- the formula step by step, each of which must fit
 abbrev pub steps_of : Fraction → Fraction → Fraction → Fraction → Worked
-steps_of r a l b = (Fits r ⊖ Fits a ⊗ Fits l) ⊘ (Fits a ⊗ Fits b)
+steps_of r a l b = (Ok r ⊖ Ok a ⊗ Ok l) ⊘ (Ok a ⊗ Ok b)
 
 -- ---- numbers of two words
 

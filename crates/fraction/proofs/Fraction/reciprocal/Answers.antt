@@ -1,7 +1,7 @@
 use Rattle.fraction.proofs.Machine.{narrow-fits, narrow-is}
 use Rattle.fraction.specs.Exact.{Operand, over, reciprocal_of}
 use Rattle.fraction.proofs.Laws.{operand-is}
-use Rattle.fraction.specs.declared.Worked.TheVariants.{Fits}
+use Rattle.std.specs.Prelude.{Ok}
 use Rattle.integer.specs.Machine.{wide}
 use Rattle.integer.specs.Whole.{signed}
 use borrow.Author.Rules.{rules}
@@ -25,7 +25,7 @@ overflow_cast-result c = narrow-fits c.args.self.num _ (made c) (operand c).den_
 
 pub returns-then-is_operand : goal.returns-then-is_operand
 unfolding reciprocal_of
-returns-then-is_operand c = let a = c.args in rw (← c.is_operand.ensures, c.if-is_operand.true, ← c.num_size-size.ensures, ne_eqb _ _ c.if-size-eq0.false) (ap (λ (n : ℤ). Fits (over n c.num_size-size.result)) (narrow-is a.self.num _ (made c) (operand c).den_in))
+returns-then-is_operand c = let a = c.args in rw (← c.is_operand.ensures, c.if-is_operand.true, ← c.num_size-size.ensures, ne_eqb _ _ c.if-size-eq0.false) (ap (λ (n : ℤ). Ok (over n c.num_size-size.result)) (narrow-is a.self.num _ (made c) (operand c).den_in))
 
 pub returns : goal.returns
 unfolding reciprocal_of

@@ -3,7 +3,7 @@ use Rattle.fraction.proofs.Machine.{narrow-is}
 use Rattle.fraction.proofs.OverOne.{reduce-whole}
 use Rattle.fraction.specs.Exact.{fitted, over, reduce_of}
 use Rattle.fraction.proofs.Laws.{fitted-no-den, fitted-no-num, fitted-yes, reduce-by, reduce-zero}
-use Rattle.fraction.specs.declared.Worked.TheVariants.{Fits}
+use Rattle.std.specs.Prelude.{Ok}
 use Rattle.integer.specs.Gcd.{gcd, gcd-pos, DivisorFrom}
 use Rattle.integer.specs.Whole.{nat_abs-signed, signed}
 use borrow.Author.Tests.{ltb-false, ltb-true}
@@ -67,4 +67,4 @@ pub returns-then-m-gt2147483647 : goal.returns-then-m-gt2147483647
 returns-then-m-gt2147483647 c = sym (lowest c.args.z c.args.d c.size-size.result c.divisor-g.result c.ranges.z c.if-d-eq0.false c.size-size.ensures c.divisor-g.ensures ∙ fitted-no-den _ _ (omega (arith, c.if-m-gt2147483647.true, less c.args.z c.args.d c.size-size.result c.divisor-g.result c.ranges.z c.if-d-eq0.false c.size-size.ensures c.divisor-g.ensures c.args.d)))
 
 pub returns : goal.returns
-returns c = ap (λ (n : ℤ). Fits (over n (c.args.d / c.divisor-g.result))) (narrow-is c.args.z _ (made c) c.if-n-gt2147483647.false) ∙ sym (answer c.args.z c.args.d c.size-size.result c.divisor-g.result c.ranges.z c.if-d-eq0.false c.size-size.ensures c.divisor-g.ensures c.if-m-gt2147483647.false ∙ fitted-yes _ _ (rw nat_abs-signed c.if-n-gt2147483647.false) c.if-m-gt2147483647.false)
+returns c = ap (λ (n : ℤ). Ok (over n (c.args.d / c.divisor-g.result))) (narrow-is c.args.z _ (made c) c.if-n-gt2147483647.false) ∙ sym (answer c.args.z c.args.d c.size-size.result c.divisor-g.result c.ranges.z c.if-d-eq0.false c.size-size.ensures c.divisor-g.ensures c.if-m-gt2147483647.false ∙ fitted-yes _ _ (rw nat_abs-signed c.if-n-gt2147483647.false) c.if-m-gt2147483647.false)
