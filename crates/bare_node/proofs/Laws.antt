@@ -1,4 +1,5 @@
 -- Rule 2 keeps the laws of a rule.
+use Rattle.std.specs.Prelude.{Ok, Err}
 use mathlib.Core.Path.{◌≡◌, refl, sym, ap, ◌∙◌}
 use mathlib.Core.Bool.{true, false}
 use mathlib.Core.List.{[]}
@@ -23,8 +24,8 @@ use Rattle.network.specs.Pair.{with_price, with_flow}
 use Rattle.network.specs.Program.{exact_of, program_of}
 use Rattle.network.proofs.Kept.{here-number}
 use Rattle.step.specs.declared.Change.{Change}
-use Rattle.step.specs.declared.Outcome.{Outcome}
-use Rattle.step.specs.declared.Outcome.TheVariants.{Passes, NoFlow, Changes}
+use Rattle.step.specs.Outcome.{Outcome}
+use Rattle.step.specs.declared.Halt.TheVariants.{Passes, NoFlow}
 use Rattle.step.specs.Outcome.{only_where}
 use Rattle.step.specs.Back.{old_one, restored}
 use Rattle.step.proofs.Frame.{no-level, no_names, supply-same}
@@ -44,7 +45,7 @@ dropping net i = edit_one no_update no_supply_update no_supply_update i net.cons
 record Bare (net : Net) (i : ℕ) (x : Outcome) : Type 0 where
   here : is_here net i ≡ true
   bare : degree_of net i ≡ 0
-  shows : ((is_zero (supply_at net i) ≡ false) × (NoFlow ≡ x)) ⊎ ((is_zero (supply_at net i) ≡ true) × (Changes (record { edit = dropping net i; old = old_one i no_figure no_update }) ≡ x))
+  shows : ((is_zero (supply_at net i) ≡ false) × ((Err NoFlow) ≡ x)) ⊎ ((is_zero (supply_at net i) ≡ true) × (Ok (record { edit = dropping net i; old = old_one i no_figure no_update }) ≡ x))
 
 bare-met : (net : Net) (i : ℕ) {x : Outcome} → Answers x → bare_node net i ≡ x → Bare net i x
 unfolding bare_node bare
@@ -60,7 +61,7 @@ module _ (net : Net) (g : Legal net) (i : ℕ) {x : Outcome} (m : Bare net i x) 
   untouched : Untouched (program_of net) i
   untouched k l = alone net g i [] no-arc k none
 
-  right : {c : Change} → is_zero (supply_at net i) ≡ true → Changes (record { edit = dropping net i; old = old_one i no_figure no_update }) ≡ Changes c → Right net c (bare_back c.old)
+  right : {c : Change} → is_zero (supply_at net i) ≡ true → Ok (record { edit = dropping net i; old = old_one i no_figure no_update }) ≡ Ok c → Right net c (bare_back c.old)
   unfolding applied bare_back exact_of restored with_flow with_price
   right zero e =
       right_of g bare_back e (dropped-framed net 0 no_supply_update no_supply_update i no-level no-level g.constant_proper (λ k l t. absurd (no-arc k t))) (inl m.here)
@@ -71,7 +72,7 @@ module _ (net : Net) (g : Legal net) (i : ℕ) {x : Outcome} (m : Bare net i x) 
   no_flow : is_zero (supply_at net i) ≡ false → LP.NoFlow (program_of net)
   no_flow nonzero = bare-no-flow i untouched (once-mem (listed-node net g i m.here)) (λ z. nonzero-value (g.supply_proper i m.here) nonzero (sym (rhs_is net i m.here) ∙ z))
 
-unused : (net : Net) (i : ℕ) → is_here net i ≡ false → bare_node net i ≡ Passes
+unused : (net : Net) (i : ℕ) → is_here net i ≡ false → bare_node net i ≡ (Err Passes)
 unfolding bare_node only_where
 unused net i e = rw e
 

@@ -1,4 +1,5 @@
 -- Rule 2 as it is tried: at a node of another degree it passes, and what it is given is what it reads of the network.
+use Rattle.std.specs.Prelude.{Err}
 use mathlib.Core.Path.{◌≡◌}
 use mathlib.Core.Bool.{false}
 use mathlib.Core.List.{List}
@@ -10,13 +11,13 @@ use Rattle.fraction.specs.Exact.{no_figure}
 use Rattle.network.specs.declared.Net.{Net}
 use Rattle.network.specs.Network.{is_here, degree_of}
 use Rattle.step.specs.declared.Around.{Around}
-use Rattle.step.specs.declared.Outcome.TheVariants.{Passes}
+use Rattle.step.specs.declared.Halt.TheVariants.{Passes}
 use Rattle.step.specs.Outcome.{only_where}
 use Rattle.step.specs.Around.{Given}
 use Rattle.step.proofs.Lines.{split}
 use Rattle.bare_node.specs.BareNode.{bare, bare_node}
 
-pub passes : (net : Net) (i : ℕ) → eqb (degree_of net i) 0 ≡ false → bare_node net i ≡ Passes
+pub passes : (net : Net) (i : ℕ) → eqb (degree_of net i) 0 ≡ false → bare_node net i ≡ (Err Passes)
 unfolding bare_node bare only_where
 passes net i e = split (is_here net i) (λ h. rw (h, e)) (λ h. rw h)
 

@@ -1,4 +1,5 @@
 -- Rule 1 keeps the laws of a rule.
+use Rattle.std.specs.Prelude.{Ok, Err}
 use mathlib.Core.Path.{◌≡◌, sym, ap, ◌∙◌}
 use mathlib.Core.Bool.{true, false}
 use mathlib.Core.Logic.{◌⊎◌, inl, inr, ⊎_elim}
@@ -17,8 +18,8 @@ use Rattle.network.specs.Program.{bound_of, program_of}
 use Rattle.network.proofs.Bounds.{bound-is, both-proper, crossing}
 use Rattle.network.proofs.Kept.{used-number}
 use Rattle.step.specs.declared.Change.{Change}
-use Rattle.step.specs.declared.Outcome.{Outcome}
-use Rattle.step.specs.declared.Outcome.TheVariants.{Passes, NoFlow, Changes}
+use Rattle.step.specs.Outcome.{Outcome}
+use Rattle.step.specs.declared.Halt.TheVariants.{Passes, NoFlow}
 use Rattle.fraction.proofs.Laws.{never}
 use Rattle.step.specs.Outcome.{only_where, no_flow_where}
 use Rattle.step.specs.Dropped.{dropped_at, lower_back}
@@ -33,7 +34,7 @@ use Rattle.closed_arc.specs.ClosedArc.{closed, closed_arc, rule}
 -- what an answer says: the bounds cross; or they are one number, and the arc is dropped there
 record Closed (net : Net) (j : ℕ) (x : Outcome) : Type 0 where
   used : 1 ≤ (arc_at net j).from
-  shows : ((is_less (arc_at net j).upper (arc_at net j).lower ≡ true) × (NoFlow ≡ x)) ⊎ (((arc_at net j).lower ≡ (arc_at net j).upper) × (dropped_at net j (arc_at net j).lower ≡ x))
+  shows : ((is_less (arc_at net j).upper (arc_at net j).lower ≡ true) × ((Err NoFlow) ≡ x)) ⊎ (((arc_at net j).lower ≡ (arc_at net j).upper) × (dropped_at net j (arc_at net j).lower ≡ x))
 
 closed-met : (net : Net) (j : ℕ) {x : Outcome} → Answers x → closed_arc net j ≡ x → Closed net j x
 unfolding closed
@@ -51,7 +52,7 @@ uncrossed {net} g p j u =
     split (is_less (arc_at net j).upper (arc_at net j).lower) (λ q. never (let z = rw (ne_eqb (arc_at net j).from 0 (λ n. omega arith), q) at e in cc)) (λ q. q)
 
 module _ (net : Net) (g : Legal net) (j : ℕ) (used : 1 ≤ (arc_at net j).from) where
-  right : {c : Change} → (arc_at net j).lower ≡ (arc_at net j).upper → dropped_at net j (arc_at net j).lower ≡ Changes c → Right net c (lower_back c.old)
+  right : {c : Change} → (arc_at net j).lower ≡ (arc_at net j).upper → dropped_at net j (arc_at net j).lower ≡ Ok c → Right net c (lower_back c.old)
   right same dropped =
       let proper = both-proper (g.used j used).lower_bound (rw (← same) at (g.used j used).upper_bound) in
       lower-right net g j used proper dropped
@@ -62,7 +63,7 @@ module _ (net : Net) (g : Legal net) (j : ℕ) (used : 1 ≤ (arc_at net j).from
       let c = crossing (g.used j used).lower_bound (g.used j used).upper_bound crossed in
       closed-no-flow _ _ (once-mem (listed-arc net g j used)) (ap (λ k. k.lower) (column-is net j used) ∙ c.0) (ap (λ k. k.upper) (column-is net j used) ∙ c.1) c.2
 
-unused : (net : Net) (j : ℕ) → is_used net j ≡ false → closed_arc net j ≡ Passes
+unused : (net : Net) (j : ℕ) → is_used net j ≡ false → closed_arc net j ≡ (Err Passes)
 unfolding closed only_where
 unused net j e = rw e
 

@@ -6,7 +6,7 @@ use Rattle.network.specs.declared.Net.{Net}
 use Rattle.network.specs.declared.Arc.{Arc}
 use Rattle.network.specs.Limits.{max_arcs}
 use Rattle.network.specs.Network.{arc_at, supply_at}
-use Rattle.step.specs.declared.Outcome.{Outcome}
+use Rattle.step.specs.Outcome.{Outcome}
 use Rattle.step.specs.Outcome.{◌>>◌, only_where, no_flow_where}
 use Rattle.step.specs.Dropped.{dropped, lower_back}
 use Rattle.step.specs.Around.{no_trial}

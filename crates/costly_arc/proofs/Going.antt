@@ -1,4 +1,5 @@
 -- The search for rule 4, at the head of its loop.
+use Rattle.std.specs.Prelude.{Ok, Err}
 use mathlib.Core.Path.{◌≡◌, sym, ◌∙◌}
 use mathlib.Core.Bool.{true, false}
 use mathlib.Core.List.{List}
@@ -7,8 +8,8 @@ use lib.ListN.{get_or}
 use Rattle.network.specs.declared.Net.{Net}
 use Rattle.network.specs.Network.{arc_at}
 use Rattle.step.specs.declared.Change.{Change}
-use Rattle.step.specs.declared.Outcome.{Outcome}
-use Rattle.step.specs.declared.Outcome.TheVariants.{Passes, Changes}
+use Rattle.step.specs.Outcome.{Outcome}
+use Rattle.step.specs.declared.Halt.TheVariants.{Passes}
 use Rattle.step.specs.declared.Next.TheVariants.{Stops, Takes}
 use Rattle.step.specs.Dropped.{dropped_at}
 use Rattle.step.specs.Run.{upward}
@@ -32,10 +33,10 @@ going-covers h times c = rw h.put c
 
 module _ {net : Net} {now : ℕ} {seen₀ seen : Seen} {j : ℕ} (h : Going net now seen₀ seen j) (l : j ≤ 96) where
   -- the answer: the step at j
-  pub going-found : {x : Outcome} {c : Change} → (times : List ℕ) (w : ℕ) → is_due times w (arc_at net j) ≡ true → has_pair net (arc_at net j) ≡ true → x ≡ dropped_at net j (arc_at net j).lower → x ≡ Changes c → (Takes (record { rule = 4; place = j; change = c }) ≡ upward (costly_arc net) 4 96 1 Stops) × Known net now seen
+  pub going-found : {x : Outcome} {c : Change} → (times : List ℕ) (w : ℕ) → is_due times w (arc_at net j) ≡ true → has_pair net (arc_at net j) ≡ true → x ≡ dropped_at net j (arc_at net j).lower → x ≡ Ok c → (Takes (record { rule = 4; place = j; change = c }) ≡ upward (costly_arc net) 4 96 1 Stops) × Known net now seen
   going-found times w e f p q = (reached-found _ _ _ _ h.reached l (costly-is net j ∙ rw (due-candidate times w _ e, f) (sym p ∙ q)), h.known)
 
-  pub going-past : {to : Seen} → costly_arc net j ≡ Passes → to ≡ seen → Going net now seen₀ to (j + 1)
+  pub going-past : {to : Seen} → costly_arc net j ≡ (Err Passes) → to ≡ seen → Going net now seen₀ to (j + 1)
   going-past e q = rw q (record { reached = reached-more _ _ _ _ h.reached l e; known = h.known; put = h.put })
 
   pub going-vain : {to : Seen} → has_pair net (arc_at net j) ≡ false → to ≡ sought_now seen j now → Going net now seen₀ to (j + 1)

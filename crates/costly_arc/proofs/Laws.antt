@@ -31,8 +31,8 @@ use Rattle.network.proofs.Sane.{sane}
 use Rattle.network.proofs.Kept.{here-number}
 use Rattle.network.proofs.Bounds.{bound-is, no-upper, finite-proper, not-over}
 use Rattle.step.specs.declared.Change.{Change}
-use Rattle.step.specs.declared.Outcome.{Outcome}
-use Rattle.step.specs.declared.Outcome.TheVariants.{Passes, Changes}
+use Rattle.step.specs.Outcome.{Outcome}
+use Rattle.step.specs.declared.Halt.TheVariants.{Passes}
 use Rattle.step.specs.Outcome.{only_where}
 use Rattle.step.specs.Dropped.{dropped_at, lower_back}
 use Rattle.step.proofs.Exactly.{arc-in, arc-place}
@@ -140,12 +140,12 @@ module _ (net : Net) (g : Legal net) where
         (bound-is proper) (not-over proper legal.upper_bound room) in
         record { ends = C.ends; root₁ = C.root₁; root₂ = C.root₂; different = C.different; rate₁ = C.rate₁; rate₂ = C.rate₂; costly = C.costly; lower_is = C.lower_is; room = C.room; removed = r }
 
-  right : (j : ℕ) {c : Change} → is_less (arc_at net j).upper (arc_at net j).lower ≡ false → Costly j (Changes c) → Right net c (lower_back c.old)
+  right : (j : ℕ) {c : Change} → is_less (arc_at net j).upper (arc_at net j).lower ≡ false → Costly j (Ok c) → Right net c (lower_back c.old)
   right j room h =
       let used = rootless-used j h.no_root in
       lower-right net g j used (finite-proper (g.used j used).lower_bound h.finite) h.dropped (λ e r. costly-sound (pair-arc h room e r))
 
-unused : (net : Net) → Legal net → (j : ℕ) → is_used net j ≡ false → costly_arc net j ≡ Passes
+unused : (net : Net) → Legal net → (j : ℕ) → is_used net j ≡ false → costly_arc net j ≡ (Err Passes)
 unfolding costly_arc is_root only_where
 unused net g j e = rw (g.unused j (eqb-true _ _ (not-false _ e)))
 

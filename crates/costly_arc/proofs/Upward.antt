@@ -1,11 +1,12 @@
 -- A rule at its places upward.
+use Rattle.std.specs.Prelude.{Ok, Err}
 use mathlib.Core.Path.{◌≡◌, refl, sym, ◌∙◌}
 use Prim.Native.Nat.{ℕ, zero, suc, ◌+◌, ◌-◌, ◌≤◌, ◌<◌}
 use native.Mathlib.Numerals.{add-one}
 use native.Mathlib.Omega.{arith}
 use Rattle.step.specs.declared.Change.{Change}
-use Rattle.step.specs.declared.Outcome.{Outcome}
-use Rattle.step.specs.declared.Outcome.TheVariants.{Passes, NoFlow, Changes}
+use Rattle.step.specs.Outcome.{Outcome}
+use Rattle.step.specs.declared.Halt.TheVariants.{Passes, NoFlow}
 use Rattle.step.specs.declared.Next.{Next}
 use Rattle.step.specs.declared.Next.TheVariants.{Stops, Refuted, Takes}
 use Rattle.step.specs.Run.{or_else, upward}
@@ -26,10 +27,10 @@ module _ (rule : ℕ → Outcome) (k last : ℕ) (rest : Next) where
   pub reached-none : Reached 1
   reached-none = let e : last + 1 - 1 ≡ last = omega arith in record { upto = omega arith; is = rw e refl }
 
-  pub reached-more : {i : ℕ} → Reached i → i ≤ last → rule i ≡ Passes → Reached (i + 1)
+  pub reached-more : {i : ℕ} → Reached i → i ≤ last → rule i ≡ (Err Passes) → Reached (i + 1)
   reached-more {i} h l e = record { upto = omega arith; is = h.is ∙ upward-at i l ∙ rw e refl }
 
-  pub reached-found : {i : ℕ} {c : Change} → Reached i → i ≤ last → rule i ≡ Changes c → Takes (record { rule = k; place = i; change = c }) ≡ upward rule k last 1 rest
+  pub reached-found : {i : ℕ} {c : Change} → Reached i → i ≤ last → rule i ≡ Ok c → Takes (record { rule = k; place = i; change = c }) ≡ upward rule k last 1 rest
   reached-found {i} h l e = sym (h.is ∙ upward-at i l ∙ rw e refl)
 
   pub reached-all : {i : ℕ} → Reached i → last < i → rest ≡ upward rule k last 1 rest
@@ -37,7 +38,7 @@ module _ (rule : ℕ → Outcome) (k last : ℕ) (rest : Next) where
   reached-all {i} h l = let e : last + 1 - i ≡ 0 = omega arith in sym (h.is ∙ rw e refl)
 
 -- where a rule passes everywhere, nothing is found
-pub upward-none : (rule : ℕ → Outcome) (k : ℕ) (rest : Next) → (many i : ℕ) → ((j : ℕ) → i ≤ j → j < i + many → rule j ≡ Passes) → upward rule k many i rest ≡ rest
+pub upward-none : (rule : ℕ → Outcome) (k : ℕ) (rest : Next) → (many i : ℕ) → ((j : ℕ) → i ≤ j → j < i + many → rule j ≡ (Err Passes)) → upward rule k many i rest ≡ rest
 unfolding upward
 upward-none rule k rest zero i h = refl
 upward-none rule k rest (suc many) i h = rw (h i (omega arith) (omega (arith, add-one many))) (upward-none rule k rest many (suc i) (λ j l m. h j (omega (arith, add-one i)) (omega (arith, add-one i, add-one many))))
@@ -49,9 +50,9 @@ or_rest (Refuted k i) rest = Refuted k i
 or_rest (Takes s) rest = Takes s
 
 pub else-rest : (k i : ℕ) (x : Outcome) (n rest : Next) {m : Next} → m ≡ or_rest n rest → or_else k i x m ≡ or_rest (or_else k i x n) rest
-else-rest k i Passes n rest e = e
-else-rest k i NoFlow n rest e = refl
-else-rest k i (Changes c) n rest e = refl
+else-rest k i (Err Passes) n rest e = e
+else-rest k i (Err NoFlow) n rest e = refl
+else-rest k i (Ok c) n rest e = refl
 
 pub upward-rest : (rule : ℕ → Outcome) (k : ℕ) (rest : Next) (many i : ℕ) → upward rule k many i rest ≡ or_rest (upward rule k many i Stops) rest
 unfolding upward

@@ -10,7 +10,7 @@ use Rattle.network.specs.declared.Arc.{Arc}
 use Rattle.network.specs.declared.Net.{Net}
 use Rattle.network.specs.Limits.{max_arcs, arc_places}
 use Rattle.network.specs.Network.{arc_at, is_root}
-use Rattle.step.specs.declared.Outcome.{Outcome}
+use Rattle.step.specs.Outcome.{Outcome}
 use Rattle.step.specs.Outcome.{◌>>◌, only_where}
 use Rattle.step.specs.Dropped.{dropped_at, lower_back}
 use Rattle.step.specs.Around.{no_trial}

@@ -18,7 +18,7 @@ use Rattle.presolve.proofs.Price.{only_zero}
 use Rattle.presolve.proofs.Crossing.{four, crossing_back_lem, crossing-sound}
 use Rattle.presolve.proofs.Rewire.{OpenArc, cross-arc, crossing-of}
 use Rattle.fraction.specs.declared.Fraction.{Fraction}
-use Rattle.std.specs.Prelude.{Ok}
+use Rattle.std.specs.Prelude.{Ok, Err}
 use Rattle.fraction.specs.Exact.{zero_fraction, no_upper, is_zero}
 use Rattle.fraction.specs.Formula.{◌⊕◌, ◌⊘◌, ⊝◌}
 use Rattle.fraction.proofs.Laws.{and_both}
@@ -39,10 +39,9 @@ use Rattle.fraction.proofs.Exactly.{Exactly}
 use Rattle.step.specs.declared.Change.{Change}
 use Rattle.step.specs.declared.Numbers.{Numbers}
 use Rattle.step.specs.declared.Old.{Old}
-use Rattle.step.specs.declared.Outcome.{Outcome}
-use Rattle.step.specs.declared.Outcome.TheVariants.{Passes, Changes}
+use Rattle.step.specs.Outcome.{Outcome}
+use Rattle.step.specs.declared.Halt.TheVariants.{Passes}
 use Rattle.step.specs.declared.Restored.{Restored}
-use Rattle.step.specs.declared.Undone.TheVariants.{Restores}
 use Rattle.step.specs.Outcome.{only_where}
 use Rattle.step.specs.Back.{old_arcs_of, old_arc, restored}
 use Rattle.step.specs.Around.{first_at, second_at, third_at, fourth_at}
@@ -123,7 +122,7 @@ record Met (net : Net) (i n1 n2 p1 p2 k1 k2 k3 k4 : ℕ) (x : Outcome) : Type 0 
   b : New net i n1 p2
   c : New net i n2 p1
   d : New net i n2 p2
-  is : Changes (record { edit = edit_four (numbers k1 k2 k3 k4) (arc_of a) (arc_of b) (arc_of c) (arc_of d) i net.constant; old = record { node = i; supply = supply_at net i; one = old_arc net n1; two = old_arc net n2; three = old_arc net p1; four = old_arc net p2; new = numbers k1 k2 k3 k4 } }) ≡ x
+  is : Ok (record { edit = edit_four (numbers k1 k2 k3 k4) (arc_of a) (arc_of b) (arc_of c) (arc_of d) i net.constant; old = record { node = i; supply = supply_at net i; one = old_arc net n1; two = old_arc net n2; three = old_arc net p1; four = old_arc net p2; new = numbers k1 k2 k3 k4 } }) ≡ x
 
 crossing-met : (net : Net) → Legal net → (i : ℕ) {x : Outcome} → Answers x → crossing net i ≡ x → Met net i (first_n net i) (second_n net i) (first_p net i) (second_p net i) (first_at net i) (second_at net i) (third_at net i) (fourth_at net i) x
 unfolding crossing crossed_at
@@ -205,7 +204,7 @@ module _ {net : Net} (g : Legal net) {i n p : ℕ} (w : New net i n p) where
 
 -- ---- the change
 
-module _ (net : Net) (g : Legal net) (i n1 n2 p1 p2 k1 k2 k3 k4 : ℕ) {chg : Change} (m : Met net i n1 n2 p1 p2 k1 k2 k3 k4 (Changes chg)) where
+module _ (net : Net) (g : Legal net) (i n1 n2 p1 p2 k1 k2 k3 k4 : ℕ) {chg : Change} (m : Met net i n1 n2 p1 p2 k1 k2 k3 k4 (Ok chg)) where
   abbrev at : All (AtNode net i) (four p1 p2 n1 n2)
   at = m.arcs.each
 
@@ -297,7 +296,7 @@ module _ (net : Net) (g : Legal net) (i n1 n2 p1 p2 k1 k2 k3 k4 : ℕ) {chg : Ch
   share-exactly : (pair : Pair) (n k l : ℕ) → Exactly (share_of (flow_at pair k) (flow_at pair l) (arc_at net n) i) ((value (flow_at pair k) +ℚ value (flow_at pair l)) *ℚ inv (value (side_of (arc_at net n) i).e))
   share-exactly pair n k l = over-exactly (plus-gives (given _) (given _)) (given _)
 
-  agrees : (pair : Pair) → Sized pair → (r : Restored) → crossing_back old pair ≡ Restores r → Holds (restored pair r) (back (exact_pair pair))
+  agrees : (pair : Pair) → Sized pair → (r : Restored) → crossing_back old pair ≡ Ok r → Holds (restored pair r) (back (exact_pair pair))
   unfolding crossing_back back restored
   agrees pair z r e =
       let x = figure-met _ _ e in
@@ -328,7 +327,7 @@ module _ (net : Net) (g : Legal net) (i n1 n2 p1 p2 k1 k2 k3 k4 : ℕ) {chg : Ch
         new = (up.0.number.1, (up.1.0.number.1, (up.1.1.0.number.1, (up.1.1.1.0.number.1, tt))));
       }) back sound agrees
 
-unused : (net : Net) (i : ℕ) → is_here net i ≡ false → crossing net i ≡ Passes
+unused : (net : Net) (i : ℕ) → is_here net i ≡ false → crossing net i ≡ (Err Passes)
 unfolding crossing only_where
 unused net i e = rw e
 

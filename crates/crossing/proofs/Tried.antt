@@ -1,4 +1,5 @@
 -- Rule 6 as it is tried: at a node of another degree or supply it passes, and the signs among the four arcs are those of the network.
+use Rattle.std.specs.Prelude.{Err}
 use mathlib.Core.Path.{◌≡◌, refl, sym, ap, ◌∙◌, subst₂}
 use mathlib.Core.Bool.{Bool, true, false, cond, ◌&&◌}
 use mathlib.Core.List.{List, [], ◌∷◌}
@@ -17,8 +18,8 @@ use Rattle.network.specs.Network.{supply_at, is_here, degree_of, no_update}
 use Rattle.network.specs.Legal.{Legal}
 use Rattle.network.proofs.Kept.{here-number}
 use Rattle.step.specs.declared.Around.{Around}
-use Rattle.step.specs.declared.Outcome.{Outcome}
-use Rattle.step.specs.declared.Outcome.TheVariants.{Passes}
+use Rattle.step.specs.Outcome.{Outcome}
+use Rattle.step.specs.declared.Halt.TheVariants.{Passes}
 use Rattle.step.specs.Outcome.{only_where}
 use Rattle.step.specs.Back.{old_arc}
 use Rattle.step.specs.Around.{first_at, second_at, third_at, fourth_at, Near, Given}
@@ -31,11 +32,11 @@ use Rattle.crossing.specs.Crossing.{signed_after, crossing}
 use Rattle.crossing.specs.Tried.{no_signed, signed_in, signed_of, crossing_by}
 use Rattle.crossing.proofs.Signs.{positive, signs, signed-first, sign-touches}
 
-pub passes : (net : Net) (i : ℕ) → (is_zero (supply_at net i) && eqb (degree_of net i) 4) ≡ false → crossing net i ≡ Passes
+pub passes : (net : Net) (i : ℕ) → (is_zero (supply_at net i) && eqb (degree_of net i) 4) ≡ false → crossing net i ≡ (Err Passes)
 unfolding crossing only_where
 passes net i = by (is_here net i) (eqb (degree_of net i) 4) (is_zero (supply_at net i)) _
   where
-    by : (h d z : Bool) (x : Outcome) → (z && d) ≡ false → only_where h (only_where d (only_where z x)) ≡ Passes
+    by : (h d z : Bool) (x : Outcome) → (z && d) ≡ false → only_where h (only_where d (only_where z x)) ≡ (Err Passes)
     by true true true x e = unlike (sym e)
     by true true false x e = refl
     by true false z x e = refl

@@ -18,11 +18,9 @@ use Rattle.network.specs.Pair.{flow_at}
 use Rattle.step.specs.declared.FlowUpdate.{FlowUpdate}
 use Rattle.step.specs.declared.Numbers.{Numbers}
 use Rattle.step.specs.declared.Old.{Old}
-use Rattle.step.specs.declared.Outcome.{Outcome}
-use Rattle.step.specs.declared.Outcome.TheVariants.{Changes}
+use Rattle.step.specs.Outcome.{Outcome}
 use Rattle.step.specs.declared.PriceUpdate.{PriceUpdate}
-use Rattle.step.specs.declared.Undone.{Undone}
-use Rattle.step.specs.declared.Undone.TheVariants.{Restores}
+use Rattle.step.specs.Back.{Undone}
 use Rattle.step.specs.Figure.{larger}
 use Rattle.step.specs.Outcome.{◌>>=◌, ◌>>◌, only_where, fits}
 use Rattle.step.specs.Back.{figure, old_arc, quote_of}
@@ -99,7 +97,7 @@ crossed_at constant i r n1 n2 p1 p2 k = do
   b ← crossed i n1.arc p2.arc
   c ← crossed i n2.arc p1.arc
   d ← crossed i n2.arc p2.arc
-  Changes (record { edit = edit_four k a b c d i constant; old = record { node = i; supply = r; one = n1; two = n2; three = p1; four = p2; new = k } })
+  Ok (record { edit = edit_four k a b c d i constant; old = record { node = i; supply = r; one = n1; two = n2; three = p1; four = p2; new = k } })
 
 -- "degree 4", "r = 0", "two arcs N with e < 0, two arcs P with e > 0"
 unfoldable pub crossing : Net → ℕ → Outcome
@@ -141,4 +139,4 @@ crossing_back old pair = do
   w ← figure (share_of b d p2.arc i)
   p ← figure (quote_of n1.arc i pair)
   q ← figure (quote_of n2.arc i pair)
-  Restores (record { one = flow_of n2 y; two = flow_of n1 x; three = flow_of p2 w; four = flow_of p1 z; price = price_of i p q })
+  Ok (record { one = flow_of n2 y; two = flow_of n1 x; three = flow_of p2 w; four = flow_of p1 z; price = price_of i p q })

@@ -6,7 +6,7 @@ use Rattle.network.specs.declared.ArcUpdate.{ArcUpdate}
 use Rattle.network.specs.Limits.{max_nodes}
 use Rattle.network.specs.Network.{no_update}
 use Rattle.step.specs.declared.Around.{Around}
-use Rattle.step.specs.declared.Outcome.{Outcome}
+use Rattle.step.specs.Outcome.{Outcome}
 use Rattle.step.specs.Outcome.{◌>>◌, only_where}
 use Rattle.step.specs.Run.{Rule}
 use Rattle.crossing.specs.declared.Signed.{Signed}

@@ -25,8 +25,8 @@ use Rattle.records.specs.Network.{role_figure, figure_of, network_of}
 use Rattle.figures.specs.Figures.{balance_of, reduced_cost, value_of, all_fit, is_within, test_questions}
 use Rattle.slackness.specs.Slackness.{is_at, keeps_rule}
 use Rattle.optimality.specs.Test.{pair_questions}
-use Rattle.step.specs.declared.Outcome.{Outcome}
-use Rattle.step.specs.declared.Outcome.TheVariants.{Passes, NoFlow as NoFlow·outcome, Changes}
+use Rattle.step.specs.Outcome.{Outcome}
+use Rattle.step.specs.declared.Halt.TheVariants.{Passes}
 use Rattle.step.specs.Outcome.{only_where, no_flow_where, fits}
 use Rattle.step.specs.Dropped.{supply_less, cost_added, dropped, lower_back}
 use Rattle.step.specs.Back.{figure, restored, quote_at}
@@ -180,9 +180,9 @@ costing c =
 
 -- whether a rule gives a step, and the arcs that it puts
 abbrev puts : Outcome → Bool × List Arc
-puts Passes = (false, [])
+puts (Err Passes) = (false, [])
 puts NoFlow·outcome = (false, [])
-puts (Changes c) = (true, map (λ (u : ArcUpdate). u.arc) (updates_of c.edit))
+puts (Ok c) = (true, map (λ (u : ArcUpdate). u.arc) (updates_of c.edit))
 
 abbrev is_step : Outcome → Bool
 is_step o = (puts o).0
@@ -237,9 +237,9 @@ flows_in wide = []
 flows_in (at pair) = flow_at pair 1 ∷ flow_at pair 2 ∷ []
 
 abbrev back_by : Outcome → Fraction → List Fraction
-back_by Passes x = []
+back_by (Err Passes) x = []
 back_by NoFlow·outcome x = []
-back_by (Changes c) x = flows_in (undo (parallel_back c.old) (at (with_flow no_pair 1 x)))
+back_by (Ok c) x = flows_in (undo (parallel_back c.old) (at (with_flow no_pair 1 x)))
 
 -- back with flow 4: 4 - (-1) is above 3, so that arc 1 takes 3, and arc 2 (4 - 3) ÷ (-1/2); with flow 1: arc 1 takes 1 - (-1), and arc 2 its upper bound
 abbrev K : Row

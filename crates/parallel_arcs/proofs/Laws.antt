@@ -14,7 +14,7 @@ use Rattle.presolve.proofs.Step.{SoundStep}
 use Rattle.presolve.proofs.Bounds.{capped}
 use Rattle.presolve.proofs.Parallel.{add_o, own-share, parallel-back, parallel-sound, touch-times}
 use Rattle.fraction.specs.declared.Fraction.{Fraction}
-use Rattle.std.specs.Prelude.{Ok}
+use Rattle.std.specs.Prelude.{Ok, Err}
 use Rattle.fraction.specs.Exact.{Proper, no_figure, no_upper, is_finite, is_less}
 use Rattle.fraction.specs.Formula.{◌⊕◌, ◌⊖◌, ◌⊘◌}
 use Rattle.fraction.specs.Value.{value}
@@ -34,10 +34,9 @@ use Rattle.network.proofs.Kept.{used-number, used-within}
 use Rattle.loops.proofs.Laws.{scan-each}
 use Rattle.step.specs.declared.Old.{Old}
 use Rattle.step.specs.declared.Change.{Change}
-use Rattle.step.specs.declared.Outcome.{Outcome}
-use Rattle.step.specs.declared.Outcome.TheVariants.{Passes, NoFlow, Changes}
+use Rattle.step.specs.Outcome.{Outcome}
+use Rattle.step.specs.declared.Halt.TheVariants.{Passes, NoFlow}
 use Rattle.step.specs.declared.Restored.{Restored}
-use Rattle.step.specs.declared.Undone.TheVariants.{Restores}
 use Rattle.step.specs.Outcome.{only_where}
 use Rattle.step.specs.Back.{figure, old_two, two_flows, restored}
 use Rattle.step.specs.Figure.{smaller}
@@ -73,7 +72,7 @@ pub record Met (constant : Fraction) (j : ℕ) (tj : Arc) (k : ℕ) (tk : Arc) (
   high_fits : high_end g (high_bound tk g) ≡ Ok high
   lower_fits : (Ok tj.lower ⊕ Ok low) ≡ Ok lower
   upper_fits : upper_sum tj.upper high ≡ Ok upper
-  is : Changes (record { edit = joining constant j tj lower upper k; old = old_two 0 no_figure (record { number = j; arc = tj }) (record { number = k; arc = tk }) }) ≡ x
+  is : Ok (record { edit = joining constant j tj lower upper k; old = old_two 0 no_figure (record { number = j; arc = tj }) (record { number = k; arc = tk }) }) ≡ x
 
 pub alike-met : (constant : Fraction) (j : ℕ) (tj : Arc) (k : ℕ) (tk : Arc) {x : Outcome} → Answers x → alike constant j tj k tk ≡ x → Met constant j tj k tk x
 unfolding alike joined
@@ -103,16 +102,16 @@ unfolding parallel_arc
 parallel-met net j {x} a e =
     let u = only-met a _ _ e in
     let n = eqb-false (arc_at net j).from 0 (not-true _ u.0) in
-    scan-each or_next Passes (λ o. o ≡ x → Found net j x) (λ e. absurd (rw (← e) at a)) pick _ (max_arcs - j) (j + 1) (λ k l m e. record { used = omega arith; k = k; after = omega arith; met = alike-met _ _ _ _ _ a e }) u.1
+    scan-each or_next (Err Passes) (λ o. o ≡ x → Found net j x) (λ e. absurd (rw (← e) at a)) pick _ (max_arcs - j) (j + 1) (λ k l m e. record { used = omega arith; k = k; after = omega arith; met = alike-met _ _ _ _ _ a e }) u.1
   where
     pick : (o : Outcome) (next : ℕ → Outcome) (k : ℕ) → (o ≡ x → Found net j x) → (next k ≡ x → Found net j x) → or_next o next k ≡ x → Found net j x
-    pick Passes next k f s e = s e
-    pick NoFlow next k f s e = f e
-    pick (Changes d) next k f s e = f e
+    pick (Err Passes) next k f s e = s e
+    pick (Err NoFlow) next k f s e = f e
+    pick (Ok d) next k f s e = f e
 
 -- ---- the change
 
-module _ (net : Net) (g : Legal net) (j : ℕ) {c : Change} (h : Found net j (Changes c)) where
+module _ (net : Net) (g : Legal net) (j : ℕ) {c : Change} (h : Found net j (Ok c)) where
   abbrev k : ℕ
   k = h.k
 
@@ -122,7 +121,7 @@ module _ (net : Net) (g : Legal net) (j : ℕ) {c : Change} (h : Found net j (Ch
   abbrev tk : Arc
   tk = arc_at net h.k
 
-  abbrev m : Met net.constant j (arc_at net j) h.k (arc_at net h.k) (Changes c)
+  abbrev m : Met net.constant j (arc_at net j) h.k (arc_at net h.k) (Ok c)
   m = h.met
 
   abbrev γ : ℚ
@@ -229,11 +228,11 @@ module _ (net : Net) (g : Legal net) (j : ℕ) {c : Change} (h : Found net j (Ch
         (s.0, s.1 ∙ ap₂ capped (ap (λ k. k.upper) (sym (column-is net j h.used))) (minus-gives (given x) (given m.low) rest e))
 
     -- g and the image's lower end fit, as they did in the step
-    ends-fit : parallel_back old pair ≡ figure (Ok x ⊖ Ok m.low) (λ rest. figure ((Ok x ⊖ Ok (smaller tj.upper rest)) ⊘ Ok m.g) (λ y. Restores (two_flows k y j (smaller tj.upper rest))))
+    ends-fit : parallel_back old pair ≡ figure (Ok x ⊖ Ok m.low) (λ rest. figure ((Ok x ⊖ Ok (smaller tj.upper rest)) ⊘ Ok m.g) (λ y. Ok (two_flows k y j (smaller tj.upper rest))))
     unfolding parallel_back figure
     ends-fit = rw (m.ratio, m.low_fits)
 
-    agrees : (q : Restored) → parallel_back old pair ≡ Restores q → Holds (restored pair q) (back (exact_pair pair))
+    agrees : (q : Restored) → parallel_back old pair ≡ Ok q → Holds (restored pair q) (back (exact_pair pair))
     unfolding back restored with_flow with_price
     agrees q e =
         let r = figure-met _ _ (sym ends-fit ∙ e) in
@@ -246,7 +245,7 @@ module _ (net : Net) (g : Legal net) (j : ℕ) {c : Change} (h : Found net j (Ch
       right_of g parallel_back m.is framed (inr (record { number = k; used = used-k; dropped = stands-k }))
       (record { arcs = ((number-j.1, refl), ((number-k.1, refl), (no_old g).1.1)); named = λ x u. u; node = omega arith; supply = lit≤ tt; new = omega arith }) back (sound open-j open-k) agrees
 
-unused : (net : Net) (j : ℕ) → is_used net j ≡ false → parallel_arc net j ≡ Passes
+unused : (net : Net) (j : ℕ) → is_used net j ≡ false → parallel_arc net j ≡ (Err Passes)
 unfolding parallel_arc only_where
 unused net j e = rw e
 

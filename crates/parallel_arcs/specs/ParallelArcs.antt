@@ -14,10 +14,9 @@ use Rattle.network.specs.Limits.{max_arcs}
 use Rattle.network.specs.Network.{no_arc, no_supply_update, edit_two, arc_at, is_used}
 use Rattle.network.specs.Pair.{flow_at}
 use Rattle.step.specs.declared.Old.{Old}
-use Rattle.step.specs.declared.Outcome.{Outcome}
-use Rattle.step.specs.declared.Outcome.TheVariants.{Passes, NoFlow, Changes}
-use Rattle.step.specs.declared.Undone.{Undone}
-use Rattle.step.specs.declared.Undone.TheVariants.{Restores}
+use Rattle.step.specs.Outcome.{Outcome}
+use Rattle.step.specs.declared.Halt.TheVariants.{Passes, NoFlow}
+use Rattle.step.specs.Back.{Undone}
 use Rattle.step.specs.Figure.{smaller}
 use Rattle.step.specs.Outcome.{◌>>=◌, ◌>>◌, only_where, fits}
 use Rattle.step.specs.Back.{figure, old_two, two_flows}
@@ -68,7 +67,7 @@ joined constant j tj k tk g = do
   high ← fits (high_end g (high_bound tk g))
   l ← fits (Ok tj.lower ⊕ Ok low)
   u ← fits (upper_sum tj.upper high)
-  Changes (record { edit = joining constant j tj l u k; old = old_two 0 no_figure (record { number = j; arc = tj }) (record { number = k; arc = tk }) })
+  Ok (record { edit = joining constant j tj l u k; old = old_two 0 no_figure (record { number = j; arc = tj }) (record { number = k; arc = tk }) })
 
 -- "both have the same from and to, and a, b and c of k are a common fraction g times those of j"
 unfoldable pub alike : Fraction → ℕ → Arc → ℕ → Arc → Outcome
@@ -82,15 +81,15 @@ alike constant j tj k tk = do
 
 -- the answer at k or, where the rule passes there, at the next number: "a misfit passing over that k alone"
 abbrev pub or_next : Outcome → (ℕ → Outcome) → ℕ → Outcome
-or_next Passes next k = next k
-or_next NoFlow next k = NoFlow
-or_next (Changes c) next k = Changes c
+or_next (Err Passes) next k = next k
+or_next (Err NoFlow) next k = Err NoFlow
+or_next (Ok c) next k = Ok c
 
 -- "tried at arc j upward, then k > j upward"; "the step's place is j"
 unfoldable pub parallel_arc : Net → ℕ → Outcome
 parallel_arc net j = do
   only_where (is_used net j)
-  scan or_next Passes (λ k. alike net.constant j (arc_at net j) k (arc_at net k)) (max_arcs - j) (j + 1)
+  scan or_next (Err Passes) (λ k. alike net.constant j (arc_at net j) k (arc_at net k)) (max_arcs - j) (j + 1)
 
 -- "Going back, k's image first stands at its lower end: j takes the smaller of its upper bound and (flow - that lower end); k's flow is
 -- (flow - j's new flow) ÷ g." g and the lower end are those of the step, where they fitted.
@@ -105,7 +104,7 @@ parallel_back old pair = do
   rest ← figure (Ok flow ⊖ Ok low)
   let x = smaller tj.upper rest
   y ← figure ((Ok flow ⊖ Ok x) ⊘ Ok g)
-  Restores (two_flows old.two.number y j x)
+  Ok (two_flows old.two.number y j x)
 
 abbrev pub rule : Rule
 rule = record { last = max_arcs; at = parallel_arc; back = parallel_back; trial = no_trial }

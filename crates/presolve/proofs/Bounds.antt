@@ -6,7 +6,7 @@ use Rattle.algebra.proofs.Solver.{◌:*◌, :0, ◌:=◌, ring2}
 use Rattle.algebra.specs.Rat.{ℚ, ◌*ℚ◌, ◌≤ℚ◌, 0_ℚ as 𝟘, ◌<ℚ◌}
 use Rattle.algebra.proofs.Rat.{ℚ-ring, ≤ℚ-dec as le_dec, ≤ℚ-trans as le_trans, ≤ℚ-antisym as le_antisym}
 use Rattle.algebra.proofs.Order.{le_refl, lt→le, eq-dec, le_of_eq, Sign, sign, neg, zer, pos, mul_mono, mul-anti}
-use Rattle.presolve.specs.Bounds.{Ok, Within}
+use Rattle.presolve.specs.Bounds.{Fits, Within}
 
 pub map_o : {A B : Type 0} → (A → B) → Option A → Option B
 map_o f none = none
@@ -228,24 +228,24 @@ some-dec (some a) x = go (eq-dec a x)
     go (yes e) = yes (ap some e)
     go (no n) = no (λ e. n (some_inj e))
 
-pub fits-dec : (l u : Option ℚ) (x d : ℚ) → Dec (Ok l u x d)
+pub fits-dec : (l u : Option ℚ) (x d : ℚ) → Dec (Fits l u x d)
 fits-dec l u x d = go (sign d)
   where
-    go : Sign d → Dec (Ok l u x d)
+    go : Sign d → Dec (Fits l u x d)
     go (neg h) = up (some-dec u x)
       where
-        up : Dec (u ≡ some x) → Dec (Ok l u x d)
+        up : Dec (u ≡ some x) → Dec (Fits l u x d)
         up (yes e) = yes (record { at_lower = λ k. absurd (k (lt→le h)); at_upper = λ k. e })
         up (no n) = no (λ f. n (f.at_upper h))
     go (pos h) = low (some-dec l x)
       where
-        low : Dec (l ≡ some x) → Dec (Ok l u x d)
+        low : Dec (l ≡ some x) → Dec (Fits l u x d)
         low (yes e) = yes (record { at_lower = λ k. e; at_upper = λ k. absurd (k (lt→le h)) })
         low (no n) = no (λ f. n (f.at_lower h))
     go (zer e) = yes (record { at_lower = λ k. absurd (k (le_of_eq e)); at_upper = λ k. absurd (k (le_of_eq (sym e))) })
 
 -- d x ≤ d y, where d fits x and y is within the bounds
-pub fits_le : (l u : Option ℚ) (x y d : ℚ) → Ok l u x d → Within l u y → d *ℚ x ≤ℚ d *ℚ y
+pub fits_le : (l u : Option ℚ) (x y d : ℚ) → Fits l u x d → Within l u y → d *ℚ x ≤ℚ d *ℚ y
 fits_le l u x y d f w = go (sign d)
   where
     go : Sign d → d *ℚ x ≤ℚ d *ℚ y
@@ -253,19 +253,19 @@ fits_le l u x y d f w = go (sign d)
     go (pos h) = mul_mono (lt→le h) (w.above x (f.at_lower h))
     go (zer e) = le_of_eq (ap (λ t. t *ℚ x) e ∙ ring2 ℚ-ring x y (λ x y. :0 :* x := :0 :* y) refl ∙ ap (λ t. t *ℚ y) (sym e))
 
-pub fits-zero : (l u : Option ℚ) (x d : ℚ) → d ≡ 𝟘 → Ok l u x d
+pub fits-zero : (l u : Option ℚ) (x d : ℚ) → d ≡ 𝟘 → Fits l u x d
 fits-zero l u x d e = record { at_lower = λ h. absurd (h (le_of_eq e)); at_upper = λ h. absurd (h (le_of_eq (sym e))) }
 
 -- where the lower and the upper bound are one number, any reduced cost fits it
-pub fits-closed : (l u : Option ℚ) (x d : ℚ) → l ≡ some x → u ≡ some x → Ok l u x d
+pub fits-closed : (l u : Option ℚ) (x d : ℚ) → l ≡ some x → u ≡ some x → Fits l u x d
 fits-closed l u x d hl hu = record { at_lower = λ _. hl; at_upper = λ _. hu }
 
 -- a reduced cost that is not negative fits, if the flow is at its lower bound wherever it is positive
-pub fits-nn : (l u : Option ℚ) (x d : ℚ) → 𝟘 ≤ℚ d → (𝟘 <ℚ d → l ≡ some x) → Ok l u x d
+pub fits-nn : (l u : Option ℚ) (x d : ℚ) → 𝟘 ≤ℚ d → (𝟘 <ℚ d → l ≡ some x) → Fits l u x d
 fits-nn l u x d h f = record { at_lower = f; at_upper = λ n. absurd (n h) }
 
 -- with no upper bound it is never negative
-pub fits-above : (l u : Option ℚ) (x d : ℚ) → u ≡ none → Ok l u x d → 𝟘 ≤ℚ d
+pub fits-above : (l u : Option ℚ) (x d : ℚ) → u ≡ none → Fits l u x d → 𝟘 ≤ℚ d
 fits-above l u x d e f = go (le_dec 𝟘 d)
   where
     go : Dec (𝟘 ≤ℚ d) → 𝟘 ≤ℚ d

@@ -15,7 +15,7 @@ use Rattle.algebra.proofs.Sum.{Absent, Once}
 use Rattle.algebra.specs.Sum.{only}
 use Rattle.presolve.proofs.Named.{once-mem, puts, puts-at, puts-off}
 use Rattle.presolve.proofs.Bounds.{some_inj, none-some, map_o, map_o-is, map_o-some, map_o-each, merge_u, capped_is, merge_u-or, merge_u-l, merge_u-r}
-use Rattle.presolve.specs.Bounds.{Ok, Within}
+use Rattle.presolve.specs.Bounds.{Fits, Within}
 use Rattle.presolve.specs.LP.{LP, Column, Pair, Feasible, Solved, InBounds, worth, reduced}
 use Rattle.presolve.specs.Net.{Arc, touch}
 use Rattle.presolve.proofs.Step.{SoundStep}
@@ -47,7 +47,7 @@ pub record Image (k : Column) (g : ℚ) (lo hi : Option ℚ) : Type 0 where
   nonzero : ¬ (g ≡ 𝟘)
   into : (x : ℚ) → InBounds k x → Within lo hi (g *ℚ x)
   out : (x : ℚ) → Within lo hi (g *ℚ x) → InBounds k x
-  fits : (x d : ℚ) → Ok lo hi (g *ℚ x) d → Ok k.lower k.upper x (g *ℚ d)
+  fits : (x d : ℚ) → Fits lo hi (g *ℚ x) d → Fits k.lower k.upper x (g *ℚ d)
   room : Room k.lower k.upper → Room lo hi
 
 -- a negative factor may go, and turns the order
@@ -102,7 +102,7 @@ module _ {l u lo hi : Option ℚ} where
   }
 
   -- a reduced cost that fits the sum fits both
-  both-fit : {y z d : ℚ} → Within l u y → Within lo hi z → Ok (add_o l lo) (add_o u hi) (y +ℚ z) d → Ok l u y d × Ok lo hi z d
+  both-fit : {y z d : ℚ} → Within l u y → Within lo hi z → Fits (add_o l lo) (add_o u hi) (y +ℚ z) d → Fits l u y d × Fits lo hi z d
   both-fit {y} {z} {d} v w f = (record { at_lower = λ q. (low q).0; at_upper = λ q. (high q).0 }, record { at_lower = λ q. (low q).1; at_upper = λ q. (high q).1 })
     where
       low : 𝟘 <ℚ d → (l ≡ some y) × (lo ≡ some z)

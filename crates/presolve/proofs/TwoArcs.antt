@@ -13,7 +13,7 @@ use Rattle.algebra.proofs.Sum.{Once, upd_same, upd_other}
 use Rattle.algebra.specs.Sum.{only, upd}
 use Rattle.presolve.proofs.Named.{apart, further, once-mem, all-mem, sum-at-named}
 use Rattle.presolve.proofs.Bounds.{map_o, map_o-is, map_o-each, map_o-some, merge_l, merge_u, merge_l-or, merge_u-or, merge_l-l, merge_l-r, merge_u-l, merge_u-r, merge_l-both, merge_u-both, fits-dec, fits-zero, choose}
-use Rattle.presolve.specs.Bounds.{Ok}
+use Rattle.presolve.specs.Bounds.{Fits}
 use Rattle.presolve.specs.LP.{LP, Pair, Feasible, Solved, InBounds, PriceRule, reduced, brings}
 pub use Rattle.presolve.proofs.NewBounds.{image, NewBounds, exchanged, straight}
 use Rattle.presolve.proofs.Removed.{Gone, gone-within}
@@ -250,7 +250,7 @@ module _ {N N' : LP} {i : ℕ} {j k : Spoke} (T : TwoArcs N N' i j k) where
 
     -- the second price: j stands at a bound that is not its own, so k stands at the bound that it came from
     module _ (x x' : ℕ → ℚ) (xk : x k.arc ≡ (N.rhs i +ℚ -ℚ (j.e *ℚ x j.arc)) *ℚ inv k.e) (off : (c : ℕ) → ¬ (c ≡ k.arc) → x c ≡ x' c)
-        (fit : Ok (N'.col j.arc).lower (N'.col j.arc).upper (x j.arc) d') (bad : ¬ (Ok (N.col j.arc).lower (N.col j.arc).upper (x j.arc) d')) where
+        (fit : Fits (N'.col j.arc).lower (N'.col j.arc).upper (x j.arc) d') (bad : ¬ (Fits (N.col j.arc).lower (N.col j.arc).upper (x j.arc) d')) where
       at_k : (o : Option ℚ) → map_o (image (N.rhs i) j.e k.e) o ≡ some (x j.arc) → o ≡ some (x k.arc)
       at_k o e = at_bound (N.rhs i) j.e k.e (x j.arc) (x k.arc) T.at_j.nonzero T.at_k.nonzero (link x x' xk off) o e
 
@@ -268,10 +268,10 @@ module _ {N N' : LP} {i : ℕ} {j k : Spoke} (T : TwoArcs N N' i j k) where
           go (inl a) = absurd (bad (record { at_lower = λ g. absurd (g (lt→le h)); at_upper = λ _. a }))
           go (inr b) = at_k o b
 
-      fits-k : Ok (N.col k.arc).lower (N.col k.arc).upper (x k.arc) (dk (quote N j p))
+      fits-k : Fits (N.col k.arc).lower (N.col k.arc).upper (x k.arc) (dk (quote N j p))
       fits-k = go T.bounds_new
         where
-          go : NewBounds (N.col j.arc) (N.col k.arc) (N'.col j.arc) (N.rhs i) j.e k.e → Ok (N.col k.arc).lower (N.col k.arc).upper (x k.arc) (dk (quote N j p))
+          go : NewBounds (N.col j.arc) (N.col k.arc) (N'.col j.arc) (N.rhs i) j.e k.e → Fits (N.col k.arc).lower (N.col k.arc).upper (x k.arc) (dk (quote N j p))
           go (exchanged q el eu) = record {
             at_lower = λ h. from-upper (N.col k.arc).lower eu (λ g. h (down⁺ dk-second (times-sq⁺ (inv j.e) q) g));
             at_upper = λ h. from-lower (N.col k.arc).upper el (λ g. h (up⁺ dk-second (times-sq⁺ (inv j.e) q) g));
@@ -336,13 +336,13 @@ module _ {N N' : LP} {i : ℕ} {j k : Spoke} (T : TwoArcs N N' i j k) where
           w : InBounds (N'.col j.arc) (back s j.arc)
           w = subst (InBounds (N'.col j.arc)) (sym xj) (within_new frame s.flow h.feasible j.arc (Memᴰ.head refl))
 
-          fit : Ok (N'.col j.arc).lower (N'.col j.arc).upper (back s j.arc) (d' p)
+          fit : Fits (N'.col j.arc).lower (N'.col j.arc).upper (back s j.arc) (d' p)
           fit = subst (λ t. PriceRule N.rows (N'.col j.arc) t p) (sym xj) (rule-new frame s h j.arc (Memᴰ.head refl))
 
           both : ℚ → Type 0
           both π = PriceRule N.rows (N.col j.arc) (back s j.arc) (upd p i π) × (PriceRule N.rows (N.col k.arc) (back s k.arc) (upd p i π) × Unit {0})
 
-          go : (d : Dec (Ok (N.col j.arc).lower (N.col j.arc).upper (s.flow j.arc) (d₁ p))) → both (choose d (quote N k p) (quote N j p))
+          go : (d : Dec (Fits (N.col j.arc).lower (N.col j.arc).upper (s.flow j.arc) (d₁ p))) → both (choose d (quote N k p) (quote N j p))
           go (yes f) = (rw (dj-first p, xj) f, (fits-zero (N.col k.arc).lower (N.col k.arc).upper (back s k.arc) (dk p (quote N k p)) (dk-zero p), tt))
           go (no n) = (
             fits-zero (N.col j.arc).lower (N.col j.arc).upper (back s j.arc) (dj p (quote N j p)) (dj-zero p),

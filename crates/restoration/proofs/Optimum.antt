@@ -169,8 +169,8 @@ module _ {net : Net} (g : Legal net) (pair : Pair) (z : Sized pair) (o : ℕ) (r
 
 -- the way arrived, and the value there fits
 arrived : (net : Net) (way : Way) → is_back net way ≡ true → (way ≡ at (pair_back way)) × (is_fit (value_of net (pair_back way)) ≡ true)
-arrived net wide e = never cc
-arrived net (at pair) e = (refl, e)
+arrived net (Err m) e = never cc
+arrived net (Ok pair) e = (refl, e)
 
 module _ (xs zs ys : List ℤ) (o v w k : ℕ) where
   abbrev net : Net

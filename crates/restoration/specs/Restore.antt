@@ -43,8 +43,8 @@ brought_back run ys = way_back (back_of rules) run.steps (at (spread_of run.net 
 
 -- the pair at the end of the way
 abbrev pub pair_back : Way → Pair
-pair_back wide = no_pair
-pair_back (at pair) = pair
+pair_back (Err m) = no_pair
+pair_back (Ok pair) = pair
 
 -- "the reduced value, then the original's"
 abbrev pub reduced_value : Run → List ℤ → Fraction
@@ -68,8 +68,8 @@ abbrev pub is_stack : Run → List ℤ → Bool
 is_stack run zs = same_words zs (stack_record run.steps)
 
 abbrev pub is_back : Net → Way → Bool
-is_back net wide = false
-is_back net (at pair) = is_fit (value_of net pair)
+is_back net (Err m) = false
+is_back net (Ok pair) = is_fit (value_of net pair)
 
 -- "Did the reduction end in a reduced network? 6", "Is the stack offered the one that it gives, length included? 7", 8 to 12 on the reduced network
 unfoldable pub offer_table : Bool → Bool → Net → List ℤ → List Question

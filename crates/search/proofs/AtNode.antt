@@ -1,4 +1,5 @@
 -- What the list tells of a node: its degree, and the arcs there.
+use Rattle.std.specs.Prelude.{Err}
 use mathlib.Core.Path.{◌≡◌, refl, sym, ap, ◌∙◌}
 use mathlib.Core.Bool.{Bool, true, false, ◌&&◌, and-false}
 use mathlib.Core.List.{List}
@@ -20,7 +21,7 @@ use Rattle.network.specs.Network.{arc_at, supply_at, is_here, is_touching, degre
 use Rattle.network.specs.Legal.{Legal}
 use Rattle.network.proofs.Kept.{here-number}
 use Rattle.step.specs.declared.Around.{Around}
-use Rattle.step.specs.declared.Outcome.TheVariants.{Passes}
+use Rattle.step.specs.declared.Halt.TheVariants.{Passes}
 use Rattle.step.specs.Around.{Near, Given}
 use Rattle.step.specs.Run.{or_else, rule_of}
 use Rattle.step.specs.Back.{old_arc}
@@ -64,12 +65,12 @@ module _ {net : Net} (g : Legal net) where
         x ∙ ap (λ o. found_of (or_else k i o Stops)) ((at_nodes k n).given given)
 
     -- where it is not in use or not of that degree, or not of that supply, the rule passes
-    pub elsewhere : 1 ≤ i → (eqb (get_or ds i 0) asks.degree && is_here net i) ≡ false → (rule_of rules k).at net i ≡ Passes
+    pub elsewhere : 1 ≤ i → (eqb (get_or ds i 0) asks.degree && is_here net i) ≡ false → (rule_of rules k).at net i ≡ (Err Passes)
     elsewhere l e =
         split (eqb (get_or ds i 0) asks.degree) (λ f. node-unused g k i n (rw f at e))
         (λ f. (at_nodes k n).elsewhere net i (rw (ne_eqb (degree_of net i) (asks_of k).degree (λ z. eqb-false _ _ f (degrees-are ds are i l m ∙ z ∙ sym (ap (λ (a : Asks). a.degree) q))), and-false)))
 
-    pub not-supplied : may_apply asks (supply_at net i) ≡ false → (rule_of rules k).at net i ≡ Passes
+    pub not-supplied : may_apply asks (supply_at net i) ≡ false → (rule_of rules k).at net i ≡ (Err Passes)
     not-supplied e = (at_nodes k n).elsewhere net i (rw (rw q at e))
 
 -- the arcs at a node, as the list has them

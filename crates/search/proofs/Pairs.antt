@@ -1,4 +1,5 @@
 -- Rule 7 at an arc: the parallel arcs after it, upward. At the arcs between them the rule passes.
+use Rattle.std.specs.Prelude.{Ok, Err}
 use mathlib.Core.Path.{◌≡◌, refl, sym, ap, ◌∙◌}
 use mathlib.Core.Bool.{Bool, true, false, cond}
 use mathlib.Core.List.{List}
@@ -17,8 +18,8 @@ use Rattle.network.specs.Network.{arc_at, is_used, is_parallel, parallel_after, 
 use Rattle.network.specs.Legal.{Legal}
 use Rattle.network.proofs.First.{First, scan-first}
 use Rattle.network.proofs.Kept.{used-number}
-use Rattle.step.specs.declared.Outcome.{Outcome}
-use Rattle.step.specs.declared.Outcome.TheVariants.{Passes, NoFlow, Changes}
+use Rattle.step.specs.Outcome.{Outcome}
+use Rattle.step.specs.declared.Halt.TheVariants.{Passes, NoFlow}
 use Rattle.step.specs.declared.Next.TheVariants.{Stops}
 use Rattle.step.specs.Outcome.{only_where}
 use Rattle.step.specs.Run.{or_else}
@@ -33,15 +34,15 @@ use Rattle.rules.specs.Found.{found_of}
 
 -- ---- an answer at two arcs, as the code has it
 
-not_found : (j : ℕ) {x : Found} (o : Outcome) → x ≡ found_of (or_else 7 j o Stops) → x.found ≡ false → o ≡ Passes
-not_found j Passes e f = refl
-not_found j NoFlow e f = unlike (sym (rw e at f))
-not_found j (Changes c) e f = unlike (sym (rw e at f))
+not_found : (j : ℕ) {x : Found} (o : Outcome) → x ≡ found_of (or_else 7 j o Stops) → x.found ≡ false → o ≡ (Err Passes)
+not_found j (Err Passes) e f = refl
+not_found j (Err NoFlow) e f = unlike (sym (rw e at f))
+not_found j (Ok c) e f = unlike (sym (rw e at f))
 
 is_found : (j : ℕ) {x : Found} (o : Outcome) → x ≡ found_of (or_else 7 j o Stops) → x.found ≡ true → is_passing o ≡ false
-is_found j Passes e f = unlike (rw e at f)
-is_found j NoFlow e f = refl
-is_found j (Changes c) e f = refl
+is_found j (Err Passes) e f = unlike (rw e at f)
+is_found j (Err NoFlow) e f = refl
+is_found j (Ok c) e f = refl
 
 -- ---- the parallel arcs of arc j, which is in use
 
@@ -61,15 +62,15 @@ module _ (net : Net) (j : ℕ) where
     pub within : k ≤ 96
     pub above : 1 ≤ k → j < k
     pub joins : 1 ≤ k → parallel k ≡ true
-    pub pass : (i : ℕ) → j < i → i ≤ 96 → (1 ≤ k → i < k) → with i ≡ Passes
+    pub pass : (i : ℕ) → j < i → i ≤ 96 → (1 ≤ k → i < k) → with i ≡ (Err Passes)
 
   -- an arc that is not parallel
-  apart : (i : ℕ) → parallel i ≡ false → with i ≡ Passes
+  apart : (i : ℕ) → parallel i ≡ false → with i ≡ (Err Passes)
   unfolding is_parallel
   apart i e = ends-differ net.constant j (arc_at net j) i (arc_at net i) e
 
   -- k is the next one after number m
-  next-after : {m k : ℕ} → j ≤ m → First parallel m k → ((i : ℕ) → j < i → i ≤ m → with i ≡ Passes) → Chain k
+  next-after : {m k : ℕ} → j ≤ m → First parallel m k → ((i : ℕ) → j < i → i ≤ m → with i ≡ (Err Passes)) → Chain k
   next-after {m} {k} l f before =
       record {
         within = f.within;
@@ -95,7 +96,7 @@ module _ (net : Net) (j : ℕ) where
         let f = scan-first (λ i. is_parallel (arc_at net k) (arc_at net i)) k in
         rw (are k, from, to, used) (rw (from, to) at f)
 
-    chain_more : {k : ℕ} → Chain k → 1 ≤ k → with k ≡ Passes → Chain (get_or next k 0)
+    chain_more : {k : ℕ} → Chain k → 1 ≤ k → with k ≡ (Err Passes) → Chain (get_or next k 0)
     chain_more {k} h l e = next-after {m = k} (omega (arith, h.above l)) (chain-after h l) (λ i a b. ⊎_elim (λ z. rw z e) (λ m. h.pass i a (omega (arith, h.within)) (λ _. m)) (eq-or-lt_of_le b))
 
     -- the rule passes at k, by its answer or by the cheap test
@@ -113,11 +114,11 @@ module _ (net : Net) (j : ℕ) where
         by n a = split (eqb n 0) (λ e. rw (e, ne_eqb k 0 (λ z. omega arith)) (omega (arith, h.within))) (λ e. let b = eqb-false n 0 e in rw (e, ne_eqb k 0 (λ z. omega arith)) (omega (arith, h.within, a (omega arith))))
 
     -- the d numbers after j are looked at
-    reach : (d : ℕ) → d ≤ 96 - j → ((x : ℕ) → j < x → x < j + 1 + d → with x ≡ Passes) → Scanned or_next Passes with (96 - j) (j + 1) (j + 1 + d)
-    reach zero l h = let z : j + 1 + 0 ≡ j + 1 = omega arith in rw z (scanned-none or_next Passes with (96 - j) (j + 1))
+    reach : (d : ℕ) → d ≤ 96 - j → ((x : ℕ) → j < x → x < j + 1 + d → with x ≡ (Err Passes)) → Scanned or_next (Err Passes) with (96 - j) (j + 1) (j + 1 + d)
+    reach zero l h = let z : j + 1 + 0 ≡ j + 1 = omega arith in rw z (scanned-none or_next (Err Passes) with (96 - j) (j + 1))
     reach (suc d) l h =
         let z : j + 1 + suc d ≡ j + 1 + d + 1 = omega (arith, add-one d) in
-        rw z (scanned-more or_next Passes (reach d (omega (arith, add-one d)) (λ x a b. h x a (omega (arith, add-one d)))) (omega (arith, add-one d)) (sym (h (j + 1 + d) (omega arith) (omega (arith, add-one d)))) (λ g i. refl))
+        rw z (scanned-more or_next (Err Passes) (reach d (omega (arith, add-one d)) (λ x a b. h x a (omega (arith, add-one d)))) (omega (arith, add-one d)) (sym (h (j + 1 + d) (omega arith) (omega (arith, add-one d)))) (λ g i. refl))
 
     -- the answer at k is that of the rule
     pub chain-found : {k : ℕ} → Chain k → 1 ≤ k → {x : Found} → x ≡ found_of (or_else 7 j (with k) Stops) → x.found ≡ true → x ≡ found_of (or_else 7 j (parallel_arc net j) Stops)
@@ -131,16 +132,16 @@ module _ (net : Net) (j : ℕ) where
         e ∙ ap (λ o. found_of (or_else 7 j o Stops)) q
 
     -- there are no more
-    pub chain-none : {k : ℕ} → Chain k → k < 1 → parallel_arc net j ≡ Passes
+    pub chain-none : {k : ℕ} → Chain k → k < 1 → parallel_arc net j ≡ (Err Passes)
     unfolding parallel_arc only_where
-    chain-none h l = rw used (sym (scanned-all or_next Passes (reach (96 - j) (omega arith) (λ x m n. h.pass x m (omega arith) (λ y. absurd (omega arith)))) (omega arith)))
+    chain-none h l = rw used (sym (scanned-all or_next (Err Passes) (reach (96 - j) (omega arith) (λ x m n. h.pass x m (omega arith) (λ y. absurd (omega arith)))) (omega arith)))
 
   -- an arc that is not in use, or has no parallel arc after it
-  pub no_pairs : Legal net → (next : List ℕ) → AreParallel net next → get_or next j 0 ≡ 0 → parallel_arc net j ≡ Passes
+  pub no_pairs : Legal net → (next : List ℕ) → AreParallel net next → get_or next j 0 ≡ 0 → parallel_arc net j ≡ (Err Passes)
   unfolding parallel_arc only_where
   no_pairs g next are e = split (is_used net j) (λ u. chain-none u next are (chain_first u next are) (omega (arith, e))) off
     where
-      off : is_used net j ≡ false → parallel_arc net j ≡ Passes
+      off : is_used net j ≡ false → parallel_arc net j ≡ (Err Passes)
       off u = rw u
 
   pub pairs-used : Legal net → (next : List ℕ) → AreParallel net next → (get_or next j 0 ≡ 0 → ⊥) → is_used net j ≡ true
@@ -150,6 +151,6 @@ module _ (net : Net) (j : ℕ) where
   used-in g u = let n = eqb-false (arc_at net j).from 0 (not-true _ u) in omega (arith, (used-number g j (omega arith)).1)
 
   -- no arc above m
-  pub pairs-beyond : Legal net → net.m < j → parallel_arc net j ≡ Passes
+  pub pairs-beyond : Legal net → net.m < j → parallel_arc net j ≡ (Err Passes)
   unfolding parallel_arc only_where
   pairs-beyond g l = rw (eq-eqb _ _ (g.arcs_beyond j l))

@@ -1,4 +1,5 @@
 -- A rule at its places upward, as far as there are places in use; and the rules one after the other.
+use Rattle.std.specs.Prelude.{Err}
 use mathlib.Core.Path.{◌≡◌, refl, sym, ap, ◌∙◌, subst}
 use mathlib.Core.Bool.{Bool, true, false, ◌||◌}
 use mathlib.Core.List.{List, [], ◌∷◌}
@@ -17,8 +18,8 @@ use Rattle.network.specs.declared.Net.{Net}
 use Rattle.fraction.specs.Exact.{is_same}
 use Rattle.network.specs.Network.{arc_at, is_root}
 use Rattle.network.specs.Legal.{Legal}
-use Rattle.step.specs.declared.Outcome.{Outcome}
-use Rattle.step.specs.declared.Outcome.TheVariants.{Passes}
+use Rattle.step.specs.Outcome.{Outcome}
+use Rattle.step.specs.declared.Halt.TheVariants.{Passes}
 use Rattle.step.specs.declared.Next.{Next}
 use Rattle.step.specs.declared.Next.TheVariants.{Stops, Refuted, Takes}
 use Rattle.step.specs.Run.{Rule, rule_from, rule_of, or_else, upward, next_from}
@@ -61,7 +62,7 @@ module _ {rule : ℕ → Outcome} {k last i : ℕ} (h : Reached rule k last Stop
     reached-answer f = e ∙ ap found_of (stays here _ (rw e at f) ∙ sym step_is)
 
   -- the rule passes at all places from i on
-  pub reached-end : {x : Found} → x ≡ found_of Stops → ((j : ℕ) → i ≤ j → rule j ≡ Passes) → x ≡ found_of (upward rule k last 1 Stops)
+  pub reached-end : {x : Found} → x ≡ found_of Stops → ((j : ℕ) → i ≤ j → rule j ≡ (Err Passes)) → x ≡ found_of (upward rule k last 1 Stops)
   reached-end e f = e ∙ ap found_of (sym (h.is ∙ upward-none rule k Stops (last + 1 - i) i (λ j l m. f j l)))
 
 -- ---- rule 4: no arc up to number m is a root arc without upper bound

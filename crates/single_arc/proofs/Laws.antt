@@ -18,7 +18,7 @@ use Rattle.presolve.proofs.Removed.{Removed}
 use Rattle.presolve.proofs.Single.{SingleAt, forced, single-back, single-sound, single-no-flow}
 use Rattle.presolve.proofs.Spoke.{spoke-e}
 use Rattle.fraction.specs.declared.Fraction.{Fraction}
-use Rattle.std.specs.Prelude.{Ok}
+use Rattle.std.specs.Prelude.{Ok, Err}
 use Rattle.fraction.specs.Exact.{Proper, no_figure, is_less}
 use Rattle.fraction.specs.Formula.{◌⊘◌}
 use Rattle.fraction.specs.Value.{value}
@@ -35,10 +35,9 @@ use Rattle.network.proofs.Kept.{here-number}
 use Rattle.network.proofs.Bounds.{not-under, not-over, under, over}
 use Rattle.fraction.proofs.Exactly.{same}
 use Rattle.step.specs.declared.Change.{Change}
-use Rattle.step.specs.declared.Outcome.{Outcome}
-use Rattle.step.specs.declared.Outcome.TheVariants.{Passes, NoFlow, Changes}
+use Rattle.step.specs.Outcome.{Outcome}
+use Rattle.step.specs.declared.Halt.TheVariants.{Passes, NoFlow}
 use Rattle.step.specs.declared.Restored.{Restored}
-use Rattle.step.specs.declared.Undone.TheVariants.{Restores}
 use Rattle.step.specs.Dropped.{supply_less, cost_added, dropping}
 use Rattle.step.specs.Outcome.{only_where}
 use Rattle.step.specs.Back.{old_one, restored}
@@ -80,9 +79,9 @@ record Forced (constant : Fraction) (i j : ℕ) (t : Arc) (w : Side) (r r' v : F
   not_above : is_less t.upper v ≡ false
   supply : supply_less w.other r' w.o v ≡ Ok s
   cost : cost_added constant t.cost v ≡ Ok k
-  is : Changes (record { edit = dropping j w.other s 0 no_figure i k; old = old_one i r (record { number = j; arc = t }) }) ≡ x
+  is : Ok (record { edit = dropping j w.other s 0 no_figure i k; old = old_one i r (record { number = j; arc = t }) }) ≡ x
 
-single-met : (net : Net) (i : ℕ) {x : Outcome} → Answers x → single_arc net i ≡ x → (m : Single net i x) × ((Outside (arc_at net (arc net i)) m.v × (NoFlow ≡ x)) ⊎ Forced net.constant i (arc net i) (arc_at net (arc net i)) (side net i) (supply_at net i) (supply_at net (side net i).other) m.v x)
+single-met : (net : Net) (i : ℕ) {x : Outcome} → Answers x → single_arc net i ≡ x → (m : Single net i x) × ((Outside (arc_at net (arc net i)) m.v × ((Err NoFlow) ≡ x)) ⊎ Forced net.constant i (arc net i) (arc_at net (arc net i)) (side net i) (supply_at net i) (supply_at net (side net i).other) m.v x)
 unfolding single_arc single forced_out
 single-met net i a e =
     let h = only-met a _ _ e in
@@ -157,7 +156,7 @@ module _ (net : Net) (g : Legal net) (i : ℕ) {x : Outcome} (m : Single net i x
       let u = over proper at.legal.upper_bound b in
       u.1 (subst (λ z. z ≤ℚ value t.upper) (sym flow-is) (k.below _ (ap (λ k. k.upper) at.column ∙ u.0)))
 
-  undone : (pair : Pair) → Sized pair → (r : Restored) → single_back (old_one i (supply_at net i) (record { number = j; arc = t })) pair ≡ Restores r → Holds (restored pair r) (single-back N i (spoke_of net i j) (exact_pair pair))
+  undone : (pair : Pair) → Sized pair → (r : Restored) → single_back (old_one i (supply_at net i) (record { number = j; arc = t })) pair ≡ Ok r → Holds (restored pair r) (single-back N i (spoke_of net i j) (exact_pair pair))
   unfolding single_back restored with_flow with_price
   undone pair z r e =
       let v = figure-met _ _ e in
@@ -165,14 +164,14 @@ module _ (net : Net) (g : Legal net) (i : ℕ) {x : Outcome} (m : Single net i x
       let a = same (ap (λ r. r *ℚ inv_ℚ (value w.e)) (sym (rhs_is net i m.here))) (over-exactly (given _) (given _)) v.0 v.1 in
       rw (restored-is p.2) (price-put (flow-put (itself z) j v.0 at.number a) i p.0 (here-number g i m.here) (at.quotes pair p.0 p.1))
 
-  right : {c : Change} → Forced net.constant i j t w (supply_at net i) (supply_at net w.other) v (Changes c) → Right net c (single_back c.old)
+  right : {c : Change} → Forced net.constant i j t w (supply_at net i) (supply_at net w.other) v (Ok c) → Right net c (single_back c.old)
   right f =
       right_of g single_back f.is (dropped-framed net j _ _ i (supply-less w.other _ _ _ f.supply) no-level (cost_added_lem net.constant t.cost v f.cost).0 (λ k l t. ⊎_elim (λ e. e) (λ z. absurd z) (one.all k t))) (inl m.here)
       (record { arcs = ((at.number.1, refl), (no_old g).1); named = λ x u. u; node = (here-number g i m.here).1; supply = supply-small g i m.here; new = omega arith }) (single-back N i (spoke_of net i j))
       (single-sound (record { place = single-at; within = within f.not_below f.not_above; removed = subst (Removed N (program_of (applied net (dropping j w.other f.s 0 no_figure i f.k))) j) flow-is (removed f.supply f.cost) }))
       undone
 
-unused : (net : Net) (i : ℕ) → is_here net i ≡ false → single_arc net i ≡ Passes
+unused : (net : Net) (i : ℕ) → is_here net i ≡ false → single_arc net i ≡ (Err Passes)
 unfolding single_arc only_where
 unused net i e = rw e
 

@@ -12,10 +12,8 @@ use Rattle.network.specs.declared.pair.Pair.{Pair}
 use Rattle.network.specs.Limits.{max_nodes}
 use Rattle.network.specs.Network.{is_here, degree_of, side_of}
 use Rattle.step.specs.declared.Old.{Old}
-use Rattle.step.specs.declared.Outcome.{Outcome}
-use Rattle.step.specs.declared.Outcome.TheVariants.{Changes}
-use Rattle.step.specs.declared.Undone.{Undone}
-use Rattle.step.specs.declared.Undone.TheVariants.{Restores}
+use Rattle.step.specs.Outcome.{Outcome}
+use Rattle.step.specs.Back.{Undone}
 use Rattle.step.specs.Outcome.{◌>>=◌, ◌>>◌, only_where, no_flow_where, fits}
 use Rattle.step.specs.Dropped.{supply_less, cost_added, dropping}
 use Rattle.step.specs.Back.{figure, old_arc, old_one, flow_and_price, quote_of}
@@ -31,7 +29,7 @@ forced_out constant i j t w r r' = do
   no_flow_where (is_less t.upper v)
   s ← fits (supply_less w.other r' w.o v)
   z ← fits (cost_added constant t.cost v)
-  Changes (record { edit = dropping j w.other s 0 no_figure i z; old = old_one i r (record { number = j; arc = t }) })
+  Ok (record { edit = dropping j w.other s 0 no_figure i z; old = old_one i r (record { number = j; arc = t }) })
 
 -- "degree 1"
 -- node i has degree d, and u is the first arc there
@@ -53,7 +51,7 @@ single_back old pair = do
   let t = old.one.arc
   v ← figure (Ok old.supply ⊘ Ok (side_of t i).e)
   p ← figure (quote_of t i pair)
-  Restores (flow_and_price old.one.number v i p)
+  Ok (flow_and_price old.one.number v i p)
 
 abbrev pub rule : Rule
 rule = record { last = max_nodes; at = single_arc; back = single_back; trial = record { degree = 1; balanced = false; by = λ constant supply i d near. single constant supply i d near.one } }

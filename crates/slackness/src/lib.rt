@@ -1,5 +1,5 @@
 // The price rule of one arc (01, "The optimality test"): complementary slackness.
-#![tactic(auto)]
+#![tactic(auto, unfolding(fraction::specs::Exact::is_same, fraction::specs::Exact::is_finite, crate::specs::Slackness::is_at, crate::specs::Slackness::keeps_rule))]
 
 ghost use Rattle.std.specs.Prelude.{◌≡◌};
 ghost use Rattle.slackness.specs.Slackness.{is_at, keeps_rule};
@@ -13,7 +13,7 @@ fn is_at(bound: Fraction, x: Fraction) -> bool
     if bound.den == 0 {
         return false;
     }
-    x.same(bound)
+    x == bound
 }
 
 // The price rule, for a flow x and a reduced cost d.

@@ -1,4 +1,5 @@
 -- What a run and the way back ask of one rule: numbers that fit words, a change that is right, and old arcs that are put back.
+use Rattle.std.specs.Prelude.{Ok, Err}
 use mathlib.Core.Path.{◌≡◌, sym, ap, ◌∙◌, subst}
 use mathlib.Core.Bool.{Bool, true, false, cond, ◌&&◌, ◌||◌, not}
 use mathlib.Core.Logic.{⊎_elim, ◌⊎◌, inl, inr}
@@ -27,10 +28,10 @@ use Rattle.step.specs.declared.Around.{Around}
 use Rattle.step.specs.declared.Old.{Old}
 use Rattle.step.specs.declared.Step.{Step}
 use Rattle.step.specs.declared.Change.{Change}
-use Rattle.step.specs.declared.Outcome.TheVariants.{Passes, NoFlow, Changes}
+use Rattle.step.specs.declared.Halt.TheVariants.{Passes, NoFlow}
 use Rattle.step.specs.declared.Restored.{Restored}
-use Rattle.step.specs.declared.Undone.{Undone}
-use Rattle.step.specs.declared.Undone.TheVariants.{Restores}
+use Rattle.step.specs.Outcome.{Outcome}
+use Rattle.step.specs.Back.{Undone}
 use Rattle.step.specs.Back.{old_arcs_of, restored}
 use Rattle.step.specs.Around.{Given}
 use Rattle.step.specs.Run.{Rule}
@@ -120,7 +121,7 @@ pub record Right (net : Net) (c : Change) (back : Pair → Undone) : Type 0 wher
   pub exact : LP.Pair → LP.Pair
   pub sound : SoundStep (program_of net) (program_of (applied net c.edit)) exact
   -- the way back in fractions is that one, where its figures fit
-  pub agrees : (pair : Pair) → Sized pair → {r : Restored} → back pair ≡ Restores r → Holds (restored pair r) (exact (exact_pair pair))
+  pub agrees : (pair : Pair) → Sized pair → {r : Restored} → back pair ≡ Ok r → Holds (restored pair r) (exact (exact_pair pair))
 
 -- whether number i is in use, of a node or of an arc
 abbrev pub in_use : Rule → Net → ℕ → Bool
@@ -128,21 +129,21 @@ in_use R net i = cond (eqb R.last max_nodes) (is_here net i) (is_used net i)
 
 -- a rule of nodes passes where degree or supply is not what it asks for, and answers by what it is given
 pub record AtNodes (R : Rule) : Type 0 where
-  pub elsewhere : (net : Net) (i : ℕ) → ((not R.trial.balanced || is_zero (supply_at net i)) && eqb (degree_of net i) R.trial.degree) ≡ false → R.at net i ≡ Passes
+  pub elsewhere : (net : Net) (i : ℕ) → ((not R.trial.balanced || is_zero (supply_at net i)) && eqb (degree_of net i) R.trial.degree) ≡ false → R.at net i ≡ (Err Passes)
   pub given : {net : Net} {constant : Fraction} {supply : List Fraction} {i d : ℕ} {near : Around} → Given net constant supply i d near → R.trial.by constant supply i d near ≡ R.at net i
 
 -- a rule that is tried on legal networks of which P is known
 pub record RuleLaws (P : Net → Type 0) (R : Rule) : Type 0 where
   pub few_places : R.last ≤ 96
   -- it passes at a number not in use
-  pub unused : (net : Net) → Legal net → (i : ℕ) → in_use R net i ≡ false → R.at net i ≡ Passes
+  pub unused : (net : Net) → Legal net → (i : ℕ) → in_use R net i ≡ false → R.at net i ≡ (Err Passes)
   pub at_nodes : eqb R.last max_nodes ≡ true → AtNodes R
-  pub no_flow : (net : Net) → Legal net → P net → (i : ℕ) → R.at net i ≡ NoFlow → LP.NoFlow (program_of net)
-  pub right : (net : Net) → Legal net → P net → (i : ℕ) {c : Change} → R.at net i ≡ Changes c → Right net c (R.back c.old)
+  pub no_flow : (net : Net) → Legal net → P net → (i : ℕ) → R.at net i ≡ (Err NoFlow) → LP.NoFlow (program_of net)
+  pub right : (net : Net) → Legal net → P net → (i : ℕ) {c : Change} → R.at net i ≡ Ok c → Right net c (R.back c.old)
 
 -- a change whose parts are legal: that network, and those counts
-pub right_of : {net : Net} → Legal net → {c d : Change} (back : Old → Pair → Undone) → Changes d ≡ Changes c → Framed net d.edit → Lost net d.edit → HandedOn net d → (exact : LP.Pair → LP.Pair) → SoundStep (program_of net) (program_of (applied net d.edit)) exact
-    → ((pair : Pair) → Sized pair → (r : Restored) → back d.old pair ≡ Restores r → Holds (restored pair r) (exact (exact_pair pair))) → Right net c (back c.old)
+pub right_of : {net : Net} → Legal net → {c d : Change} (back : Old → Pair → Undone) → ◌≡◌ {A = Outcome} (Ok d) (Ok c) → Framed net d.edit → Lost net d.edit → HandedOn net d → (exact : LP.Pair → LP.Pair) → SoundStep (program_of net) (program_of (applied net d.edit)) exact
+    → ((pair : Pair) → Sized pair → (r : Restored) → back d.old pair ≡ Ok r → Holds (restored pair r) (exact (exact_pair pair))) → Right net c (back c.old)
 right_of {net} g back e framed lost handed exact sound agrees =
     subst (λ c. Right net c (back c.old)) (sym (change-is e))
     (record { legal = framed_kept net g _ framed; fewer = fewer g _ framed lost; handed_on = handed; exact = exact; sound = sound; agrees = λ pair z {r} e. agrees pair z r e })

@@ -8,19 +8,18 @@ use Rattle.fraction.specs.Exact.{Worked}
 use Rattle.std.specs.Prelude.{Ok, Err}
 use Rattle.fraction.proofs.Laws.{never}
 use Rattle.step.specs.declared.Change.{Change}
-use Rattle.step.specs.declared.Outcome.{Outcome}
-use Rattle.step.specs.declared.Outcome.TheVariants.{Passes, NoFlow, Changes}
+use Rattle.step.specs.Outcome.{Outcome}
+use Rattle.step.specs.declared.Halt.TheVariants.{Passes, NoFlow}
 use Rattle.step.specs.declared.Restored.{Restored}
-use Rattle.step.specs.declared.Undone.{Undone}
-use Rattle.step.specs.declared.Undone.TheVariants.{Restores}
+use Rattle.step.specs.Back.{Undone}
 use Rattle.step.specs.Outcome.{only_where, no_flow_where, fits}
 use Rattle.step.specs.Back.{figure}
 
 -- an answer: no flow, or a change
 abbrev pub Answers : Outcome → Type 0
-Answers Passes = ⊥
-Answers NoFlow = Unit {0}
-Answers (Changes c) = Unit {0}
+Answers (Err Passes) = ⊥
+Answers (Err NoFlow) = Unit {0}
+Answers (Ok c) = Unit {0}
 
 module _ {x : Outcome} (a : Answers x) where
   pub only-met : (b : Bool) (rest : Outcome) → only_where b rest ≡ x → (b ≡ true) × (rest ≡ x)
@@ -33,28 +32,28 @@ module _ {x : Outcome} (a : Answers x) where
   fits-met (Ok v) rest e = (v, refl, e)
   fits-met (Err m) rest e = absurd (rw (← e) at a)
 
-pub flow-met : {x : Outcome} (b : Bool) (rest : Outcome) → no_flow_where b rest ≡ x → ((b ≡ true) × (NoFlow ≡ x)) ⊎ ((b ≡ false) × (rest ≡ x))
+pub flow-met : {x : Outcome} (b : Bool) (rest : Outcome) → no_flow_where b rest ≡ x → ((b ≡ true) × ((Err NoFlow) ≡ x)) ⊎ ((b ≡ false) × (rest ≡ x))
 unfolding no_flow_where
 flow-met true rest e = inl (refl, e)
 flow-met false rest e = inr (refl, e)
 
-pub change-is : {c d : Change} → Changes d ≡ Changes c → c ≡ d
+pub change-is : {c d : Change} → ◌≡◌ {A = Outcome} (Ok d) (Ok c) → c ≡ d
 change-is e = cc
 
-pub not-shown : {X : Type 0} {c : Change} → Changes c ≡ NoFlow → X
+pub not-shown : {X : Type 0} {c : Change} → Ok c ≡ (Err NoFlow) → X
 not-shown e = never cc
 
-pub not-changed : {X : Type 0} {c : Change} → NoFlow ≡ Changes c → X
+pub not-changed : {X : Type 0} {c : Change} → (Err NoFlow) ≡ Ok c → X
 not-changed e = never cc
 
 -- the way back
 module _ {r : Restored} where
-  pub figure-met : (w : Worked) (rest : Fraction → Undone) → figure w rest ≡ Restores r → (x : Fraction) × (w ≡ Ok x) × (rest x ≡ Restores r)
+  pub figure-met : (w : Worked) (rest : Fraction → Undone) → figure w rest ≡ Ok r → (x : Fraction) × (w ≡ Ok x) × (rest x ≡ Ok r)
   unfolding figure
   figure-met (Ok x) rest e = (x, refl, e)
   figure-met (Err m) rest e = never cc
 
-  pub restored-is : {q : Restored} → Restores q ≡ Restores r → r ≡ q
+  pub restored-is : {q : Restored} → ◌≡◌ {A = Undone} (Ok q) (Ok r) → r ≡ q
   restored-is e = cc
 
 -- a test of the code, turned round

@@ -21,7 +21,7 @@ use Rattle.presolve.proofs.Closed.{closed-back}
 use Rattle.presolve.proofs.Net.{gone-out, row_out}
 use Rattle.fraction.specs.declared.Fraction.{Fraction}
 use Rattle.fraction.specs.Exact.{Worked}
-use Rattle.std.specs.Prelude.{Ok}
+use Rattle.std.specs.Prelude.{Ok, Err}
 use Rattle.fraction.specs.Exact.{Proper, no_figure}
 use Rattle.fraction.specs.Value.{value}
 use Rattle.fraction.specs.Formula.{◌⊖◌, ◌⊗◌}
@@ -37,8 +37,8 @@ use Rattle.network.specs.Program.{exact_of, program_of}
 use Rattle.network.proofs.Sane.{sane}
 use Rattle.network.proofs.Kept.{here-number, used-number}
 use Rattle.step.specs.declared.Change.{Change}
-use Rattle.step.specs.declared.Outcome.{Outcome}
-use Rattle.step.specs.declared.Outcome.TheVariants.{NoFlow, Changes}
+use Rattle.step.specs.Outcome.{Outcome}
+use Rattle.step.specs.declared.Halt.TheVariants.{NoFlow}
 use Rattle.step.specs.Back.{old_arc, old_one, restored}
 use Rattle.step.specs.Dropped.{supply_less, cost_added, dropping, dropped, dropped_at, lower_back}
 use Rattle.step.proofs.Frame.{Levels, Framed, no-arc-puts, no_names, arc-stands, supply-put, supply-left, long-supply, here-same, node-gone}
@@ -165,7 +165,7 @@ pub record Dropped (net : Net) (j : ℕ) (v : Fraction) (x : Outcome) : Type 0 w
   pub r_is : supply_less (arc_at net j).from (supply_at net (arc_at net j).from) (arc_at net j).a v ≡ Ok r
   pub s_is : supply_less (far_end (arc_at net j)) (supply_at net (arc_at net j).to) (arc_at net j).b v ≡ Ok s
   pub k_is : cost_added net.constant (arc_at net j).cost v ≡ Ok k
-  pub is : Changes (record { edit = dropping j (arc_at net j).from r (far_end (arc_at net j)) s 0 k; old = old_one 0 no_figure (old_arc net j) }) ≡ x
+  pub is : Ok (record { edit = dropping j (arc_at net j).from r (far_end (arc_at net j)) s 0 k; old = old_one 0 no_figure (old_arc net j) }) ≡ x
 
 dropped-met : (net : Net) (j : ℕ) (v : Fraction) {x : Outcome} → Answers x → dropped_at net j v ≡ x → Dropped net j v x
 unfolding dropped
@@ -176,13 +176,13 @@ dropped-met net j v a e =
     record { r = r.0; s = s.0; k = k.0; r_is = r.1; s_is = s.1; k_is = k.1; is = k.2 }
 
 -- arc j dropped at its lower bound is right, if it is a sound step in exact numbers
-pub lower-right : (net : Net) (g : Legal net) (j : ℕ) {c : Change} → 1 ≤ (arc_at net j).from → Proper (arc_at net j).lower → dropped_at net j (arc_at net j).lower ≡ Changes c
+pub lower-right : (net : Net) (g : Legal net) (j : ℕ) {c : Change} → 1 ≤ (arc_at net j).from → Proper (arc_at net j).lower → dropped_at net j (arc_at net j).lower ≡ Ok c
     → ((e : Edit) → Removed (program_of net) (program_of (applied net e)) j (value (arc_at net j).lower) → SoundStep (program_of net) (program_of (applied net e)) (closed-back j (value (arc_at net j).lower)))
     → Right net c (lower_back c.old)
 unfolding lower_back restored with_flow with_price
 lower-right net g j {c} used proper e sound =
     let t = arc_at net j in
-    let d : Dropped net j t.lower (Changes c) = dropped-met net j t.lower tt e in
+    let d : Dropped net j t.lower (Ok c) = dropped-met net j t.lower tt e in
     right_of g lower_back d.is (dropped-framed net j _ _ 0 (supply-less t.from _ _ _ d.r_is) (supply-less (far_end t) _ _ _ d.s_is) (cost_added_lem net.constant t.cost t.lower d.k_is).0 (λ k l. absurd (omega arith)))
     (inr (record { number = j; used = used; dropped = arc-stands net _ g 0 (used-number g j used) (no_names j).1 }))
     (record { arcs = (((used-number g j used).1, refl), (no_old g).1); named = λ x u. u; node = omega arith; supply = lit≤ tt; new = omega arith })
@@ -190,5 +190,5 @@ lower-right net g j {c} used proper e sound =
     (λ pair z r q. rw (restored-is q) (flow-put (itself z) j t.lower (used-number g j used) (proper, refl)))
 
 -- a drop shows nothing
-pub dropped-shows : {X : Type 0} (net : Net) (j : ℕ) (v : Fraction) → dropped_at net j v ≡ NoFlow → X
+pub dropped-shows : {X : Type 0} (net : Net) (j : ℕ) (v : Fraction) → dropped_at net j v ≡ (Err NoFlow) → X
 dropped-shows net j v e = not-shown (dropped-met net j v tt e).is

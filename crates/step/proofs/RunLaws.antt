@@ -1,4 +1,5 @@
 -- THE COMMON ARGUMENT: what holds of each rule of a table holds of the search, of a whole run, and of the way back over it.
+use Rattle.std.specs.Prelude.{Ok, Err}
 use mathlib.Core.Path.{◌≡◌, refl, sym, ap, ◌∙◌, subst}
 use mathlib.Core.Bool.{true, false, cond}
 use mathlib.Core.List.{List, [], ◌∷◌}
@@ -20,17 +21,16 @@ use Rattle.network.specs.Legal.{Legal}
 use Rattle.network.specs.Pair.{exact_pair}
 use Rattle.network.specs.Program.{program_of}
 use Rattle.step.specs.declared.Change.{Change}
-use Rattle.step.specs.declared.Outcome.{Outcome}
-use Rattle.step.specs.declared.Outcome.TheVariants.{Passes, NoFlow, Changes}
+use Rattle.step.specs.Outcome.{Outcome}
+use Rattle.step.specs.declared.Halt.TheVariants.{Passes, NoFlow}
 use Rattle.step.specs.declared.Restored.{Restored}
-use Rattle.step.specs.declared.Undone.{Undone}
-use Rattle.step.specs.declared.Undone.TheVariants.{Wide, Restores}
+use Rattle.step.specs.Back.{Undone}
 use Rattle.step.specs.declared.Step.{Step}
 use Rattle.step.specs.declared.Next.{Next}
 use Rattle.step.specs.declared.Next.TheVariants.{Stops, Refuted, Takes}
 use Rattle.step.specs.Back.{restored}
 use Rattle.step.specs.Applies.{Passing, NoneApplies}
-use Rattle.step.specs.Run.{Rule, or_else, upward, next_from, next_by, Run, run_by, run_of, rule_from, back_of, Way, wide, at, arrived, undo, way_back}
+use Rattle.step.specs.Run.{Rule, or_else, upward, next_from, next_by, Run, run_by, run_of, rule_from, back_of, Way, at, arrived, undo, way_back}
 use Rattle.step.proofs.Fewer.{left_of}
 use Rattle.step.proofs.Figures.{Sized, Holds, itself}
 use Rattle.step.proofs.Each.{All}
@@ -51,7 +51,7 @@ unfolding rule_from
 rule-places P k [] laws r = omega arith
 rule-places P k (R ∷ rules) laws r = split (eqb r k) (λ e. rw e laws.0.few_places) (λ e. rw e (rule-places _ (suc k) rules laws.1 r))
 
-pub rule-unused : (P : Net → Type 0) (k : ℕ) (rules : List Rule) → Lawful P rules → (net : Net) → Legal net → (r i : ℕ) → in_use (rule_from k rules r) net i ≡ false → (rule_from k rules r).at net i ≡ Passes
+pub rule-unused : (P : Net → Type 0) (k : ℕ) (rules : List Rule) → Lawful P rules → (net : Net) → Legal net → (r i : ℕ) → in_use (rule_from k rules r) net i ≡ false → (rule_from k rules r).at net i ≡ (Err Passes)
 unfolding rule_from
 rule-unused P k [] laws net g r i = λ h. refl
 rule-unused P k (R ∷ rules) laws net g r i = split (eqb r k) (λ e. rw e (laws.0.unused net g i)) (λ e. rw e (rule-unused _ (suc k) rules laws.1 net g r i))
@@ -70,21 +70,21 @@ rule-within k (R ∷ rules) r = split (eqb r k) (λ e h. omega (arith, eqb-true 
 -- ---- one rule at its places
 
 -- what holds of no flow and of a change at any of them, and of the rest where all pass
-upward-each : (P : Next → Type 0) (rule : ℕ → Outcome) (k many i : ℕ) (rest : Next) → ((j : ℕ) → rule j ≡ NoFlow → P (Refuted k j)) → ((j : ℕ) (c : Change) → j < i + many → rule j ≡ Changes c → P (Takes (record { rule = k; place = j; change = c })))
-    → (((j : ℕ) → i ≤ j → j < i + many → rule j ≡ Passes) → P rest) → P (upward rule k many i rest)
+upward-each : (P : Next → Type 0) (rule : ℕ → Outcome) (k many i : ℕ) (rest : Next) → ((j : ℕ) → rule j ≡ (Err NoFlow) → P (Refuted k j)) → ((j : ℕ) (c : Change) → j < i + many → rule j ≡ Ok c → P (Takes (record { rule = k; place = j; change = c })))
+    → (((j : ℕ) → i ≤ j → j < i + many → rule j ≡ (Err Passes)) → P rest) → P (upward rule k many i rest)
 unfolding upward
 upward-each P rule k zero i rest r t p = p (λ j l h. absurd (omega arith))
 upward-each P rule k (suc many) i rest r t p =
     by (rule i) refl (λ e. upward-each P rule k many (suc i) rest r (λ j c l. t j c (omega (arith, l, add-one i, add-one many))) (λ f. p (λ j l h. each e f j l h (ℕ_discrete j i))))
   where
-    each : rule i ≡ Passes → ((j : ℕ) → suc i ≤ j → j < suc i + many → rule j ≡ Passes) → (j : ℕ) → i ≤ j → j < i + suc many → Dec (j ≡ i) → rule j ≡ Passes
+    each : rule i ≡ (Err Passes) → ((j : ℕ) → suc i ≤ j → j < suc i + many → rule j ≡ (Err Passes)) → (j : ℕ) → i ≤ j → j < i + suc many → Dec (j ≡ i) → rule j ≡ (Err Passes)
     each e f j l h (yes z) = ap rule z ∙ e
     each e f j l h (no n) = f j (omega (arith, add-one i)) (omega (arith, add-one i, add-one many))
 
-    by : (o : Outcome) → rule i ≡ o → (rule i ≡ Passes → P (upward rule k many (suc i) rest)) → P (or_else k i o (upward rule k many (suc i) rest))
-    by NoFlow e on = r i e
-    by (Changes c) e on = t i c (omega (arith, add-one many)) e
-    by Passes e on = on e
+    by : (o : Outcome) → rule i ≡ o → (rule i ≡ (Err Passes) → P (upward rule k many (suc i) rest)) → P (or_else k i o (upward rule k many (suc i) rest))
+    by (Err NoFlow) e on = r i e
+    by (Ok c) e on = t i c (omega (arith, add-one many)) e
+    by (Err Passes) e on = on e
 
 -- ---- the search
 
@@ -174,13 +174,13 @@ at-is : {p q : Pair} → ◌≡◌ {A = Way} (at p) (at q) → p ≡ q
 at-is e = cc
 
 -- a way that arrives: what was undone last, and where it arrived before
-undo-met : (back : Pair → Undone) (way : Way) {q : Pair} → undo back way ≡ at q → (p : Pair) × (r : Restored) × (way ≡ at p) × (back p ≡ Restores r) × (restored p r ≡ q)
-undo-met back wide e = never cc
-undo-met back (at p) {q} e = by (back p) refl e
+undo-met : (back : Pair → Undone) (way : Way) {q : Pair} → undo back way ≡ at q → (p : Pair) × (r : Restored) × (way ≡ at p) × (back p ≡ Ok r) × (restored p r ≡ q)
+undo-met back (Err m) e = never cc
+undo-met back (Ok p) {q} e = by (back p) refl e
   where
-    by : (u : Undone) → back p ≡ u → arrived u p ≡ at q → (p' : Pair) × (r : Restored) × (at p ≡ at p') × (back p' ≡ Restores r) × (restored p' r ≡ q)
-    by Wide f e = never cc
-    by (Restores r) f e = (p, r, refl, f, at-is e)
+    by : (u : Undone) → back p ≡ u → arrived u p ≡ at q → (p' : Pair) × (r : Restored) × (at p ≡ at p') × (back p' ≡ Ok r) × (restored p' r ≡ q)
+    by (Err m) f e = never cc
+    by (Ok r) f e = (p, r, refl, f, at-is e)
 
 module _ (next : Net → Next) (back : Step → Pair → Undone) (laws : (net : Net) → Legal net → NextLaws net back (next net)) where
   stay-laws : {net : Net} (n : Next) → Legal net → ((k i : ℕ) → n ≡ Refuted k i → LP.NoFlow (program_of net)) → RunLaws net back (record { steps = []; net = net; ends = n })

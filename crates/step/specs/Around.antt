@@ -1,12 +1,13 @@
 -- The arcs that touch a node, upward, and a node as the rules of nodes are given it.
+use Rattle.std.specs.Prelude.{Err}
 use Rattle.std.specs.Prelude.{◌≡◌, Bool, true, false, List, ℕ, ◌≤◌}
 use Rattle.fraction.specs.declared.Fraction.{Fraction}
 use Rattle.network.specs.declared.Net.{Net}
 use Rattle.network.specs.Network.{is_here, degree_of, touching_after}
 use Rattle.network.specs.Legal.{Legal}
 use Rattle.step.specs.declared.Around.{Around}
-use Rattle.step.specs.declared.Outcome.{Outcome}
-use Rattle.step.specs.declared.Outcome.TheVariants.{Passes}
+use Rattle.step.specs.Outcome.{Outcome}
+use Rattle.step.specs.declared.Halt.TheVariants.{Passes}
 use Rattle.step.specs.Back.{old_arc}
 
 -- their numbers; 0 where there are no more
@@ -33,7 +34,7 @@ pub record Trial : Type 0 where
 
 -- of a rule of arcs
 abbrev pub no_trial : Trial
-no_trial = record { degree = 0; balanced = false; by = λ constant supply i d near. Passes }
+no_trial = record { degree = 0; balanced = false; by = λ constant supply i d near. (Err Passes) }
 
 -- of the arcs that touch node i, as many as d asks for
 pub record Near (net : Net) (i d : ℕ) (near : Around) : Type 0 where

@@ -1,8 +1,9 @@
 -- How a way back reads: its figures in the paper's order, then the flows and the price that it restores.
 use Rattle.std.specs.Prelude.{cond, List, [], ◌∷◌, ℕ, eqb}
 use Rattle.fraction.specs.declared.Fraction.{Fraction}
+use Rattle.fraction.specs.declared.Misfit.{Misfit}
 use Rattle.fraction.specs.Exact.{Worked}
-use Rattle.std.specs.Prelude.{Ok, Err}
+use Rattle.std.specs.Prelude.{Result, Ok, Err}
 use Rattle.fraction.specs.Exact.{no_figure}
 use Rattle.fraction.specs.Formula.{◌⊖◌, ◌⊗◌, ◌⊘◌}
 use Rattle.network.specs.declared.Arc.{Arc}
@@ -16,13 +17,15 @@ use Rattle.step.specs.declared.Old.{Old}
 use Rattle.step.specs.declared.FlowUpdate.{FlowUpdate}
 use Rattle.step.specs.declared.PriceUpdate.{PriceUpdate}
 use Rattle.step.specs.declared.Restored.{Restored}
-use Rattle.step.specs.declared.Undone.{Undone}
-use Rattle.step.specs.declared.Undone.TheVariants.{Wide}
+
+-- what the way back over a step answers: the figures that it restores, or that one doesn't fit
+abbrev pub Undone : Type 0
+Undone = Result Restored Misfit
 
 -- a figure of the way back, which must fit (question 13)
 unfoldable pub figure : Worked → (Fraction → Undone) → Undone
 figure (Ok x) rest = rest x
-figure (Err m) rest = Wide
+figure (Err m) rest = Err m
 
 -- ---- the old arcs that a change hands to its way back
 

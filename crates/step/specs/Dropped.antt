@@ -12,10 +12,8 @@ use Rattle.network.specs.declared.Side.{Side}
 use Rattle.network.specs.declared.pair.Pair.{Pair}
 use Rattle.network.specs.Network.{no_arc, arc_at, supply_at, far_end, edit_one}
 use Rattle.step.specs.declared.Old.{Old}
-use Rattle.step.specs.declared.Outcome.{Outcome}
-use Rattle.step.specs.declared.Outcome.TheVariants.{Changes}
-use Rattle.step.specs.declared.Undone.{Undone}
-use Rattle.step.specs.declared.Undone.TheVariants.{Restores}
+use Rattle.step.specs.Outcome.{Outcome}
+use Rattle.step.specs.Back.{Undone}
 use Rattle.step.specs.Outcome.{◌>>=◌, fits}
 use Rattle.step.specs.Back.{old_one, flow_only}
 
@@ -42,11 +40,11 @@ dropped constant j t v r r' = do
   x ← fits (supply_less t.from r t.a v)
   y ← fits (supply_less (far_end t) r' t.b v)
   z ← fits (cost_added constant t.cost v)
-  Changes (record { edit = dropping j t.from x (far_end t) y 0 z; old = old_one 0 no_figure (record { number = j; arc = t }) })
+  Ok (record { edit = dropping j t.from x (far_end t) y 0 z; old = old_one 0 no_figure (record { number = j; arc = t }) })
 
 abbrev pub dropped_at : Net → ℕ → Fraction → Outcome
 dropped_at net j v = dropped net.constant j (arc_at net j) v (supply_at net (arc_at net j).from) (supply_at net (arc_at net j).to)
 
 -- "Back: flow l."
 unfoldable pub lower_back : Old → Pair → Undone
-lower_back old pair = Restores (flow_only old.one.number old.one.arc.lower)
+lower_back old pair = Ok (flow_only old.one.number old.one.arc.lower)

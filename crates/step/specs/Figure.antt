@@ -1,7 +1,7 @@
 -- Figures that the rules choose between.
 use Rattle.std.specs.Prelude.{cond}
 use Rattle.fraction.specs.declared.Fraction.{Fraction}
-use Rattle.fraction.specs.Exact.{Worked, misfit}
+use Rattle.fraction.specs.Exact.{Worked}
 use Rattle.std.specs.Prelude.{Ok, Err}
 use Rattle.fraction.specs.Exact.{is_less}
 
@@ -16,4 +16,4 @@ smaller x y = cond (is_less y x) y x
 -- f of a figure that fits
 abbrev pub ◌<$>◌ : (Fraction → Fraction) → Worked → Worked
 f <$> Ok x = Ok (f x)
-f <$> (Err m) = (Err misfit)
+f <$> Err m = Err m

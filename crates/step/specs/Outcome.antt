@@ -2,9 +2,14 @@
 use Rattle.std.specs.Prelude.{Bool, cond}
 use Rattle.fraction.specs.declared.Fraction.{Fraction}
 use Rattle.fraction.specs.Exact.{Worked}
-use Rattle.std.specs.Prelude.{Ok, Err}
-use Rattle.step.specs.declared.Outcome.{Outcome}
-use Rattle.step.specs.declared.Outcome.TheVariants.{Passes, NoFlow}
+use Rattle.std.specs.Prelude.{Result, Ok, Err}
+use Rattle.step.specs.declared.Change.{Change}
+use Rattle.step.specs.declared.Halt.{Halt}
+use Rattle.step.specs.declared.Halt.TheVariants.{Passes, NoFlow}
+
+-- what a rule answers at a place: a change, or that it doesn't apply, or that there is no flow
+abbrev pub Outcome : Type 0
+Outcome = Result Change Halt
 
 infixl 1 ◌>>=◌ ◌>>◌
 -- what comes after a line of a `do`
@@ -16,13 +21,13 @@ m >>= f = m f
 
 -- the rule applies only where b
 unfoldable pub only_where : Bool → Outcome → Outcome
-only_where b rest = cond b rest Passes
+only_where b rest = cond b rest (Err Passes)
 
 -- "the answer is no flow" where b
 unfoldable pub no_flow_where : Bool → Outcome → Outcome
-no_flow_where b rest = cond b NoFlow rest
+no_flow_where b rest = cond b (Err NoFlow) rest
 
 -- "a rule some of whose figures don't fit doesn't apply at that place"
 unfoldable pub fits : Worked → (Fraction → Outcome) → Outcome
 fits (Ok x) rest = rest x
-fits (Err m) rest = Passes
+fits (Err m) rest = Err Passes

@@ -1,13 +1,15 @@
 -- The rules as a table, the fixed order of search, steps until none applies, and the way back over them.
+use Rattle.std.specs.Prelude.{Result, Ok, Err}
+use Rattle.fraction.specs.declared.Misfit.{Misfit}
+use Rattle.fraction.specs.Exact.{misfit}
 use Rattle.std.specs.Prelude.{cond, List, [], ◌∷◌, ℕ, zero, suc, eqb}
 use Rattle.network.specs.declared.Net.{Net}
 use Rattle.network.specs.declared.pair.Pair.{Pair}
 use Rattle.network.specs.Network.{applied}
 use Rattle.step.specs.declared.Old.{Old}
-use Rattle.step.specs.declared.Outcome.{Outcome}
-use Rattle.step.specs.declared.Outcome.TheVariants.{Passes, NoFlow, Changes}
-use Rattle.step.specs.declared.Undone.{Undone}
-use Rattle.step.specs.declared.Undone.TheVariants.{Wide, Restores}
+use Rattle.step.specs.Outcome.{Outcome}
+use Rattle.step.specs.declared.Halt.TheVariants.{Passes, NoFlow}
+use Rattle.step.specs.Back.{Undone}
 use Rattle.step.specs.declared.Step.{Step}
 use Rattle.step.specs.declared.Next.{Next}
 use Rattle.step.specs.declared.Next.TheVariants.{Stops, Refuted, Takes}
@@ -24,7 +26,7 @@ pub record Rule : Type 0 where
 
 -- rule r of a table whose first is number k; where there is none, one that passes everywhere
 unfoldable pub rule_from : ℕ → List Rule → ℕ → Rule
-rule_from k [] r = record { last = 0; at = λ net i. Passes; back = λ old pair. Wide; trial = no_trial }
+rule_from k [] r = record { last = 0; at = λ net i. (Err Passes); back = λ old pair. (Err misfit); trial = no_trial }
 rule_from k (R ∷ rules) r = cond (eqb r k) R (rule_from (suc k) rules r)
 
 abbrev pub rule_of : List Rule → ℕ → Rule
@@ -34,9 +36,9 @@ rule_of rules r = rule_from 1 rules r
 
 -- the answer of rule k at place i, or, where it passes, what comes after it
 abbrev pub or_else : ℕ → ℕ → Outcome → Next → Next
-or_else k i Passes rest = rest
-or_else k i NoFlow rest = Refuted k i
-or_else k i (Changes c) rest = Takes (record { rule = k; place = i; change = c })
+or_else k i (Err Passes) rest = rest
+or_else k i (Err NoFlow) rest = Refuted k i
+or_else k i (Ok c) rest = Takes (record { rule = k; place = i; change = c })
 
 -- rule k at `many` places from i upward, then what comes after it
 unfoldable pub upward : (ℕ → Outcome) → ℕ → ℕ → ℕ → Next → Next
@@ -81,17 +83,19 @@ abbrev pub back_of : List Rule → Step → Pair → Undone
 back_of rules s pair = (rule_of rules s.rule).back s.change.old pair
 
 -- a pair on its way back, or too wide a figure
-pub data Way : Type 0 where
-  wide : Way
-  at : Pair → Way
+abbrev pub Way : Type 0
+Way = Result Pair Misfit
+
+abbrev pub at : Pair → Way
+at pair = Ok pair
 
 abbrev pub arrived : Undone → Pair → Way
-arrived Wide pair = wide
-arrived (Restores r) pair = at (restored pair r)
+arrived (Ok r) pair = Ok (restored pair r)
+arrived (Err m) pair = Err m
 
 abbrev pub undo : (Pair → Undone) → Way → Way
-undo back wide = wide
-undo back (at pair) = arrived (back pair) pair
+undo back (Ok pair) = arrived (back pair) pair
+undo back (Err m) = Err m
 
 -- the steps undone, the last first
 unfoldable pub way_back : (Step → Pair → Undone) → List Step → Way → Way

@@ -1,14 +1,19 @@
 // One step of a reduction: what a rule answers at a place (01, "The six reductions"), and what its way back answers.
-#![tactic(auto)]
+#![tactic(auto, using(fraction::proofs::Laws::misfit_is), unfolding(
+    fraction::specs::Formula::added, fraction::specs::Formula::subtracted, fraction::specs::Formula::multiplied,
+    fraction::specs::Formula::divided, fraction::specs::Formula::negated,
+    crate::specs::Outcome::fits, crate::specs::Dropped::supply_less, crate::specs::Dropped::cost_added, crate::specs::Dropped::gained,
+    crate::specs::Dropped::dropped, crate::specs::Dropped::lower_back, crate::specs::Back::quote_at))]
 
 ghost use Rattle.std.specs.Prelude.{◌≡◌, true, ◌≤◌};
 ghost use Rattle.network.specs.Network.{is_number};
 ghost use Rattle.network.specs.declared.pair.Pair.{Pair};
 ghost use Rattle.step.specs.Back.{old_one, old_two, no_flow_update, two_flows, flow_only, price_only, flow_and_price, restored, quote_at};
+ghost use Rattle.step.specs.declared.Halt.TheVariants.{Passes};
 ghost use Rattle.step.specs.Figure.{larger as larger_of, smaller as smaller_of};
 ghost use Rattle.step.specs.Dropped.{supply_less, cost_added, gained as gained_by, dropping as dropping_of, dropped, lower_back};
 
-use fraction::{Fraction, Worked};
+use fraction::{Fraction, Misfit, Worked};
 use network::pair::Pair;
 use network::{Arc, ArcUpdate, MAX_ARCS, MAX_NODES, Side, SupplyUpdate};
 
@@ -52,13 +57,24 @@ pub struct Around {
     pub four: ArcUpdate,
 }
 
-// A rule doesn't apply, shows no flow, or is the next step.
-#[derive(Clone, Copy)]
-pub enum Outcome {
+// Why a rule gives no change: it doesn't apply, or it shows no flow.
+#[derive(Clone, Copy, PartialEq, Eq)]
+pub enum Halt {
     Passes,
     NoFlow,
-    Changes(Change),
 }
+
+// "A rule some of whose figures don't fit doesn't apply at that place."
+impl From<Misfit> for Halt {
+    ghost from_gives = { λ _ h. h ≡ Passes };
+
+    fn from(_misfit: Misfit) -> Halt {
+        Halt::Passes
+    }
+}
+
+// What a rule answers at a place.
+pub type Outcome = Result<Change, Halt>;
 
 // A flow for an arc; none where the arc is 0.
 #[derive(Clone, Copy)]
@@ -85,11 +101,7 @@ pub struct Restored {
 }
 
 // What the way back answers: these figures, or that some figure doesn't fit.
-#[derive(Clone, Copy)]
-pub enum Undone {
-    Wide,
-    Restores(Restored),
-}
+pub type Undone = Result<Restored, Misfit>;
 
 // A step taken: its rule's number, its place, and its change.
 #[derive(Clone, Copy)]
@@ -121,25 +133,23 @@ pub fn supply_less(end: usize, s: Fraction, e: Fraction, v: Fraction) -> Worked
     ensures { result ≡ supply_less end s e v }
 {
     if end == 0 {
-        return network::no_figure().fit();
+        return Ok(network::no_figure());
     }
-    s.fit().minus(e.fit().times(v.fit()))
+    s.difference(e.product(v)?)
 }
 
 // The constant with the cost of a flow v added, c × v.
 pub fn cost_added(constant: Fraction, c: Fraction, v: Fraction) -> Worked
     ensures { result ≡ cost_added constant c v }
 {
-    constant.fit().plus(c.fit().times(v.fit()))
+    constant.sum(c.product(v)?)
 }
 
 // The constant where arc t of side w takes the supply r of a node with it: it gains c × r ÷ e.
 pub fn gained(constant: Fraction, t: Arc, w: Side, r: Fraction) -> Worked
     ensures { result ≡ gained_by constant t w r }
 {
-    let c = t.cost.fit();
-    let e = w.e.fit();
-    constant.fit().plus(c.times(r.fit()).over(e))
+    constant.sum(t.cost.product(r)?.quotient(w.e)?)
 }
 
 // Arc j dropped, with supplies for two nodes, a node dropped, and the constant.
@@ -201,26 +211,19 @@ pub fn drop_arc(
     ensures { result ≡ dropped constant j t v left right }
 {
     let far = network::far_end(t);
-    let Worked::Fits(r) = supply_less(t.from, left, t.a, v) else {
-        return Outcome::Passes;
-    };
-    let Worked::Fits(s) = supply_less(far, right, t.b, v) else {
-        return Outcome::Passes;
-    };
-    let Worked::Fits(k) = cost_added(constant, t.cost, v) else {
-        return Outcome::Passes;
-    };
+    let r = supply_less(t.from, left, t.a, v)?;
+    let s = supply_less(far, right, t.b, v)?;
+    let k = cost_added(constant, t.cost, v)?;
     let edit = dropping(j, t.from, r, far, s, 0, k);
     let old = old_one(0, network::no_figure(), ArcUpdate { number: j, arc: t });
-    Outcome::Changes(Change { edit, old })
+    Ok(Change { edit, old })
 }
 
 // Back: flow l.
 pub fn lower_back(old: Old) -> Undone
     ensures { (pair : Pair) → result ≡ lower_back old pair }
 {
-    let one = old.one;
-    Undone::Restores(flow_only(one.number, one.arc.lower))
+    Ok(flow_only(old.one.number, old.one.arc.lower))
 }
 
 // ---- the way back
@@ -346,13 +349,10 @@ pub fn quote(t: Arc, i: usize, p: Fraction) -> Worked
     ensures { result ≡ quote_at t i p }
 {
     let w = network::side_at(t, i);
-    let c = t.cost.fit();
-    let e = w.e.fit();
     if w.other == 0 {
-        return c.over(e);
+        return t.cost.quotient(w.e);
     }
-    let o = w.o.fit();
-    c.minus(o.times(p.fit())).over(e)
+    t.cost.difference(w.o.product(p)?)?.quotient(w.e)
 }
 
 // ---- figures

@@ -21,7 +21,7 @@ use Rattle.presolve.proofs.ThreeWay.{rate, three_back_lem, three-sound}
 use Rattle.presolve.proofs.Rewire.{RisingArc, SharingArc, three-of}
 use Rattle.presolve.proofs.Rewire as Rewire
 use Rattle.fraction.specs.declared.Fraction.{Fraction}
-use Rattle.std.specs.Prelude.{Ok}
+use Rattle.std.specs.Prelude.{Ok, Err}
 use Rattle.fraction.specs.Exact.{Proper, is_less, is_finite}
 use Rattle.fraction.specs.Formula.{◌⊕◌, ◌⊖◌, ◌⊗◌, ◌⊘◌, ⊝◌}
 use Rattle.fraction.specs.Value.{value}
@@ -43,10 +43,9 @@ use Rattle.network.proofs.Kept.{here-number}
 use Rattle.network.proofs.Bounds.{bound-is, no-upper, finite-proper}
 use Rattle.step.specs.declared.Change.{Change}
 use Rattle.step.specs.declared.Old.{Old}
-use Rattle.step.specs.declared.Outcome.{Outcome}
-use Rattle.step.specs.declared.Outcome.TheVariants.{Passes, Changes}
+use Rattle.step.specs.Outcome.{Outcome}
+use Rattle.step.specs.declared.Halt.TheVariants.{Passes}
 use Rattle.step.specs.declared.Restored.{Restored}
-use Rattle.step.specs.declared.Undone.TheVariants.{Restores}
 use Rattle.step.specs.Outcome.{only_where}
 use Rattle.step.specs.Back.{old_arc, restored}
 use Rattle.step.specs.Around.{first_at, second_at, third_at}
@@ -158,7 +157,7 @@ record Met (net : Net) (i n1 n2 n3 : ℕ) (x : Outcome) : Type 0 where
   s_fits : (Ok (supply_at net (side_of (arc_at net n1) i).other) ⊖ Ok (supply_at net i) ⊗ Ok (side_of (arc_at net n1) i).o ⊘ Ok (side_of (arc_at net n1) i).e) ≡ Ok s
   total : Fraction
   total_fits : gained net.constant (arc_at net n1) (side_of (arc_at net n1) i) (supply_at net i) ≡ Ok total
-  is : Changes (joining i (supply_at net i) (old_arc net n1) (old_arc net n2) (old_arc net n3) a b c (side_of (arc_at net n1) i).other s total) ≡ x
+  is : Ok (joining i (supply_at net i) (old_arc net n1) (old_arc net n2) (old_arc net n3) a b c (side_of (arc_at net n1) i).other s total) ≡ x
 
 module _ (net : Net) (g : Legal net) (i : ℕ) (here : is_here net i ≡ true) {x : Outcome} (a : Answers x) where
   sorted-met : (n1 n2 n3 : ℕ) → ArcsAt net i (n1 ∷ n2 ∷ n3 ∷ []) → sorted net.constant net.supply i (old_arc net n1) (old_arc net n2) (old_arc net n3) ≡ x → Met net i n1 n2 n3 x
@@ -284,7 +283,7 @@ module _ (net : Net) (i n k : ℕ) where
 
 -- ---- the change
 
-module _ (net : Net) (g : Legal net) (i n1 n2 n3 : ℕ) {chg : Change} (m : Met net i n1 n2 n3 (Changes chg)) where
+module _ (net : Net) (g : Legal net) (i n1 n2 n3 : ℕ) {chg : Change} (m : Met net i n1 n2 n3 (Ok chg)) where
   abbrev here : is_here net i ≡ true
   here = m.here
 
@@ -457,7 +456,7 @@ module _ (net : Net) (g : Legal net) (i n1 n2 n3 : ℕ) {chg : Change} (m : Met 
     third-exactly : Exactly (⊝ ((Ok w1.e ⊗ Ok y1 ⊕ Ok w2.e ⊗ Ok y2) ⊘ Ok w3.e)) (-ℚ ((value w1.e *ℚ value y1 +ℚ value w2.e *ℚ value y2) *ℚ inv (value w3.e)))
     third-exactly = negated-exactly (over-exactly (plus-gives (times-gives (given _) (given _)) (times-gives (given _) (given _))) (given _))
 
-    agrees : Sized pair → (q : Restored) → three_back old pair ≡ Restores q → Holds (restored pair q) (back (exact_pair pair))
+    agrees : Sized pair → (q : Restored) → three_back old pair ≡ Ok q → Holds (restored pair q) (back (exact_pair pair))
     unfolding three_back back restored with_flow with_price
     agrees v q e =
         let x = figure-met _ _ e in
@@ -476,7 +475,7 @@ module _ (net : Net) (g : Legal net) (i n1 n2 n3 : ℕ) {chg : Change} (m : Met 
       right_of g three_back m.is framed (inl here)
       (record { arcs = ((m.one.at.number.1, refl), ((m.two.at.number.1, refl), ((m.third.at.number.1, refl), (no_old g).1.1.1))); named = λ x u. u; node = (here-number g i here).1; supply = supply-small g i here; new = omega arith }) back sound (λ pair. agrees pair)
 
-unused : (net : Net) (i : ℕ) → is_here net i ≡ false → three_way net i ≡ Passes
+unused : (net : Net) (i : ℕ) → is_here net i ≡ false → three_way net i ≡ (Err Passes)
 unfolding three_way only_where
 unused net i e = rw e
 

@@ -16,11 +16,9 @@ use Rattle.network.specs.Network.{no_update, no_supply_update, is_here, degree_o
 use Rattle.network.specs.Pair.{flow_at}
 use Rattle.step.specs.declared.Change.{Change}
 use Rattle.step.specs.declared.Old.{Old}
-use Rattle.step.specs.declared.Outcome.{Outcome}
-use Rattle.step.specs.declared.Outcome.TheVariants.{Changes}
+use Rattle.step.specs.Outcome.{Outcome}
 use Rattle.step.specs.declared.Restored.{Restored}
-use Rattle.step.specs.declared.Undone.{Undone}
-use Rattle.step.specs.declared.Undone.TheVariants.{Restores}
+use Rattle.step.specs.Back.{Undone}
 use Rattle.step.specs.Figure.{larger, smaller}
 use Rattle.step.specs.Outcome.{◌>>=◌, ◌>>◌, only_where, fits}
 use Rattle.step.specs.Back.{figure, old_arc, no_numbers, no_flow_update, flow_of, quote_of}
@@ -125,7 +123,7 @@ joined constant i r r' one two three = do
   a ← altered i one.arc three.arc
   b ← altered i two.arc three.arc
   z ← fits (gained constant one.arc w r)
-  Changes (joining i r one two three a b c w.other s z)
+  Ok (joining i r one two three a b c w.other s z)
 
 -- "the two whose multiplier has the supply's sign", and the third of the other sign; "the other ends are three different nodes"
 unfoldable pub sorted : Fraction → List Fraction → ℕ → ArcUpdate → ArcUpdate → ArcUpdate → Outcome
@@ -177,7 +175,7 @@ three_back old pair = do
   z ← figure (⊝ ((e1 ⊗ y1 ⊕ e2 ⊗ y2) ⊘ Ok (side_of t3.arc i).e))
   p ← figure (quote_of t1.arc i pair)
   q ← figure (quote_of t2.arc i pair)
-  Restores (restored_three t1 x t2 y t3 z i (cond below (larger p q) (smaller p q)))
+  Ok (restored_three t1 x t2 y t3 z i (cond below (larger p q) (smaller p q)))
 
 abbrev pub rule : Rule
 rule = record { last = max_nodes; at = three_way; back = three_back; trial = record { degree = 3; balanced = false; by = λ constant supply i d near. three constant supply i d near.one near.two near.three } }

@@ -23,7 +23,7 @@ use Rattle.presolve.specs.Net.{column}
 use Rattle.presolve.proofs.TwoArcs.{image, two-price, two_back_lem, two-sound}
 use Rattle.presolve.proofs.Rewire.{two-of}
 use Rattle.fraction.specs.declared.Fraction.{Fraction}
-use Rattle.std.specs.Prelude.{Ok}
+use Rattle.std.specs.Prelude.{Ok, Err}
 use Rattle.fraction.specs.Exact.{Proper, zero_fraction, no_figure, no_lower, no_upper, is_zero}
 use Rattle.fraction.specs.Formula.{◌⊖◌, ◌⊗◌, ◌⊘◌, ⊝◌}
 use Rattle.fraction.proofs.Laws.{never}
@@ -44,10 +44,9 @@ use Rattle.slackness.specs.Slackness.{keeps_rule}
 use Rattle.fraction.proofs.Exactly.{Exactly, same, minus-exactly}
 use Rattle.slackness.proofs.Laws.{rule-is, is-rule}
 use Rattle.step.specs.declared.Change.{Change}
-use Rattle.step.specs.declared.Outcome.{Outcome}
-use Rattle.step.specs.declared.Outcome.TheVariants.{Passes, Changes}
+use Rattle.step.specs.Outcome.{Outcome}
+use Rattle.step.specs.declared.Halt.TheVariants.{Passes}
 use Rattle.step.specs.declared.Restored.{Restored}
-use Rattle.step.specs.declared.Undone.TheVariants.{Restores}
 use Rattle.step.specs.Outcome.{only_where}
 use Rattle.step.specs.Back.{old_arc, old_two, quote_of, restored}
 use Rattle.step.specs.Around.{first_at, second_at}
@@ -81,7 +80,7 @@ record Merged (constant : Fraction) (i j : ℕ) (tj : Arc) (wj : Side) (k : ℕ)
   b_fits : cond (eqb wk.other 0) (Ok zero_fraction) (⊝ (Ok wk.o ⊗ Ok wj.e ⊘ Ok wk.e)) ≡ Ok b
   supply_fits : cond (eqb wk.other 0) (Ok no_figure) (Ok r' ⊖ Ok wk.o ⊗ Ok r ⊘ Ok wk.e) ≡ Ok supply
   total_fits : gained constant tk wk r ≡ Ok total
-  is : Changes (record { edit = merging j (new_arc wj wk cost lower upper b) k wk.other supply i total; old = old_two i r (record { number = j; arc = tj }) (record { number = k; arc = tk }) }) ≡ x
+  is : Ok (record { edit = merging j (new_arc wj wk cost lower upper b) k wk.other supply i total; old = old_two i r (record { number = j; arc = tj }) (record { number = k; arc = tk }) }) ≡ x
 
 merged-met : (constant : Fraction) (i j : ℕ) (tj : Arc) (wj : Side) (k : ℕ) (tk : Arc) (wk : Side) (r r' : Fraction) {x : Outcome} → Answers x → merged constant i j tj wj k tk wk r r' ≡ x → Merged constant i j tj wj k tk wk r r' x
 unfolding merged
@@ -149,7 +148,7 @@ two-met net g i {x} a e = (cond root u t, cond root t u, by root refl d.1)
 
 -- ---- the change
 
-module _ (net : Net) (g : Legal net) (i j k : ℕ) {c : Change} (m : Met net i j k (Changes c)) where
+module _ (net : Net) (g : Legal net) (i j k : ℕ) {c : Change} (m : Met net i j k (Ok c)) where
   abbrev tj : Arc
   tj = arc_at net j
 
@@ -341,7 +340,7 @@ module _ (net : Net) (g : Legal net) (i j k : ℕ) {c : Change} (m : Met net i j
           (λ b. let w = m.arcs.at_j.quotes pair π (rw b at e) in
           (w.0, w.1 ∙ sym (choose_no decided _ _ (λ h. never (let c = sym b ∙ is-rule px old.lower_bound old.upper_bound cost-now.0 (subst (λ A. A) (sym is_kept) h) in cc)))))
 
-    agrees : (q : Restored) → two_back (old_two i r (record { number = j; arc = tj }) (record { number = k; arc = tk })) pair ≡ Restores q → Holds (restored pair q) (back (exact_pair pair))
+    agrees : (q : Restored) → two_back (old_two i r (record { number = j; arc = tj }) (record { number = k; arc = tk })) pair ≡ Ok q → Holds (restored pair q) (back (exact_pair pair))
     unfolding two_back back restored with_flow with_price
     agrees q e =
         let y = figure-met _ _ e in
@@ -356,7 +355,7 @@ module _ (net : Net) (g : Legal net) (i j k : ℕ) {c : Change} (m : Met net i j
       right_of g two_back m.made.is framed (inl m.here)
       (record { arcs = ((m.arcs.at_j.number.1, refl), ((m.arcs.at_k.number.1, refl), (no_old g).1.1)); named = λ x u. u; node = (here-number g i m.here).1; supply = supply-small g i m.here; new = omega arith }) back sound agrees
 
-unused : (net : Net) (i : ℕ) → is_here net i ≡ false → two_arcs net i ≡ Passes
+unused : (net : Net) (i : ℕ) → is_here net i ≡ false → two_arcs net i ≡ (Err Passes)
 unfolding two_arcs only_where
 unused net i e = rw e
 

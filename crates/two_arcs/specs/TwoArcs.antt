@@ -16,10 +16,8 @@ use Rattle.network.specs.Network.{no_arc, no_supply_update, edit_two, is_here, d
 use Rattle.network.specs.Pair.{price_at, flow_at}
 use Rattle.slackness.specs.Slackness.{keeps_rule}
 use Rattle.step.specs.declared.Old.{Old}
-use Rattle.step.specs.declared.Outcome.{Outcome}
-use Rattle.step.specs.declared.Outcome.TheVariants.{Changes}
-use Rattle.step.specs.declared.Undone.{Undone}
-use Rattle.step.specs.declared.Undone.TheVariants.{Restores}
+use Rattle.step.specs.Outcome.{Outcome}
+use Rattle.step.specs.Back.{Undone}
 use Rattle.step.specs.Figure.{larger, smaller, ◌<$>◌}
 use Rattle.step.specs.Outcome.{◌>>=◌, ◌>>◌, only_where, fits}
 use Rattle.step.specs.Back.{figure, old_arc, old_two, flow_and_price, quote_of}
@@ -61,7 +59,7 @@ merged constant i j tj wj k tk wk r r' = do
   b ← fits (cond root (Ok zero_fraction) (⊝ (Ok wk.o ⊗ Ok wj.e ⊘ Ok wk.e)))
   s ← fits (cond root (Ok no_figure) (Ok r' ⊖ Ok wk.o ⊗ Ok r ⊘ Ok wk.e))
   z ← fits (gained constant tk wk r)
-  Changes (record { edit = merging j (new_arc wj wk c l u b) k wk.other s i z; old = old_two i r (record { number = j; arc = tj }) (record { number = k; arc = tk }) })
+  Ok (record { edit = merging j (new_arc wj wk c l u b) k wk.other s i z; old = old_two i r (record { number = j; arc = tj }) (record { number = k; arc = tk }) })
 
 -- "not both root arcs, other ends different (a root arc has none and so differs)": no other end is 0, so that two root arcs' are equal
 unfoldable pub kept : Fraction → List Fraction → ℕ → ArcUpdate → ArcUpdate → Outcome
@@ -98,7 +96,7 @@ two_back old pair = do
   first ← figure (quote_of tk i pair)
   d ← figure (Ok tj.cost ⊖ Ok wj.o ⊗ Ok (price_at pair wj.other) ⊖ Ok wj.e ⊗ Ok first)
   p ← figure (cond (keeps_rule tj.lower tj.upper x d) (Ok first) (quote_of tj i pair))
-  Restores (flow_and_price old.two.number y i p)
+  Ok (flow_and_price old.two.number y i p)
 
 abbrev pub rule : Rule
 rule = record { last = max_nodes; at = two_arcs; back = two_back; trial = record { degree = 2; balanced = false; by = λ constant supply i d near. two constant supply i d near.one near.two } }

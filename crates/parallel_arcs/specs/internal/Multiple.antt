@@ -1,16 +1,17 @@
 -- What can be told of two arcs without a division: it holds where one is a multiple of the other.
+use Rattle.std.specs.Prelude.{Ok, Err}
 use Rattle.std.specs.Prelude.{Bool, true, false, cond, ◌&&◌, not, ℕ, ◌*◌, ◌%◌, eqb, ℤ, pos, nat_abs, ◌*ℤ◌}
 use Rattle.std.specs.Int.Signed.{lt_z}
 use Rattle.fraction.specs.declared.Fraction.{Fraction}
 use Rattle.network.specs.declared.Arc.{Arc}
-use Rattle.step.specs.declared.Outcome.{Outcome}
-use Rattle.step.specs.declared.Outcome.TheVariants.{Passes, NoFlow, Changes}
+use Rattle.step.specs.Outcome.{Outcome}
+use Rattle.step.specs.declared.Halt.TheVariants.{Passes, NoFlow}
 
 -- whether a rule passes
 abbrev pub is_passing : Outcome → Bool
-is_passing Passes = true
-is_passing NoFlow = false
-is_passing (Changes c) = false
+is_passing (Err Passes) = true
+is_passing (Err NoFlow) = false
+is_passing (Ok c) = false
 
 -- the numbers of a word
 abbrev pub words : ℕ
