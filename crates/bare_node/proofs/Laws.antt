@@ -30,7 +30,7 @@ use Rattle.step.specs.Outcome.{only_where}
 use Rattle.step.specs.Back.{old_one, restored}
 use Rattle.step.proofs.Frame.{no-level, no_names, supply-same}
 use Rattle.step.proofs.Exactly.{zero-figure, listed-node, rhs_is, alone, column-kept, rhs-off}
-use Rattle.step.proofs.Lines.{Answers, only-met, flow-met, not-shown, not-changed, restored-is, met}
+use Rattle.step.proofs.Lines.{Answers, only-met, flow-met, not-shown, not-changed, made-is, met}
 use Rattle.step.proofs.Removing.{dropped-framed, rhs-after}
 use Rattle.step.proofs.Node.{arcs-here}
 use Rattle.step.proofs.Figures.{itself, price-put}
@@ -61,13 +61,13 @@ module _ (net : Net) (g : Legal net) (i : ℕ) {x : Outcome} (m : Bare net i x) 
   untouched : Untouched (program_of net) i
   untouched k l = alone net g i [] no-arc k none
 
-  right : {c : Change} → is_zero (supply_at net i) ≡ true → Ok (record { edit = dropping net i; old = old_one i no_figure no_update }) ≡ Ok c → Right net c (bare_back c.old)
+  right : {c : Change} → is_zero (supply_at net i) ≡ true → ◌≡◌ {A = Outcome} (Ok (record { edit = dropping net i; old = old_one i no_figure no_update })) (Ok c) → Right net c (bare_back c.old)
   unfolding applied bare_back exact_of restored with_flow with_price
   right zero e =
       right_of g bare_back e (dropped-framed net 0 no_supply_update no_supply_update i no-level no-level g.constant_proper (λ k l t. absurd (no-arc k t))) (inl m.here)
       (record { arcs = no_old g; named = λ x u. u; node = (here-number g i m.here).1; supply = lit≤ tt; new = omega arith }) (bare-back i 0_ℚ)
       (bare-sound 0_ℚ (record { bare = untouched; rows_same = refl; cols_same = refl; same = λ k l. column-kept net (dropping net i) k (no_names k); rhs_is = λ s l. rhs-after net g (dropping net i) (program_of net).rhs (λ s h n. ap value (supply-same net (dropping net i) s (λ l. absurd (omega arith)) (λ l. absurd (omega arith))) ∙ sym (rhs_is net s h)) (λ h. sym (rhs_is net i h ∙ zero-figure _ zero)) (λ s h. sym (rhs-off net s h)) s; constant_is = refl }))
-      (λ pair z r q. rw (restored-is q) (price-put (itself z) i _ (here-number g i m.here) (zero-proper, zero_is)))
+      (λ pair z r q. rw (made-is q) (price-put (itself z) i _ (here-number g i m.here) (zero-proper, zero_is)))
 
   no_flow : is_zero (supply_at net i) ≡ false → LP.NoFlow (program_of net)
   no_flow nonzero = bare-no-flow i untouched (once-mem (listed-node net g i m.here)) (λ z. nonzero-value (g.supply_proper i m.here) nonzero (sym (rhs_is net i m.here) ∙ z))

@@ -1,25 +1,25 @@
 // Rule 1: closed arc.
-#![tactic(auto)]
+#![tactic(auto, using(fraction::proofs::Laws::misfit_is), unfolding(step::specs::Outcome::only_where, step::specs::Outcome::no_flow_where, step::specs::Outcome::fits, fraction::specs::Exact::is_same, crate::specs::ClosedArc::closed))]
 
 ghost use Rattle.std.specs.Prelude.{◌≡◌};
 ghost use Rattle.closed_arc.specs.ClosedArc.{closed};
 
 use fraction::Fraction;
 use network::Arc;
-use step::Outcome;
+use step::{Halt, Outcome};
 
 // Rule 1 at arc j, t; left and right are the supplies of its ends.
 pub fn closed_arc(constant: Fraction, j: usize, t: Arc, left: Fraction, right: Fraction) -> Outcome
     ensures { result ≡ closed constant j t left right }
 {
     if t.from == 0 {
-        return Outcome::Passes;
+        return Err(Halt::Passes);
     }
     if t.upper.less(t.lower) {
-        return Outcome::NoFlow;
+        return Err(Halt::NoFlow);
     }
-    if !t.lower.same(t.upper) {
-        return Outcome::Passes;
+    if t.lower != t.upper {
+        return Err(Halt::Passes);
     }
     step::drop_arc(constant, j, t, t.lower, left, right)
 }

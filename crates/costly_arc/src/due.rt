@@ -68,8 +68,8 @@ fn is_positive(w: Worked) -> bool
     ensures { result ≡ is_positive w }
 {
     match w {
-        Worked::Fits(x) => Fraction::ZERO.less(x),
-        Worked::Misfit => false,
+        Ok(x) => Fraction::ZERO.less(x),
+        Err(_) => false,
     }
 }
 
@@ -77,9 +77,16 @@ fn is_under(w: Worked, c: Fraction) -> bool
     ensures { result ≡ is_under w c }
 {
     match w {
-        Worked::Fits(x) => x.less(c),
-        Worked::Misfit => false,
+        Ok(x) => x.less(c),
+        Err(_) => false,
     }
+}
+
+// c1 × a ÷ a1, for the root arc x and the multiplier a.
+fn cost_by(x: Arc, a: Fraction) -> Worked
+    ensures { result ≡ Ok x.cost ⊗ Ok a ⊘ Ok x.a }
+{
+    x.cost.product(a)?.quotient(x.a)
 }
 
 // The cost by way of the root arc x at node i, where the multiplier is e; none where x is old, or doesn't serve.
@@ -89,10 +96,8 @@ fn way(old: bool, x: Arc, i: usize, e: Fraction) -> Fraction
     if old {
         return network::no_figure();
     }
-    let a = e.fit();
-    let a1 = x.a.fit();
-    if is_open_root(x, i) && is_positive(a.over(a1)) {
-        return x.cost.fit().times(a).over(a1).figure();
+    if is_open_root(x, i) && is_positive(e.quotient(x.a)) {
+        return cost_by(x, e).unwrap_or(network::no_figure());
     }
     network::no_figure()
 }

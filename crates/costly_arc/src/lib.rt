@@ -12,7 +12,7 @@ ghost use Rattle.costly_arc.specs.Seen.{is_candidate, nothing_seen, marked, mark
 
 use fraction::Fraction;
 use network::{ARC_PLACES, Arc, Edit, MAX_ARCS, NODE_PLACES, Net};
-use step::{Next, Outcome, Step};
+use step::{Halt, Next, Outcome, Step};
 
 mod due;
 
@@ -93,13 +93,13 @@ pub fn costly_arc(net: Net, j: usize) -> Outcome
 {
     let t = network::arc_at(net, j);
     if !is_candidate(t) {
-        return Outcome::Passes;
+        return Err(Halt::Passes);
     }
     let seen = unseen();
     let times = due::all_times(net, seen);
     let at = times.at;
     if !due::has_pair(net, seen, &at, 0, t) {
-        return Outcome::Passes;
+        return Err(Halt::Passes);
     }
     let supply = net.supply;
     at_lower(net.constant, supply, j, t)
@@ -118,7 +118,7 @@ pub fn scan(net: Net, seen: Seen, now: u8) -> Found
         let t = net.arcs[j];
         let w = known.sought[j];
         if due::is_due(&at, w, t) {
-            if let Outcome::Changes(change) = at_lower(net.constant, supply, j, t) {
+            if let Ok(change) = at_lower(net.constant, supply, j, t) {
                 if due::has_pair(net, known, &at, w, t) {
                     let s = Step {
                         rule: 4,

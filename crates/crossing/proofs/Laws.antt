@@ -49,11 +49,12 @@ use Rattle.step.proofs.Frame.{Puts, Tame, Framed, Unnamed, no-level, arc-stands,
 use Rattle.step.proofs.Each.{All, any-mem, apart_distinct}
 use Rattle.step.proofs.Touch.{touching-first}
 use Rattle.step.proofs.Exactly.{Far, arc-in, zero-figure, spoke_of, alone, rewired}
-use Rattle.step.proofs.Lines.{Answers, only-met, fits-met, not-shown, figure-met, restored-is}
+use Rattle.step.proofs.Lines.{Answers, only-met, fits-met, not-shown, figure-met, made-is}
 use Rattle.step.proofs.Node.{AtNode, ArcsAt, arcs-here}
 use Rattle.step.proofs.Figures.{Sized, Holds, itself, flow-put, price-put, larger-is, over-exactly, negated-exactly}
 use Rattle.step.proofs.Laws.{supply-small, Right, right_of, RuleLaws}
-use Rattle.crossing.specs.Crossing.{first_n, second_n, first_p, second_p, is_free, is_apart, new_arc, crossed, edit_four, share_of, crossed_at, crossing, crossing_back}
+use Rattle.crossing.specs.Crossing.{first_n, second_n, first_p, second_p, new_arc, crossed, edit_four, share_of, crossed_at, crossing, crossing_back}
+use Rattle.step.specs.Junction.{is_free, is_apart}
 use Rattle.crossing.specs.Tried.{rule}
 use Rattle.crossing.proofs.Signs.{positive, Signed, signed-first, two-signs}
 use Rattle.crossing.proofs.Tried.{passes, tried}
@@ -93,13 +94,13 @@ record New (net : Net) (i n p : ℕ) : Type 0 where
 abbrev arc_of : {net : Net} {i n p : ℕ} → New net i n p → Arc
 arc_of {net} {i} {n} {p} w = new_arc (side_of (arc_at net n) i) (side_of (arc_at net p) i) w.a w.b w.c
 
-crossed-met : {net : Net} {i n p : ℕ} → Free net i n → Free net i p → is_apart (arc_at net n) (arc_at net p) i ≡ true → (rest : Arc → Outcome) {x : Outcome} → Answers x → crossed i (arc_at net n) (arc_at net p) rest ≡ x → (w : New net i n p) × (rest (arc_of w) ≡ x)
+crossed-met : {net : Net} {i n p : ℕ} → Free net i n → Free net i p → is_apart (arc_at net n) (arc_at net p) i ≡ true → {t : Arc} → crossed i (arc_at net n) (arc_at net p) ≡ Ok t → (w : New net i n p) × (t ≡ arc_of w)
 unfolding crossed
-crossed-met fn fp ne rest h e =
-    let a = fits-met h _ _ e in
-    let b = fits-met h _ _ a.2 in
-    let c = fits-met h _ _ b.2 in
-    (record { n_free = fn; p_free = fp; differ = ne; a = a.0; b = b.0; c = c.0; a_fits = a.1; b_fits = b.1; c_fits = c.1 }, c.2)
+crossed-met fn fp ne e =
+    let a = figure-met _ _ e in
+    let b = figure-met _ _ a.2 in
+    let c = figure-met _ _ b.2 in
+    (record { n_free = fn; p_free = fp; differ = ne; a = a.0; b = b.0; c = c.0; a_fits = a.1; b_fits = b.1; c_fits = c.1 }, made-is c.2)
 
 four-and : (a b c d : Bool) → (a && (b && (c && d))) ≡ true → (a ≡ true) × (b ≡ true) × (c ≡ true) × (d ≡ true)
 four-and a b c d e =
@@ -124,6 +125,9 @@ record Met (net : Net) (i n1 n2 p1 p2 k1 k2 k3 k4 : ℕ) (x : Outcome) : Type 0 
   d : New net i n2 p2
   is : Ok (record { edit = edit_four (numbers k1 k2 k3 k4) (arc_of a) (arc_of b) (arc_of c) (arc_of d) i net.constant; old = record { node = i; supply = supply_at net i; one = old_arc net n1; two = old_arc net n2; three = old_arc net p1; four = old_arc net p2; new = numbers k1 k2 k3 k4 } }) ≡ x
 
+crossed-change : {k : Numbers} {i : ℕ} {constant : Fraction} {old : Old} {a b c d a' b' c' d' : Arc} → a ≡ a' → b ≡ b' → c ≡ c' → d ≡ d' → ◌≡◌ {A = Outcome} (Ok (record { edit = edit_four k a b c d i constant; old = old })) (Ok (record { edit = edit_four k a' b' c' d' i constant; old = old }))
+crossed-change p q r s = cc
+
 crossing-met : (net : Net) → Legal net → (i : ℕ) {x : Outcome} → Answers x → crossing net i ≡ x → Met net i (first_n net i) (second_n net i) (first_p net i) (second_p net i) (first_at net i) (second_at net i) (third_at net i) (fourth_at net i) x
 unfolding crossing crossed_at
 crossing-met net g i a e =
@@ -142,10 +146,14 @@ crossing-met net g i a e =
     let n2 = free-at at.each.1.1.1.0 free.1 in
     let p1 = free-at at.each.0 free.2 in
     let p2 = free-at at.each.1.0 free.3 in
-    let w1 = crossed-met n1 p1 ne.0 _ a s.1 in
-    let w2 = crossed-met n1 p2 ne.1 _ a w1.1 in
-    let w3 = crossed-met n2 p1 ne.2 _ a w2.1 in
-    let w4 = crossed-met n2 p2 ne.3 _ a w3.1 in
+    let t1 = fits-met a _ _ s.1 in
+    let t2 = fits-met a _ _ t1.2 in
+    let t3 = fits-met a _ _ t2.2 in
+    let t4 = fits-met a _ _ t3.2 in
+    let w1 = crossed-met n1 p1 ne.0 t1.1 in
+    let w2 = crossed-met n1 p2 ne.1 t2.1 in
+    let w3 = crossed-met n2 p1 ne.2 t3.1 in
+    let w4 = crossed-met n2 p2 ne.3 t4.1 in
     record {
       here = h.0;
       zero = z.0;
@@ -156,7 +164,7 @@ crossing-met net g i a e =
       b = w2.0;
       c = w3.0;
       d = w4.0;
-      is = w4.1;
+      is = sym (crossed-change w1.1 w2.1 w3.1 w4.1) ∙ t4.2;
     }
 
 -- ---- a new arc
@@ -309,7 +317,7 @@ module _ (net : Net) (g : Legal net) (i n1 n2 p1 p2 k1 k2 k3 k4 : ℕ) {chg : Ch
       let two = flow-put one _ _ at.1.1.0.number (negated-exactly (share-exactly pair n1 k1 k2) _ x.1) in
       let three = flow-put two _ _ at.1.0.number (share-exactly pair p2 k2 k4 _ w.1) in
       let four = flow-put three _ _ at.0.number (share-exactly pair p1 k1 k3 _ v.1) in
-      rw (restored-is q.2) (price-put four _ _ (here-number g i m.here) (larger-is (at.1.1.0.quotes pair _ p.1) (at.1.1.1.0.quotes pair _ q.1)))
+      rw (made-is q.2) (price-put four _ _ (here-number g i m.here) (larger-is (at.1.1.0.quotes pair _ p.1) (at.1.1.1.0.quotes pair _ q.1)))
 
   -- a number that no old arc has
   absent : {x : ℕ} → Unnamed (old_arcs_of old) x → Absent x (four p1 p2 n1 n2)

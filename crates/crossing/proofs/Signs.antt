@@ -17,7 +17,8 @@ use Rattle.network.proofs.First.{First, scan-first}
 use Rattle.step.proofs.Touch.{unlike, At, touches, different-all}
 use Rattle.step.proofs.Figures.{above_zero, below-zero}
 use Rattle.step.proofs.Node.{ArcsAt, at-node, arcs-at}
-use Rattle.crossing.specs.Crossing.{sign_by, has_sign_at, signed_after}
+use Rattle.crossing.specs.Crossing.{signed_after}
+use Rattle.step.specs.Junction.{sign_by, has_sign_at}
 
 pub positive : (n : ℕ) → eqb n 0 ≡ false → 1 ≤ n
 positive n e = let ne = eqb-false n 0 e in omega arith

@@ -3,7 +3,8 @@ use Rattle.std.specs.Prelude.{Bool, true, false, cond, ◌&&◌, not, ℕ, ◌+�
 use Rattle.loops.specs.Loops.{scan}
 use Rattle.fraction.specs.declared.Fraction.{Fraction}
 use Rattle.fraction.specs.Exact.{Worked}
-use Rattle.std.specs.Prelude.{Ok}
+use Rattle.std.specs.Prelude.{Result, Ok}
+use Rattle.fraction.specs.declared.Misfit.{Misfit}
 use Rattle.fraction.specs.Exact.{zero_fraction, no_upper, is_zero, is_less, is_same}
 use Rattle.fraction.specs.Formula.{◌⊕◌, ◌⊘◌, ⊝◌}
 use Rattle.network.specs.declared.Arc.{Arc}
@@ -23,17 +24,13 @@ use Rattle.step.specs.declared.PriceUpdate.{PriceUpdate}
 use Rattle.step.specs.Back.{Undone}
 use Rattle.step.specs.Figure.{larger}
 use Rattle.step.specs.Outcome.{◌>>=◌, ◌>>◌, only_where, fits}
-use Rattle.step.specs.Back.{figure, old_arc, quote_of}
+use Rattle.step.specs.Back.{figure, old_arc, flow_of, quote_of}
+use Rattle.step.specs.Junction.{has_sign_at, is_free, is_apart}
 use Rattle.step.specs.Around.{first_at, second_at, third_at, fourth_at}
 
 -- ---- "two arcs N with e < 0, two arcs P with e > 0"
 
--- an arc's multiplier at node i is below 0 (N), or above 0 (P)
-abbrev pub sign_by : Bool → Bool → Fraction → Bool
-sign_by touches below e = touches && cond below (is_less e zero_fraction) (is_less zero_fraction e)
-
-unfoldable pub has_sign_at : Arc → ℕ → Bool → Bool
-has_sign_at t i below = sign_by (is_touching t i) below (side_of t i).e
+-- N: `has_sign_at t i true`, P: `has_sign_at t i false`
 
 -- the first such arc after number k; 0 where there is none
 unfoldable pub signed_after : Net → ℕ → Bool → ℕ → ℕ
@@ -57,13 +54,7 @@ upward_at net i = record { first = first_at net i; second = second_at net i; thi
 
 -- ---- conditions
 
--- "no root arc, all l = 0 and unbounded above"
-unfoldable pub is_free : Arc → Bool
-is_free t = not (is_root t) && (is_zero t.lower && is_same t.upper no_upper)
-
--- "no N shares its other end with a P"
-unfoldable pub is_apart : Arc → Arc → ℕ → Bool
-is_apart n p i = not (eqb (side_of n i).other (side_of p i).other)
+-- "no root arc, all l = 0 and unbounded above": `is_free`; "no N shares its other end with a P": `is_apart`
 
 -- ---- the step
 
@@ -71,14 +62,14 @@ is_apart n p i = not (eqb (side_of n i).other (side_of p i).other)
 abbrev pub new_arc : Side → Side → Fraction → Fraction → Fraction → Arc
 new_arc wn wp a b c = record { from = wn.other; to = wp.other; cost = c; lower = zero_fraction; upper = no_upper; a = a; b = b }
 
-unfoldable pub crossed : ℕ → Arc → Arc → (Arc → Outcome) → Outcome
-crossed i n p rest = do
+unfoldable pub crossed : ℕ → Arc → Arc → Result Arc Misfit
+crossed i n p = do
   let wn = side_of n i
   let wp = side_of p i
-  a ← fits (⊝ (Ok wn.o ⊘ Ok wn.e))
-  b ← fits (Ok wp.o ⊘ Ok wp.e)
-  c ← fits (⊝ (Ok n.cost ⊘ Ok wn.e) ⊕ Ok p.cost ⊘ Ok wp.e)
-  rest (new_arc wn wp a b c)
+  a ← figure (⊝ (Ok wn.o ⊘ Ok wn.e))
+  b ← figure (Ok wp.o ⊘ Ok wp.e)
+  c ← figure (⊝ (Ok n.cost ⊘ Ok wn.e) ⊕ Ok p.cost ⊘ Ok wp.e)
+  Ok (new_arc wn wp a b c)
 
 abbrev pub put_of : ℕ → Arc → ArcUpdate
 put_of k t = record { number = k; arc = t }
@@ -93,10 +84,10 @@ unfoldable pub crossed_at : Fraction → ℕ → Fraction → ArcUpdate → ArcU
 crossed_at constant i r n1 n2 p1 p2 k = do
   only_where (is_free n1.arc && (is_free n2.arc && (is_free p1.arc && is_free p2.arc)))
   only_where (is_apart n1.arc p1.arc i && (is_apart n1.arc p2.arc i && (is_apart n2.arc p1.arc i && is_apart n2.arc p2.arc i)))
-  a ← crossed i n1.arc p1.arc
-  b ← crossed i n1.arc p2.arc
-  c ← crossed i n2.arc p1.arc
-  d ← crossed i n2.arc p2.arc
+  a ← fits (crossed i n1.arc p1.arc)
+  b ← fits (crossed i n1.arc p2.arc)
+  c ← fits (crossed i n2.arc p1.arc)
+  d ← fits (crossed i n2.arc p2.arc)
   Ok (record { edit = edit_four k a b c d i constant; old = record { node = i; supply = r; one = n1; two = n2; three = p1; four = p2; new = k } })
 
 -- "degree 4", "r = 0", "two arcs N with e < 0, two arcs P with e > 0"
@@ -114,9 +105,6 @@ crossing net i = do
 -- the sum of two flows ÷ e of an arc at node i
 abbrev pub share_of : Fraction → Fraction → Arc → ℕ → Worked
 share_of x y t i = (Ok x ⊕ Ok y) ⊘ Ok (side_of t i).e
-
-abbrev pub flow_of : ArcUpdate → Fraction → FlowUpdate
-flow_of old x = record { arc = old.number; flow = x }
 
 -- "price is the larger of (c - o × other price) ÷ e over the two N"
 abbrev pub price_of : ℕ → Fraction → Fraction → PriceUpdate

@@ -1,3 +1,2 @@
 pub mod Crossing
 pub mod Tried
-pub mod internal

@@ -10,7 +10,8 @@ use Rattle.step.specs.Outcome.{Outcome}
 use Rattle.step.specs.Outcome.{◌>>◌, only_where}
 use Rattle.step.specs.Run.{Rule}
 use Rattle.crossing.specs.declared.Signed.{Signed}
-use Rattle.crossing.specs.Crossing.{has_sign_at, crossed_at, crossing, crossing_back}
+use Rattle.crossing.specs.Crossing.{crossed_at, crossing, crossing_back}
+use Rattle.step.specs.Junction.{has_sign_at}
 
 -- of the arcs at node i, the first two of a sign; number 0 where there is none
 unfoldable pub signed_in : Signed → ArcUpdate → ℕ → Bool → Signed

@@ -1,25 +1,17 @@
 // Rule 6: crossing.
-#![tactic(auto)]
+#![tactic(auto, using(fraction::proofs::Laws::misfit_is), unfolding(fraction::specs::Formula::added, fraction::specs::Formula::subtracted, fraction::specs::Formula::multiplied, fraction::specs::Formula::divided, fraction::specs::Formula::negated, step::specs::Outcome::only_where, step::specs::Outcome::no_flow_where, step::specs::Outcome::fits, step::specs::Back::figure, crate::specs::Crossing::crossed, crate::specs::Crossing::crossed_at, crate::specs::Crossing::crossing_back, crate::specs::Tried::signed_in, crate::specs::Tried::signed_of, crate::specs::Tried::crossing_by))]
 
-ghost use Rattle.std.specs.Prelude.{◌≡◌, ◌&&◌};
-ghost use Rattle.fraction.specs.declared.Worked.TheVariants.{Fits};
-ghost use Rattle.fraction.specs.Formula.{◌⊘◌};
-ghost use Rattle.step.specs.Back.{quote_of};
-ghost use Rattle.crossing.specs.Crossing.{has_sign_at, is_free, is_apart, crossed as crossed_of, edit_four, crossed_at, share_of, flow_of, price_of, crossing_back};
+ghost use Rattle.std.specs.Prelude.{◌≡◌, ◌&&◌, Ok};
+ghost use Rattle.fraction.specs.Formula.{◌⊕◌, ◌⊘◌, ⊝◌};
+ghost use Rattle.crossing.specs.Crossing.{crossed as crossed_of, edit_four, crossed_at, share_of, price_of, crossing_back};
 ghost use Rattle.crossing.specs.Tried.{signed_in, signed_of, crossing_by};
-ghost use Rattle.crossing.specs.internal.Made.{goes_on};
+ghost use Rattle.step.specs.Junction.{is_free, is_apart};
 
-use fraction::{Fraction, Worked};
+use fraction::{Fraction, Misfit, Worked};
 use network::pair::Pair;
-use network::{Arc, ArcUpdate};
-use step::{Around, Change, FlowUpdate, Numbers, Old, Outcome, PriceUpdate, Restored, Undone};
-
-// A new arc, or that some figure of it doesn't fit.
-#[derive(Clone, Copy)]
-enum Made {
-    Wide,
-    Puts(Arc),
-}
+use network::{Arc, ArcUpdate, Side};
+use step::junctions;
+use step::{Around, Change, FlowUpdate, Halt, Numbers, Old, Outcome, PriceUpdate, Restored, Undone};
 
 // Of the arcs at a node, the first two of a sign; number 0 where there is none.
 #[derive(Clone, Copy)]
@@ -28,84 +20,43 @@ struct Signed {
     second: ArcUpdate,
 }
 
-// Whether an arc touches node i with a multiplier below 0, or above 0.
-fn has_sign(t: Arc, i: usize, below: bool) -> bool
-    ensures { result ≡ has_sign_at t i below }
-{
-    if network::touches(t, i) {
-        let w = network::side_at(t, i);
-        let e = w.e;
-        if below {
-            return e.less(Fraction::ZERO);
-        }
-        return Fraction::ZERO.less(e);
-    }
-    false
-}
-
 // ---- conditions
-
-// Whether an arc is no root arc, with bounds 0 and none.
-fn is_free(t: Arc) -> bool
-    ensures { result ≡ is_free t }
-{
-    let l = t.lower;
-    let u = t.upper;
-    if network::is_root(t) {
-        return false;
-    }
-    if l.is_zero() {
-        return u.is_no_upper();
-    }
-    false
-}
-
-// Whether the other ends of two arcs at node i differ.
-fn is_apart(n: Arc, p: Arc, i: usize) -> bool
-    ensures { result ≡ is_apart n p i }
-{
-    let w = network::side_at(n, i);
-    let v = network::side_at(p, i);
-    w.other != v.other
-}
 
 fn all_free(n1: Arc, n2: Arc, p1: Arc, p2: Arc) -> bool
     ensures { result ≡ (is_free n1 && (is_free n2 && (is_free p1 && is_free p2))) }
 {
-    is_free(n1) && (is_free(n2) && (is_free(p1) && is_free(p2)))
+    junctions::is_free(n1) && (junctions::is_free(n2) && (junctions::is_free(p1) && junctions::is_free(p2)))
 }
 
 // Whether no N shares its other end with a P.
 fn all_apart(n1: Arc, n2: Arc, p1: Arc, p2: Arc, i: usize) -> bool
     ensures { result ≡ (is_apart n1 p1 i && (is_apart n1 p2 i && (is_apart n2 p1 i && is_apart n2 p2 i))) }
 {
-    is_apart(n1, p1, i) && (is_apart(n1, p2, i) && (is_apart(n2, p1, i) && is_apart(n2, p2, i)))
+    junctions::is_apart(n1, p1, i) && (junctions::is_apart(n1, p2, i) && (junctions::is_apart(n2, p1, i) && junctions::is_apart(n2, p2, i)))
 }
 
 // ---- the step
 
-fn quotient(x: Fraction, y: Fraction) -> Worked
-    ensures { result ≡ (Fits x ⊘ Fits y) }
+// -(cN ÷ eN) + cP ÷ eP.
+fn cost(n: Arc, w: Side, p: Arc, v: Side) -> Worked
+    ensures { result ≡ ⊝ (Ok n.cost ⊘ Ok w.e) ⊕ Ok p.cost ⊘ Ok v.e }
 {
-    x.fit().over(y.fit())
+    n.cost
+        .quotient(w.e)?
+        .negation()?
+        .sum(p.cost.quotient(v.e)?)
 }
 
 // The new arc of an N and a P at node i.
-fn crossed(i: usize, n: Arc, p: Arc) -> Made
-    ensures { crossed_of i n p ≡ goes_on result }
+fn crossed(i: usize, n: Arc, p: Arc) -> Result<Arc, Misfit>
+    ensures { result ≡ crossed_of i n p }
 {
     let w = network::side_at(n, i);
     let v = network::side_at(p, i);
-    let Worked::Fits(a) = quotient(w.o, w.e).negated() else {
-        return Made::Wide;
-    };
-    let Worked::Fits(b) = quotient(v.o, v.e) else {
-        return Made::Wide;
-    };
-    let Worked::Fits(c) = quotient(n.cost, w.e).negated().plus(quotient(p.cost, v.e)) else {
-        return Made::Wide;
-    };
-    Made::Puts(Arc {
+    let a = w.o.quotient(w.e)?.negation()?;
+    let b = v.o.quotient(v.e)?;
+    let c = cost(n, w, p, v)?;
+    Ok(Arc {
         from: w.other,
         to: v.other,
         cost: c,
@@ -155,23 +106,15 @@ fn cross(
     ensures { result ≡ crossed_at constant i r n1 n2 p1 p2 new }
 {
     if !all_free(n1.arc, n2.arc, p1.arc, p2.arc) {
-        return Outcome::Passes;
+        return Err(Halt::Passes);
     }
     if !all_apart(n1.arc, n2.arc, p1.arc, p2.arc, i) {
-        return Outcome::Passes;
+        return Err(Halt::Passes);
     }
-    let Made::Puts(a) = crossed(i, n1.arc, p1.arc) else {
-        return Outcome::Passes;
-    };
-    let Made::Puts(b) = crossed(i, n1.arc, p2.arc) else {
-        return Outcome::Passes;
-    };
-    let Made::Puts(c) = crossed(i, n2.arc, p1.arc) else {
-        return Outcome::Passes;
-    };
-    let Made::Puts(d) = crossed(i, n2.arc, p2.arc) else {
-        return Outcome::Passes;
-    };
+    let a = crossed(i, n1.arc, p1.arc)?;
+    let b = crossed(i, n1.arc, p2.arc)?;
+    let c = crossed(i, n2.arc, p1.arc)?;
+    let d = crossed(i, n2.arc, p2.arc)?;
     let edit = edit_four(new, a, b, c, d, i, constant);
     let old = Old {
         node: i,
@@ -182,7 +125,7 @@ fn cross(
         four: p2,
         new,
     };
-    Outcome::Changes(Change { edit, old })
+    Ok(Change { edit, old })
 }
 
 // One arc more.
@@ -191,7 +134,7 @@ fn sign_in(s: Signed, u: ArcUpdate, i: usize, below: bool) -> Signed
 {
     let first = s.first;
     let second = s.second;
-    if has_sign(u.arc, i, below) {
+    if junctions::has_sign(u.arc, i, below) {
         if first.number == 0 {
             return Signed { first: u, second };
         }
@@ -221,18 +164,18 @@ pub fn crossing(constant: Fraction, i: usize, degree: usize, r: Fraction, near: 
     ensures { result ≡ crossing_by constant i degree r near }
 {
     if degree != 4 {
-        return Outcome::Passes;
+        return Err(Halt::Passes);
     }
     if !r.is_zero() {
-        return Outcome::Passes;
+        return Err(Halt::Passes);
     }
     let n = by_sign(near, i, true);
     if n.second.number == 0 {
-        return Outcome::Passes;
+        return Err(Halt::Passes);
     }
     let p = by_sign(near, i, false);
     if p.second.number == 0 {
-        return Outcome::Passes;
+        return Err(Halt::Passes);
     }
     let new = Numbers {
         first: near.one.number,
@@ -250,24 +193,7 @@ fn share(x: Fraction, y: Fraction, t: Arc, i: usize) -> Worked
     ensures { result ≡ share_of x y t i }
 {
     let w = network::side_at(t, i);
-    x.fit().plus(y.fit()).over(w.e.fit())
-}
-
-// The price that an arc gives node i.
-fn quote(t: Arc, i: usize, pair: Pair) -> Worked
-    ensures { result ≡ quote_of t i pair }
-{
-    let w = network::side_at(t, i);
-    step::quote(t, i, network::pair::price_at(pair, w.other))
-}
-
-fn flow(old: ArcUpdate, x: Fraction) -> FlowUpdate
-    ensures { result ≡ flow_of old x }
-{
-    FlowUpdate {
-        arc: old.number,
-        flow: x,
-    }
+    x.sum(y)?.quotient(w.e)
 }
 
 // The price of node i, where the two N give p and q.
@@ -293,29 +219,17 @@ pub fn crossing_back(old: Old, pair: Pair) -> Undone
     let b = network::pair::flow_at(pair, old.new.second);
     let c = network::pair::flow_at(pair, old.new.third);
     let d = network::pair::flow_at(pair, old.new.fourth);
-    let Worked::Fits(x) = share(a, b, n1.arc, i).negated() else {
-        return Undone::Wide;
-    };
-    let Worked::Fits(y) = share(c, d, n2.arc, i).negated() else {
-        return Undone::Wide;
-    };
-    let Worked::Fits(z) = share(a, c, p1.arc, i) else {
-        return Undone::Wide;
-    };
-    let Worked::Fits(w) = share(b, d, p2.arc, i) else {
-        return Undone::Wide;
-    };
-    let Worked::Fits(p) = quote(n1.arc, i, pair) else {
-        return Undone::Wide;
-    };
-    let Worked::Fits(q) = quote(n2.arc, i, pair) else {
-        return Undone::Wide;
-    };
-    Undone::Restores(Restored {
-        one: flow(n2, y),
-        two: flow(n1, x),
-        three: flow(p2, w),
-        four: flow(p1, z),
+    let x = share(a, b, n1.arc, i)?.negation()?;
+    let y = share(c, d, n2.arc, i)?.negation()?;
+    let z = share(a, c, p1.arc, i)?;
+    let w = share(b, d, p2.arc, i)?;
+    let p = junctions::quote(n1.arc, i, pair)?;
+    let q = junctions::quote(n2.arc, i, pair)?;
+    Ok(Restored {
+        one: junctions::flow(n2, y),
+        two: junctions::flow(n1, x),
+        three: junctions::flow(p2, w),
+        four: junctions::flow(p1, z),
         price: price(i, p, q),
     })
 }

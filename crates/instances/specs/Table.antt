@@ -36,7 +36,8 @@ use Rattle.bare_node.specs.BareNode.{bare, bare_node, bare_back}
 use Rattle.single_arc.specs.SingleArc.{forced_out, single, single_arc, single_back}
 use Rattle.costly_arc.specs.CostlyArc.{is_open_root, is_costlier, has_pair, costly_arc}
 use Rattle.two_arcs.specs.TwoArcs.{same_sign, tighter, image_of, gained, merged, kept, two, two_arcs, two_back}
-use Rattle.crossing.specs.Crossing.{has_sign_at, signed_after, is_free, is_apart, crossed as crossed_arc, crossed_at, crossing, crossing_back}
+use Rattle.crossing.specs.Crossing.{signed_after, crossed as crossed_arc, crossed_at, crossing, crossing_back}
+use Rattle.step.specs.Junction.{has_sign_at, is_free, is_apart}
 use Rattle.parallel_arcs.specs.ParallelArcs.{ratio_of, is_times, low_end, high_end, upper_sum, joined, alike, parallel_arc, parallel_back}
 use Rattle.rules.specs.Table.{reduced}
 use Rattle.survivors.specs.Survivors.{spread_of}

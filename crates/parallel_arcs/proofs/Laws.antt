@@ -43,7 +43,7 @@ use Rattle.step.specs.Figure.{smaller}
 use Rattle.step.specs.Applies.{Passing}
 use Rattle.step.proofs.Frame.{Framed, no-arc-puts, no-level, no_names, arc-stands, here-same, supply-same}
 use Rattle.step.proofs.Exactly.{arc-off, listed-arc, column-is, column-kept}
-use Rattle.step.proofs.Lines.{Answers, only-met, fits-met, not-shown, figure-met, restored-is}
+use Rattle.step.proofs.Lines.{Answers, only-met, fits-met, not-shown, figure-met, made-is}
 use Rattle.step.proofs.Figures.{Sized, Holds, Figure, itself, flow-put, over-exactly, smaller-is}
 use Rattle.step.proofs.Laws.{no_old, Right, right_of, RuleLaws}
 use Rattle.step.proofs.Touch.{unlike}
@@ -238,7 +238,7 @@ module _ (net : Net) (g : Legal net) (j : ℕ) {c : Change} (h : Found net j (Ok
         let r = figure-met _ _ (sym ends-fit ∙ e) in
         let y = figure-met _ _ r.2 in
         let own = own-share-is r.0 r.1 in
-        rw (restored-is y.2) (flow-put (flow-put (itself z) k y.0 number-k (same (ap (λ q. (value x +ℚ -ℚ q) *ℚ inv γ) own.1) (over-exactly (minus-gives (given x) (given _)) (given m.g)) y.0 y.1)) j _ number-j own)
+        rw (made-is y.2) (flow-put (flow-put (itself z) k y.0 number-k (same (ap (λ q. (value x +ℚ -ℚ q) *ℚ inv γ) own.1) (over-exactly (minus-gives (given x) (given _)) (given m.g)) y.0 y.1)) j _ number-j own)
 
   right : is_less tj.upper tj.lower ≡ false → is_less tk.upper tk.lower ≡ false → Right net c (parallel_back c.old)
   right open-j open-k =

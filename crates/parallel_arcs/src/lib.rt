@@ -1,8 +1,7 @@
 // Rule 7: parallel arcs.
-#![tactic(auto)]
+#![tactic(auto, using(fraction::proofs::Laws::misfit_is), unfolding(fraction::specs::Formula::added, fraction::specs::Formula::subtracted, fraction::specs::Formula::multiplied, fraction::specs::Formula::divided, fraction::specs::Formula::negated, step::specs::Outcome::only_where, step::specs::Outcome::no_flow_where, step::specs::Outcome::fits, step::specs::Back::figure, fraction::specs::Exact::is_finite, fraction::specs::Exact::is_same, crate::specs::ParallelArcs::ratio_of, crate::specs::ParallelArcs::is_times, crate::specs::ParallelArcs::high_end, crate::specs::ParallelArcs::upper_sum, crate::specs::ParallelArcs::joined, crate::specs::ParallelArcs::alike, crate::specs::ParallelArcs::parallel_back))]
 
-ghost use Rattle.std.specs.Prelude.{◌≡◌};
-ghost use Rattle.fraction.specs.declared.Worked.TheVariants.{Fits};
+ghost use Rattle.std.specs.Prelude.{◌≡◌, Ok};
 ghost use Rattle.fraction.specs.Formula.{◌⊖◌, ◌⊘◌};
 ghost use Rattle.network.specs.declared.pair.Pair.{Pair};
 ghost use Rattle.network.specs.Pair.{flow_at};
@@ -11,7 +10,7 @@ ghost use Rattle.parallel_arcs.specs.internal.Multiple.{is_passing};
 
 use fraction::{Fraction, Worked};
 use network::{ARC_PLACES, Arc, ArcUpdate, Net};
-use step::{Change, Old, Outcome, Undone};
+use step::{Change, Halt, Old, Outcome, Undone};
 
 pub mod multiple;
 
@@ -26,10 +25,7 @@ fn ratio(tj: Arc, tk: Arc) -> Worked
 fn is_times(g: Fraction, y: Fraction, x: Fraction) -> bool
     ensures { result ≡ is_times g y x }
 {
-    let Worked::Fits(z) = g.product(x) else {
-        return false;
-    };
-    z.same(y)
+    g.product(x) == Ok(y)
 }
 
 // The bound of k that gives the lower end of the image, and the one that gives the upper end.
@@ -58,7 +54,7 @@ fn high_end(g: Fraction, z: Fraction) -> Worked
     ensures { result ≡ high_end g z }
 {
     if z.den == 0 {
-        return Fraction::NO_UPPER.fit();
+        return Ok(Fraction::NO_UPPER);
     }
     z.product(g)
 }
@@ -68,10 +64,10 @@ fn upper_sum(u: Fraction, v: Fraction) -> Worked
     ensures { result ≡ upper_sum u v }
 {
     if u.den == 0 {
-        return Fraction::NO_UPPER.fit();
+        return Ok(Fraction::NO_UPPER);
     }
     if v.den == 0 {
-        return Fraction::NO_UPPER.fit();
+        return Ok(Fraction::NO_UPPER);
     }
     u.sum(v)
 }
@@ -112,23 +108,15 @@ fn join(constant: Fraction, j: usize, tj: Arc, k: usize, tk: Arc, g: Fraction) -
     let lz = low_bound(tk, g);
     let hz = high_bound(tk, g);
     if tj.lower.den == 0 {
-        return Outcome::Passes;
+        return Err(Halt::Passes);
     }
     if lz.den == 0 {
-        return Outcome::Passes;
+        return Err(Halt::Passes);
     }
-    let Worked::Fits(low) = lz.product(g) else {
-        return Outcome::Passes;
-    };
-    let Worked::Fits(high) = high_end(g, hz) else {
-        return Outcome::Passes;
-    };
-    let Worked::Fits(l) = tj.lower.sum(low) else {
-        return Outcome::Passes;
-    };
-    let Worked::Fits(u) = upper_sum(tj.upper, high) else {
-        return Outcome::Passes;
-    };
+    let low = lz.product(g)?;
+    let high = high_end(g, hz)?;
+    let l = tj.lower.sum(low)?;
+    let u = upper_sum(tj.upper, high)?;
     let edit = joining(constant, j, tj, l, u, k);
     let old = step::old_two(
         0,
@@ -136,7 +124,7 @@ fn join(constant: Fraction, j: usize, tj: Arc, k: usize, tk: Arc, g: Fraction) -
         ArcUpdate { number: j, arc: tj },
         ArcUpdate { number: k, arc: tk },
     );
-    Outcome::Changes(Change { edit, old })
+    Ok(Change { edit, old })
 }
 
 // The rule at arcs j, tj, and k, tk.
@@ -144,19 +132,17 @@ pub fn alike(constant: Fraction, j: usize, tj: Arc, k: usize, tk: Arc) -> Outcom
     ensures { result ≡ alike_of constant j tj k tk }
 {
     if tk.from != tj.from {
-        return Outcome::Passes;
+        return Err(Halt::Passes);
     }
     if tk.to != tj.to {
-        return Outcome::Passes;
+        return Err(Halt::Passes);
     }
-    let Worked::Fits(g) = ratio(tj, tk) else {
-        return Outcome::Passes;
-    };
+    let g = ratio(tj, tk)?;
     if !is_times(g, tk.b, tj.b) {
-        return Outcome::Passes;
+        return Err(Halt::Passes);
     }
     if !is_times(g, tk.cost, tj.cost) {
-        return Outcome::Passes;
+        return Err(Halt::Passes);
     }
     join(constant, j, tj, k, tk, g)
 }
@@ -164,11 +150,7 @@ pub fn alike(constant: Fraction, j: usize, tj: Arc, k: usize, tk: Arc) -> Outcom
 fn passes(o: Outcome) -> bool
     ensures { result ≡ is_passing o }
 {
-    match o {
-        Outcome::Passes => true,
-        Outcome::NoFlow => false,
-        Outcome::Changes(c) => false,
-    }
+    matches!(o, Err(Halt::Passes))
 }
 
 // Rule 7 at arc j: the first k > j at which it applies.
@@ -177,10 +159,10 @@ pub fn parallel_arc(net: Net, j: usize) -> Outcome
 {
     let t = network::arc_at(net, j);
     if t.from == 0 {
-        return Outcome::Passes;
+        return Err(Halt::Passes);
     }
     if network::MAX_ARCS <= j {
-        return Outcome::Passes;
+        return Err(Halt::Passes);
     }
     for k in j + 1..ARC_PLACES {
         let o = alike(net.constant, j, t, k, network::arc_at(net, k));
@@ -188,7 +170,7 @@ pub fn parallel_arc(net: Net, j: usize) -> Outcome
             return o;
         }
     }
-    Outcome::Passes
+    Err(Halt::Passes)
 }
 
 // Its way back, where the kept arc has this flow.
@@ -199,27 +181,18 @@ pub fn parallel_back(old: Old, flow: Fraction) -> Undone
     let two = old.two;
     let tj = one.arc;
     let tk = two.arc;
-    let Worked::Fits(g) = ratio(tj, tk) else {
-        return Undone::Wide;
-    };
+    let g = ratio(tj, tk)?;
     let lz = low_bound(tk, g);
-    let Worked::Fits(low) = lz.product(g) else {
-        return Undone::Wide;
-    };
-    let Worked::Fits(rest) = flow.difference(low) else {
-        return Undone::Wide;
-    };
+    let low = lz.product(g)?;
+    let rest = flow.difference(low)?;
     let x = step::smaller(tj.upper, rest);
-    let Worked::Fits(y) = far_flow(flow, x, g) else {
-        return Undone::Wide;
-    };
-    Undone::Restores(step::two_flows(two.number, y, one.number, x))
+    let y = far_flow(flow, x, g)?;
+    Ok(step::two_flows(two.number, y, one.number, x))
 }
 
 // The flow of k, where j takes x.
 fn far_flow(flow: Fraction, x: Fraction, g: Fraction) -> Worked
-    ensures { result ≡ ((Fits flow ⊖ Fits x) ⊘ Fits g) }
+    ensures { result ≡ ((Ok flow ⊖ Ok x) ⊘ Ok g) }
 {
-    let d = g.fit();
-    flow.fit().minus(x.fit()).over(d)
+    flow.difference(x)?.quotient(g)
 }

@@ -53,9 +53,9 @@ pub(crate) fn answer(k: usize, i: usize, x: Outcome) -> Found
     ensures { result ≡ found_of (or_else k i x Stops) }
 {
     match x {
-        Outcome::Passes => nothing(),
-        Outcome::NoFlow => no_step(true, k, i),
-        Outcome::Changes(change) => taken(Step {
+        Err(Halt::Passes) => nothing(),
+        Err(Halt::NoFlow) => no_step(true, k, i),
+        Ok(change) => taken(Step {
             rule: k,
             place: i,
             change,

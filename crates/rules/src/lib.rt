@@ -23,6 +23,6 @@ pub fn undo(rule: usize, old: Old, pair: Pair) -> Undone
         5 => two_arcs::two_back(old, pair),
         6 => crossing::crossing_back(old, pair),
         7 => parallel_arcs::parallel_back(old, network::pair::flow_at(pair, old.one.number)),
-        _ => Undone::Wide,
+        _ => Err(Misfit),
     }
 }

@@ -32,7 +32,7 @@ pub fn is_closed(t: Arc) -> bool
     if t.upper.less(t.lower) {
         return true;
     }
-    t.lower.same(t.upper)
+    t.lower == t.upper
 }
 
 // Rule 1 at arc j, t.
@@ -115,7 +115,7 @@ pub fn try_node(
         3 => single_arc::single_arc(constant, supply, i, degree, near.one),
         5 => two_arcs::two_arcs(constant, supply, i, degree, near.one, near.two),
         6 => crossing::crossing(constant, i, degree, r, near),
-        _ => Outcome::Passes,
+        _ => Err(Halt::Passes),
     }
 }
 

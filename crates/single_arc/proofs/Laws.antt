@@ -44,7 +44,7 @@ use Rattle.step.specs.Back.{old_one, restored}
 use Rattle.step.proofs.Frame.{no-level}
 use Rattle.step.proofs.Touch.{touching-first}
 use Rattle.step.proofs.Exactly.{listed-node, rhs_is, spoke_of, alone}
-use Rattle.step.proofs.Lines.{Answers, only-met, flow-met, fits-met, not-shown, not-changed, figure-met, restored-is}
+use Rattle.step.proofs.Lines.{Answers, only-met, flow-met, fits-met, not-shown, not-changed, figure-met, made-is}
 use Rattle.step.proofs.Removing.{supply-less, cost_added_lem, dropped-framed, level-less, one-removed}
 use Rattle.step.proofs.Node.{AtNode, ArcsAt, arcs-here}
 use Rattle.step.proofs.Figures.{Sized, Holds, itself, flow-put, price-put, over-exactly}
@@ -162,7 +162,7 @@ module _ (net : Net) (g : Legal net) (i : ℕ) {x : Outcome} (m : Single net i x
       let v = figure-met _ _ e in
       let p = figure-met _ _ v.2 in
       let a = same (ap (λ r. r *ℚ inv_ℚ (value w.e)) (sym (rhs_is net i m.here))) (over-exactly (given _) (given _)) v.0 v.1 in
-      rw (restored-is p.2) (price-put (flow-put (itself z) j v.0 at.number a) i p.0 (here-number g i m.here) (at.quotes pair p.0 p.1))
+      rw (made-is p.2) (price-put (flow-put (itself z) j v.0 at.number a) i p.0 (here-number g i m.here) (at.quotes pair p.0 p.1))
 
   right : {c : Change} → Forced net.constant i j t w (supply_at net i) (supply_at net w.other) v (Ok c) → Right net c (single_back c.old)
   right f =

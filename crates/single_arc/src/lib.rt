@@ -1,21 +1,20 @@
 // Rule 3: single arc.
-#![tactic(auto)]
+#![tactic(auto, using(fraction::proofs::Laws::misfit_is), unfolding(fraction::specs::Formula::added, fraction::specs::Formula::subtracted, fraction::specs::Formula::multiplied, fraction::specs::Formula::divided, fraction::specs::Formula::negated, step::specs::Outcome::only_where, step::specs::Outcome::no_flow_where, step::specs::Outcome::fits, step::specs::Back::figure, crate::specs::SingleArc::forced_out, crate::specs::SingleArc::single, crate::specs::SingleArc::single_back))]
 
-ghost use Rattle.std.specs.Prelude.{◌≡◌};
-ghost use Rattle.fraction.specs.declared.Worked.TheVariants.{Fits};
+ghost use Rattle.std.specs.Prelude.{◌≡◌, Ok};
 ghost use Rattle.fraction.specs.Formula.{◌⊘◌};
 ghost use Rattle.single_arc.specs.SingleArc.{forced_out, single, single_back};
 
 use fraction::{Fraction, Worked};
 use network::pair::Pair;
 use network::{Arc, ArcUpdate, NODE_PLACES, Side};
-use step::{Change, Old, Outcome, Undone};
+use step::{Change, Halt, Old, Outcome, Undone};
 
 // The flow r ÷ e.
 fn forced(r: Fraction, w: Side) -> Worked
-    ensures { result ≡ (Fits r ⊘ Fits w.e) }
+    ensures { result ≡ (Ok r ⊘ Ok w.e) }
 {
-    r.fit().over(w.e.fit())
+    r.quotient(w.e)
 }
 
 // Arc j, t, alone touches node i of supply r, with w its side there; s is the supply at its other end.
@@ -30,24 +29,18 @@ fn force(
 ) -> Outcome
     ensures { result ≡ forced_out constant i j t w r s }
 {
-    let Worked::Fits(v) = forced(r, w) else {
-        return Outcome::Passes;
-    };
+    let v = forced(r, w)?;
     if v.less(t.lower) {
-        return Outcome::NoFlow;
+        return Err(Halt::NoFlow);
     }
     if t.upper.less(v) {
-        return Outcome::NoFlow;
+        return Err(Halt::NoFlow);
     }
-    let Worked::Fits(x) = step::supply_less(w.other, s, w.o, v) else {
-        return Outcome::Passes;
-    };
-    let Worked::Fits(k) = step::cost_added(constant, t.cost, v) else {
-        return Outcome::Passes;
-    };
+    let x = step::supply_less(w.other, s, w.o, v)?;
+    let k = step::cost_added(constant, t.cost, v)?;
     let edit = step::dropping(j, w.other, x, 0, network::no_figure(), i, k);
     let old = step::old_one(i, r, ArcUpdate { number: j, arc: t });
-    Outcome::Changes(Change { edit, old })
+    Ok(Change { edit, old })
 }
 
 // Rule 3 at node i of this degree, where u is the first arc.
@@ -61,7 +54,7 @@ pub fn single_arc(
     ensures { result ≡ single constant supply i degree u }
 {
     if degree != 1 {
-        return Outcome::Passes;
+        return Err(Halt::Passes);
     }
     let w = network::side_at(u.arc, i);
     let r = network::supply_of(supply, i);
@@ -77,12 +70,8 @@ pub fn single_back(old: Old, pair: Pair) -> Undone
     let one = old.one;
     let t = one.arc;
     let w = network::side_at(t, i);
-    let Worked::Fits(v) = forced(old.supply, w) else {
-        return Undone::Wide;
-    };
+    let v = forced(old.supply, w)?;
     let q = network::pair::price_at(pair, w.other);
-    let Worked::Fits(p) = step::quote(t, i, q) else {
-        return Undone::Wide;
-    };
-    Undone::Restores(step::flow_and_price(one.number, v, i, p))
+    let p = step::quote(t, i, q)?;
+    Ok(step::flow_and_price(one.number, v, i, p))
 }

@@ -4,8 +4,8 @@ use mathlib.Core.Bool.{Bool, true, false, not, ◌||◌}
 use mathlib.Core.Logic.{◌⊎◌, inl, inr}
 use borrow.Author.Tests.{not-true, not-false}
 use Rattle.fraction.specs.declared.Fraction.{Fraction}
-use Rattle.fraction.specs.Exact.{Worked}
-use Rattle.std.specs.Prelude.{Ok, Err}
+use Rattle.fraction.specs.declared.Misfit.{Misfit}
+use Rattle.std.specs.Prelude.{Result, Ok, Err}
 use Rattle.fraction.proofs.Laws.{never}
 use Rattle.step.specs.declared.Change.{Change}
 use Rattle.step.specs.Outcome.{Outcome}
@@ -27,7 +27,7 @@ module _ {x : Outcome} (a : Answers x) where
   only-met true rest e = (refl, e)
   only-met false rest e = absurd (rw (← e) at a)
 
-  pub fits-met : (w : Worked) (rest : Fraction → Outcome) → fits w rest ≡ x → (v : Fraction) × (w ≡ Ok v) × (rest v ≡ x)
+  pub fits-met : {A : Type 0} (w : Result A Misfit) (rest : A → Outcome) → fits w rest ≡ x → (v : A) × (w ≡ Ok v) × (rest v ≡ x)
   unfolding fits
   fits-met (Ok v) rest e = (v, refl, e)
   fits-met (Err m) rest e = absurd (rw (← e) at a)
@@ -46,15 +46,15 @@ not-shown e = never cc
 pub not-changed : {X : Type 0} {c : Change} → (Err NoFlow) ≡ Ok c → X
 not-changed e = never cc
 
--- the way back
-module _ {r : Restored} where
-  pub figure-met : (w : Worked) (rest : Fraction → Undone) → figure w rest ≡ Ok r → (x : Fraction) × (w ≡ Ok x) × (rest x ≡ Ok r)
+-- what is made of figures
+module _ {A T : Type 0} {r : T} where
+  pub figure-met : (w : Result A Misfit) (rest : A → Result T Misfit) → figure w rest ≡ Ok r → (x : A) × (w ≡ Ok x) × (rest x ≡ Ok r)
   unfolding figure
   figure-met (Ok x) rest e = (x, refl, e)
   figure-met (Err m) rest e = never cc
 
-  pub restored-is : {q : Restored} → ◌≡◌ {A = Undone} (Ok q) (Ok r) → r ≡ q
-  restored-is e = cc
+pub made-is : {T : Type 0} {q r : T} → ◌≡◌ {A = Result T Misfit} (Ok q) (Ok r) → r ≡ q
+made-is e = cc
 
 -- a test of the code, turned round
 pub unmet : (b : Bool) → not b ≡ true → b ≡ false

@@ -45,7 +45,7 @@ use Rattle.step.proofs.Frame.{Levels, Framed, no-arc-puts, no_names, arc-stands,
 use Rattle.step.proofs.Touch.{unlike}
 use Rattle.step.proofs.Fewer.{nodes-under}
 use Rattle.step.proofs.Exactly.{false-not, arc-off, listed-arc, column-is, rhs_is, spoke-at, column-kept, rhs-off}
-use Rattle.step.proofs.Lines.{Answers, fits-met, restored-is, not-shown, split}
+use Rattle.step.proofs.Lines.{Answers, fits-met, made-is, not-shown, split}
 use Rattle.step.proofs.Figures.{Figure, itself, flow-put}
 use Rattle.step.proofs.Laws.{no_old, Right, right_of}
 
@@ -187,7 +187,7 @@ lower-right net g j {c} used proper e sound =
     (inr (record { number = j; used = used; dropped = arc-stands net _ g 0 (used-number g j used) (no_names j).1 }))
     (record { arcs = (((used-number g j used).1, refl), (no_old g).1); named = λ x u. u; node = omega arith; supply = lit≤ tt; new = omega arith })
     (closed-back j (value t.lower)) (sound _ (flow-removed net g j t.lower used d.r_is d.s_is d.k_is))
-    (λ pair z r q. rw (restored-is q) (flow-put (itself z) j t.lower (used-number g j used) (proper, refl)))
+    (λ pair z r q. rw (made-is q) (flow-put (itself z) j t.lower (used-number g j used) (proper, refl)))
 
 -- a drop shows nothing
 pub dropped-shows : {X : Type 0} (net : Net) (j : ℕ) (v : Fraction) → dropped_at net j v ≡ (Err NoFlow) → X

@@ -22,8 +22,8 @@ use Rattle.step.specs.declared.Restored.{Restored}
 abbrev pub Undone : Type 0
 Undone = Result Restored Misfit
 
--- a figure of the way back, which must fit (question 13)
-unfoldable pub figure : Worked → (Fraction → Undone) → Undone
+-- a line of what is made of figures: one that must fit (on the way back question 13)
+unfoldable pub figure : {A T : Type 0} → Result A Misfit → (A → Result T Misfit) → Result T Misfit
 figure (Ok x) rest = rest x
 figure (Err m) rest = Err m
 

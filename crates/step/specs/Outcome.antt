@@ -1,7 +1,6 @@
 -- How a rule reads: conditions and figures in the paper's order, then the change.
 use Rattle.std.specs.Prelude.{Bool, cond}
-use Rattle.fraction.specs.declared.Fraction.{Fraction}
-use Rattle.fraction.specs.Exact.{Worked}
+use Rattle.fraction.specs.declared.Misfit.{Misfit}
 use Rattle.std.specs.Prelude.{Result, Ok, Err}
 use Rattle.step.specs.declared.Change.{Change}
 use Rattle.step.specs.declared.Halt.{Halt}
@@ -27,7 +26,7 @@ only_where b rest = cond b rest (Err Passes)
 unfoldable pub no_flow_where : Bool → Outcome → Outcome
 no_flow_where b rest = cond b (Err NoFlow) rest
 
--- "a rule some of whose figures don't fit doesn't apply at that place"
-unfoldable pub fits : Worked → (Fraction → Outcome) → Outcome
+-- a figure, or an arc of such, that must fit: "a rule some of whose figures don't fit doesn't apply at that place"
+unfoldable pub fits : {A : Type 0} → Result A Misfit → (A → Outcome) → Outcome
 fits (Ok x) rest = rest x
 fits (Err m) rest = Err Passes

@@ -3,13 +3,10 @@ ghost use Rattle.std.specs.Prelude.{◌≡◌};
 ghost use Rattle.step.specs.Back.{flow_of, quote_of};
 ghost use Rattle.step.specs.Junction.{has_sign_at, is_free, is_apart};
 
-use crate::{FlowUpdate, Halt};
+use crate::FlowUpdate;
 use fraction::{Fraction, Worked};
 use network::pair::Pair;
 use network::{Arc, ArcUpdate};
-
-// A new arc, or why there is none.
-pub type Made = Result<Arc, Halt>;
 
 // Whether an arc touches node i with a multiplier below 0, or above 0.
 pub fn has_sign(t: Arc, i: usize, below: bool) -> bool

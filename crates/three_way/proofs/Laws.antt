@@ -55,7 +55,7 @@ use Rattle.step.proofs.Frame.{Framed, Unnamed, no-arc-puts, no-level, no_names, 
 use Rattle.step.proofs.Each.{apart_distinct}
 use Rattle.step.proofs.Touch.{touching-first}
 use Rattle.step.proofs.Exactly.{Far, is_true, rhs_is, spoke_of, alone, rewired}
-use Rattle.step.proofs.Lines.{split, Answers, only-met, fits-met, not-shown, figure-met, restored-is}
+use Rattle.step.proofs.Lines.{split, Answers, only-met, fits-met, not-shown, figure-met, made-is}
 use Rattle.step.proofs.Removing.{level-is}
 use Rattle.step.proofs.Node.{AtNode, ArcsAt, arcs-here}
 use Rattle.step.proofs.Figures.{Sized, Holds, Figure, itself, flow-put, price-put, over-exactly, negated-exactly, gained-exactly}
@@ -94,30 +94,20 @@ record Added (i : ℕ) (r : Fraction) (t1 t2 y : Arc) : Type 0 where
   ordered : is_less u l ≡ false
   runs : Between i (cond (is_below r) t2 t1) (cond (is_below r) t1 t2) l u y
 
-module _ {x : Outcome} (h : Answers x) (rest : Arc → Outcome) where
-  altered-met : (i : ℕ) (t third : Arc) → altered i t third rest ≡ x → (y : Arc) × Altered i t third y × (rest y ≡ x)
-  unfolding altered
-  altered-met i t third e =
-      let a = fits-met h _ _ e in
-      let c = fits-met h _ _ a.2 in
-      (_, record { a = a.0; c = c.0; a_fits = a.1; c_fits = c.1; is = refl }, c.2)
+altered-met : (i : ℕ) (t third : Arc) {y : Arc} → altered i t third ≡ Ok y → Altered i t third y
+unfolding altered
+altered-met i t third e =
+    let a = figure-met _ _ e in
+    let c = figure-met _ _ a.2 in
+    record { a = a.0; c = c.0; a_fits = a.1; c_fits = c.1; is = made-is c.2 }
 
-  between-met : (i : ℕ) (t s : Arc) (l u : Fraction) → between i t s l u rest ≡ x → (y : Arc) × Between i t s l u y × (rest y ≡ x)
-  unfolding between
-  between-met i t s l u e =
-      let a = fits-met h _ _ e in
-      let b = fits-met h _ _ a.2 in
-      let c = fits-met h _ _ b.2 in
-      (_, record { a = a.0; b = b.0; c = c.0; a_fits = a.1; b_fits = b.1; c_fits = c.1; is = refl }, c.2)
-
-  added-met : (i : ℕ) (r : Fraction) (t1 t2 : Arc) → added i r t1 t2 rest ≡ x → (y : Arc) × Added i r t1 t2 y × (rest y ≡ x)
-  unfolding added
-  added-met i r t1 t2 e =
-      let l = fits-met h _ _ e in
-      let u = fits-met h _ _ l.2 in
-      let o = only-met h _ _ u.2 in
-      let y = between-met i _ _ l.0 u.0 o.1 in
-      (y.0, record { l = l.0; u = u.0; l_fits = l.1; u_fits = u.1; ordered = not-true _ o.0; runs = y.1 }, y.2)
+between-met : (i : ℕ) (t s : Arc) (l u : Fraction) {y : Arc} → between i t s l u ≡ Ok y → Between i t s l u y
+unfolding between
+between-met i t s l u e =
+    let a = figure-met _ _ e in
+    let b = figure-met _ _ a.2 in
+    let c = figure-met _ _ b.2 in
+    record { a = a.0; b = b.0; c = c.0; a_fits = a.1; b_fits = b.1; c_fits = c.1; is = made-is c.2 }
 
 three-and : (a b c : Bool) → (a && (b && c)) ≡ true → (a ≡ true) × (b ≡ true) × (c ≡ true)
 three-and a b c e =
@@ -166,10 +156,13 @@ module _ (net : Net) (g : Legal net) (i : ℕ) (here : is_here net i ≡ true) {
       let s = only-met a _ _ e in
       let f = only-met a _ _ s.1 in
       let d = only-met a _ _ f.1 in
-      let y3 = added-met a _ i _ (arc_at net n1) (arc_at net n2) d.1 in
+      let l = fits-met a _ _ d.1 in
+      let u = fits-met a _ _ l.2 in
+      let o = only-met a _ _ u.2 in
+      let y3 = fits-met a _ _ o.1 in
       let v = fits-met a _ _ y3.2 in
-      let y1 = altered-met a _ i (arc_at net n1) (arc_at net n3) v.2 in
-      let y2 = altered-met a _ i (arc_at net n2) (arc_at net n3) y1.2 in
+      let y1 = fits-met a _ _ v.2 in
+      let y2 = fits-met a _ _ y1.2 in
       let z = fits-met a _ _ y2.2 in
       let signs = three-and _ _ _ s.0 in
       let bounds = three-and _ _ _ f.0 in
@@ -184,9 +177,9 @@ module _ (net : Net) (g : Legal net) (i : ℕ) (here : is_here net i ≡ true) {
         a = y1.0;
         b = y2.0;
         c = y3.0;
-        a_new = y1.1;
-        b_new = y2.1;
-        c_new = y3.1;
+        a_new = altered-met i (arc_at net n1) (arc_at net n3) y1.1;
+        b_new = altered-met i (arc_at net n2) (arc_at net n3) y2.1;
+        c_new = record { l = l.0; u = u.0; l_fits = l.1; u_fits = u.1; ordered = not-true _ o.0; runs = between-met i _ _ l.0 u.0 y3.1 };
         s = v.0;
         s_fits = v.1;
         total = z.0;
@@ -467,7 +460,7 @@ module _ (net : Net) (g : Legal net) (i n1 n2 n3 : ℕ) {chg : Change} (m : Met 
         let one = flow-put (itself v) _ _ m.third.at.number (third-exactly _ z.1) in
         let two = flow-put one _ _ m.two.at.number (second-exactly _ y.1) in
         let three = flow-put two _ _ m.one.at.number (first-exactly _ x.1) in
-        rw (restored-is s.2) (price-put three _ _ (here-number g i here) (nearer-is (m.one.at.quotes pair _ p.1) (m.two.at.quotes pair _ s.1) below))
+        rw (made-is s.2) (price-put three _ _ (here-number g i here) (nearer-is (m.one.at.quotes pair _ p.1) (m.two.at.quotes pair _ s.1) below))
 
   right : Right net chg (three_back chg.old)
   unfolding edit

@@ -2,7 +2,8 @@
 use Rattle.std.specs.Prelude.{Bool, false, cond, ◌&&◌, not, List, ℕ, eqb, get_or}
 use Rattle.fraction.specs.declared.Fraction.{Fraction}
 use Rattle.fraction.specs.Exact.{Worked}
-use Rattle.std.specs.Prelude.{Ok}
+use Rattle.std.specs.Prelude.{Result, Ok}
+use Rattle.fraction.specs.declared.Misfit.{Misfit}
 use Rattle.fraction.specs.Exact.{zero_fraction, no_figure, no_upper, is_zero, is_less, is_same, is_finite}
 use Rattle.fraction.specs.Formula.{◌⊕◌, ◌⊖◌, ◌⊗◌, ◌⊘◌, ⊝◌}
 use Rattle.wide.specs.Share.{share_of}
@@ -49,27 +50,27 @@ is_rising t = not (is_root t) && (is_finite t.lower && is_same t.upper no_upper)
 abbrev pub altered_arc : Side → Side → Fraction → Fraction → Arc
 altered_arc w v a c = record { from = v.other; to = w.other; cost = c; lower = zero_fraction; upper = no_upper; a = a; b = w.o }
 
-unfoldable pub altered : ℕ → Arc → Arc → (Arc → Outcome) → Outcome
-altered i t third rest = do
+unfoldable pub altered : ℕ → Arc → Arc → Result Arc Misfit
+altered i t third = do
   let w = side_of t i
   let v = side_of third i
-  a ← fits (⊝ (Ok v.o ⊗ Ok w.e ⊘ Ok v.e))
-  c ← fits (Ok t.cost ⊖ Ok third.cost ⊗ Ok w.e ⊘ Ok v.e)
-  rest (altered_arc w v a c)
+  a ← figure (⊝ (Ok v.o ⊗ Ok w.e ⊘ Ok v.e))
+  c ← figure (Ok t.cost ⊖ Ok third.cost ⊗ Ok w.e ⊘ Ok v.e)
+  Ok (altered_arc w v a c)
 
 -- "add arc n from node 1 to node 2, with a_n = -a_2 b_1, b_n = a_1 b_2, c_n = c_2 a_1 - c_1 a_2"; for negative supply
 -- "from node 2 to node 1, with a_n = -a_1 b_2, b_n = a_2 b_1, c_n = c_1 a_2 - c_2 a_1": t and s are arcs 1 and 2, or 2 and 1
 abbrev pub added_arc : Side → Side → Fraction → Fraction → Fraction → Fraction → Fraction → Arc
 added_arc w v l u a b c = record { from = w.other; to = v.other; cost = c; lower = l; upper = u; a = a; b = b }
 
-unfoldable pub between : ℕ → Arc → Arc → Fraction → Fraction → (Arc → Outcome) → Outcome
-between i t s l u rest = do
+unfoldable pub between : ℕ → Arc → Arc → Fraction → Fraction → Result Arc Misfit
+between i t s l u = do
   let w = side_of t i
   let v = side_of s i
-  a ← fits (⊝ (Ok v.e ⊗ Ok w.o))
-  b ← fits (Ok w.e ⊗ Ok v.o)
-  c ← fits (Ok s.cost ⊗ Ok w.e ⊖ Ok t.cost ⊗ Ok v.e)
-  rest (added_arc w v l u a b c)
+  a ← figure (⊝ (Ok v.e ⊗ Ok w.o))
+  b ← figure (Ok w.e ⊗ Ok v.o)
+  c ← figure (Ok s.cost ⊗ Ok w.e ⊖ Ok t.cost ⊗ Ok v.e)
+  Ok (added_arc w v l u a b c)
 
 -- its bounds: l_n = l_2 / a_1 and u_n = (r_m - a_1 l_1) / a_1 a_2, for negative supply l_n = -l_2 / a_1 and u_n = (a_1 l_1 - r_m) / a_1 a_2.
 -- "Its lower bound is the flow at which, the altered arcs carrying 0, arc 2 stands at its lower bound, its upper the one at which arc 1 does,
@@ -81,16 +82,8 @@ low_of below t2 w1 = turned below (Ok t2.lower ⊘ Ok w1.e)
 abbrev pub high_of : Bool → Fraction → Arc → Side → Side → Worked
 high_of below r t1 w1 w2 = turned below (share_of r w1.e t1.lower w2.e)
 
--- "where the lower is above the upper, the rule doesn't apply"
-unfoldable pub added : ℕ → Fraction → Arc → Arc → (Arc → Outcome) → Outcome
-added i r t1 t2 rest = do
-  let below = is_below r
-  let w1 = side_of t1 i
-  let w2 = side_of t2 i
-  l ← fits (low_of below t2 w1)
-  u ← fits (high_of below r t1 w1 w2)
-  only_where (not (is_less u l))
-  between i (cond below t2 t1) (cond below t1 t2) l u rest
+abbrev pub added : ℕ → Bool → Arc → Arc → Fraction → Fraction → Result Arc Misfit
+added i below t1 t2 l u = between i (cond below t2 t1) (cond below t1 t2) l u
 
 abbrev pub old_three : ℕ → Fraction → ArcUpdate → ArcUpdate → ArcUpdate → Old
 old_three i r one two three = record { node = i; supply = r; one = one; two = two; three = three; four = no_update; new = no_numbers }
@@ -118,10 +111,14 @@ joining i r one two three a b c end s constant =
 unfoldable pub joined : Fraction → ℕ → Fraction → Fraction → ArcUpdate → ArcUpdate → ArcUpdate → Outcome
 joined constant i r r' one two three = do
   let w = side_of one.arc i
-  c ← added i r one.arc two.arc
+  l ← fits (low_of (is_below r) two.arc w)
+  u ← fits (high_of (is_below r) r one.arc w (side_of two.arc i))
+  -- "where the lower is above the upper, the rule doesn't apply"
+  only_where (not (is_less u l))
+  c ← fits (added i (is_below r) one.arc two.arc l u)
   s ← fits (Ok r' ⊖ Ok r ⊗ Ok w.o ⊘ Ok w.e)
-  a ← altered i one.arc three.arc
-  b ← altered i two.arc three.arc
+  a ← fits (altered i one.arc three.arc)
+  b ← fits (altered i two.arc three.arc)
   z ← fits (gained constant one.arc w r)
   Ok (joining i r one two three a b c w.other s z)
 

@@ -1,28 +1,22 @@
 // Rule 8: three-way junctions.
-#![tactic(auto)]
+#![tactic(auto, using(fraction::proofs::Laws::misfit_is), unfolding(fraction::specs::Formula::added, fraction::specs::Formula::subtracted, fraction::specs::Formula::multiplied, fraction::specs::Formula::divided, fraction::specs::Formula::negated, step::specs::Outcome::only_where, step::specs::Outcome::no_flow_where, step::specs::Outcome::fits, step::specs::Back::figure, fraction::specs::Exact::is_finite, crate::specs::ThreeWay::turned, crate::specs::ThreeWay::is_rising, crate::specs::ThreeWay::altered, crate::specs::ThreeWay::between, crate::specs::ThreeWay::joined, crate::specs::ThreeWay::sorted, crate::specs::ThreeWay::three, crate::specs::ThreeWay::three_back))]
 
-ghost use Rattle.std.specs.Prelude.{◌≡◌, cond, not, ◌&&◌};
-ghost use Rattle.fraction.specs.declared.Worked.TheVariants.{Fits};
+ghost use Rattle.std.specs.Prelude.{◌≡◌, cond, not, ◌&&◌, Ok};
 ghost use Rattle.fraction.specs.Formula.{◌⊕◌, ◌⊖◌, ◌⊗◌, ◌⊘◌, ⊝◌};
 ghost use Rattle.step.specs.Figure.{larger, smaller};
 ghost use Rattle.step.specs.Junction.{has_sign_at, is_free, is_apart};
-ghost use Rattle.step.specs.internal.Made.{goes_on};
 ghost use Rattle.three_way.specs.ThreeWay.{turned as turned_of, is_rising, altered as altered_of, between as between_of, added as added_of, low_of, high_of, joining as joining_of, joined, sorted, three as three_of, restored_three, three_back};
 
-use fraction::{Fraction, Worked};
+use fraction::{Fraction, Misfit, Worked};
 use network::pair::Pair;
 use network::{Arc, ArcUpdate, NODE_PLACES, Side, SupplyUpdate};
-use step::junctions::Made;
-use step::{Change, Numbers, Old, Outcome, PriceUpdate, Restored, Undone};
+use step::{Change, Halt, Numbers, Old, Outcome, PriceUpdate, Restored, Undone};
 
 // w for positive supply, its negation for negative.
 fn turned(below: bool, w: Worked) -> Worked
     ensures { result ≡ turned_of below w }
 {
-    if below {
-        return w.negated();
-    }
-    w
+    if below { w?.negation() } else { w }
 }
 
 // ---- conditions
@@ -67,36 +61,27 @@ fn ends_suit(t1: Arc, t2: Arc, t3: Arc, i: usize) -> bool
 // ---- the new arcs
 
 fn altered_multiplier(w: Side, v: Side) -> Worked
-    ensures { result ≡ ⊝ (Fits v.o ⊗ Fits w.e ⊘ Fits v.e) }
+    ensures { result ≡ ⊝ (Ok v.o ⊗ Ok w.e ⊘ Ok v.e) }
 {
-    let o = v.o.fit();
-    let e = w.e.fit();
-    let f = v.e.fit();
-    o.times(e).over(f).negated()
+    v.o.product(w.e)?.quotient(v.e)?.negation()
 }
 
 fn altered_cost(c: Fraction, d: Fraction, w: Side, v: Side) -> Worked
-    ensures { result ≡ (Fits c ⊖ Fits d ⊗ Fits w.e ⊘ Fits v.e) }
+    ensures { result ≡ (Ok c ⊖ Ok d ⊗ Ok w.e ⊘ Ok v.e) }
 {
-    let e = w.e.fit();
-    let f = v.e.fit();
-    c.fit().minus(d.fit().times(e).over(f))
+    c.difference(d.product(w.e)?.quotient(v.e)?)
 }
 
 // Arc t, of 1 and 2, from the third one's other end.
-fn altered(i: usize, t: Arc, third: Arc) -> Made
-    ensures { altered_of i t third ≡ goes_on result }
+fn altered(i: usize, t: Arc, third: Arc) -> Result<Arc, Misfit>
+    ensures { result ≡ altered_of i t third }
 {
     let w = network::side_at(t, i);
     let v = network::side_at(third, i);
-    let Worked::Fits(a) = altered_multiplier(w, v) else {
-        return Made::Wide;
-    };
-    let Worked::Fits(c) = altered_cost(t.cost, third.cost, w, v) else {
-        return Made::Wide;
-    };
+    let a = altered_multiplier(w, v)?;
+    let c = altered_cost(t.cost, third.cost, w, v)?;
     let b = w.o;
-    Made::Puts(Arc {
+    Ok(Arc {
         from: v.other,
         to: w.other,
         cost: c,
@@ -107,34 +92,22 @@ fn altered(i: usize, t: Arc, third: Arc) -> Made
     })
 }
 
-fn product(x: Fraction, y: Fraction) -> Worked
-    ensures { result ≡ Fits x ⊗ Fits y }
-{
-    x.fit().times(y.fit())
-}
-
 fn added_cost(c: Fraction, e: Fraction, d: Fraction, f: Fraction) -> Worked
-    ensures { result ≡ (Fits c ⊗ Fits e ⊖ Fits d ⊗ Fits f) }
+    ensures { result ≡ (Ok c ⊗ Ok e ⊖ Ok d ⊗ Ok f) }
 {
-    c.fit().times(e.fit()).minus(d.fit().times(f.fit()))
+    c.product(e)?.difference(d.product(f)?)
 }
 
 // The arc from t's other end to s's, with these bounds.
-fn between(i: usize, t: Arc, s: Arc, l: Fraction, u: Fraction) -> Made
-    ensures { between_of i t s l u ≡ goes_on result }
+fn between(i: usize, t: Arc, s: Arc, l: Fraction, u: Fraction) -> Result<Arc, Misfit>
+    ensures { result ≡ between_of i t s l u }
 {
     let w = network::side_at(t, i);
     let v = network::side_at(s, i);
-    let Worked::Fits(a) = product(v.e, w.o).negated() else {
-        return Made::Wide;
-    };
-    let Worked::Fits(b) = product(w.e, v.o) else {
-        return Made::Wide;
-    };
-    let Worked::Fits(c) = added_cost(s.cost, w.e, t.cost, v.e) else {
-        return Made::Wide;
-    };
-    Made::Puts(Arc {
+    let a = v.e.product(w.o)?.negation()?;
+    let b = w.e.product(v.o)?;
+    let c = added_cost(s.cost, w.e, t.cost, v.e)?;
+    Ok(Arc {
         from: w.other,
         to: v.other,
         cost: c,
@@ -149,8 +122,7 @@ fn between(i: usize, t: Arc, s: Arc, l: Fraction, u: Fraction) -> Made
 fn low(below: bool, t2: Arc, w1: Side) -> Worked
     ensures { result ≡ low_of below t2 w1 }
 {
-    let l = t2.lower.fit();
-    turned(below, l.over(w1.e.fit()))
+    turned(below, t2.lower.quotient(w1.e))
 }
 
 fn high(below: bool, r: Fraction, t1: Arc, w1: Side, w2: Side) -> Worked
@@ -166,22 +138,10 @@ fn either(b: bool, x: Arc, y: Arc) -> Arc
     if b { x } else { y }
 }
 
-// The added arc.
-fn added(i: usize, r: Fraction, t1: Arc, t2: Arc) -> Made
-    ensures { added_of i r t1 t2 ≡ goes_on result }
+// The added arc, with these bounds.
+fn added(i: usize, below: bool, t1: Arc, t2: Arc, l: Fraction, u: Fraction) -> Result<Arc, Misfit>
+    ensures { result ≡ added_of i below t1 t2 l u }
 {
-    let below = r.less(Fraction::ZERO);
-    let w1 = network::side_at(t1, i);
-    let w2 = network::side_at(t2, i);
-    let Worked::Fits(l) = low(below, t2, w1) else {
-        return Made::Wide;
-    };
-    let Worked::Fits(u) = high(below, r, t1, w1, w2) else {
-        return Made::Wide;
-    };
-    if u.less(l) {
-        return Made::Wide;
-    }
     between(i, either(below, t2, t1), either(below, t1, t2), l, u)
 }
 
@@ -189,11 +149,9 @@ fn added(i: usize, r: Fraction, t1: Arc, t2: Arc) -> Made
 
 // The supply at arc 1's other end, s before the step.
 fn far_supply(s: Fraction, r: Fraction, w: Side) -> Worked
-    ensures { result ≡ (Fits s ⊖ Fits r ⊗ Fits w.o ⊘ Fits w.e) }
+    ensures { result ≡ (Ok s ⊖ Ok r ⊗ Ok w.o ⊘ Ok w.e) }
 {
-    let o = w.o.fit();
-    let e = w.e.fit();
-    s.fit().minus(r.fit().times(o).over(e))
+    s.difference(r.product(w.o)?.quotient(w.e)?)
 }
 
 // a, b and c take the numbers of arcs 1, 2 and the third, s is the supply at `end`, and the node is dropped.
@@ -256,23 +214,19 @@ fn join(
 ) -> Outcome
     ensures { result ≡ joined constant i r s one two three }
 {
+    let below = r.less(Fraction::ZERO);
     let w = network::side_at(one.arc, i);
-    let Made::Puts(c) = added(i, r, one.arc, two.arc) else {
-        return Outcome::Passes;
-    };
-    let Worked::Fits(g) = far_supply(s, r, w) else {
-        return Outcome::Passes;
-    };
-    let Made::Puts(a) = altered(i, one.arc, three.arc) else {
-        return Outcome::Passes;
-    };
-    let Made::Puts(b) = altered(i, two.arc, three.arc) else {
-        return Outcome::Passes;
-    };
-    let Worked::Fits(z) = step::gained(constant, one.arc, w, r) else {
-        return Outcome::Passes;
-    };
-    Outcome::Changes(joining(i, r, one, two, three, a, b, c, w.other, g, z))
+    let l = low(below, two.arc, w)?;
+    let u = high(below, r, one.arc, w, network::side_at(two.arc, i))?;
+    if u.less(l) {
+        return Err(Halt::Passes);
+    }
+    let c = added(i, below, one.arc, two.arc, l, u)?;
+    let g = far_supply(s, r, w)?;
+    let a = altered(i, one.arc, three.arc)?;
+    let b = altered(i, two.arc, three.arc)?;
+    let z = step::gained(constant, one.arc, w, r)?;
+    Ok(joining(i, r, one, two, three, a, b, c, w.other, g, z))
 }
 
 // The rule at node i, where one and two are to be arcs 1 and 2, and three the third.
@@ -288,13 +242,13 @@ fn sort(
 {
     let r = network::supply_of(supply, i);
     if !signs_suit(one.arc, two.arc, three.arc, i, r.less(Fraction::ZERO)) {
-        return Outcome::Passes;
+        return Err(Halt::Passes);
     }
     if !bounds_suit(one.arc, two.arc, three.arc) {
-        return Outcome::Passes;
+        return Err(Halt::Passes);
     }
     if !ends_suit(one.arc, two.arc, three.arc, i) {
-        return Outcome::Passes;
+        return Err(Halt::Passes);
     }
     let w = network::side_at(one.arc, i);
     let s = network::supply_of(supply, w.other);
@@ -314,11 +268,11 @@ pub fn three_way(
     ensures { result ≡ three_of constant supply i degree x y z }
 {
     if degree != 3 {
-        return Outcome::Passes;
+        return Err(Halt::Passes);
     }
     let r = network::supply_of(supply, i);
     if r.is_zero() {
-        return Outcome::Passes;
+        return Err(Halt::Passes);
     }
     let below = r.less(Fraction::ZERO);
     if !step::junctions::has_sign(x.arc, i, below) {
@@ -334,27 +288,26 @@ pub fn three_way(
 
 // The flow of arc 1.
 fn first_flow(r: Fraction, e: Fraction, y: Fraction, share: Worked) -> Worked
-    ensures { result ≡ (Fits r ⊘ Fits e ⊕ Fits y ⊖ share) }
+    ensures { result ≡ (Ok r ⊘ Ok e ⊕ Ok y ⊖ share) }
 {
-    r.fit().over(e.fit()).plus(y.fit()).minus(share)
+    r.quotient(e)?.sum(y)?.difference(share?)
 }
 
 // The flow of arc 2.
 fn second_flow(y: Fraction, share: Worked) -> Worked
-    ensures { result ≡ Fits y ⊕ share }
+    ensures { result ≡ Ok y ⊕ share }
 {
-    y.fit().plus(share)
+    y.sum(share?)
 }
 
 // The flow of the third.
 fn third_flow(e: Fraction, y: Fraction, f: Fraction, z: Fraction, third: Fraction) -> Worked
-    ensures { result ≡ ⊝ ((Fits e ⊗ Fits y ⊕ Fits f ⊗ Fits z) ⊘ Fits third) }
+    ensures { result ≡ ⊝ ((Ok e ⊗ Ok y ⊕ Ok f ⊗ Ok z) ⊘ Ok third) }
 {
-    e.fit()
-        .times(y.fit())
-        .plus(f.fit().times(z.fit()))
-        .over(third.fit())
-        .negated()
+    e.product(y)?
+        .sum(f.product(z)?)?
+        .quotient(third)?
+        .negation()
 }
 
 // The node's price: the smaller for positive supply, the larger for negative.
@@ -405,21 +358,11 @@ pub fn three_back(old: Old, pair: Pair) -> Undone
     let y1 = network::pair::flow_at(pair, one.number);
     let y2 = network::pair::flow_at(pair, two.number);
     let y3 = network::pair::flow_at(pair, three.number);
-    let Worked::Fits(x) = first_flow(r, w1.e, y1, turned(below, product(w2.e, y3))) else {
-        return Undone::Wide;
-    };
-    let Worked::Fits(y) = second_flow(y2, turned(below, product(w1.e, y3))) else {
-        return Undone::Wide;
-    };
-    let Worked::Fits(z) = third_flow(w1.e, y1, w2.e, y2, w3.e) else {
-        return Undone::Wide;
-    };
-    let Worked::Fits(p) = step::junctions::quote(one.arc, i, pair) else {
-        return Undone::Wide;
-    };
-    let Worked::Fits(q) = step::junctions::quote(two.arc, i, pair) else {
-        return Undone::Wide;
-    };
+    let x = first_flow(r, w1.e, y1, turned(below, w2.e.product(y3)))?;
+    let y = second_flow(y2, turned(below, w1.e.product(y3)))?;
+    let z = third_flow(w1.e, y1, w2.e, y2, w3.e)?;
+    let p = step::junctions::quote(one.arc, i, pair)?;
+    let q = step::junctions::quote(two.arc, i, pair)?;
     let price = node_price(below, p, q);
-    Undone::Restores(restored_three(one, x, two, y, three, z, i, price))
+    Ok(restored_three(one, x, two, y, three, z, i, price))
 }

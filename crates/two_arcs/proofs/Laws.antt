@@ -55,12 +55,13 @@ use Rattle.step.proofs.Frame.{Framed, Unnamed, no-arc-puts, no-level, no_names, 
 use Rattle.step.proofs.Each.{Any}
 use Rattle.step.proofs.Touch.{touching-first}
 use Rattle.step.proofs.Exactly.{Far, End, no-far, is_true, zero-figure, arc-in, arc-off, rhs_is, spoke_of, alone, rewired}
-use Rattle.step.proofs.Lines.{split, Answers, only-met, fits-met, not-shown, figure-met, restored-is}
+use Rattle.step.proofs.Lines.{split, Answers, only-met, fits-met, not-shown, figure-met, made-is}
 use Rattle.step.proofs.Removing.{less-proper, level-is}
 use Rattle.step.proofs.Node.{AtNode, ArcsAt, arcs-here}
 use Rattle.step.proofs.Figures.{Sized, Holds, Figure, itself, flow-put, price-put, over-exactly, choose_yes, choose_no}
 use Rattle.step.proofs.Laws.{supply-small, no_old, Right, right_of, RuleLaws}
-use Rattle.two_arcs.specs.TwoArcs.{same_sign, tighter, image_of, gained, new_arc, merging, merged, kept, two, two_arcs, two_back, rule}
+use Rattle.step.specs.Dropped.{gained}
+use Rattle.two_arcs.specs.TwoArcs.{same_sign, tighter, image_of, new_arc, merging, merged, kept, two, two_arcs, two_back, rule}
 use Rattle.two_arcs.proofs.Figures.{lower_is, upper_is, new-bounds}
 use Rattle.two_arcs.proofs.Tried.{passes, tried}
 
@@ -347,7 +348,7 @@ module _ (net : Net) (g : Legal net) (i j k : ℕ) {c : Change} (m : Met net i j
         let f = figure-met _ _ y.2 in
         let d = figure-met _ _ f.2 in
         let π = figure-met _ _ d.2 in
-        rw (restored-is π.2) (price-put (flow-put (itself z) k y.0 m.arcs.at_k.number (flow-exactly y.0 y.1)) i π.0 (here-number g i m.here) (price-now f.1 d.1 π.1))
+        rw (made-is π.2) (price-put (flow-put (itself z) k y.0 m.arcs.at_k.number (flow-exactly y.0 y.1)) i π.0 (here-number g i m.here) (price-now f.1 d.1 π.1))
 
   right : Right net c (two_back c.old)
   unfolding edit new

@@ -22,6 +22,7 @@ use Rattle.step.specs.Figure.{larger, smaller, ◌<$>◌}
 use Rattle.step.specs.Outcome.{◌>>=◌, ◌>>◌, only_where, fits}
 use Rattle.step.specs.Back.{figure, old_arc, old_two, flow_and_price, quote_of}
 use Rattle.step.specs.Around.{first_at, second_at}
+use Rattle.step.specs.Dropped.{gained}
 use Rattle.step.specs.Run.{Rule}
 
 -- "ej and ek have the same sign"
@@ -35,10 +36,6 @@ tighter pick own z image = cond (is_finite z) (pick own <$> image) (Ok own)
 -- "(r - ek × z) ÷ ej"
 unfoldable pub image_of : Fraction → Side → Side → Fraction → Worked
 image_of r wj wk z = (Ok r ⊖ Ok wk.e ⊗ Ok z) ⊘ Ok wj.e
-
--- "rule 5 adds ck × r ÷ ek" to the constant (02, 2026-01)
-unfoldable pub gained : Fraction → Arc → Side → Fraction → Worked
-gained constant tk wk r = Ok constant ⊕ Ok tk.cost ⊗ Ok r ⊘ Ok wk.e
 
 -- "j now runs from its other end .. to k's other end; if k is a root arc j becomes a root arc"
 abbrev pub new_arc : Side → Side → Fraction → Fraction → Fraction → Fraction → Arc
@@ -58,6 +55,7 @@ merged constant i j tj wj k tk wk r r' = do
   u ← fits (tighter smaller tj.upper (cond exchanged tk.lower tk.upper) (image_of r wj wk (cond exchanged tk.lower tk.upper)))
   b ← fits (cond root (Ok zero_fraction) (⊝ (Ok wk.o ⊗ Ok wj.e ⊘ Ok wk.e)))
   s ← fits (cond root (Ok no_figure) (Ok r' ⊖ Ok wk.o ⊗ Ok r ⊘ Ok wk.e))
+  -- "rule 5 adds ck × r ÷ ek" to the constant (02, 2026-01)
   z ← fits (gained constant tk wk r)
   Ok (record { edit = merging j (new_arc wj wk c l u b) k wk.other s i z; old = old_two i r (record { number = j; arc = tj }) (record { number = k; arc = tk }) })
 

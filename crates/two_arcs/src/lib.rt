@@ -1,19 +1,18 @@
 // Rule 5: two arcs.
-#![tactic(auto)]
+#![tactic(auto, using(fraction::proofs::Laws::misfit_is), unfolding(fraction::specs::Formula::added, fraction::specs::Formula::subtracted, fraction::specs::Formula::multiplied, fraction::specs::Formula::divided, fraction::specs::Formula::negated, step::specs::Outcome::only_where, step::specs::Outcome::no_flow_where, step::specs::Outcome::fits, step::specs::Back::figure, fraction::specs::Exact::is_finite, crate::specs::TwoArcs::same_sign, crate::specs::TwoArcs::image_of, crate::specs::TwoArcs::tighter, crate::specs::TwoArcs::merged, crate::specs::TwoArcs::kept, crate::specs::TwoArcs::two, crate::specs::TwoArcs::two_back))]
 
-ghost use Rattle.std.specs.Prelude.{◌≡◌, cond, eqb};
-ghost use Rattle.fraction.specs.declared.Worked.TheVariants.{Fits};
+ghost use Rattle.std.specs.Prelude.{◌≡◌, cond, eqb, Ok};
 ghost use Rattle.fraction.specs.Exact.{zero_fraction, no_figure};
 ghost use Rattle.fraction.specs.Formula.{◌⊖◌, ◌⊗◌, ◌⊘◌, ⊝◌};
 ghost use Rattle.slackness.specs.Slackness.{keeps_rule};
 ghost use Rattle.step.specs.Back.{quote_at};
 ghost use Rattle.step.specs.Figure.{larger, smaller};
-ghost use Rattle.two_arcs.specs.TwoArcs.{same_sign, tighter, image_of, gained as gained_by, new_arc, merging as merging_of, merged, kept, two, two_back};
+ghost use Rattle.two_arcs.specs.TwoArcs.{same_sign, tighter, image_of, new_arc, merging as merging_of, merged, kept, two, two_back};
 
 use fraction::{Fraction, Worked};
 use network::pair::Pair;
 use network::{Arc, ArcUpdate, NODE_PLACES, Side, SupplyUpdate};
-use step::{Change, Old, Outcome, Undone};
+use step::{Change, Halt, Old, Outcome, Undone};
 
 fn same_sign(x: Fraction, y: Fraction) -> bool
     ensures { result ≡ same_sign x y }
@@ -35,102 +34,65 @@ fn either(b: bool, x: Fraction, y: Fraction) -> Fraction
 fn image(r: Fraction, wj: Side, wk: Side, z: Fraction) -> Worked
     ensures { result ≡ image_of r wj wk z }
 {
-    let ej = wj.e.fit();
-    let ek = wk.e.fit();
-    r.fit().minus(ek.times(z.fit())).over(ej)
+    r.difference(wk.e.product(z)?)?.quotient(wj.e)
 }
 
 fn tighter_lower(own: Fraction, z: Fraction, image: Worked) -> Worked
     ensures { result ≡ tighter larger own z image }
 {
     if z.den == 0 {
-        return own.fit();
+        return Ok(own);
     }
-    let Worked::Fits(v) = image else {
-        return Worked::Misfit;
-    };
-    Worked::Fits(step::larger(own, v))
+    Ok(step::larger(own, image?))
 }
 
 fn tighter_upper(own: Fraction, z: Fraction, image: Worked) -> Worked
     ensures { result ≡ tighter smaller own z image }
 {
     if z.den == 0 {
-        return own.fit();
+        return Ok(own);
     }
-    let Worked::Fits(v) = image else {
-        return Worked::Misfit;
-    };
-    Worked::Fits(step::smaller(own, v))
+    Ok(step::smaller(own, image?))
 }
 
 fn kept_cost(tj: Arc, tk: Arc, wj: Side, wk: Side) -> Worked
-    ensures { result ≡ (Fits tj.cost ⊖ Fits tk.cost ⊗ Fits wj.e ⊘ Fits wk.e) }
+    ensures { result ≡ (Ok tj.cost ⊖ Ok tk.cost ⊗ Ok wj.e ⊘ Ok wk.e) }
 {
-    let cj = tj.cost.fit();
-    let ck = tk.cost.fit();
-    let ej = wj.e.fit();
-    let ek = wk.e.fit();
-    cj.minus(ck.times(ej).over(ek))
+    tj.cost.difference(tk.cost.product(wj.e)?.quotient(wk.e)?)
 }
 
 // The multiplier of j at k's other end; zero where k is a root arc.
 fn far_multiplier(wj: Side, wk: Side) -> Worked
-    ensures { result ≡ cond (eqb wk.other 0) (Fits zero_fraction) (⊝ (Fits wk.o ⊗ Fits wj.e ⊘ Fits wk.e)) }
+    ensures { result ≡ cond (eqb wk.other 0) (Ok zero_fraction) (⊝ (Ok wk.o ⊗ Ok wj.e ⊘ Ok wk.e)) }
 {
     if wk.other == 0 {
-        return Fraction::ZERO.fit();
+        return Ok(Fraction::ZERO);
     }
-    let ok = wk.o.fit();
-    let ej = wj.e.fit();
-    let ek = wk.e.fit();
-    ok.times(ej).over(ek).negated()
+    wk.o.product(wj.e)?.quotient(wk.e)?.negation()
 }
 
 // The supply at k's other end, s before the step; none where k is a root arc.
 fn far_supply(wk: Side, s: Fraction, r: Fraction) -> Worked
-    ensures { result ≡ cond (eqb wk.other 0) (Fits no_figure) (Fits s ⊖ Fits wk.o ⊗ Fits r ⊘ Fits wk.e) }
+    ensures { result ≡ cond (eqb wk.other 0) (Ok no_figure) (Ok s ⊖ Ok wk.o ⊗ Ok r ⊘ Ok wk.e) }
 {
     if wk.other == 0 {
-        return network::no_figure().fit();
+        return Ok(network::no_figure());
     }
-    let ok = wk.o.fit();
-    let ek = wk.e.fit();
-    s.fit().minus(ok.times(r.fit()).over(ek))
-}
-
-// The constant after the step: it gains ck × r ÷ ek.
-fn gained(constant: Fraction, tk: Arc, wk: Side, r: Fraction) -> Worked
-    ensures { result ≡ gained_by constant tk wk r }
-{
-    let ck = tk.cost.fit();
-    let ek = wk.e.fit();
-    constant.fit().plus(ck.times(r.fit()).over(ek))
+    s.difference(wk.o.product(r)?.quotient(wk.e)?)
 }
 
 // Arc j as it is kept: it runs on to k's other end, and becomes a root arc where k is one.
 fn new_arc(wj: Side, wk: Side, c: Fraction, l: Fraction, u: Fraction, b: Fraction) -> Arc
     ensures { result ≡ new_arc wj wk c l u b }
 {
-    let a = wj.o;
-    if wk.other == 0 {
-        return Arc {
-            from: wj.other,
-            to: wj.other,
-            cost: c,
-            lower: l,
-            upper: u,
-            a,
-            b,
-        };
-    }
+    let to = if wk.other == 0 { wj.other } else { wk.other };
     Arc {
         from: wj.other,
-        to: wk.other,
+        to,
         cost: c,
         lower: l,
         upper: u,
-        a,
+        a: wj.o,
         b,
     }
 }
@@ -171,24 +133,12 @@ fn merge(
     let exchanged = same_sign(wj.e, wk.e);
     let lz = either(exchanged, tk.upper, tk.lower);
     let uz = either(exchanged, tk.lower, tk.upper);
-    let Worked::Fits(c) = kept_cost(tj, tk, wj, wk) else {
-        return Outcome::Passes;
-    };
-    let Worked::Fits(l) = tighter_lower(tj.lower, lz, image(r, wj, wk, lz)) else {
-        return Outcome::Passes;
-    };
-    let Worked::Fits(u) = tighter_upper(tj.upper, uz, image(r, wj, wk, uz)) else {
-        return Outcome::Passes;
-    };
-    let Worked::Fits(b) = far_multiplier(wj, wk) else {
-        return Outcome::Passes;
-    };
-    let Worked::Fits(g) = far_supply(wk, s, r) else {
-        return Outcome::Passes;
-    };
-    let Worked::Fits(z) = gained(constant, tk, wk, r) else {
-        return Outcome::Passes;
-    };
+    let c = kept_cost(tj, tk, wj, wk)?;
+    let l = tighter_lower(tj.lower, lz, image(r, wj, wk, lz))?;
+    let u = tighter_upper(tj.upper, uz, image(r, wj, wk, uz))?;
+    let b = far_multiplier(wj, wk)?;
+    let g = far_supply(wk, s, r)?;
+    let z = step::gained(constant, tk, wk, r)?;
     let new = new_arc(wj, wk, c, l, u, b);
     let edit = merging(j, new, k, wk.other, g, i, z);
     let old = step::old_two(
@@ -197,7 +147,7 @@ fn merge(
         ArcUpdate { number: j, arc: tj },
         ArcUpdate { number: k, arc: tk },
     );
-    Outcome::Changes(Change { edit, old })
+    Ok(Change { edit, old })
 }
 
 // Arc j is kept and arc k goes, where their other ends differ.
@@ -213,7 +163,7 @@ fn keep(
     let wj = network::side_at(j.arc, i);
     let wk = network::side_at(k.arc, i);
     if wj.other == wk.other {
-        return Outcome::Passes;
+        return Err(Halt::Passes);
     }
     let r = network::supply_of(supply, i);
     let s = network::supply_of(supply, wk.other);
@@ -232,7 +182,7 @@ pub fn two_arcs(
     ensures { result ≡ two constant supply i degree t u }
 {
     if degree != 2 {
-        return Outcome::Passes;
+        return Err(Halt::Passes);
     }
     if network::is_root(t.arc) {
         return keep(constant, supply, i, u, t);
@@ -254,45 +204,34 @@ pub fn two_back(old: Old, pair: Pair) -> Undone
     let x = network::pair::flow_at(pair, one.number);
     let p = network::pair::price_at(pair, wj.other);
     let q = network::pair::price_at(pair, wk.other);
-    let Worked::Fits(y) = far_flow(old.supply, wj, wk, x) else {
-        return Undone::Wide;
-    };
-    let Worked::Fits(first) = step::quote(tk, i, q) else {
-        return Undone::Wide;
-    };
-    let Worked::Fits(d) = old_cost(tj.cost, wj, p, first) else {
-        return Undone::Wide;
-    };
-    let Worked::Fits(price) = price_of(tj, i, p, x, first, d) else {
-        return Undone::Wide;
-    };
-    Undone::Restores(step::flow_and_price(two.number, y, i, price))
+    let y = far_flow(old.supply, wj, wk, x)?;
+    let first = step::quote(tk, i, q)?;
+    let d = old_cost(tj.cost, wj, p, first)?;
+    let price = price_of(tj, i, p, x, first, d)?;
+    Ok(step::flow_and_price(two.number, y, i, price))
 }
 
 // The flow of k, where j's is x.
 fn far_flow(r: Fraction, wj: Side, wk: Side, x: Fraction) -> Worked
-    ensures { result ≡ ((Fits r ⊖ Fits wj.e ⊗ Fits x) ⊘ Fits wk.e) }
+    ensures { result ≡ ((Ok r ⊖ Ok wj.e ⊗ Ok x) ⊘ Ok wk.e) }
 {
-    let ej = wj.e.fit();
-    let ek = wk.e.fit();
-    r.fit().minus(ej.times(x.fit())).over(ek)
+    r.difference(wj.e.product(x)?)?.quotient(wk.e)
 }
 
 // The old reduced cost of j, with the first price.
 fn old_cost(c: Fraction, w: Side, p: Fraction, first: Fraction) -> Worked
-    ensures { result ≡ (Fits c ⊖ Fits w.o ⊗ Fits p ⊖ Fits w.e ⊗ Fits first) }
+    ensures { result ≡ (Ok c ⊖ Ok w.o ⊗ Ok p ⊖ Ok w.e ⊗ Ok first) }
 {
-    let o = w.o.fit();
-    let e = w.e.fit();
-    c.fit().minus(o.times(p.fit())).minus(e.times(first.fit()))
+    c.difference(w.o.product(p)?)?
+        .difference(w.e.product(first)?)
 }
 
 // The node's price: the first one, where j then keeps the price rule.
 fn price_of(t: Arc, i: usize, p: Fraction, x: Fraction, first: Fraction, d: Fraction) -> Worked
-    ensures { result ≡ cond (keeps_rule t.lower t.upper x d) (Fits first) (quote_at t i p) }
+    ensures { result ≡ cond (keeps_rule t.lower t.upper x d) (Ok first) (quote_at t i p) }
 {
     if slackness::keeps_rule(t.lower, t.upper, x, d) {
-        return first.fit();
+        return Ok(first);
     }
     step::quote(t, i, p)
 }
