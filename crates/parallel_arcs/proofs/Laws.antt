@@ -49,7 +49,7 @@ use Rattle.step.proofs.Laws.{no_old, Right, right_of, RuleLaws}
 use Rattle.step.proofs.Touch.{unlike}
 use Rattle.closed_arc.specs.ClosedArc as Closed
 use Rattle.closed_arc.proofs.Laws.{uncrossed}
-use Rattle.parallel_arcs.specs.ParallelArcs.{ratio_of, is_times, low_bound, high_bound, low_end, high_end, upper_sum, joining, joined, alike, or_next, parallel_arc, parallel_back, rule}
+use Rattle.parallel_arcs.specs.ParallelArcs.{ratio_of, is_times, low_bound, high_bound, low_end, high_end, upper_sum, joining, joined, alike, or_next, parallel_arc, parallel_back, parallel_back_by, rule}
 use Rattle.parallel_arcs.proofs.Figures.{times-is, ratio-is, low_is, image-is, sum_is, upper-sum-is, room}
 
 -- ---- what an answer says
@@ -229,7 +229,7 @@ module _ (net : Net) (g : Legal net) (j : ℕ) {c : Change} (h : Found net j (Ok
 
     -- g and the image's lower end fit, as they did in the step
     ends-fit : parallel_back old pair ≡ figure (Ok x ⊖ Ok m.low) (λ rest. figure ((Ok x ⊖ Ok (smaller tj.upper rest)) ⊘ Ok m.g) (λ y. Ok (two_flows k y j (smaller tj.upper rest))))
-    unfolding parallel_back figure
+    unfolding parallel_back parallel_back_by figure
     ends-fit = rw (m.ratio, m.low_fits)
 
     agrees : (q : Restored) → parallel_back old pair ≡ Ok q → Holds (restored pair q) (back (exact_pair pair))

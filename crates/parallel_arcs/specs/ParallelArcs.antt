@@ -93,18 +93,20 @@ parallel_arc net j = do
 
 -- "Going back, k's image first stands at its lower end: j takes the smaller of its upper bound and (flow - that lower end); k's flow is
 -- (flow - j's new flow) ÷ g." g and the lower end are those of the step, where they fitted.
-unfoldable pub parallel_back : Old → Pair → Undone
-parallel_back old pair = do
+unfoldable pub parallel_back_by : Old → Fraction → Undone
+parallel_back_by old flow = do
   let j = old.one.number
   let tj = old.one.arc
   let tk = old.two.arc
-  let flow = flow_at pair j
   g ← figure (ratio_of tj tk)
   low ← figure (low_end g (low_bound tk g))
   rest ← figure (Ok flow ⊖ Ok low)
   let x = smaller tj.upper rest
   y ← figure ((Ok flow ⊖ Ok x) ⊘ Ok g)
   Ok (two_flows old.two.number y j x)
+
+unfoldable pub parallel_back : Old → Pair → Undone
+parallel_back old pair = parallel_back_by old (flow_at pair old.one.number)
 
 abbrev pub rule : Rule
 rule = record { last = max_arcs; at = parallel_arc; back = parallel_back; trial = no_trial }

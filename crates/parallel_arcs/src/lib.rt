@@ -1,11 +1,9 @@
 // Rule 7: parallel arcs.
-#![tactic(auto, using(fraction::proofs::Laws::misfit_is), unfolding(fraction::specs::Formula::added, fraction::specs::Formula::subtracted, fraction::specs::Formula::multiplied, fraction::specs::Formula::divided, fraction::specs::Formula::negated, step::specs::Outcome::only_where, step::specs::Outcome::no_flow_where, step::specs::Outcome::fits, step::specs::Back::figure, fraction::specs::Exact::is_finite, fraction::specs::Exact::is_same, crate::specs::ParallelArcs::ratio_of, crate::specs::ParallelArcs::is_times, crate::specs::ParallelArcs::high_end, crate::specs::ParallelArcs::upper_sum, crate::specs::ParallelArcs::joined, crate::specs::ParallelArcs::alike, crate::specs::ParallelArcs::parallel_back))]
+#![tactic(auto, using(fraction::proofs::Laws::misfit_is), unfolding(fraction::specs::Formula::added, fraction::specs::Formula::subtracted, fraction::specs::Formula::multiplied, fraction::specs::Formula::divided, fraction::specs::Formula::negated, step::specs::Outcome::only_where, step::specs::Outcome::no_flow_where, step::specs::Outcome::fits, step::specs::Back::figure, fraction::specs::Exact::is_finite, fraction::specs::Exact::is_same, crate::specs::ParallelArcs::ratio_of, crate::specs::ParallelArcs::is_times, crate::specs::ParallelArcs::high_end, crate::specs::ParallelArcs::upper_sum, crate::specs::ParallelArcs::joined, crate::specs::ParallelArcs::alike, crate::specs::ParallelArcs::low_end, crate::specs::ParallelArcs::parallel_back_by))]
 
 ghost use Rattle.std.specs.Prelude.{◌≡◌, Ok};
 ghost use Rattle.fraction.specs.Formula.{◌⊖◌, ◌⊘◌};
-ghost use Rattle.network.specs.declared.pair.Pair.{Pair};
-ghost use Rattle.network.specs.Pair.{flow_at};
-ghost use Rattle.parallel_arcs.specs.ParallelArcs.{ratio_of, is_times, low_bound, high_bound, high_end, upper_sum, joining as joining_by, joined, alike as alike_of, parallel_arc, parallel_back};
+ghost use Rattle.parallel_arcs.specs.ParallelArcs.{ratio_of, is_times, low_bound, high_bound, high_end, upper_sum, joining as joining_by, joined, alike as alike_of, parallel_arc, parallel_back_by};
 ghost use Rattle.parallel_arcs.specs.internal.Multiple.{is_passing};
 
 use fraction::{Fraction, Worked};
@@ -28,24 +26,14 @@ fn is_times(g: Fraction, y: Fraction, x: Fraction) -> bool
     g.product(x) == Ok(y)
 }
 
-// The bound of k that gives the lower end of the image, and the one that gives the upper end.
-fn low_bound(t: Arc, g: Fraction) -> Fraction
-    ensures { result ≡ low_bound t g }
+// The bounds of k that give the lower and the upper end of the image.
+fn image_bounds(t: Arc, g: Fraction) -> (Fraction, Fraction)
+    ensures { result ≡ (low_bound t g, high_bound t g) }
 {
     if g.less(Fraction::ZERO) {
-        t.upper
+        (t.upper, t.lower)
     } else {
-        t.lower
-    }
-}
-
-fn high_bound(t: Arc, g: Fraction) -> Fraction
-    ensures { result ≡ high_bound t g }
-{
-    if g.less(Fraction::ZERO) {
-        t.lower
-    } else {
-        t.upper
+        (t.lower, t.upper)
     }
 }
 
@@ -105,8 +93,7 @@ fn joining(
 fn join(constant: Fraction, j: usize, tj: Arc, k: usize, tk: Arc, g: Fraction) -> Outcome
     ensures { result ≡ joined constant j tj k tk g }
 {
-    let lz = low_bound(tk, g);
-    let hz = high_bound(tk, g);
+    let (lz, hz) = image_bounds(tk, g);
     if tj.lower.den == 0 {
         return Err(Halt::Passes);
     }
@@ -175,14 +162,14 @@ pub fn parallel_arc(net: Net, j: usize) -> Outcome
 
 // Its way back, where the kept arc has this flow.
 pub fn parallel_back(old: Old, flow: Fraction) -> Undone
-    ensures { (pair : Pair) → flow_at pair old.one.number ≡ flow → result ≡ parallel_back old pair }
+    ensures { result ≡ parallel_back_by old flow }
 {
     let one = old.one;
     let two = old.two;
     let tj = one.arc;
     let tk = two.arc;
     let g = ratio(tj, tk)?;
-    let lz = low_bound(tk, g);
+    let (lz, _) = image_bounds(tk, g);
     let low = lz.product(g)?;
     let rest = flow.difference(low)?;
     let x = step::smaller(tj.upper, rest);
