@@ -16,7 +16,7 @@ use Rattle.fraction.specs.declared.Fraction.{Fraction}
 use Rattle.fraction.specs.Exact.{Worked}
 use Rattle.std.specs.Prelude.{Ok, Err}
 use Rattle.fraction.specs.Exact.{no_figure, is_operand, sum_of, is_same, no_upper}
-use Rattle.fraction.specs.Formula.{figure_of, pair_of, ◌⊕◌, ◌⊘◌, added}
+use Rattle.fraction.specs.Formula.{figure_of, ◌⊕◌, ◌⊘◌, added}
 use Rattle.fraction.proofs.Laws.{and_both}
 use Rattle.step.proofs.Lines.{split, or-neither}
 use Rattle.step.proofs.Touch.{unlike}
@@ -83,7 +83,7 @@ none_from seen w q to c e = any_none _ 97 (λ k l. rw (none_left q (get_or to k 
 
 -- the sum of two figures is that of the formulas, where none stands for a misfit
 sum-way : (a b : Bool) (u v : Worked) (c : Fraction) → is_under (sum_of (cond a (figure_of u) no_figure) (cond b (figure_of v) no_figure)) c ≡ (a && (b && is_under (u ⊕ v) c))
-unfolding sum_of is_operand added pair_of
+unfolding sum_of is_operand added
 sum-way false b u v c = refl
 sum-way true false u v c = rw (and-false (is_operand (figure_of u)))
 sum-way true true (Ok x) (Ok y) c = refl

@@ -1,5 +1,6 @@
 // What is due: the root arcs that were put since a pair was last sought, and the cost by way of each.
-ghost use Rattle.std.specs.Prelude.{◌≡◌, ◌+◌, ltb};
+ghost use Rattle.std.specs.Prelude.{◌≡◌, ◌+◌, ltb, Ok};
+ghost use Rattle.fraction.specs.Formula.{◌⊗◌, ◌⊘◌};
 ghost use Rattle.loops.specs.Loops.{any};
 ghost use Rattle.network.specs.Limits.{arc_places};
 ghost use Rattle.costly_arc.specs.CostlyArc.{is_positive, is_under, has_pair};
@@ -83,6 +84,7 @@ fn is_under(w: Worked, c: Fraction) -> bool
 }
 
 // c1 × a ÷ a1, for the root arc x and the multiplier a.
+#[tactic(auto, using(fraction::proofs::Laws::misfit_is), unfolding(fraction::specs::Formula::multiplied, fraction::specs::Formula::divided))]
 fn cost_by(x: Arc, a: Fraction) -> Worked
     ensures { result ≡ Ok x.cost ⊗ Ok a ⊘ Ok x.a }
 {
@@ -90,6 +92,7 @@ fn cost_by(x: Arc, a: Fraction) -> Worked
 }
 
 // The cost by way of the root arc x at node i, where the multiplier is e; none where x is old, or doesn't serve.
+#[tactic(auto, unfolding(crate::specs::internal::Due::way_of, fraction::specs::Formula::divided))]
 fn way(old: bool, x: Arc, i: usize, e: Fraction) -> Fraction
     ensures { result ≡ way_of old x i e }
 {
