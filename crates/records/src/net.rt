@@ -42,6 +42,7 @@ pub(crate) fn has_sizes(xs: &[i32]) -> bool
 }
 
 // Whether figure k is a fraction in form, or the mark that its place permits.
+#[tactic(auto, unfolding(crate::specs::Network::is_permitted, crate::specs::Network::role_of, fraction::specs::Exact::is_same))]
 fn permitted(n: usize, k: usize, f: Fraction) -> bool
     ensures { result ≡ is_permitted (role_of n k) f }
 {
@@ -53,8 +54,8 @@ fn permitted(n: usize, k: usize, f: Fraction) -> bool
     }
     let role = (k - n - 1) % 7;
     match role {
-        3 => f.same(Fraction::NO_LOWER),
-        4 => f.same(Fraction::NO_UPPER),
+        3 => f == Fraction::NO_LOWER,
+        4 => f == Fraction::NO_UPPER,
         _ => false,
     }
 }

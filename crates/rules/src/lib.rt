@@ -1,14 +1,14 @@
 // The table of the rules, in code: the step and the way back of each, by its number.
-#![tactic(auto)]
+#![tactic(auto, unfolding(step::specs::Run::rule_from))]
 
 ghost use Rattle.std.specs.Prelude.{◌≡◌};
 ghost use Rattle.step.specs.Run.{rule_of};
 ghost use Rattle.rules.specs.Table.{rules};
 
+use fraction::Misfit;
 use network::pair::Pair;
 use step::{Old, Undone};
 
-pub mod found;
 pub mod tried;
 
 // What the way back over a step of a rule restores.

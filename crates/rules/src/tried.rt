@@ -1,6 +1,8 @@
 // The rules tried at one place, each by what it needs of the network there.
 // A test before a rule is tried costs little, and where it fails the rule passes.
-ghost use Rattle.std.specs.Prelude.{◌≡◌, true, false, ltb, get_or};
+#![tactic(auto, unfolding(step::specs::Run::rule_from, crate::specs::Tried::is_closed, fraction::specs::Exact::is_same))]
+
+ghost use Rattle.std.specs.Prelude.{◌≡◌, get_or};
 ghost use Rattle.fraction.specs.Exact.{no_figure};
 ghost use Rattle.network.specs.Limits.{max_arcs};
 ghost use Rattle.network.specs.ArcList.{joined};
@@ -10,15 +12,28 @@ ghost use Rattle.closed_arc.specs.ClosedArc.{closed};
 ghost use Rattle.costly_arc.specs.CostlyArc.{is_open_root, costly_arc};
 ghost use Rattle.costly_arc.specs.Seen.{Known};
 ghost use Rattle.parallel_arcs.specs.ParallelArcs.{alike};
-ghost use Rattle.rules.specs.Found.{found_of};
 ghost use Rattle.rules.specs.Table.{rules};
 ghost use Rattle.rules.specs.Tried.{is_closed, asks_of, may_apply};
 
-use crate::found::Found;
-use costly_arc::Seen;
+use costly_arc::{Found, Seen};
 use fraction::Fraction;
 use network::{ARC_PLACES, Arc, MAX_ARCS, MAX_NODES, NODE_PLACES, Nodes};
-use step::{Around, Outcome};
+use step::{Around, Halt, Next, Outcome, Step};
+
+// The answer of rule k at place i.
+fn answer(k: usize, i: usize, x: Outcome) -> Next
+    ensures { result ≡ or_else k i x Stops }
+{
+    match x {
+        Ok(change) => Next::Takes(Step {
+            rule: k,
+            place: i,
+            change,
+        }),
+        Err(Halt::NoFlow) => Next::Refuted(k, i),
+        Err(Halt::Passes) => Next::Stops,
+    }
+}
 
 // ---- rule 1
 
@@ -26,25 +41,22 @@ use step::{Around, Outcome};
 pub fn is_closed(t: Arc) -> bool
     ensures { result ≡ is_closed t }
 {
-    if t.from == 0 {
-        return false;
-    }
-    if t.upper.less(t.lower) {
-        return true;
-    }
-    t.lower == t.upper
+    t.from != 0 && (t.upper.less(t.lower) || t.lower == t.upper)
 }
 
 // Rule 1 at arc j, t.
-pub fn at_arc(constant: Fraction, supply: [Fraction; NODE_PLACES], j: usize, t: Arc) -> Found
-    ensures { result ≡ found_of (or_else 1 j (closed constant j t (get_or supply t.from no_figure) (get_or supply t.to no_figure)) Stops) }
+pub fn at_arc(constant: Fraction, supply: [Fraction; NODE_PLACES], j: usize, t: Arc) -> Next
+    ensures { result ≡ or_else 1 j (closed constant j t (get_or supply t.from no_figure) (get_or supply t.to no_figure)) Stops }
 {
     let left = network::supply_of(supply, t.from);
     let right = network::supply_of(supply, t.to);
-    crate::found::answer(1, j, closed_arc::closed_arc(constant, j, t, left, right))
+    answer(1, j, closed_arc::closed_arc(constant, j, t, left, right))
 }
 
 // ---- the rules of nodes
+
+// The highest rule of the table.
+pub const LAST_RULE: usize = 7;
 
 // How many places a rule has, the degree that it asks for, and whether it asks for supply 0.
 #[derive(Clone, Copy)]
@@ -80,22 +92,11 @@ pub fn asks_of(k: usize) -> Asks
     }
 }
 
-// Whether there is a rule k.
-pub fn is_rule(k: usize) -> bool
-    ensures { result ≡ ltb 0 (rule_of rules k).last }
-{
-    let x = asks_of(k);
-    0 < x.places
-}
-
 // Whether a supply is what a rule asks for.
 pub fn may_apply(asks: Asks, r: Fraction) -> bool
     ensures { result ≡ may_apply asks r }
 {
-    if asks.balanced {
-        return r.is_zero();
-    }
-    true
+    !asks.balanced || r.is_zero()
 }
 
 // Rule k at node i, by its degree and the arcs there: the one place that chooses a step by the rule's number.
@@ -126,20 +127,13 @@ pub fn at_node(
     i: usize,
     degree: usize,
     near: Around,
-) -> Found
-    ensures { result ≡ found_of (or_else k i ((rule_of rules k).trial.by constant supply i degree near) Stops) }
+) -> Next
+    ensures { result ≡ or_else k i ((rule_of rules k).trial.by constant supply i degree near) Stops }
 {
-    crate::found::answer(k, i, try_node(constant, supply, k, i, degree, near))
+    answer(k, i, try_node(constant, supply, k, i, degree, near))
 }
 
 // ---- rule 4
-
-// What the search finds, and what rule 4 knows then.
-#[derive(Clone, Copy)]
-pub struct Looked {
-    pub found: Found,
-    pub seen: Seen,
-}
 
 pub fn is_root(t: Arc) -> bool
     ensures { result ≡ is_open_root t t.from }
@@ -148,23 +142,17 @@ pub fn is_root(t: Arc) -> bool
 }
 
 // Rule 4 at the arcs upward, by what is known.
-pub fn at_costly(nodes: Nodes, view: [Arc; ARC_PLACES], seen: Seen, time: u8) -> Looked
-    ensures { Known (joined nodes view) time seen → (result.found ≡ found_of (upward (costly_arc (joined nodes view)) 4 max_arcs 1 Stops)) × Known (joined nodes view) time result.seen }
+pub fn at_costly(nodes: Nodes, view: [Arc; ARC_PLACES], seen: Seen, time: u8) -> Found
+    ensures { Known (joined nodes view) time seen → (result.next ≡ upward (costly_arc (joined nodes view)) 4 max_arcs 1 Stops) × Known (joined nodes view) time result.seen }
 {
-    let x = costly_arc::scan(network::join(nodes, view), seen, time);
-    let next = x.next;
-    let known = x.seen;
-    Looked {
-        found: crate::found::flat(next),
-        seen: known,
-    }
+    costly_arc::scan(network::join(nodes, view), seen, time)
 }
 
 // ---- rule 7
 
 // Rule 7 at arcs j, t, and k, u.
-pub fn at_pair(constant: Fraction, j: usize, t: Arc, k: usize, u: Arc) -> Found
-    ensures { result ≡ found_of (or_else 7 j (alike constant j t k u) Stops) }
+pub fn at_pair(constant: Fraction, j: usize, t: Arc, k: usize, u: Arc) -> Next
+    ensures { result ≡ or_else 7 j (alike constant j t k u) Stops }
 {
-    crate::found::answer(7, j, parallel_arcs::alike(constant, j, t, k, u))
+    answer(7, j, parallel_arcs::alike(constant, j, t, k, u))
 }

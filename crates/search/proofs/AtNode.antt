@@ -20,6 +20,7 @@ use Rattle.network.proofs.Lists.{arc-is}
 use Rattle.network.specs.Network.{arc_at, supply_at, is_here, is_touching, degree_of, AreDegreesTo, touching_after}
 use Rattle.network.specs.Legal.{Legal}
 use Rattle.network.proofs.Kept.{here-number}
+use Rattle.step.specs.declared.Next.{Next}
 use Rattle.step.specs.declared.Around.{Around}
 use Rattle.step.specs.declared.Halt.TheVariants.{Passes}
 use Rattle.step.specs.Around.{Near, Given}
@@ -29,9 +30,7 @@ use Rattle.step.proofs.Lines.{split}
 use Rattle.step.proofs.Touch.{touching-first}
 use Rattle.rules.specs.Table.{rules}
 use Rattle.step.specs.declared.Next.TheVariants.{Stops}
-use Rattle.rules.specs.declared.found.Found.{Found}
 use Rattle.rules.specs.declared.tried.Asks.{Asks}
-use Rattle.rules.specs.Found.{found_of}
 use Rattle.rules.specs.Tried.{is_of_nodes, asks_of, may_apply}
 use Rattle.rules.proofs.Whole.{node-unused, at_nodes}
 
@@ -58,11 +57,11 @@ module _ {net : Net} (g : Legal net) where
   -- rule k of nodes, which asks for `asks`, at node i
   module _ (ds : List ℕ) (are : AreDegreesTo net net.m ds) (i : ℕ) (m : i < 33) (k : ℕ) (n : is_of_nodes k ≡ true) {asks : Asks} (q : asks ≡ asks_of k) where
     -- it answers by what it is given
-    pub answered : (eqb (get_or ds i 0) asks.degree && is_here net i) ≡ true → {near : Around} → Near net i asks.degree near → {x : Found} → x ≡ found_of (or_else k i ((rule_of rules k).trial.by net.constant net.supply i asks.degree near) Stops) → x ≡ found_of (or_else k i ((rule_of rules k).at net i) Stops)
+    pub answered : (eqb (get_or ds i 0) asks.degree && is_here net i) ≡ true → {near : Around} → Near net i asks.degree near → {x : Next} → x ≡ (or_else k i ((rule_of rules k).trial.by net.constant net.supply i asks.degree near) Stops) → x ≡ (or_else k i ((rule_of rules k).at net i) Stops)
     answered e {near} a x =
         let b = and_both (eqb (get_or ds i 0) asks.degree) _ e in
         let given : Given net net.constant net.supply i asks.degree near = record { legal = g; here = b.1; constant_is = refl; supplies = refl; degree = sym (degrees-are ds are i (here-number g i b.1).0 m) ∙ eqb-true _ _ b.0; arcs = a } in
-        x ∙ ap (λ o. found_of (or_else k i o Stops)) ((at_nodes k n).given given)
+        x ∙ ap (λ o. (or_else k i o Stops)) ((at_nodes k n).given given)
 
     -- where it is not in use or not of that degree, or not of that supply, the rule passes
     pub elsewhere : 1 ≤ i → (eqb (get_or ds i 0) asks.degree && is_here net i) ≡ false → (rule_of rules k).at net i ≡ (Err Passes)

@@ -18,31 +18,30 @@ use Rattle.network.specs.Network.{arc_at, is_used, is_parallel, parallel_after, 
 use Rattle.network.specs.Legal.{Legal}
 use Rattle.network.proofs.First.{First, scan-first}
 use Rattle.network.proofs.Kept.{used-number}
+use Rattle.step.specs.declared.Next.{Next}
 use Rattle.step.specs.Outcome.{Outcome}
 use Rattle.step.specs.declared.Halt.TheVariants.{Passes, NoFlow}
 use Rattle.step.specs.declared.Next.TheVariants.{Stops}
 use Rattle.step.specs.Outcome.{only_where}
-use Rattle.step.specs.Run.{or_else}
+use Rattle.step.specs.Run.{or_else, is_found}
 use Rattle.step.proofs.Lines.{split}
 use Rattle.step.proofs.Touch.{unlike}
 use Rattle.parallel_arcs.specs.ParallelArcs.{alike, or_next, parallel_arc}
 use Rattle.parallel_arcs.specs.internal.Multiple.{is_passing, is_multiple}
 use Rattle.parallel_arcs.proofs.Cross.{not-multiple, ends-differ}
 use Rattle.parallel_arcs.proofs.Search.{found}
-use Rattle.rules.specs.declared.found.Found.{Found}
-use Rattle.rules.specs.Found.{found_of}
 
 -- ---- an answer at two arcs, as the code has it
 
-not_found : (j : ℕ) {x : Found} (o : Outcome) → x ≡ found_of (or_else 7 j o Stops) → x.found ≡ false → o ≡ (Err Passes)
+not_found : (j : ℕ) {x : Next} (o : Outcome) → x ≡ (or_else 7 j o Stops) → is_found x ≡ false → o ≡ (Err Passes)
 not_found j (Err Passes) e f = refl
 not_found j (Err NoFlow) e f = unlike (sym (rw e at f))
 not_found j (Ok c) e f = unlike (sym (rw e at f))
 
-is_found : (j : ℕ) {x : Found} (o : Outcome) → x ≡ found_of (or_else 7 j o Stops) → x.found ≡ true → is_passing o ≡ false
-is_found j (Err Passes) e f = unlike (rw e at f)
-is_found j (Err NoFlow) e f = refl
-is_found j (Ok c) e f = refl
+found-yes : (j : ℕ) {x : Next} (o : Outcome) → x ≡ (or_else 7 j o Stops) → is_found x ≡ true → is_passing o ≡ false
+found-yes j (Err Passes) e f = unlike (rw e at f)
+found-yes j (Err NoFlow) e f = refl
+found-yes j (Ok c) e f = refl
 
 -- ---- the parallel arcs of arc j, which is in use
 
@@ -100,7 +99,7 @@ module _ (net : Net) (j : ℕ) where
     chain_more {k} h l e = next-after {m = k} (omega (arith, h.above l)) (chain-after h l) (λ i a b. ⊎_elim (λ z. rw z e) (λ m. h.pass i a (omega (arith, h.within)) (λ _. m)) (eq-or-lt_of_le b))
 
     -- the rule passes at k, by its answer or by the cheap test
-    pub chain-past : {k : ℕ} → Chain k → 1 ≤ k → {x : Found} → x ≡ found_of (or_else 7 j (with k) Stops) → x.found ≡ false → Chain (get_or next k 0)
+    pub chain-past : {k : ℕ} → Chain k → 1 ≤ k → {x : Next} → x ≡ (or_else 7 j (with k) Stops) → is_found x ≡ false → Chain (get_or next k 0)
     chain-past {k} h l e f = chain_more h l (not_found j (with k) e f)
 
     pub chain-skip : {k : ℕ} → Chain k → 1 ≤ k → is_multiple (arc_at net j) (arc_at net k) ≡ false → Chain (get_or next k 0)
@@ -121,15 +120,15 @@ module _ (net : Net) (j : ℕ) where
         rw z (scanned-more or_next (Err Passes) (reach d (omega (arith, add-one d)) (λ x a b. h x a (omega (arith, add-one d)))) (omega (arith, add-one d)) (sym (h (j + 1 + d) (omega arith) (omega (arith, add-one d)))) (λ g i. refl))
 
     -- the answer at k is that of the rule
-    pub chain-found : {k : ℕ} → Chain k → 1 ≤ k → {x : Found} → x ≡ found_of (or_else 7 j (with k) Stops) → x.found ≡ true → x ≡ found_of (or_else 7 j (parallel_arc net j) Stops)
+    pub chain-found : {k : ℕ} → Chain k → 1 ≤ k → {x : Next} → x ≡ (or_else 7 j (with k) Stops) → is_found x ≡ true → x ≡ (or_else 7 j (parallel_arc net j) Stops)
     unfolding parallel_arc only_where
     chain-found {k} h l e f =
         let a = h.above l in
         let w = h.within in
         let z : j + 1 + (k - (j + 1)) ≡ k = omega arith in
         let s = rw z at (reach (k - (j + 1)) (omega arith) (λ x m n. h.pass x m (omega arith) (λ _. omega arith))) in
-        let q : with k ≡ parallel_arc net j = rw used (found s (omega arith) (omega arith) refl (is_found j (with k) e f)) in
-        e ∙ ap (λ o. found_of (or_else 7 j o Stops)) q
+        let q : with k ≡ parallel_arc net j = rw used (found s (omega arith) (omega arith) refl (found-yes j (with k) e f)) in
+        e ∙ ap (λ o. (or_else 7 j o Stops)) q
 
     -- there are no more
     pub chain-none : {k : ℕ} → Chain k → k < 1 → parallel_arc net j ≡ (Err Passes)

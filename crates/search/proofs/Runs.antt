@@ -37,33 +37,32 @@ use Rattle.search.proofs.Behind.{within, replaced-behind, loaded-behind, drop-no
 use Rattle.search.specs.declared.Progress.{Progress}
 use Rattle.search.specs.declared.Ends.{Ends}
 use Rattle.search.specs.declared.Ran.{Ran}
-use Rattle.rules.specs.Found.{found_of}
 use Rattle.search.specs.Search.{refusal_of, refused_by, ends_of, list_of, Searched}
-use Rattle.search.specs.internal.Progress.{noted, moved, ended_by, advanced, begun, end_of, ran_of, Ready, Turned, Told, told_of, told_at, Finished}
+use Rattle.search.specs.internal.Progress.{noted, edited, moved, ended, advanced, begun, is_active, end_of, ran_of, Ready, Turned, Told, told_of, told_at, Finished}
 
 -- ---- at the loop's head
 
 -- what the run `at` on the network net will come to
 abbrev tells : Progress → Net → List ℤ → Told
-tells at net zs = cond at.active (told_of (run_of next_of (128 - at.steps) net) at.steps zs) (told_at at net zs)
+tells at net zs = cond (is_active at) (told_of (run_of next_of (128 - at.steps) net) at.steps zs) (told_at at net zs)
 
 pub record Underway (run : Run) (log : List ℤ) (arcs : List Arc) (at : Progress) (log' : List ℤ) (arcs' : List Arc) : Type 0 where
   pub wide : 96 ≤ length arcs'
   pub long : length arcs' ≡ length arcs
   pub behind : drop 96 arcs' ≡ drop 96 arcs
   pub log_long : length log' ≡ length log
-  pub ready : at.active ≡ true → Ready (net_in at.nodes arcs') at.seen at.steps
+  pub ready : is_active at ≡ true → Ready (net_in at.nodes arcs') at.seen at.steps
   pub told : told_of run 0 log ≡ tells at (net_in at.nodes arcs') log'
 
 pub underway-none : {nodes : Nodes} {log : List ℤ} {arcs : List Arc} → 96 ≤ length arcs → Ready (net_in nodes arcs) nothing_seen 0 → Underway (reduced (net_in nodes arcs)) log arcs (begun nodes) log arcs
 underway-none l g = record { wide = l; long = refl; behind = refl; log_long = refl; ready = λ _. g; told = refl }
 
-pub underway-ends : {run : Run} {log : List ℤ} {arcs : List Arc} {at : Progress} {log' : List ℤ} {arcs' : List Arc} → Underway run log arcs at log' arcs' → at.active ≡ false → Finished run log arcs at log' arcs'
+pub underway-ends : {run : Run} {log : List ℤ} {arcs : List Arc} {at : Progress} {log' : List ℤ} {arcs' : List Arc} → Underway run log arcs at log' arcs' → is_active at ≡ false → Finished run log arcs at log' arcs'
 underway-ends h e = record { told = h.told ∙ rw e; long = h.long; behind = h.behind }
 
 -- what each turn makes smaller
 abbrev pub left : Progress → ℕ
-left at = cond at.active (129 - at.steps) 0
+left at = cond (is_active at) (129 - at.steps) 0
 
 -- ---- one turn
 
@@ -84,7 +83,7 @@ stands zero net end e = rw e
 stands (suc many) net Ends.Stops e = rw e
 stands (suc many) net (Ends.NoFlow k i) e = rw e
 
-module _ {run : Run} {log : List ℤ} {arcs : List Arc} {at : Progress} {log' : List ℤ} {arcs' : List Arc} (h : Underway run log arcs at log' arcs') (a : at.active ≡ true) where
+module _ {run : Run} {log : List ℤ} {arcs : List Arc} {at : Progress} {log' : List ℤ} {arcs' : List Arc} (h : Underway run log arcs at log' arcs') (a : is_active at ≡ true) where
   abbrev here : Net
   here = net_in at.nodes arcs'
 
@@ -98,11 +97,11 @@ module _ {run : Run} {log : List ℤ} {arcs : List Arc} {at : Progress} {log' : 
       by (suc many) q d = omega (arith, q, add-one many)
 
   -- the run ends
-  ends-here : (seen : Seen) (b : Bool) (k i : ℕ) → next_of here ≡ ends_of (end_of (ended_by at seen b k i)) → Underway run log arcs (ended_by at seen b k i) log' arcs'
+  ends-here : (seen : Seen) (end : Ends) → next_of here ≡ ends_of end → Underway run log arcs (ended at seen end) log' arcs'
   unfolding logged
-  ends-here seen b k i e =
+  ends-here seen end e =
       let z : at.steps + 0 ≡ at.steps = omega arith in
-      record { wide = h.wide; long = h.long; behind = h.behind; log_long = h.log_long; ready = λ f. unlike f; told = h.told ∙ rw (a, stands (128 - at.steps) here (end_of (ended_by at seen b k i)) e, z) }
+      record { wide = h.wide; long = h.long; behind = h.behind; log_long = h.log_long; ready = λ f. unlike f; told = h.told ∙ rw (a, stands (128 - at.steps) here end e, z) }
 
   -- or a step is taken
   goes_on_lem : {seen : Seen} → Known here (at.steps + 1) seen → (s : Step) → next_of here ≡ Takes s → Underway run log arcs (moved at here seen s) (with_step log' at.steps s) (replaced_all arcs' s.change.edit)
@@ -126,18 +125,14 @@ module _ {run : Run} {log : List ℤ} {arcs : List Arc} {at : Progress} {log' : 
       }
 
   module _ {r : Progress} {log'' : List ℤ} {arcs'' : List Arc} (t : Turned at log' arcs' r log'' arcs'') where
-    found : {n : Next} → next_of here ≡ n → t.looked.found ≡ found_of n
-    found e = t.found ∙ ap found_of e
-
     pub underway-more : Underway run log arcs r log'' arcs'' × (left r < left at)
     unfolding replaced_all replaced
     underway-more = rw (t.is, t.log_is, t.arcs_are) (by (next_of here) refl)
       where
-        by : (n : Next) → next_of here ≡ n
-            → Underway run log arcs (advanced at here t.looked) (noted log' at.steps t.looked.found) (replaced_all arcs' t.looked.found.step.change.edit) × (left (advanced at here t.looked) < left at)
-        by Stops e = rw (found e) (ends-here t.looked.seen false 0 0 e, rw a (omega (arith, (h.ready a).few)))
-        by (Refuted k i) e = rw (found e) (ends-here t.looked.seen true k i e, rw a (omega (arith, (h.ready a).few)))
-        by (Takes s) e = rw (found e) (goes_on_lem t.known s e, rw a (omega (arith, room s e)))
+        by : (n : Next) → next_of here ≡ n → Underway run log arcs (advanced at here t.seen n) (noted log' at.steps n) (edited arcs' n) × (left (advanced at here t.seen n) < left at)
+        by Stops e = (ends-here t.seen Ends.Stops e, rw a (omega (arith, (h.ready a).few)))
+        by (Refuted k i) e = (ends-here t.seen (Ends.NoFlow k i) e, rw a (omega (arith, (h.ready a).few)))
+        by (Takes s) e = (goes_on_lem t.known s e, rw a (omega (arith, room s e)))
 
 -- ---- from the record to the end
 

@@ -3,17 +3,18 @@
 
 ghost use Rattle.std.specs.Prelude.{◌≡◌, List, ◌+◌, ◌≤◌, length};
 ghost use Rattle.network.specs.declared.Arc.{Arc};
+ghost use Rattle.step.specs.declared.Step.{Step};
 ghost use Rattle.network.specs.Limits.{max_arcs, max_steps};
 ghost use Rattle.network.specs.ArcList.{joined, net_in};
 ghost use Rattle.search.specs.Search.{refusal_of, refused_by, Searched};
-ghost use Rattle.search.specs.internal.Progress.{begun, noted, moved, ended_by, advanced, end_of, ran_of, Ready, Turned, Finished};
+ghost use Rattle.search.specs.internal.Progress.{begun, moved, ended, ran_of, Ready, Turned, Finished};
 ghost use Rattle.rules.specs.Table.{reduced};
 ghost use Rattle.costly_arc.specs.Seen.{nothing_seen};
 
 use costly_arc::Seen;
 use fraction::Fraction;
 use network::{Arc, Edit, Nodes};
-use rules::tried::Looked;
+use step::Next;
 
 mod scan;
 
@@ -33,31 +34,24 @@ pub struct Ran {
     pub ends: Ends,
 }
 
-// A run under way, beside its arcs and its log: where it is not active, the end, with rule and place where it is no flow.
+// A run under way, beside its arcs and its log; at its end, the end.
 #[derive(Clone, Copy)]
 struct Progress {
     nodes: Nodes,
     steps: usize,
     seen: Seen,
-    active: bool,
-    refuted: bool,
-    rule: usize,
-    place: usize,
+    ends: Option<Ends>,
 }
 
 // Before the first step.
 fn start(nodes: Nodes) -> Progress
     ensures { result ≡ begun nodes }
 {
-    let seen = costly_arc::unseen();
     Progress {
         nodes,
         steps: 0,
-        seen,
-        active: true,
-        refuted: false,
-        rule: 0,
-        place: 0,
+        seen: costly_arc::unseen(),
+        ends: None,
     }
 }
 
@@ -69,72 +63,28 @@ fn time(at: Progress) -> u8
     (at.steps + 1) as u8
 }
 
-// What is to be put into the list.
-fn edit_of(x: Looked) -> Edit
-    ensures { result ≡ x.found.step.change.edit }
+// The run at its end.
+fn finish(at: Progress, seen: Seen, end: Ends) -> Progress
+    ensures { result ≡ ended at seen end }
 {
-    x.found.step.change.edit
-}
-
-// A step taken is written into the log.
-fn note(log: &mut [i32], k: usize, x: Looked)
-    ensures { log.new ≡ noted log.old k x.found }
-{
-    if !x.found.found {
-        return;
-    }
-    if x.found.refuted {
-        return;
-    }
-    step_log::store(log, k, x.found.step);
-}
-
-// The run after no step.
-fn ended(at: Progress, x: Looked) -> Progress
-    ensures { result ≡ ended_by at x.seen x.found.refuted x.found.step.rule x.found.step.place }
-{
-    let nodes = at.nodes;
-    let seen = x.seen;
     Progress {
-        nodes,
-        steps: at.steps,
         seen,
-        active: false,
-        refuted: x.found.refuted,
-        rule: x.found.step.rule,
-        place: x.found.step.place,
+        ends: Some(end),
+        ..at
     }
 }
 
 // The run after a step.
-fn onward(at: Progress, x: Looked) -> Progress
+fn onward(at: Progress, seen: Seen, edit: Edit) -> Progress
     requires { at.steps ≤ max_steps }
-    ensures { (xs : List Arc) → result ≡ moved at (joined at.nodes xs) x.seen x.found.step }
+    ensures { (xs : List Arc) (s : Step) → s.change.edit ≡ edit → result ≡ moved at (joined at.nodes xs) seen s }
 {
-    let edit = edit_of(x);
     Progress {
         nodes: network::settle(at.nodes, edit),
         steps: at.steps + 1,
-        seen: costly_arc::mark_all(x.seen, edit, time(at)),
-        active: true,
-        refuted: false,
-        rule: 0,
-        place: 0,
+        seen: costly_arc::mark_all(seen, edit, time(at)),
+        ends: None,
     }
-}
-
-// The run after what was found.
-fn advance(at: Progress, x: Looked) -> Progress
-    requires { at.steps ≤ max_steps }
-    ensures { (xs : List Arc) → result ≡ advanced at (joined at.nodes xs) x }
-{
-    if !x.found.found {
-        return ended(at, x);
-    }
-    if x.found.refuted {
-        return ended(at, x);
-    }
-    onward(at, x)
 }
 
 // One turn of a run: the next step taken in the list and written into the log, or the end.
@@ -143,9 +93,15 @@ fn turn(at: Progress, log: &mut [i32], arcs: &mut [Arc]) -> Progress
     ensures { Turned at log.old arcs.old result log.new arcs.new }
 {
     let x = crate::scan::next(at.nodes, arcs, at.seen, time(at));
-    network::list::put_edit(arcs, edit_of(x));
-    note(log, at.steps, x);
-    advance(at, x)
+    match x.next {
+        Next::Takes(step) => {
+            network::list::put_edit(arcs, step.change.edit);
+            step_log::store(log, at.steps, step);
+            onward(at, x.seen, step.change.edit)
+        },
+        Next::Refuted(rule, place) => finish(at, x.seen, Ends::NoFlow(rule, place)),
+        Next::Stops => finish(at, x.seen, Ends::Stops),
+    }
 }
 
 // Steps until none applies.
@@ -154,7 +110,7 @@ fn run_on(nodes: Nodes, log: &mut [i32], arcs: &mut [Arc]) -> Progress
     ensures { Finished (reduced (net_in nodes arcs.old)) log.old arcs.old result log.new arcs.new }
 {
     let mut at = start(nodes);
-    while at.active {
+    while at.ends.is_none() {
         at = turn(at, log, arcs);
     }
     at
@@ -187,26 +143,15 @@ fn refuse(q: usize) -> Ran
     }
 }
 
-fn end_of(at: Progress) -> Ends
-    ensures { result ≡ end_of at }
-{
-    if at.refuted {
-        return Ends::NoFlow(at.rule, at.place);
-    }
-    Ends::Stops
-}
-
 // A run at its end.
 fn conclude(at: Progress) -> Ran
     ensures { result ≡ ran_of at }
 {
-    let nodes = at.nodes;
-    let ends = end_of(at);
     Ran {
         refused: 0,
-        nodes,
+        nodes: at.nodes,
         steps: at.steps,
-        ends,
+        ends: at.ends.unwrap_or(Ends::Stops),
     }
 }
 

@@ -14,34 +14,29 @@ ghost use Rattle.costly_arc.specs.CostlyArc.{costly_arc};
 ghost use Rattle.costly_arc.specs.Seen.{Known};
 ghost use Rattle.parallel_arcs.specs.ParallelArcs.{parallel_arc};
 ghost use Rattle.rules.specs.Table.{rules, next_of};
-ghost use Rattle.rules.specs.Found.{found_of};
 ghost use Rattle.rules.specs.Tried.{is_of_nodes};
 
-use costly_arc::Seen;
+use costly_arc::{Found, Seen};
 use network::{Arc, ArcUpdate, Degrees, Nodes, Parallels};
-use rules::found::Found;
-use rules::tried::Looked;
-use step::Around;
+use step::{Around, Next};
 
 // ---- rule 1
 
 // Rule 1 at the arcs upward.
-pub(crate) fn scan_closed(nodes: Nodes, arcs: &[Arc]) -> Found
+pub(crate) fn scan_closed(nodes: Nodes, arcs: &[Arc]) -> Next
     requires { Legal (net_in nodes arcs.now) }
-    ensures { result ≡ found_of (upward (closed_arc (net_in nodes arcs.now)) 1 max_arcs 1 Stops) }
+    ensures { result ≡ upward (closed_arc (net_in nodes arcs.now)) 1 max_arcs 1 Stops }
 {
-    let mut j = 1;
-    while j <= nodes.m {
+    for j in 1..nodes.m + 1 {
         if rules::tried::is_closed(network::list::read(arcs, j)) {
             let supply = nodes.supply;
             let x = rules::tried::at_arc(nodes.constant, supply, j, network::list::read(arcs, j));
-            if x.found {
+            if x.is_found() {
                 return x;
             }
         }
-        j += 1;
     }
-    rules::found::nothing()
+    Next::Stops
 }
 
 // ---- the rules of nodes
@@ -111,54 +106,52 @@ fn has_degree(here: bool, degree: usize, d: usize) -> bool
 }
 
 // Rule k at the nodes upward.
-pub(crate) fn scan_nodes(nodes: Nodes, arcs: &[Arc], degrees: Degrees, k: usize) -> Found
+pub(crate) fn scan_nodes(nodes: Nodes, arcs: &[Arc], degrees: Degrees, k: usize) -> Next
     requires { Legal (net_in nodes arcs.now) × AreDegreesTo (net_in nodes arcs.now) nodes.m degrees.at × (is_of_nodes k ≡ true) }
-    ensures { result ≡ found_of (upward ((rule_of rules k).at (net_in nodes arcs.now)) k max_nodes 1 Stops) }
+    ensures { result ≡ upward ((rule_of rules k).at (net_in nodes arcs.now)) k max_nodes 1 Stops }
 {
     let asks = rules::tried::asks_of(k);
     let d = asks.degree;
-    let mut i = 1;
-    while i <= nodes.n {
+    for i in 1..nodes.n + 1 {
         if has_degree(nodes.here[i], degrees.at[i], d) {
             if rules::tried::may_apply(asks, nodes.supply[i]) {
                 let near = gather(arcs, i, d);
                 let x = rules::tried::at_node(nodes.constant, nodes.supply, k, i, d, near);
-                if x.found {
+                if x.is_found() {
                     return x;
                 }
             }
         }
-        i += 1;
     }
-    rules::found::nothing()
+    Next::Stops
 }
 
 // ---- rule 4
 
 // Rule 4 at the arcs upward; where no arc is a root arc without upper bound, it applies nowhere.
-pub(crate) fn scan_costly(nodes: Nodes, arcs: &[Arc], seen: Seen, time: u8) -> Looked
+pub(crate) fn scan_costly(nodes: Nodes, arcs: &[Arc], seen: Seen, time: u8) -> Found
     requires { Legal (net_in nodes arcs.now) × Known (net_in nodes arcs.now) time seen }
-    ensures { (result.found ≡ found_of (upward (costly_arc (net_in nodes arcs.now)) 4 max_arcs 1 Stops)) × Known (net_in nodes arcs.now) time result.seen }
+    ensures { (result.next ≡ upward (costly_arc (net_in nodes arcs.now)) 4 max_arcs 1 Stops) × Known (net_in nodes arcs.now) time result.seen }
 {
-    let mut j = 1;
-    while j <= nodes.m {
+    for j in 1..nodes.m + 1 {
         let t = network::list::read(arcs, j);
         if rules::tried::is_root(t) {
             let view = network::list::view(arcs);
             return rules::tried::at_costly(nodes, view, seen, time);
         }
-        j += 1;
     }
-    let found = rules::found::nothing();
-    Looked { found, seen }
+    Found {
+        next: Next::Stops,
+        seen,
+    }
 }
 
 // ---- rule 7
 
 // Rule 7 at arc j: the parallel arcs after it, upward.
-pub(crate) fn scan_pairs(nodes: Nodes, arcs: &[Arc], parallels: Parallels, j: usize) -> Found
+pub(crate) fn scan_pairs(nodes: Nodes, arcs: &[Arc], parallels: Parallels, j: usize) -> Next
     requires { Legal (net_in nodes arcs.now) × AreParallel (net_in nodes arcs.now) parallels.next × (is_used (net_in nodes arcs.now) j ≡ true) }
-    ensures { result ≡ found_of (or_else 7 j (parallel_arc (net_in nodes arcs.now) j) Stops) }
+    ensures { result ≡ or_else 7 j (parallel_arc (net_in nodes arcs.now) j) Stops }
 {
     let mut k = parallels.next[j] as usize;
     while 1 <= k {
@@ -166,69 +159,65 @@ pub(crate) fn scan_pairs(nodes: Nodes, arcs: &[Arc], parallels: Parallels, j: us
         let u = network::list::read(arcs, k);
         if parallel_arcs::multiple::is_multiple(t, u) {
             let x = rules::tried::at_pair(nodes.constant, j, t, k, u);
-            if x.found {
+            if x.is_found() {
                 return x;
             }
         }
         k = parallels.next[k] as usize;
     }
-    rules::found::nothing()
+    Next::Stops
 }
 
 // Rule 7 at the arcs upward.
-pub(crate) fn scan_parallel(nodes: Nodes, arcs: &[Arc]) -> Found
+pub(crate) fn scan_parallel(nodes: Nodes, arcs: &[Arc]) -> Next
     requires { Legal (net_in nodes arcs.now) }
-    ensures { result ≡ found_of (upward (parallel_arc (net_in nodes arcs.now)) 7 max_arcs 1 Stops) }
+    ensures { result ≡ upward (parallel_arc (net_in nodes arcs.now)) 7 max_arcs 1 Stops }
 {
     let parallels = network::list::parallels(arcs, nodes.m);
-    let mut j = 1;
-    while j <= nodes.m {
+    for j in 1..nodes.m + 1 {
         if parallels.next[j] != 0 {
             let x = scan_pairs(nodes, arcs, parallels, j);
-            if x.found {
+            if x.is_found() {
                 return x;
             }
         }
-        j += 1;
     }
-    rules::found::nothing()
+    Next::Stops
 }
 
 // ---- all rules
 
 // The next step: the first that applies.
-pub(crate) fn next(nodes: Nodes, arcs: &[Arc], mut seen: Seen, time: u8) -> Looked
+pub(crate) fn next(nodes: Nodes, arcs: &[Arc], mut seen: Seen, time: u8) -> Found
     requires { Legal (net_in nodes arcs.now) × Known (net_in nodes arcs.now) time seen }
-    ensures { (result.found ≡ found_of (next_of (net_in nodes arcs.now))) × Known (net_in nodes arcs.now) time result.seen }
+    ensures { (result.next ≡ next_of (net_in nodes arcs.now)) × Known (net_in nodes arcs.now) time result.seen }
 {
     let one = scan_closed(nodes, arcs);
-    if one.found {
-        return Looked { found: one, seen };
+    if one.is_found() {
+        return Found { next: one, seen };
     }
     let degrees = network::list::degrees(arcs, nodes.m);
-    let mut k = 2;
-    let mut more = rules::tried::is_rule(k);
-    while more {
+    for k in 2..rules::tried::LAST_RULE + 1 {
         if k == 4 {
             let x = scan_costly(nodes, arcs, seen, time);
-            if x.found.found {
+            if x.next.is_found() {
                 return x;
             }
             seen = x.seen;
         } else if k == 7 {
             let x = scan_parallel(nodes, arcs);
-            if x.found {
-                return Looked { found: x, seen };
+            if x.is_found() {
+                return Found { next: x, seen };
             }
         } else {
             let x = scan_nodes(nodes, arcs, degrees, k);
-            if x.found {
-                return Looked { found: x, seen };
+            if x.is_found() {
+                return Found { next: x, seen };
             }
         }
-        k += 1;
-        more = rules::tried::is_rule(k);
     }
-    let found = rules::found::nothing();
-    Looked { found, seen }
+    Found {
+        next: Next::Stops,
+        seen,
+    }
 }

@@ -2,7 +2,7 @@
 use Rattle.std.specs.Prelude.{Result, Ok, Err}
 use Rattle.fraction.specs.declared.Misfit.{Misfit}
 use Rattle.fraction.specs.Exact.{misfit}
-use Rattle.std.specs.Prelude.{cond, List, [], ◌∷◌, ℕ, zero, suc, eqb}
+use Rattle.std.specs.Prelude.{Bool, true, false, cond, List, [], ◌∷◌, ℕ, zero, suc, eqb}
 use Rattle.network.specs.declared.Net.{Net}
 use Rattle.network.specs.declared.pair.Pair.{Pair}
 use Rattle.network.specs.Network.{applied}
@@ -33,6 +33,11 @@ abbrev pub rule_of : List Rule → ℕ → Rule
 rule_of rules r = rule_from 1 rules r
 
 -- ---- the next step
+
+abbrev pub is_found : Next → Bool
+is_found Stops = false
+is_found (Refuted k i) = true
+is_found (Takes s) = true
 
 -- the answer of rule k at place i, or, where it passes, what comes after it
 abbrev pub or_else : ℕ → ℕ → Outcome → Next → Next

@@ -10,6 +10,7 @@ ghost use Rattle.network.specs.Network.{is_number};
 ghost use Rattle.network.specs.declared.pair.Pair.{Pair};
 ghost use Rattle.step.specs.Back.{old_one, old_two, no_flow_update, two_flows, flow_only, price_only, flow_and_price, restored, quote_at};
 ghost use Rattle.step.specs.declared.Halt.TheVariants.{Passes};
+ghost use Rattle.step.specs.Run.{is_found};
 ghost use Rattle.step.specs.Figure.{larger as larger_of, smaller as smaller_of};
 ghost use Rattle.step.specs.Dropped.{supply_less, cost_added, gained as gained_by, dropping as dropping_of, dropped, lower_back};
 
@@ -117,6 +118,14 @@ pub enum Next {
     Stops,
     Refuted(usize, usize),
     Takes(Step),
+}
+
+impl Next {
+    pub fn is_found(self) -> bool
+        ensures { result ≡ is_found self }
+    {
+        !matches!(self, Next::Stops)
+    }
 }
 
 // An arc at its number.

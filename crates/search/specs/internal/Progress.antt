@@ -1,5 +1,5 @@
 -- A run under way, whose arcs stand in the lent list and whose steps stand in the log.
-use Rattle.std.specs.Prelude.{◌≡◌, Bool, true, false, cond, ◌&&◌, not, List, ℕ, ◌+◌, ◌-◌, ◌≤◌, ℤ, length, drop}
+use Rattle.std.specs.Prelude.{◌≡◌, Bool, Some, None, is_none, unwrap_or, List, ℕ, ◌+◌, ◌-◌, ◌≤◌, ℤ, length, drop}
 use Rattle.network.specs.declared.Arc.{Arc}
 use Rattle.network.specs.declared.Net.{Net}
 use Rattle.network.specs.declared.Nodes.{Nodes}
@@ -9,13 +9,10 @@ use Rattle.network.specs.ArcList.{nodes_of, net_in, replaced_all}
 use Rattle.network.specs.Legal.{Legal}
 use Rattle.step.specs.declared.Step.{Step}
 use Rattle.step.specs.declared.Next.{Next}
-use Rattle.step.specs.declared.Next.TheVariants.{Takes}
+use Rattle.step.specs.declared.Next.TheVariants.{Stops, Refuted, Takes}
 use Rattle.step.specs.Run.{Run, run_of}
 use Rattle.costly_arc.specs.declared.Seen.{Seen}
 use Rattle.costly_arc.specs.Seen.{Known, nothing_seen, marked_all}
-use Rattle.rules.specs.declared.tried.Looked.{Looked}
-use Rattle.rules.specs.declared.found.Found.{Found}
-use Rattle.rules.specs.Found.{found_of}
 use Rattle.rules.specs.Table.{next_of}
 use Rattle.step_log.specs.Log.{with_step, logged}
 use Rattle.search.specs.declared.Ends.{Ends}
@@ -25,27 +22,40 @@ use Rattle.search.specs.Search.{ends_of}
 
 -- ---- one turn, by what the search finds
 
--- the log, with the step as number k
-abbrev pub noted : List ℤ → ℕ → Found → List ℤ
-noted zs k x = cond x.found (cond x.refuted zs (with_step zs k x.step)) zs
+-- the log, with the step that is found as number k
+abbrev pub noted : List ℤ → ℕ → Next → List ℤ
+noted zs k Stops = zs
+noted zs k (Refuted r i) = zs
+noted zs k (Takes s) = with_step zs k s
+
+-- the list, with that step's arcs
+abbrev pub edited : List Arc → Next → List Arc
+edited arcs Stops = arcs
+edited arcs (Refuted r i) = arcs
+edited arcs (Takes s) = replaced_all arcs s.change.edit
 
 -- the run `at` on the network net after a step
 abbrev pub moved : Progress → Net → Seen → Step → Progress
 moved at net seen s =
-    record { nodes = nodes_of (applied net s.change.edit); steps = at.steps + 1; seen = marked_all seen s.change.edit (at.steps + 1); active = true; refuted = false; rule = 0; place = 0 }
+    record { nodes = nodes_of (applied net s.change.edit); steps = at.steps + 1; seen = marked_all seen s.change.edit (at.steps + 1); ends = None }
 
--- after none: no rule applies, or no flow by rule k at place i
-abbrev pub ended_by : Progress → Seen → Bool → ℕ → ℕ → Progress
-ended_by at seen refuted k i = record { nodes = at.nodes; steps = at.steps; seen = seen; active = false; refuted = refuted; rule = k; place = i }
+-- after none
+abbrev pub ended : Progress → Seen → Ends → Progress
+ended at seen end = record { nodes = at.nodes; steps = at.steps; seen = seen; ends = Some end }
 
-abbrev pub advanced : Progress → Net → Looked → Progress
-advanced at net x = cond (x.found.found && not x.found.refuted) (moved at net x.seen x.found.step) (ended_by at x.seen x.found.refuted x.found.step.rule x.found.step.place)
+abbrev pub advanced : Progress → Net → Seen → Next → Progress
+advanced at net seen Stops = ended at seen Ends.Stops
+advanced at net seen (Refuted k i) = ended at seen (Ends.NoFlow k i)
+advanced at net seen (Takes s) = moved at net seen s
 
 abbrev pub begun : Nodes → Progress
-begun nodes = record { nodes = nodes; steps = 0; seen = nothing_seen; active = true; refuted = false; rule = 0; place = 0 }
+begun nodes = record { nodes = nodes; steps = 0; seen = nothing_seen; ends = None }
+
+abbrev pub is_active : Progress → Bool
+is_active at = is_none at.ends
 
 abbrev pub end_of : Progress → Ends
-end_of at = cond at.refuted (Ends.NoFlow at.rule at.place) Ends.Stops
+end_of at = unwrap_or at.ends Ends.Stops
 
 abbrev pub ran_of : Progress → Ran
 ran_of at = record { refused = 0; nodes = at.nodes; steps = at.steps; ends = end_of at }
@@ -61,12 +71,11 @@ pub record Ready (net : Net) (seen : Seen) (steps : ℕ) : Type 0 where
 
 -- one turn, from the run `at` with its log and its list to r
 pub record Turned (at : Progress) (log : List ℤ) (arcs : List Arc) (r : Progress) (log' : List ℤ) (arcs' : List Arc) : Type 0 where
-  pub looked : Looked
-  pub found : looked.found ≡ found_of (next_of (net_in at.nodes arcs))
-  pub known : Known (net_in at.nodes arcs) (at.steps + 1) looked.seen
-  pub is : r ≡ advanced at (net_in at.nodes arcs) looked
-  pub log_is : log' ≡ noted log at.steps looked.found
-  pub arcs_are : arcs' ≡ replaced_all arcs looked.found.step.change.edit
+  pub seen : Seen
+  pub known : Known (net_in at.nodes arcs) (at.steps + 1) seen
+  pub is : r ≡ advanced at (net_in at.nodes arcs) seen (next_of (net_in at.nodes arcs))
+  pub log_is : log' ≡ noted log at.steps (next_of (net_in at.nodes arcs))
+  pub arcs_are : arcs' ≡ edited arcs (next_of (net_in at.nodes arcs))
 
 -- what a run comes to: how many steps, the end, what is left, and the log
 pub record Told : Type 0 where

@@ -1,7 +1,7 @@
 use Rattle.loops.proofs.Laws.{missed-all, missed_more, missed-none}
 use Rattle.network.proofs.Lists.{arc-is}
 use Rattle.search.proofs.Scans.{no_root, unused-none}
-use mathlib.Core.Path.{◌∙◌, sym}
+use mathlib.Core.Path.{refl, sym, ◌∙◌}
 use native.Mathlib.Omega.{arith}
 use Rattle.search.proofs.scan.scan_costly.Goals as goal
 
@@ -15,4 +15,4 @@ pub loop-j-preserved : goal.loop-j-preserved
 loop-j-preserved c = let h = c.loop-j.invariant in (h.0, missed_more h.1 (omega arith) (rw (c.read-t.ensures ∙ arc-is c.args.nodes _ _ (omega arith)) at (sym c.is_root.ensures ∙ c.if-is_root.false)))
 
 pub returns : goal.returns
-returns c = (no_root c.requires.0 (missed-all c.loop-j.invariant.1 (omega arith)) c.nothing-found.ensures, c.requires.1)
+returns c = (no_root c.requires.0 (missed-all c.loop-j.invariant.1 (omega arith)) refl, c.requires.1)

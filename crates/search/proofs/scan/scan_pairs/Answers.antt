@@ -1,12 +1,11 @@
 use Rattle.network.proofs.Lists.{arc-is}
-use Rattle.rules.specs.Found.{found_of}
 use Rattle.search.proofs.Pairs.{chain_first, chain-past, chain-skip, chain-found, chain-none, chain-falls, used-in}
 use Rattle.step.specs.Run.{or_else}
 use Rattle.step.specs.declared.Next.TheVariants.{Stops}
 use mathlib.Core.Path.{◌∙◌, sym, ap}
 use native.Mathlib.Omega.{arith}
 use Rattle.search.proofs.scan.scan_pairs.Goals as goal
-use Rattle.search.proofs.scan.scan_pairs.Goals.{then-is_multiple+else-x, else-is_multiple}
+use Rattle.search.proofs.scan.scan_pairs.Goals.{then-is_multiple+else-is_found, else-is_multiple}
 
 pub bounds-parallels-j : goal.bounds-parallels-j
 bounds-parallels-j c = used-in _ _ c.requires.0 c.requires.2
@@ -15,10 +14,10 @@ pub loop-k-init : goal.loop-k-init
 loop-k-init c = chain_first _ _ c.requires.2 c.args.parallels.next c.requires.1
 
 pub returns : goal.returns
-returns c = c.nothing.ensures ∙ ap (λ o. found_of (or_else 7 c.args.j o Stops)) (sym (chain-none _ _ c.requires.2 c.args.parallels.next c.requires.1 c.loop-k.invariant (omega (arith, c.loop-k-test.false))))
+returns c = ap (λ o. (or_else 7 c.args.j o Stops)) (sym (chain-none _ _ c.requires.2 c.args.parallels.next c.requires.1 c.loop-k.invariant (omega (arith, c.loop-k-test.false))))
 
-pub returns-then-x : goal.returns-then-x
-returns-then-x c = let h = c.loop-k.invariant in let l = c.loop-k-test.true in let p = c.read-t.ensures ∙ arc-is c.args.nodes _ _ (used-in _ _ c.requires.0 c.requires.2) in let q = c.read-u.ensures ∙ arc-is c.args.nodes _ _ (omega (arith, h.within)) in chain-found _ _ c.requires.2 c.args.parallels.next c.requires.1 h l (rw (p, q) at c.at_pair-x.ensures) c.if-x.true
+pub returns-then-is_found : goal.returns-then-is_found
+returns-then-is_found c = let h = c.loop-k.invariant in let l = c.loop-k-test.true in let p = c.read-t.ensures ∙ arc-is c.args.nodes _ _ (used-in _ _ c.requires.0 c.requires.2) in let q = c.read-u.ensures ∙ arc-is c.args.nodes _ _ (omega (arith, h.within)) in chain-found _ _ c.requires.2 c.args.parallels.next c.requires.1 h l (rw (p, q) at c.at_pair-x.ensures) (sym c.is_found.ensures ∙ c.if-is_found.true)
 
 pub bounds-parallels-k : goal.bounds-parallels-k
 bounds-parallels-k c = omega (arith, c.loop-k.invariant.within)
@@ -33,6 +32,6 @@ loop-k-preserved c =
     let p = c.read-t.ensures ∙ arc-is c.args.nodes _ _ (used-in _ _ c.requires.0 c.requires.2) in
     let q = c.read-u.ensures ∙ arc-is c.args.nodes _ _ (omega (arith, h.within)) in
     elim c.if-is_multiple.branch [
-      | then-is_multiple+else-x w ↦ chain-past _ _ c.requires.2 c.args.parallels.next c.requires.1 h l (rw (p, q) at w.at_pair-x.ensures) w.if-x.false
+      | then-is_multiple+else-is_found w ↦ chain-past _ _ c.requires.2 c.args.parallels.next c.requires.1 h l (rw (p, q) at w.at_pair-x.ensures) (sym w.is_found.ensures ∙ w.if-is_found.false)
       | else-is_multiple w ↦ chain-skip _ _ c.requires.2 c.args.parallels.next c.requires.1 h l (rw (p, q) at (sym c.is_multiple.ensures ∙ w.if-is_multiple.false))
     ]

@@ -1,19 +1,19 @@
 use Rattle.costly_arc.proofs.Upward.{reached-more, reached-none}
 use Rattle.search.proofs.Pairs.{no_pairs, pairs-used, pairs-beyond}
 use Rattle.search.proofs.Scans.{reached-answer, reached-end, reached-on}
-use mathlib.Core.Path.{refl}
+use mathlib.Core.Path.{◌∙◌, refl, sym}
 use native.Mathlib.Omega.{arith}
 use Rattle.search.proofs.scan.scan_parallel.Goals as goal
-use Rattle.search.proofs.scan.scan_parallel.Goals.{then-parallels-j-ne0+else-x, else-parallels-j-ne0}
+use Rattle.search.proofs.scan.scan_parallel.Goals.{then-parallels-j-ne0+else-is_found, else-parallels-j-ne0}
 
 pub scan_pairs-x-requires : goal.scan_pairs-x-requires
 scan_pairs-x-requires c = let are = c.parallels-parallels.ensures c.args.nodes refl c.requires in (c.requires, are, pairs-used _ c.loop-j.j c.requires c.parallels-parallels.result.next are c.if-parallels-j-ne0.true)
 
-pub returns-then-x : goal.returns-then-x
-returns-then-x c = let h = c.loop-j.invariant in reached-answer h.1 (omega (arith, h.0, c.loop-j-test.true)) c.scan_pairs-x.ensures c.if-x.true
+pub returns-then-is_found : goal.returns-then-is_found
+returns-then-is_found c = let h = c.loop-j.invariant in reached-answer h.1 (omega (arith, h.0, c.loop-j-test.true)) c.scan_pairs-x.ensures (sym c.is_found.ensures ∙ c.if-is_found.true)
 
 pub returns : goal.returns
-returns c = reached-end c.loop-j.invariant.1 c.nothing.ensures (λ j l. pairs-beyond _ j c.requires (omega (arith, l, c.loop-j-test.false)))
+returns c = reached-end c.loop-j.invariant.1 refl (λ j l. pairs-beyond _ j c.requires (omega (arith, l, c.loop-j-test.false)))
 
 pub loop-j-init : goal.loop-j-init
 loop-j-init c = (c.requires.few_arcs, reached-none _ _ _ _)
@@ -24,7 +24,7 @@ loop-j-preserved c =
     let l = c.loop-j-test.true in (
       h.0,
       elim c.if-parallels-j-ne0.branch [
-        | then-parallels-j-ne0+else-x w ↦ reached-on h.1 (omega (arith, h.0, l)) w.scan_pairs-x.ensures w.if-x.false
+        | then-parallels-j-ne0+else-is_found w ↦ reached-on h.1 (omega (arith, h.0, l)) w.scan_pairs-x.ensures (sym w.is_found.ensures ∙ w.if-is_found.false)
         | else-parallels-j-ne0 w ↦ reached-more _ _ _ _ h.1 (omega (arith, h.0, l)) (no_pairs _ _ c.requires c.parallels-parallels.result.next (c.parallels-parallels.ensures c.args.nodes refl c.requires) w.if-parallels-j-ne0.false)
       ],
     )
