@@ -15,32 +15,27 @@ use Rattle.fraction.specs.Exact.{no_figure}
 use Rattle.fraction.specs.Formula.{◌⊕◌, ◌⊗◌}
 use Rattle.network.specs.declared.Arc.{Arc}
 use Rattle.network.specs.Network.{is_touching, is_root, side_of}
-use Rattle.figures.specs.declared.Sum.{Sum}
-use Rattle.figures.specs.declared.Sums.{Sums}
 use Rattle.figures.specs.internal.Listed.{sum_at}
 
 -- one balance replaced: there, and elsewhere
-module _ (s r : Sums) (k : ℕ) (v : Worked) (e : r.at ≡ set s.at k (record { w = v })) where
-  at_same : k < length s.at → sum_at r k ≡ v
-  at_same h = ap (λ (l : List Sum). (get_or l k (record { w = Ok no_figure })).w) e ∙ ap (λ (z : Sum). z.w) (get_or-set_same s.at k _ _ h)
+module _ (s r : List Worked) (k : ℕ) (v : Worked) (e : r ≡ set s k v) where
+  at_same : k < length s → sum_at r k ≡ v
+  at_same h = ap (λ (l : List Worked). sum_at l k) e ∙ get_or-set_same s k _ _ h
 
   at_other : (i : ℕ) → (i ≡ k → ⊥) → sum_at r i ≡ sum_at s i
-  at_other i ne = ap (λ (l : List Sum). (get_or l i (record { w = Ok no_figure })).w) e ∙ ap (λ (z : Sum). z.w) (get_or-set_other s.at k i _ _ ne)
-
-abbrev pub put : Sums → ℕ → Worked → Sums
-put s k v = record { at = set s.at k (record { w = v }) }
+  at_other i ne = ap (λ (l : List Worked). sum_at l i) e ∙ get_or-set_other s k i _ _ ne
 
 -- an arc adds at the places of its nodes: at the last where there is no such node
-module _ (s : Sums) (t : Arc) (x : Fraction) (p q : ℕ) (v w : Worked) (n : length s.at ≡ 34) (from : (i : ℕ) → i < 33 → eqb p i ≡ eqb t.from i) (to : (i : ℕ) → i < 33 → eqb q i ≡ (not (is_root t) && eqb t.to i)) (d : v ≡ sum_at s p ⊕ Ok t.a ⊗ Ok x) (e : w ≡ sum_at (put s p v) q ⊕ Ok t.b ⊗ Ok x) where
-  pub added : (i : ℕ) → i < 33 → sum_at (put (put s p v) q w) i ≡ cond (is_touching t i) (sum_at s i ⊕ Ok (side_of t i).e ⊗ Ok x) (sum_at s i)
+module _ (s : List Worked) (t : Arc) (x : Fraction) (p q : ℕ) (v w : Worked) (n : length s ≡ 34) (from : (i : ℕ) → i < 33 → eqb p i ≡ eqb t.from i) (to : (i : ℕ) → i < 33 → eqb q i ≡ (not (is_root t) && eqb t.to i)) (d : v ≡ sum_at s p ⊕ Ok t.a ⊗ Ok x) (e : w ≡ sum_at (set s p v) q ⊕ Ok t.b ⊗ Ok x) where
+  pub added : (i : ℕ) → i < 33 → sum_at (set (set s p v) q w) i ≡ cond (is_touching t i) (sum_at s i ⊕ Ok (side_of t i).e ⊗ Ok x) (sum_at s i)
   unfolding is_touching is_root side_of
   added i h = by (eqb t.from i) refl (eqb t.to i) refl
     where
-      one : Sums
-      one = put s p v
+      one : List Worked
+      one = set s p v
 
-      two : Sums
-      two = put one q w
+      two : List Worked
+      two = set one q w
 
       -- at another place than the two
       off-from : eqb p i ≡ false → sum_at one i ≡ sum_at s i

@@ -1,13 +1,13 @@
 // The figures of the test: balances, reduced costs and the value; and its questions 9 to 12. The loops read an arc in place,
 // so that no network is copied for one; beyond the last number there is none.
-#![tactic(auto)]
+#![tactic(auto, using(fraction::proofs::Laws::misfit_is), unfolding(fraction::specs::Formula::added, fraction::specs::Formula::subtracted, fraction::specs::Formula::multiplied, fraction::specs::Exact::is_same, crate::specs::Figures::reduced_cost, crate::specs::Figures::is_within))]
 
-ghost use Rattle.std.specs.Prelude.{◌≡◌, cond, ◌&&◌, not, [], ◌∷◌, ℕ, ◌+◌, ◌<◌, eqb, get_or};
+ghost use Rattle.std.specs.Prelude.{◌≡◌, cond, ◌&&◌, not, [], ◌∷◌, ℕ, ◌+◌, ◌<◌, eqb, get_or, Ok};
 ghost use Rattle.loops.specs.Loops.{all};
 ghost use Rattle.fraction.specs.Exact.{no_figure, is_same};
 ghost use Rattle.fraction.specs.Formula.{is_fit, figure_of, ◌⊕◌, ◌⊖◌, ◌⊗◌};
 ghost use Rattle.network.specs.Limits.{node_places};
-ghost use Rattle.network.specs.Network.{is_touching, is_root, side_of};
+ghost use Rattle.network.specs.Network.{no_arc, is_touching, is_root, side_of};
 ghost use Rattle.records.specs.Questions.{◌asks◌, first_no};
 ghost use Rattle.figures.specs.Figures.{balance_of, value_of, balance_fits, cost_fits, is_balanced, is_within, is_within_at, keeps_rule_at, test_questions};
 ghost use Rattle.figures.specs.internal.Listed.{sum_at, cost_in};
@@ -15,7 +15,7 @@ ghost use Rattle.slackness.specs.Slackness.{keeps_rule};
 
 use fraction::{Fraction, Worked};
 use network::pair::Pair;
-use network::{Arc, MAX_ARCS, MAX_NODES, NODE_PLACES, Net};
+use network::{ARC_PLACES, Arc, MAX_NODES, NODE_PLACES, Net};
 
 // The first of the questions 9 to 12 that is answered by no, 0 where none is; and the value.
 #[derive(Clone, Copy)]
@@ -24,19 +24,8 @@ pub struct Judged {
     pub value: Fraction,
 }
 
-// The balance of a node.
-#[derive(Clone, Copy)]
-struct Sum {
-    w: Worked,
-}
-
 // The places of balances: those of nodes, and one that is no node's.
 const SUM_PLACES: usize = NODE_PLACES + 1;
-
-#[derive(Clone, Copy)]
-struct Sums {
-    at: [Sum; SUM_PLACES],
-}
 
 // Whether all balances fit, and whether every node is balanced.
 #[derive(Clone, Copy)]
@@ -53,21 +42,39 @@ struct Arcs {
     kept: bool,
 }
 
+// The arc of number j, in place; none beyond the last number.
+fn arc_in(arcs: &[Arc; ARC_PLACES], j: usize) -> Arc
+    ensures { result ≡ get_or arcs.now j no_arc }
+{
+    if j < ARC_PLACES {
+        return arcs[j];
+    }
+    network::no_arc()
+}
+
+// The figure of number i, in place; none beyond the last number.
+fn figure_in<const N: usize>(figures: &[Fraction; N], i: usize) -> Fraction
+    ensures { result ≡ get_or figures.now i no_figure }
+{
+    if i < N {
+        return figures[i];
+    }
+    network::no_figure()
+}
+
 // A sum with one term more, e × x.
 fn with_term(w: Worked, e: Fraction, x: Fraction) -> Worked
-    ensures { result ≡ w ⊕ Worked.Fits e ⊗ Worked.Fits x }
+    ensures { result ≡ w ⊕ Ok e ⊗ Ok x }
 {
-    w.plus(e.fit().times(x.fit()))
+    w?.sum(e.product(x)?)
 }
 
 // A balance of node i, and the flow of one arc more where it touches the node.
 fn balance_turn(t: Arc, x: Fraction, i: usize, w: Worked) -> Worked
-    ensures { result ≡ cond (is_touching t i) (w ⊕ Worked.Fits (side_of t i).e ⊗ Worked.Fits x) w }
+    ensures { result ≡ cond (is_touching t i) (w ⊕ Ok (side_of t i).e ⊗ Ok x) w }
 {
     if network::touches(t, i) {
-        let side = network::side_at(t, i);
-        let e = side.e;
-        return with_term(w, e, x);
+        return with_term(w, network::side_at(t, i).e, x);
     }
     w
 }
@@ -76,14 +83,10 @@ fn balance_turn(t: Arc, x: Fraction, i: usize, w: Worked) -> Worked
 pub fn balance(net: Net, pair: Pair, i: usize) -> Worked
     ensures { result ≡ balance_of net pair i }
 {
-    let mut w = Fraction::ZERO.fit();
+    let mut w = Ok(Fraction::ZERO);
     for j in 0..net.m {
-        let mut t = network::no_arc();
-        let mut x = network::no_figure();
-        if j < MAX_ARCS {
-            t = net.arcs[j + 1];
-            x = pair.flow[j + 1];
-        }
+        let t = arc_in(&net.arcs, j + 1);
+        let x = figure_in(&pair.flow, j + 1);
         w = balance_turn(t, x, i, w);
     }
     w
@@ -91,60 +94,38 @@ pub fn balance(net: Net, pair: Pair, i: usize) -> Worked
 
 // A difference with one term more, e × x.
 fn less_term(w: Worked, e: Fraction, x: Fraction) -> Worked
-    ensures { result ≡ w ⊖ Worked.Fits e ⊗ Worked.Fits x }
+    ensures { result ≡ w ⊖ Ok e ⊗ Ok x }
 {
-    w.minus(e.fit().times(x.fit()))
+    w?.difference(e.product(x)?)
 }
 
 // An arc's reduced cost, by the prices of its ends.
 fn reduced(t: Arc, p: Fraction, q: Fraction) -> Worked
-    ensures { result ≡ cond (is_root t) (Worked.Fits t.cost ⊖ Worked.Fits t.a ⊗ Worked.Fits p) (Worked.Fits t.cost ⊖ Worked.Fits t.a ⊗ Worked.Fits p ⊖ Worked.Fits t.b ⊗ Worked.Fits q) }
+    ensures { result ≡ cond (is_root t) (Ok t.cost ⊖ Ok t.a ⊗ Ok p) (Ok t.cost ⊖ Ok t.a ⊗ Ok p ⊖ Ok t.b ⊗ Ok q) }
 {
-    let cost = t.cost;
-    let a = t.a;
-    let b = t.b;
-    let alone = cost.fit();
-    let first = less_term(alone, a, p);
+    let first = less_term(Ok(t.cost), t.a, p);
     if network::is_root(t) {
         return first;
     }
-    less_term(first, b, q)
-}
-
-// The price of node i.
-fn price_in(price: [Fraction; NODE_PLACES], i: usize) -> Fraction
-    ensures { result ≡ get_or price i no_figure }
-{
-    if i < NODE_PLACES {
-        return price[i];
-    }
-    network::no_figure()
+    less_term(first, t.b, q)
 }
 
 // An arc's reduced cost.
 fn reduced_cost(t: Arc, price: [Fraction; NODE_PLACES]) -> Worked
     ensures { result ≡ cost_in price t }
 {
-    let p = price_in(price, t.from);
-    let q = price_in(price, t.to);
-    reduced(t, p, q)
+    reduced(t, figure_in(&price, t.from), figure_in(&price, t.to))
 }
 
 // The value, from the constant on.
 pub fn value(net: Net, pair: Pair) -> Worked
     ensures { result ≡ value_of net pair }
 {
-    let constant = net.constant;
-    let mut w = constant.fit();
+    let mut w = Ok(net.constant);
     for j in 0..net.m {
-        let mut t = network::no_arc();
-        let mut x = network::no_figure();
-        if j < MAX_ARCS {
-            t = net.arcs[j + 1];
-            x = pair.flow[j + 1];
-        }
-        let cost = t.cost;
-        w = with_term(w, cost, x);
+        let t = arc_in(&net.arcs, j + 1);
+        let x = figure_in(&pair.flow, j + 1);
+        w = with_term(w, t.cost, x);
     }
     w
 }
@@ -170,33 +151,18 @@ fn to_place(t: Arc) -> usize
 }
 
 // The balances of the nodes, arcs upward.
-fn balances(net: Net, pair: Pair) -> Sums
+fn balances(net: Net, pair: Pair) -> [Worked; SUM_PLACES]
     ensures { (i : ℕ) → i < node_places → sum_at result i ≡ balance_of net pair i }
 {
-    let zero = Fraction::ZERO.fit();
-    let none = Sum { w: zero };
-    let mut s = Sums {
-        at: [none; SUM_PLACES],
-    };
+    let zero: Worked = Ok(Fraction::ZERO);
+    let mut s = [zero; SUM_PLACES];
     for j in 0..net.m {
-        let mut t = network::no_arc();
-        let mut x = network::no_figure();
-        if j < MAX_ARCS {
-            t = net.arcs[j + 1];
-            x = pair.flow[j + 1];
-        }
+        let t = arc_in(&net.arcs, j + 1);
+        let x = figure_in(&pair.flow, j + 1);
         let from = place_of(t.from);
         let to = to_place(t);
-        let a = t.a;
-        let b = t.b;
-        let y = s.at[from];
-        let v = y.w;
-        let one = with_term(v, a, x);
-        s.at[from] = Sum { w: one };
-        let z = s.at[to];
-        let w = z.w;
-        let two = with_term(w, b, x);
-        s.at[to] = Sum { w: two };
+        s[from] = with_term(s[from], t.a, x);
+        s[to] = with_term(s[to], t.b, x);
     }
     s
 }
@@ -205,8 +171,8 @@ fn balances(net: Net, pair: Pair) -> Sums
 fn ask_node(a: Nodes, w: Worked, r: Fraction) -> Nodes
     ensures { (result.fit ≡ (a.fit && is_fit w)) × (result.balanced ≡ (a.balanced && is_same (figure_of w) r)) }
 {
-    let fit = a.fit && w.is_fit();
-    let balanced = a.balanced && w.figure().same(r);
+    let fit = a.fit && w.is_ok();
+    let balanced = a.balanced && w.unwrap_or(network::no_figure()) == r;
     Nodes { fit, balanced }
 }
 
@@ -220,16 +186,12 @@ fn ask_nodes(net: Net, pair: Pair) -> Nodes
         balanced: true,
     };
     for i in 0..net.n {
-        let mut w = Fraction::ZERO.fit();
-        let mut r = network::no_figure();
-        if i < MAX_NODES {
-            let z = s.at[i + 1];
-            w = z.w;
-            r = net.supply[i + 1];
+        let w = if i < MAX_NODES {
+            s[i + 1]
         } else {
-            w = balance(net, pair, i + 1);
-        }
-        a = ask_node(a, w, r);
+            balance(net, pair, i + 1)
+        };
+        a = ask_node(a, w, figure_in(&net.supply, i + 1));
     }
     a
 }
@@ -238,24 +200,17 @@ fn ask_nodes(net: Net, pair: Pair) -> Nodes
 fn is_within(t: Arc, x: Fraction) -> bool
     ensures { result ≡ is_within t x }
 {
-    let l = t.lower;
-    let u = t.upper;
-    if x.less(l) {
-        return false;
-    }
-    !u.less(x)
+    !x.less(t.lower) && !t.upper.less(x)
 }
 
 // One arc more, with its flow and all prices.
 fn ask_arc(a: Arcs, t: Arc, x: Fraction, price: [Fraction; NODE_PLACES]) -> Arcs
     ensures { (result.fit ≡ (a.fit && is_fit (cost_in price t))) × (result.within ≡ (a.within && is_within t x)) × (result.kept ≡ (a.kept && keeps_rule t.lower t.upper x (figure_of (cost_in price t)))) }
 {
-    let l = t.lower;
-    let u = t.upper;
     let w = reduced_cost(t, price);
-    let fit = a.fit && w.is_fit();
+    let fit = a.fit && w.is_ok();
     let within = a.within && is_within(t, x);
-    let kept = a.kept && slackness::keeps_rule(l, u, x, w.figure());
+    let kept = a.kept && slackness::keeps_rule(t.lower, t.upper, x, w.unwrap_or(network::no_figure()));
     Arcs { fit, within, kept }
 }
 
@@ -270,12 +225,8 @@ fn ask_arcs(net: Net, pair: Pair) -> Arcs
         kept: true,
     };
     for j in 0..net.m {
-        let mut t = network::no_arc();
-        let mut x = network::no_figure();
-        if j < MAX_ARCS {
-            t = net.arcs[j + 1];
-            x = pair.flow[j + 1];
-        }
+        let t = arc_in(&net.arcs, j + 1);
+        let x = figure_in(&pair.flow, j + 1);
         a = ask_arc(a, t, x, price);
     }
     a
@@ -305,7 +256,7 @@ pub fn verdict(net: Net, pair: Pair) -> Judged
     ensures { (result.refused ≡ first_no (test_questions net pair)) × (result.value ≡ figure_of (value_of net pair)) }
 {
     let w = value(net, pair);
-    let refused = first_no(ask_nodes(net, pair), ask_arcs(net, pair), w.is_fit());
-    let value = w.figure();
+    let refused = first_no(ask_nodes(net, pair), ask_arcs(net, pair), w.is_ok());
+    let value = w.unwrap_or(network::no_figure());
     Judged { refused, value }
 }

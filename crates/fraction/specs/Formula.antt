@@ -1,5 +1,6 @@
 -- Formulas on what operations answer: × and ÷ before + and -, left to right; a misfit stays one.
-use Rattle.std.specs.Prelude.{Bool, true, false}
+use Rattle.std.specs.Prelude.{Bool, is_ok}
+use Rattle.std.specs.Result.{result_unwrap_or}
 use Rattle.fraction.specs.declared.Fraction.{Fraction}
 use Rattle.fraction.specs.Exact.{Worked}
 use Rattle.std.specs.Prelude.{Ok, Err}
@@ -46,9 +47,7 @@ abbrev pub ⊝◌ : Worked → Worked
 
 -- a formula's result: whether it fits, and the figure; none where it doesn't
 abbrev pub is_fit : Worked → Bool
-is_fit (Ok x) = true
-is_fit (Err e) = false
+is_fit w = is_ok w
 
 abbrev pub figure_of : Worked → Fraction
-figure_of (Ok x) = x
-figure_of (Err e) = no_figure
+figure_of w = result_unwrap_or w no_figure

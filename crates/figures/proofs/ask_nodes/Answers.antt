@@ -17,8 +17,6 @@ loop-i-init c = (refl, refl)
 
 pub loop-i-preserved : goal.loop-i-preserved
 loop-i-preserved c =
-    let size : length c.args.net.supply ≡ 33 = search (length-mapped, rules) in
     let w : c.if-i-lt-MAX_NODES.w ≡ balance_of c.args.net c.args.pair (c.loop-i.i + 1) = elim c.if-i-lt-MAX_NODES.branch [ then-i-lt-MAX_NODES w ↦ w.w-is ∙ c.balances-s.ensures (c.loop-i.i + 1) (omega (arith, w.if-i-lt-MAX_NODES.true)) | else-i-lt-MAX_NODES w ↦ w.w-is ∙ w.balance-w.ensures ] in
-    let r : c.if-i-lt-MAX_NODES.r ≡ supply_at c.args.net (c.loop-i.i + 1) = elim c.if-i-lt-MAX_NODES.branch [ then-i-lt-MAX_NODES w ↦ w.r-is | else-i-lt-MAX_NODES w ↦ w.r-is ∙ c.no_figure-r.ensures ∙ sym (get_or-eq_default c.args.net.supply no_figure {n = c.loop-i.i + 1} (omega (arith, w.if-i-lt-MAX_NODES.false))) ] in
     let h = c.loop-i.invariant in
-    (one_more _ _ h.0 (rw w at c.ask_node-a.ensures.0), one_more _ _ h.1 (rw (w, r) at c.ask_node-a.ensures.1))
+    (one_more _ _ h.0 (rw w at c.ask_node-a.ensures.0), one_more _ _ h.1 (rw (w, c.figure_in.ensures) at c.ask_node-a.ensures.1))

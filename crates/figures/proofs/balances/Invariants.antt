@@ -7,4 +7,4 @@ use Rattle.figures.specs.internal.Listed.{sum_at}
 use Rattle.figures.proofs.balances.Given as goal
 
 abbrev pub invariant-loop-j : goal.invariant-loop-j
-invariant-loop-j l = (length l.s.at ≡ 34) × ((i : ℕ) → i < 33 → Folded (balance_turn l.net l.pair i) l.net.m (Ok zero_fraction) l.j (sum_at l.s i))
+invariant-loop-j l = (length l.s ≡ 34) × ((i : ℕ) → i < 33 → Folded (balance_turn l.net l.pair i) l.net.m (Ok zero_fraction) l.j (sum_at l.s i))

@@ -8,4 +8,4 @@ returns c =
     let v = c.value-w.ensures in
     let nodes = c.ask_nodes.ensures in
     let arcs = c.ask_arcs.ensures in
-    (c.first_no-refused.ensures ∙ rw (nodes.0, nodes.1, arcs.0, arcs.1, arcs.2, c.is_fit.ensures, v) refl, rw v at c.figure-value.ensures)
+    (c.first_no-refused.ensures ∙ rw (nodes.0, nodes.1, arcs.0, arcs.1, arcs.2, c.is_ok.ensures.value, v) refl, rw (c.no_figure.ensures, v) at c.unwrap_or-value.ensures)

@@ -5,12 +5,11 @@ use Rattle.fraction.specs.Exact.{Worked}
 use Rattle.std.specs.Prelude.{Ok}
 use Rattle.fraction.specs.Exact.{no_figure}
 use Rattle.network.specs.declared.Arc.{Arc}
-use Rattle.figures.specs.declared.Sums.{Sums}
 use Rattle.figures.specs.Figures.{reduced_cost}
 
 -- a node's balance, where those of all nodes are listed
-abbrev pub sum_at : Sums → ℕ → Worked
-sum_at s i = (get_or s.at i (record { w = Ok no_figure })).w
+abbrev pub sum_at : List Worked → ℕ → Worked
+sum_at s i = get_or s i (Ok no_figure)
 
 -- an arc's reduced cost, by a list of prices
 abbrev pub cost_in : List Fraction → Arc → Worked
