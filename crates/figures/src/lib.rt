@@ -111,22 +111,12 @@ fn reduced(t: Arc, p: Fraction, q: Fraction) -> Worked
     less_term(first, b, q)
 }
 
-// The price of node i.
-fn price_in(price: [Fraction; NODE_PLACES], i: usize) -> Fraction
-    ensures { result ≡ get_or price i no_figure }
-{
-    if i < NODE_PLACES {
-        return price[i];
-    }
-    network::no_figure()
-}
-
 // An arc's reduced cost.
 fn reduced_cost(t: Arc, price: [Fraction; NODE_PLACES]) -> Worked
     ensures { result ≡ cost_in price t }
 {
-    let p = price_in(price, t.from);
-    let q = price_in(price, t.to);
+    let p = network::figure_at(&price, t.from);
+    let q = network::figure_at(&price, t.to);
     reduced(t, p, q)
 }
 

@@ -18,7 +18,7 @@ ghost use Rattle.rules.specs.Found.{found_of};
 ghost use Rattle.rules.specs.Tried.{is_of_nodes};
 
 use costly_arc::Seen;
-use network::{Arc, ArcUpdate, Degrees, Nodes, Parallels};
+use network::{ARC_PLACES, Arc, ArcUpdate, NODE_PLACES, Nodes};
 use rules::found::Found;
 use rules::tried::Looked;
 use step::Around;
@@ -111,15 +111,15 @@ fn has_degree(here: bool, degree: usize, d: usize) -> bool
 }
 
 // Rule k at the nodes upward.
-pub(crate) fn scan_nodes(nodes: Nodes, arcs: &[Arc], degrees: Degrees, k: usize) -> Found
-    requires { Legal (net_in nodes arcs.now) × AreDegreesTo (net_in nodes arcs.now) nodes.m degrees.at × (is_of_nodes k ≡ true) }
+pub(crate) fn scan_nodes(nodes: Nodes, arcs: &[Arc], degrees: &[usize; NODE_PLACES], k: usize) -> Found
+    requires { Legal (net_in nodes arcs.now) × AreDegreesTo (net_in nodes arcs.now) nodes.m degrees.now × (is_of_nodes k ≡ true) }
     ensures { result ≡ found_of (upward ((rule_of rules k).at (net_in nodes arcs.now)) k max_nodes 1 Stops) }
 {
     let asks = rules::tried::asks_of(k);
     let d = asks.degree;
     let mut i = 1;
     while i <= nodes.n {
-        if has_degree(nodes.here[i], degrees.at[i], d) {
+        if has_degree(nodes.here[i], degrees[i], d) {
             if rules::tried::may_apply(asks, nodes.supply[i]) {
                 let near = gather(arcs, i, d);
                 let x = rules::tried::at_node(nodes.constant, nodes.supply, k, i, d, near);
@@ -156,11 +156,11 @@ pub(crate) fn scan_costly(nodes: Nodes, arcs: &[Arc], seen: Seen, time: u8) -> L
 // ---- rule 7
 
 // Rule 7 at arc j: the parallel arcs after it, upward.
-pub(crate) fn scan_pairs(nodes: Nodes, arcs: &[Arc], parallels: Parallels, j: usize) -> Found
-    requires { Legal (net_in nodes arcs.now) × AreParallel (net_in nodes arcs.now) parallels.next × (is_used (net_in nodes arcs.now) j ≡ true) }
+pub(crate) fn scan_pairs(nodes: Nodes, arcs: &[Arc], next: &[u8; ARC_PLACES], j: usize) -> Found
+    requires { Legal (net_in nodes arcs.now) × AreParallel (net_in nodes arcs.now) next.now × (is_used (net_in nodes arcs.now) j ≡ true) }
     ensures { result ≡ found_of (or_else 7 j (parallel_arc (net_in nodes arcs.now) j) Stops) }
 {
-    let mut k = parallels.next[j] as usize;
+    let mut k = next[j] as usize;
     while 1 <= k {
         let t = network::list::read(arcs, j);
         let u = network::list::read(arcs, k);
@@ -170,7 +170,7 @@ pub(crate) fn scan_pairs(nodes: Nodes, arcs: &[Arc], parallels: Parallels, j: us
                 return x;
             }
         }
-        k = parallels.next[k] as usize;
+        k = next[k] as usize;
     }
     rules::found::nothing()
 }
@@ -180,11 +180,11 @@ pub(crate) fn scan_parallel(nodes: Nodes, arcs: &[Arc]) -> Found
     requires { Legal (net_in nodes arcs.now) }
     ensures { result ≡ found_of (upward (parallel_arc (net_in nodes arcs.now)) 7 max_arcs 1 Stops) }
 {
-    let parallels = network::list::parallels(arcs, nodes.m);
+    let next = network::list::parallels(arcs, nodes.m);
     let mut j = 1;
     while j <= nodes.m {
-        if parallels.next[j] != 0 {
-            let x = scan_pairs(nodes, arcs, parallels, j);
+        if next[j] != 0 {
+            let x = scan_pairs(nodes, arcs, &next, j);
             if x.found {
                 return x;
             }
@@ -221,7 +221,7 @@ pub(crate) fn next(nodes: Nodes, arcs: &[Arc], mut seen: Seen, time: u8) -> Look
                 return Looked { found: x, seen };
             }
         } else {
-            let x = scan_nodes(nodes, arcs, degrees, k);
+            let x = scan_nodes(nodes, arcs, &degrees, k);
             if x.found {
                 return Looked { found: x, seen };
             }

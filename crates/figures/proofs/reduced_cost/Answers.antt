@@ -3,4 +3,4 @@ use Rattle.figures.proofs.reduced_cost.Goals as goal
 
 pub returns : goal.returns
 unfolding reduced_cost
-returns c = rw (c.price_in-p.ensures, c.price_in-q.ensures) at c.reduced.ensures
+returns c = rw (c.figure_at-p.ensures, c.figure_at-q.ensures) at c.reduced.ensures
