@@ -6,5 +6,3 @@ use Rattle.survivors.proofs.pack_arcs.Given as goal
 abbrev pub invariant-loop-j : goal.invariant-loop-j
 invariant-loop-j l = Folded (pack_arc l.net) 96 l.initial.q l.j l.q × (l.q.m ≤ l.j)
 
-abbrev pub decreases-loop-j : goal.decreases-loop-j
-decreases-loop-j l = 96 - l.j
