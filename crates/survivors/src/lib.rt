@@ -1,4 +1,5 @@
 // What is left of a network, numbered from 1, and a pair of it at the original numbers.
+// Loops that read one array and write another go by the index, of which their invariants speak: an iterator over both has none.
 #![tactic(auto)]
 
 ghost use Rattle.std.specs.Prelude.{◌≡◌, length};

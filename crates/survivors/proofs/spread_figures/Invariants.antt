@@ -1,4 +1,4 @@
-use Rattle.std.proofs.Common.{◌≡◌, false, get_or, length}
+use Rattle.std.proofs.Common.{false, get_or}
 use Rattle.loops.proofs.Laws.{Counted, Filled}
 use Rattle.survivors.specs.internal.Ranks.{spread_figure}
 use Rattle.survivors.proofs.spread_figures.Given as goal
