@@ -4,7 +4,4 @@ use Rattle.postsolve.proofs.Steps.{Descended}
 use Rattle.postsolve.proofs.undo_steps.Given as goal
 
 abbrev pub invariant-loop-k : goal.invariant-loop-k
-invariant-loop-k l = Descended (back_turn l.log) l.steps (way_of l.initial.b) l.k (way_of l.b) × Descended (arcs_turn l.log) l.steps l.initial.arcs l.k l.arcs
-
-abbrev pub decreases-loop-k : goal.decreases-loop-k
-decreases-loop-k l = l.k
+invariant-loop-k l = Descended (back_turn l.log) l.steps (way_of l.initial.back) l.k (way_of l.back) × Descended (arcs_turn l.log) l.steps l.initial.arcs l.k l.arcs
