@@ -11,20 +11,12 @@ use crate::{Seen, is_candidate, is_open_root};
 use fraction::{Fraction, Worked};
 use network::{ARC_PLACES, Arc, NODE_PLACES, Net};
 
-// For each node, a time after those at which its root arcs without upper bound were put; 0 where it has none.
-#[derive(Clone, Copy)]
-pub struct Times {
-    pub at: [usize; NODE_PLACES],
-}
-
 // The time p at node i, if it is later.
 fn put_time(at: &mut [usize; NODE_PLACES], i: usize, p: usize)
     ensures { at.new ≡ later at.old i p }
 {
-    if i < NODE_PLACES {
-        if at[i] < p {
-            at[i] = p;
-        }
+    if i < NODE_PLACES && at[i] < p {
+        at[i] = p;
     }
 }
 
@@ -32,23 +24,24 @@ fn put_time(at: &mut [usize; NODE_PLACES], i: usize, p: usize)
 fn after(p: u8) -> usize
     ensures { result ≡ p + 1 }
 {
-    (p as usize) + 1
+    usize::from(p) + 1
 }
 
-pub(crate) fn all_times(net: Net, seen: Seen) -> Times
-    ensures { Covers net seen.put result.at }
+// For each node, a time after those at which its root arcs without upper bound were put; 0 where it has none.
+pub(crate) fn all_times(net: Net, seen: Seen) -> [usize; NODE_PLACES]
+    ensures { Covers net seen.put result }
 {
-    let mut at: [usize; NODE_PLACES] = [0; NODE_PLACES];
-    for k in 0..ARC_PLACES {
-        let x = net.arcs[k];
-        if is_open_root(x, x.from) {
+    let mut at = [0; NODE_PLACES];
+    for (k, x) in net.arcs.iter().enumerate() {
+        if is_open_root(*x, x.from) {
             put_time(&mut at, x.from, after(seen.put[k]));
         }
     }
-    Times { at }
+    at
 }
 
 // Whether a root arc without upper bound may have been put at node i at the time w or later.
+#[tactic(auto, unfolding(crate::specs::internal::Due::is_fresh))]
 fn is_fresh(at: &[usize; NODE_PLACES], w: u8, i: usize) -> bool
     ensures { result ≡ is_fresh at.now w i }
 {
@@ -56,6 +49,7 @@ fn is_fresh(at: &[usize; NODE_PLACES], w: u8, i: usize) -> bool
 }
 
 // Whether t is a candidate with root arcs at both ends, some of them put at the time w or later.
+#[tactic(auto, unfolding(crate::specs::internal::Due::is_due))]
 pub(crate) fn is_due(at: &[usize; NODE_PLACES], w: u8, t: Arc) -> bool
     ensures { result ≡ is_due at.now w t }
 {
@@ -133,9 +127,10 @@ fn both_ways(t: Arc, x: Arc, put: u8, p: u8, q: u8) -> Both
             to: none,
         };
     }
-    let from = way_at(put < p, x, t.from, t.a);
-    let to = way_at(put < q, x, t.to, t.b);
-    Both { from, to }
+    Both {
+        from: way_at(put < p, x, t.from, t.a),
+        to: way_at(put < q, x, t.to, t.b),
+    }
 }
 
 // The costs by way of each root arc, at both ends of an arc.
@@ -148,16 +143,12 @@ struct Ways {
 fn all_ways(net: Net, seen: Seen, p: u8, q: u8, t: Arc) -> Ways
     ensures { (result.from ≡ ways_of net seen p t.from t.a) × (result.to ≡ ways_of net seen q t.to t.b) }
 {
-    let z = network::no_figure();
-    let mut from = [z; ARC_PLACES];
-    let mut to = [z; ARC_PLACES];
-    for k in 0..ARC_PLACES {
-        let x = net.arcs[k];
-        let both = both_ways(t, x, seen.put[k], p, q);
-        let a = both.from;
-        let b = both.to;
-        from[k] = a;
-        to[k] = b;
+    let mut from = [network::no_figure(); ARC_PLACES];
+    let mut to = [network::no_figure(); ARC_PLACES];
+    for (k, x) in net.arcs.iter().enumerate() {
+        let both = both_ways(t, *x, seen.put[k], p, q);
+        from[k] = both.from;
+        to[k] = both.to;
     }
     Ways { from, to }
 }
@@ -166,14 +157,9 @@ fn all_ways(net: Net, seen: Seen, p: u8, q: u8, t: Arc) -> Ways
 fn any_due_under(seen: Seen, w: u8, q: Fraction, to: [Fraction; ARC_PLACES], c: Fraction) -> bool
     ensures { result ≡ any (is_due_under seen w q to c) arc_places }
 {
-    for k in 0..ARC_PLACES {
-        let y = to[k];
-        if y.den != 0 {
-            if seen.put[k] >= w {
-                if is_under(q.sum(y), c) {
-                    return true;
-                }
-            }
+    for (k, y) in to.iter().enumerate() {
+        if y.den != 0 && seen.put[k] >= w && is_under(q.sum(*y), c) {
+            return true;
         }
     }
     false
@@ -191,12 +177,9 @@ fn any_due_pair(seen: Seen, w: u8, ways: Ways, c: Fraction) -> bool
     ensures { result ≡ any (is_due_from seen w ways.from ways.to c) arc_places }
 {
     let to = ways.to;
-    for k in 0..ARC_PLACES {
-        let q = ways.from[k];
-        if q.den != 0 {
-            if any_due_under(seen, bar(seen.put[k] < w, w), q, to, c) {
-                return true;
-            }
+    for (k, q) in ways.from.iter().enumerate() {
+        if q.den != 0 && any_due_under(seen, bar(seen.put[k] < w, w), *q, to, c) {
+            return true;
         }
     }
     false

@@ -11,7 +11,7 @@ ghost use Rattle.costly_arc.specs.CostlyArc.{is_open_root, costly_arc};
 ghost use Rattle.costly_arc.specs.Seen.{is_candidate, nothing_seen, marked, marked_all, Known};
 
 use fraction::Fraction;
-use network::{ARC_PLACES, Arc, Edit, MAX_ARCS, NODE_PLACES, Net};
+use network::{ARC_PLACES, Arc, Edit, NODE_PLACES, Net};
 use step::{Halt, Next, Outcome, Step};
 
 mod due;
@@ -41,6 +41,7 @@ pub fn unseen() -> Seen
 }
 
 // Arc k is put now.
+#[tactic(auto, unfolding(crate::specs::Seen::marked))]
 fn mark(mut seen: Seen, k: usize, now: u8) -> Seen
     ensures { result ≡ marked seen k now }
 {
@@ -62,16 +63,15 @@ pub fn mark_all(seen: Seen, edit: Edit, now: u8) -> Seen
 }
 
 // Whether x is a root arc at node i without upper bound.
+#[tactic(auto, unfolding(crate::specs::CostlyArc::is_open_root))]
 pub fn is_open_root(x: Arc, i: usize) -> bool
     ensures { result ≡ is_open_root x i }
 {
-    if !network::is_root(x) {
-        return false;
-    }
-    x.from == i && x.upper.is_no_upper()
+    network::is_root(x) && x.from == i && x.upper.is_no_upper()
 }
 
 // Whether the rule asks for pairs: t is no root arc, and its lower bound is finite.
+#[tactic(auto, unfolding(crate::specs::Seen::is_candidate, fraction::specs::Exact::is_finite))]
 pub fn is_candidate(t: Arc) -> bool
     ensures { result ≡ is_candidate t }
 {
@@ -82,8 +82,8 @@ pub fn is_candidate(t: Arc) -> bool
 fn at_lower(constant: Fraction, supply: [Fraction; NODE_PLACES], j: usize, t: Arc) -> Outcome
     ensures { result ≡ dropped constant j t t.lower (get_or supply t.from no_figure) (get_or supply t.to no_figure) }
 {
-    let left = network::supply_of(supply, t.from);
-    let right = network::supply_of(supply, t.to);
+    let left = network::figure_at(&supply, t.from);
+    let right = network::figure_at(&supply, t.to);
     step::drop_arc(constant, j, t, t.lower, left, right)
 }
 
@@ -96,8 +96,7 @@ pub fn costly_arc(net: Net, j: usize) -> Outcome
         return Err(Halt::Passes);
     }
     let seen = unseen();
-    let times = due::all_times(net, seen);
-    let at = times.at;
+    let at = due::all_times(net, seen);
     if !due::has_pair(net, seen, &at, 0, t) {
         return Err(Halt::Passes);
     }
@@ -109,12 +108,10 @@ pub fn costly_arc(net: Net, j: usize) -> Outcome
 pub fn scan(net: Net, seen: Seen, now: u8) -> Found
     ensures { Known net now seen → (result.next ≡ upward (costly_arc net) 4 max_arcs 1 Stops) × Known net now result.seen }
 {
-    let times = due::all_times(net, seen);
-    let at = times.at;
+    let at = due::all_times(net, seen);
     let supply = net.supply;
     let mut known = seen;
-    let mut j = 1;
-    while j <= MAX_ARCS {
+    for j in 1..ARC_PLACES {
         let t = net.arcs[j];
         let w = known.sought[j];
         if due::is_due(&at, w, t) {
@@ -133,7 +130,6 @@ pub fn scan(net: Net, seen: Seen, now: u8) -> Found
                 known.sought[j] = now;
             }
         }
-        j += 1;
     }
     Found {
         next: Next::Stops,

@@ -52,16 +52,6 @@ fn arc_in(arcs: &[Arc; ARC_PLACES], j: usize) -> Arc
     network::no_arc()
 }
 
-// The figure of number i, in place; none beyond the last number.
-fn figure_in<const N: usize>(figures: &[Fraction; N], i: usize) -> Fraction
-    ensures { result ≡ get_or figures.now i no_figure }
-{
-    if i < N {
-        return figures[i];
-    }
-    network::no_figure()
-}
-
 // A sum with one term more, e × x.
 fn with_term(w: Worked, e: Fraction, x: Fraction) -> Worked
     ensures { result ≡ w ⊕ Ok e ⊗ Ok x }
@@ -86,7 +76,7 @@ pub fn balance(net: Net, pair: Pair, i: usize) -> Worked
     let mut w = Ok(Fraction::ZERO);
     for j in 0..net.m {
         let t = arc_in(&net.arcs, j + 1);
-        let x = figure_in(&pair.flow, j + 1);
+        let x = network::figure_at(&pair.flow, j + 1);
         w = balance_turn(t, x, i, w);
     }
     w
@@ -114,7 +104,11 @@ fn reduced(t: Arc, p: Fraction, q: Fraction) -> Worked
 fn reduced_cost(t: Arc, price: [Fraction; NODE_PLACES]) -> Worked
     ensures { result ≡ cost_in price t }
 {
-    reduced(t, figure_in(&price, t.from), figure_in(&price, t.to))
+    reduced(
+        t,
+        network::figure_at(&price, t.from),
+        network::figure_at(&price, t.to),
+    )
 }
 
 // The value, from the constant on.
@@ -124,7 +118,7 @@ pub fn value(net: Net, pair: Pair) -> Worked
     let mut w = Ok(net.constant);
     for j in 0..net.m {
         let t = arc_in(&net.arcs, j + 1);
-        let x = figure_in(&pair.flow, j + 1);
+        let x = network::figure_at(&pair.flow, j + 1);
         w = with_term(w, t.cost, x);
     }
     w
@@ -158,7 +152,7 @@ fn balances(net: Net, pair: Pair) -> [Worked; SUM_PLACES]
     let mut s = [zero; SUM_PLACES];
     for j in 0..net.m {
         let t = arc_in(&net.arcs, j + 1);
-        let x = figure_in(&pair.flow, j + 1);
+        let x = network::figure_at(&pair.flow, j + 1);
         let from = place_of(t.from);
         let to = to_place(t);
         s[from] = with_term(s[from], t.a, x);
@@ -191,7 +185,7 @@ fn ask_nodes(net: Net, pair: Pair) -> Nodes
         } else {
             balance(net, pair, i + 1)
         };
-        a = ask_node(a, w, figure_in(&net.supply, i + 1));
+        a = ask_node(a, w, network::figure_at(&net.supply, i + 1));
     }
     a
 }
@@ -226,7 +220,7 @@ fn ask_arcs(net: Net, pair: Pair) -> Arcs
     };
     for j in 0..net.m {
         let t = arc_in(&net.arcs, j + 1);
-        let x = figure_in(&pair.flow, j + 1);
+        let x = network::figure_at(&pair.flow, j + 1);
         a = ask_arc(a, t, x, price);
     }
     a

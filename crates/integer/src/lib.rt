@@ -12,9 +12,7 @@ pub fn gcd(a: u64, b: u64) -> u64
     let mut x = a;
     let mut y = b;
     while y != 0 {
-        let z = x % y;
-        x = y;
-        y = z;
+        (x, y) = (y, x % y);
     }
     x
 }
@@ -29,9 +27,7 @@ pub fn divisor(a: u64, b: u64, limit: u64) -> u64
         if low < limit {
             return low;
         }
-        let rest = high % low;
-        high = low;
-        low = rest;
+        (high, low) = (low, high % low);
     }
     high
 }
@@ -40,30 +36,27 @@ pub fn divisor(a: u64, b: u64, limit: u64) -> u64
 pub fn size(z: i64) -> u64
     ensures { result ≡ nat_abs z }
 {
-    if z < 0 {
-        (0 - (z + 1)) as u64 + 1
-    } else {
-        z as u64
-    }
+    z.unsigned_abs()
 }
 
 // The number of size q with z's sign.
 pub fn with_sign(z: i64, q: u32) -> i64
     ensures { result ≡ signed z q }
 {
-    if z < 0 { 0 - (q as i64) } else { q as i64 }
+    let q = i64::from(q);
+    if z < 0 { -q } else { q }
 }
 
-// n times d, exactly.
+// n times d, exactly. One function for both products would need a trait with a law and two impls, which is longer.
 pub fn cross(n: i32, d: u32) -> i64
     ensures { result ≡ n *ℤ pos d }
 {
-    (n as i64) * (d as i64)
+    i64::from(n) * i64::from(d)
 }
 
 // a times b, exactly.
 pub fn product(a: i32, b: i32) -> i64
     ensures { result ≡ a *ℤ b }
 {
-    (a as i64) * (b as i64)
+    i64::from(a) * i64::from(b)
 }

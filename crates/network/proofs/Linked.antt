@@ -3,7 +3,7 @@ use mathlib.Core.Path.{◌≡◌, refl, sym, ap, ◌∙◌, subst}
 use mathlib.Core.Bool.{Bool, true, false, cond, ◌&&◌}
 use mathlib.Core.List.{List}
 use mathlib.Core.Logic.{⊎_elim}
-use Prim.Native.Nat.{ℕ, zero, suc, ◌-◌, ◌≤◌, ◌<◌}
+use Prim.Native.Nat.{ℕ, suc, ◌+◌, ◌≤◌, ◌<◌}
 use native.Mathlib.Nat.{eq-or-lt_of_le}
 use native.Mathlib.Numerals.{add-one}
 use native.Mathlib.Omega.{arith}
@@ -103,9 +103,8 @@ module _ {net : Net} (g : Legal net) where
             let n : e₀ < 33 = omega (arith, (here-number g _ a.to_here).1) in
             rw (w.0, w.1, q, lt-ltb (suc j) 97 (omega (arith, h.few)), e, lt-ltb f₀ 33 m, lt-ltb e₀ 33 n) (linked_on u m n)
 
-  pub linked-more : {next last next' last' : List ℕ} {j : ℕ} {t : Arc} → Linked net next last j → 1 ≤ j → t ≡ arc_at net j → (next' ≡ next_of next last j t.from t.to) × (last' ≡ last_of last j t.from t.to) → Linked net next' last' (j - 1)
-  linked-more {j = zero} h l q w = absurd (omega arith)
-  linked-more {j = suc k} h l q w = let e : suc k - 1 ≡ k = omega (arith, add-one k) in rw e (linked-one h q w)
+  pub linked-more : {next last next' last' : List ℕ} {j k : ℕ} {t : Arc} → Linked net next last j → k + 1 ≡ j → t ≡ arc_at net (k + 1) → (next' ≡ next_of next last (k + 1) t.from t.to) × (last' ≡ last_of last (k + 1) t.from t.to) → Linked net next' last' k
+  linked-more {k = k} h e q w = linked-one (rw (← e, add-one k) at h) (rw (add-one k) at q) (rw (add-one k) at w)
 
   -- all are taken
   pub linked-all : {next last : List ℕ} → Linked net next last 0 → AreParallel net next

@@ -1,5 +1,5 @@
 -- Laws of the lent list of arc records.
---     record-low .. replaced-past     a record by its number
+--     filled_next                     a record more replaced, from the first on
 --     arc-is                          a record is an arc
 --     arcs-put                        a record replaced is an arc replaced
 --     loaded-net                      a cleared list, loaded, has the network of the record
@@ -8,12 +8,12 @@
 use mathlib.Core.Bool.{Bool, true, false}
 use mathlib.Core.List.{List, ◌∷◌, [], ◌++◌}
 use mathlib.Core.Path.{◌≡◌, refl, sym, ap, ◌∙◌}
-use Prim.Native.Nat.{ℕ, zero, suc, ◌+◌, ◌-◌, ◌<◌, ◌≤◌}
+use Prim.Native.Nat.{ℕ, zero, suc, ◌+◌, ◌<◌, ◌≤◌}
 use native.Mathlib.Numerals.{add-one}
 use native.Mathlib.Omega.{arith}
 use lib.Dec.{leb}
-use lib.ListN.{length, get_or, set, take, replicate, length-set, get_or-eq_default}
-use lib.Seq.{set_out, take-suc, take-set-lt, take-set-le}
+use lib.ListN.{length, get_or, set, take, replicate, length-set}
+use lib.Seq.{take-suc, take-set-lt, take-set-le}
 use borrow.Author.Tests.{le-leb, leb-true, leb-false}
 use Rattle.loops.specs.Loops.{build}
 use Rattle.loops.proofs.Laws.{Filled, filled_more, get_or-build, build-const, build-same}
@@ -26,36 +26,6 @@ use Rattle.network.specs.Network.{no_arc, arc_at, with_arc, with_update, with_up
 use Rattle.network.specs.ArcList.{record_at, replaced, replaced_by, replaced_all, no_arcs, arcs_in, nodes_of, joined, net_in}
 
 -- ---- a record by its number
-
-pub record-low : (xs : List Arc) (j : ℕ) → j < 1 → no_arc ≡ record_at xs j
-unfolding record_at
-record-low xs zero l = refl
-record-low xs (suc j) l = absurd (omega (arith, l))
-
-pub record-in : (xs : List Arc) (j : ℕ) → 1 ≤ j → get_or xs (j - 1) no_arc ≡ record_at xs j
-unfolding record_at
-record-in xs zero l = absurd (omega (arith, l))
-record-in xs (suc j) l = ap (λ (k : ℕ). get_or xs k no_arc) (omega arith)
-
-pub record-past : (xs : List Arc) (j : ℕ) → length xs < j → no_arc ≡ record_at xs j
-unfolding record_at
-record-past xs zero l = refl
-record-past xs (suc j) l = sym (get_or-eq_default xs no_arc {n = j} (omega (arith, l)))
-
-pub replaced-low : (xs : List Arc) (j : ℕ) (t : Arc) → j < 1 → xs ≡ replaced xs j t
-unfolding replaced
-replaced-low xs zero t l = refl
-replaced-low xs (suc j) t l = absurd (omega (arith, l))
-
-pub replaced-in : (xs : List Arc) (j : ℕ) (t : Arc) → 1 ≤ j → set xs (j - 1) t ≡ replaced xs j t
-unfolding replaced
-replaced-in xs zero t l = absurd (omega (arith, l))
-replaced-in xs (suc j) t l = ap (λ (k : ℕ). set xs k t) (omega arith)
-
-pub replaced-past : (xs : List Arc) (j : ℕ) (t : Arc) → length xs < j → xs ≡ replaced xs j t
-unfolding replaced
-replaced-past xs zero t l = refl
-replaced-past xs (suc j) t l = sym (set_out xs j t (omega (arith, l)))
 
 pub replaced-next : (xs : List Arc) (i : ℕ) (t : Arc) → set xs i t ≡ replaced xs (i + 1) t
 unfolding replaced

@@ -2,8 +2,7 @@
 use mathlib.Core.Path.{◌≡◌, refl, sym, ap, ◌∙◌}
 use mathlib.Core.Bool.{Bool, true, false, cond, ◌||◌}
 use mathlib.Core.List.{List}
-use mathlib.Core.Logic.{◌⊎◌, inl, inr}
-use Prim.Native.Nat.{ℕ, zero, suc, ◌+◌, ◌≤◌, ◌<◌}
+use Prim.Native.Nat.{ℕ, zero, suc, min, ◌+◌, ◌≤◌, ◌<◌}
 use native.Mathlib.Numerals.{add-one}
 use native.Mathlib.Omega.{arith}
 use borrow.Author.Tests.{eqb-true, eqb-false, ltb-true, ltb-false, lt-ltb}
@@ -14,7 +13,7 @@ use Rattle.loops.specs.Loops.{tally, count}
 use Rattle.loops.proofs.Laws.{count-le}
 use Rattle.network.specs.declared.Arc.{Arc}
 use Rattle.network.specs.declared.Net.{Net}
-use Rattle.network.specs.Network.{arc_at, is_touching, is_root, raised, counted_at, Countable, AreDegreesTo}
+use Rattle.network.specs.Network.{arc_at, is_touching, is_root, raised, counted_at, AreDegreesTo}
 
 raised_long : (ds : List ℕ) (f : ℕ) → length (raised ds f) ≡ length ds
 raised_long ds f = by (ltb f 33)
@@ -107,20 +106,10 @@ tallied-more {net} {ds} {to} {j} {t} h l q e = by (eqb (arc_at net j).from (arc_
     by true p e = tallied-root h l (eqb-true _ _ p) e
     by false p e = tallied-two h l (eqb-false _ _ p) refl e
 
--- as far as number m
-pub record TalliedTo (net : Net) (m : ℕ) (ds : List ℕ) (j : ℕ) : Type 0 where
-  pub tallied : Tallied net ds j
-  pub few : j ≤ m + 1
-
-pub tallied-to : {net : Net} {m : ℕ} {ds : List ℕ} {j : ℕ} → TalliedTo net m ds j → (m < j) ⊎ (97 ≤ j) → AreDegreesTo net m ds
-tallied-to {net} {m} {ds} {j} h w i l = h.tallied.is i l ∙ ap (count (λ k. is_touching (arc_at net k) i)) (by (ltb m 96) refl w)
+-- of the numbers up to m
+pub tallied-to : {net : Net} {j : ℕ} {ds : List ℕ} (m : ℕ) → Tallied net ds j → j ≡ min m 96 + 1 → AreDegreesTo net m ds
+tallied-to {net} {j} m h e i l = h.is i l ∙ ap (count (λ k. is_touching (arc_at net k) i)) (e ∙ by (ltb m 96) refl)
   where
-    by : (b : Bool) → ltb m 96 ≡ b → (m < j) ⊎ (97 ≤ j) → j ≡ cond b (m + 1) 97
-    by true e (inl f) = omega (arith, h.few)
-    by true e (inr f) = let g = ltb-true m 96 e in absurd (omega (arith, h.few))
-    by false e (inl f) = let g = ltb-false m 96 e in omega (arith, h.tallied.upto)
-    by false e (inr f) = omega (arith, h.tallied.upto)
-
--- after one end, at the other
-pub raised-few : {ds to : List ℕ} {f t : ℕ} → Countable ds → to ≡ raised ds f → (f ≡ t → ⊥) → get_or to t 0 ≤ 97
-raised-few {ds} {to} {f} {t} h e n = rw (e, raised-other ds f t (λ q. n (sym q))) (h.few t)
+    by : (b : Bool) → ltb m 96 ≡ b → min m 96 + 1 ≡ cond b (m + 1) 97
+    by true f = let g = ltb-true m 96 f in omega arith
+    by false f = let g = ltb-false m 96 f in omega arith

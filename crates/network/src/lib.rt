@@ -107,11 +107,18 @@ pub fn no_figure() -> Fraction
     Fraction { num: 0, den: 0 }
 }
 
+// The figure of number i; none where there is no such number.
+pub fn figure_at(figures: &[Fraction], i: usize) -> Fraction
+    ensures { result ≡ get_or figures.now i no_figure }
+{
+    figures.get(i).copied().unwrap_or(no_figure())
+}
+
 // What stands at a number not in use.
 pub fn no_arc() -> Arc
     ensures { result ≡ no_arc }
 {
-    let z = Fraction { num: 0, den: 0 };
+    let z = no_figure();
     Arc {
         from: 0,
         to: 0,
@@ -127,15 +134,13 @@ pub fn no_arc() -> Arc
 pub fn empty_net(n: usize, m: usize, constant: Fraction) -> Net
     ensures { result ≡ empty_net n m constant }
 {
-    let f = no_figure();
-    let a = no_arc();
     Net {
         n,
         m,
         constant,
         here: [false; NODE_PLACES],
-        supply: [f; NODE_PLACES],
-        arcs: [a; ARC_PLACES],
+        supply: [no_figure(); NODE_PLACES],
+        arcs: [no_arc(); ARC_PLACES],
     }
 }
 
@@ -143,12 +148,17 @@ pub fn empty_net(n: usize, m: usize, constant: Fraction) -> Net
 pub fn nodes_of(net: Net) -> Nodes
     ensures { result ≡ nodes_of net }
 {
-    let constant = net.constant;
-    let here = net.here;
-    let supply = net.supply;
+    let Net {
+        n,
+        m,
+        constant,
+        here,
+        supply,
+        ..
+    } = net;
     Nodes {
-        n: net.n,
-        m: net.m,
+        n,
+        m,
         constant,
         here,
         supply,
@@ -159,12 +169,16 @@ pub fn nodes_of(net: Net) -> Nodes
 pub fn join(nodes: Nodes, arcs: [Arc; ARC_PLACES]) -> Net
     ensures { result ≡ joined nodes arcs }
 {
-    let constant = nodes.constant;
-    let here = nodes.here;
-    let supply = nodes.supply;
+    let Nodes {
+        n,
+        m,
+        constant,
+        here,
+        supply,
+    } = nodes;
     Net {
-        n: nodes.n,
-        m: nodes.m,
+        n,
+        m,
         constant,
         here,
         supply,
@@ -172,34 +186,22 @@ pub fn join(nodes: Nodes, arcs: [Arc; ARC_PLACES]) -> Net
     }
 }
 
-// The arc to be put.
-pub fn arc_of(p: ArcUpdate) -> Arc
-    ensures { result ≡ p.arc }
-{
-    p.arc
-}
-
 // The arc of number j.
 pub fn arc_at(net: Net, j: usize) -> Arc
     ensures { result ≡ arc_at net j }
 {
-    if j < ARC_PLACES {
-        return net.arcs[j];
-    }
-    no_arc()
+    net.arcs.get(j).copied().unwrap_or(no_arc())
 }
 
 // The supply of node i, by the supplies of all nodes.
 pub fn supply_of(supply: [Fraction; NODE_PLACES], i: usize) -> Fraction
     ensures { result ≡ get_or supply i no_figure }
 {
-    if i < NODE_PLACES {
-        return supply[i];
-    }
-    no_figure()
+    figure_at(&supply, i)
 }
 
 // The supply of node i replaced.
+#[tactic(auto, unfolding(crate::specs::Network::with_supply))]
 fn put_supply(mut nodes: Nodes, i: usize, f: Fraction) -> Nodes
     ensures { (xs : List Arc) → result ≡ nodes_of (with_supply (joined nodes xs) i f) }
 {
@@ -210,6 +212,7 @@ fn put_supply(mut nodes: Nodes, i: usize, f: Fraction) -> Nodes
 }
 
 // Node i dropped.
+#[tactic(auto, unfolding(crate::specs::Network::without))]
 fn drop_node(mut nodes: Nodes, i: usize) -> Nodes
     ensures { (xs : List Arc) → result ≡ nodes_of (without (joined nodes xs) i) }
 {
@@ -223,33 +226,20 @@ fn drop_node(mut nodes: Nodes, i: usize) -> Nodes
 pub fn settle(nodes: Nodes, c: Edit) -> Nodes
     ensures { (xs : List Arc) → result ≡ nodes_of (applied (joined nodes xs) c) }
 {
-    let left = c.left;
-    let right = c.right;
-    let a = put_supply(nodes, left.node, left.supply);
-    let b = drop_node(put_supply(a, right.node, right.supply), c.gone);
-    let constant = c.constant;
-    let here = b.here;
-    let supply = b.supply;
+    let a = put_supply(nodes, c.left.node, c.left.supply);
+    let b = drop_node(put_supply(a, c.right.node, c.right.supply), c.gone);
     Nodes {
-        n: b.n,
-        m: b.m,
-        constant,
-        here,
-        supply,
+        constant: c.constant,
+        ..b
     }
 }
 
 // Whether an arc touches node i.
+#[tactic(auto, unfolding(crate::specs::Network::is_touching))]
 pub fn touches(t: Arc, i: usize) -> bool
     ensures { result ≡ is_touching t i }
 {
     t.from == i || t.to == i
-}
-
-// The degree of each node, at its number.
-#[derive(Clone, Copy)]
-pub struct Degrees {
-    pub at: [usize; NODE_PLACES],
 }
 
 // One more at number i.
@@ -263,6 +253,7 @@ fn add_one(at: &mut [usize; NODE_PLACES], i: usize)
 }
 
 // One more at each end of an arc.
+#[tactic(auto, unfolding(crate::specs::Network::is_root))]
 pub(crate) fn count_ends(at: &mut [usize; NODE_PLACES], t: Arc)
     requires { Countable at.old }
     ensures { at.new ≡ counted_at at.old t }
@@ -276,36 +267,21 @@ pub(crate) fn count_ends(at: &mut [usize; NODE_PLACES], t: Arc)
 // The places of two nodes.
 pub(crate) const END_PLACES: usize = NODE_PLACES * NODE_PLACES;
 
-// The next parallel arc of each arc, one with the same from and to, at its number; 0 where there is none.
-#[derive(Clone, Copy)]
-pub struct Parallels {
-    pub next: [u8; ARC_PLACES],
-}
-
 // Arc j, t, is taken, where it is in use: the last one between its ends is its next, and now it is the last.
 pub(crate) fn link(next: &mut [u8; ARC_PLACES], last: &mut [u8; END_PLACES], j: usize, t: Arc)
     ensures { (next.new ≡ next_of next.old last.old j t.from t.to) × (last.new ≡ last_of last.old j t.from t.to) }
 {
     let f = t.from;
     let e = t.to;
-    if ARC_PLACES <= j {
-        return;
+    if j < ARC_PLACES && 1 <= f && f < NODE_PLACES && e < NODE_PLACES {
+        let k = f * NODE_PLACES + e;
+        next[j] = last[k];
+        last[k] = j as u8;
     }
-    if f < 1 {
-        return;
-    }
-    if NODE_PLACES <= f {
-        return;
-    }
-    if NODE_PLACES <= e {
-        return;
-    }
-    let k = f * NODE_PLACES + e;
-    next[j] = last[k];
-    last[k] = j as u8;
 }
 
 // Whether an arc is a root arc.
+#[tactic(auto, unfolding(crate::specs::Network::is_root))]
 pub fn is_root(t: Arc) -> bool
     ensures { result ≡ is_root t }
 {
@@ -313,32 +289,28 @@ pub fn is_root(t: Arc) -> bool
 }
 
 // The end of an arc that is not its from node; 0 for a root arc.
+#[tactic(auto, unfolding(crate::specs::Network::far_end))]
 pub fn far_end(t: Arc) -> usize
     ensures { result ≡ far_end t }
 {
-    if is_root(t) {
-        return 0;
-    }
-    t.to
+    if is_root(t) { 0 } else { t.to }
 }
 
 // An arc at node i.
+#[tactic(auto, unfolding(crate::specs::Network::side_of))]
 pub fn side_at(t: Arc, i: usize) -> Side
     ensures { result ≡ side_of t i }
 {
-    let a = t.a;
-    let b = t.b;
-    let far = far_end(t);
     if t.from == i {
         Side {
-            e: a,
-            o: b,
-            other: far,
+            e: t.a,
+            o: t.b,
+            other: far_end(t),
         }
     } else {
         Side {
-            e: b,
-            o: a,
+            e: t.b,
+            o: t.a,
             other: t.from,
         }
     }
@@ -348,16 +320,20 @@ pub fn side_at(t: Arc, i: usize) -> Side
 pub fn no_update() -> ArcUpdate
     ensures { result ≡ no_update }
 {
-    let arc = no_arc();
-    ArcUpdate { number: 0, arc }
+    ArcUpdate {
+        number: 0,
+        arc: no_arc(),
+    }
 }
 
 // No supply to be put.
 pub fn no_supply_update() -> SupplyUpdate
     ensures { result ≡ no_supply_update }
 {
-    let supply = no_figure();
-    SupplyUpdate { node: 0, supply }
+    SupplyUpdate {
+        node: 0,
+        supply: no_figure(),
+    }
 }
 
 // A change of two arcs, two supplies, a node and the constant.
@@ -371,12 +347,11 @@ pub fn edit_two(
 ) -> Edit
     ensures { result ≡ edit_two one two left right gone constant }
 {
-    let z = no_update();
     Edit {
         one,
         two,
-        three: z,
-        four: z,
+        three: no_update(),
+        four: no_update(),
         left,
         right,
         gone,

@@ -6,9 +6,7 @@ ghost use Rattle.network.specs.ArcList.{record_at, replaced, replaced_all, no_ar
 ghost use Rattle.network.specs.Network.{AreDegreesTo, touching_after, AreParallel};
 ghost use Rattle.network.specs.Legal.{Legal};
 
-use crate::{
-    ARC_PLACES, Arc, ArcUpdate, Degrees, END_PLACES, Edit, MAX_ARCS, NODE_PLACES, Parallels,
-};
+use crate::{ARC_PLACES, Arc, ArcUpdate, END_PLACES, Edit, MAX_ARCS, NODE_PLACES};
 
 // How many records there are.
 pub fn count(arcs: &[Arc]) -> usize
@@ -18,26 +16,22 @@ pub fn count(arcs: &[Arc]) -> usize
 }
 
 // The record of number j; zeros where there is none.
+#[tactic(auto, unfolding(crate::specs::ArcList::record_at))]
 pub fn read(arcs: &[Arc], j: usize) -> Arc
     ensures { result ≡ record_at arcs.now j }
 {
-    if j < 1 {
-        return crate::no_arc();
-    }
-    if j <= arcs.len() {
+    if 1 <= j && j <= arcs.len() {
         return arcs[j - 1];
     }
     crate::no_arc()
 }
 
 // The record of number j replaced, where there is one.
+#[tactic(auto, unfolding(crate::specs::ArcList::replaced))]
 pub fn replace(arcs: &mut [Arc], j: usize, t: Arc)
     ensures { arcs.new ≡ replaced arcs.old j t }
 {
-    if j < 1 {
-        return;
-    }
-    if j <= arcs.len() {
+    if 1 <= j && j <= arcs.len() {
         arcs[j - 1] = t;
     }
 }
@@ -46,86 +40,68 @@ pub fn replace(arcs: &mut [Arc], j: usize, t: Arc)
 pub fn clear(arcs: &mut [Arc])
     ensures { arcs.new ≡ no_arcs (length arcs.old) }
 {
-    let mut i = 0;
-    while i < arcs.len() {
-        let z = crate::no_arc();
-        replace(arcs, i + 1, z);
-        i += 1;
-    }
+    arcs.fill(crate::no_arc());
 }
 
 // The arcs at their numbers, by value.
 pub fn view(arcs: &[Arc]) -> [Arc; ARC_PLACES]
     ensures { result ≡ arcs_in arcs.now }
 {
-    let z = crate::no_arc();
-    let mut at = [z; ARC_PLACES];
-    let mut j = 0;
-    while j < ARC_PLACES {
+    let mut at = [crate::no_arc(); ARC_PLACES];
+    for j in 0..ARC_PLACES {
         at[j] = read(arcs, j);
-        j += 1;
     }
     at
 }
 
 // The first arc after number k that touches node i; 0 where there is none.
+// A number and no Option, since it becomes the number of an ArcUpdate, which is 0 where there is no arc.
 pub fn touching(arcs: &[Arc], i: usize, k: usize) -> usize
     ensures { (nodes : Nodes) → result ≡ touching_after (net_in nodes arcs.now) i k }
 {
     if MAX_ARCS <= k {
         return 0;
     }
-    let mut j = k + 1;
-    while j < ARC_PLACES {
-        let t = read(arcs, j);
-        if crate::touches(t, i) {
+    for j in k + 1..ARC_PLACES {
+        if crate::touches(read(arcs, j), i) {
             return j;
         }
-        j += 1;
     }
     0
 }
 
 // How many arcs of the numbers up to m touch each node.
-pub fn degrees(arcs: &[Arc], m: usize) -> Degrees
-    ensures { (nodes : Nodes) → AreDegreesTo (net_in nodes arcs.now) m result.at }
+pub fn degrees(arcs: &[Arc], m: usize) -> [usize; NODE_PLACES]
+    ensures { (nodes : Nodes) → AreDegreesTo (net_in nodes arcs.now) m result }
 {
-    let mut at: [usize; NODE_PLACES] = [0; NODE_PLACES];
-    let mut j = 0;
-    while j < ARC_PLACES {
-        if m < j {
-            return Degrees { at };
-        }
-        let t = read(arcs, j);
-        crate::count_ends(&mut at, t);
-        j += 1;
+    let mut at = [0; NODE_PLACES];
+    for j in 0..m.min(MAX_ARCS) + 1 {
+        crate::count_ends(&mut at, read(arcs, j));
     }
-    Degrees { at }
+    at
 }
 
 // The next parallel arc of each arc, of the numbers up to m.
-pub fn parallels(arcs: &[Arc], m: usize) -> Parallels
-    ensures { (nodes : Nodes) → nodes.m ≡ m → Legal (net_in nodes arcs.now) → AreParallel (net_in nodes arcs.now) result.next }
+pub fn parallels(arcs: &[Arc], m: usize) -> [u8; ARC_PLACES]
+    ensures { (nodes : Nodes) → nodes.m ≡ m → Legal (net_in nodes arcs.now) → AreParallel (net_in nodes arcs.now) result }
 {
-    let mut next: [u8; ARC_PLACES] = [0; ARC_PLACES];
-    let mut last: [u8; END_PLACES] = [0; END_PLACES];
-    let mut j = m;
-    while 1 <= j {
-        let t = read(arcs, j);
-        crate::link(&mut next, &mut last, j, t);
-        j -= 1;
+    let mut next = [0; ARC_PLACES];
+    let mut last = [0; END_PLACES];
+    for k in (0..m).rev() {
+        crate::link(&mut next, &mut last, k + 1, read(arcs, k + 1));
     }
-    Parallels { next }
+    next
 }
 
 // An arc put at its number.
 pub(crate) fn put_update(arcs: &mut [Arc], p: ArcUpdate)
     ensures { arcs.new ≡ replaced arcs.old p.number p.arc }
 {
-    replace(arcs, p.number, crate::arc_of(p));
+    replace(arcs, p.number, p.arc);
 }
 
 // The arcs of a step's change put at their numbers.
+#[tactic(auto, unfolding(crate::specs::ArcList::replaced_all))]
 pub fn put_edit(arcs: &mut [Arc], c: Edit)
     ensures { arcs.new ≡ replaced_all arcs.old c }
 {

@@ -15,10 +15,9 @@ pub struct Pair {
 pub fn no_pair() -> Pair
     ensures { result ≡ no_pair }
 {
-    let f = crate::no_figure();
     Pair {
-        price: [f; NODE_PLACES],
-        flow: [f; ARC_PLACES],
+        price: [crate::no_figure(); NODE_PLACES],
+        flow: [crate::no_figure(); ARC_PLACES],
     }
 }
 
@@ -26,18 +25,12 @@ pub fn no_pair() -> Pair
 pub fn price_at(pair: Pair, i: usize) -> Fraction
     ensures { result ≡ price_at pair i }
 {
-    if i < NODE_PLACES {
-        return pair.price[i];
-    }
-    crate::no_figure()
+    crate::figure_at(&pair.price, i)
 }
 
 // The flow of arc j.
 pub fn flow_at(pair: Pair, j: usize) -> Fraction
     ensures { result ≡ flow_at pair j }
 {
-    if j < ARC_PLACES {
-        return pair.flow[j];
-    }
-    crate::no_figure()
+    crate::figure_at(&pair.flow, j)
 }

@@ -1,20 +1,12 @@
 -- Postsolve: the way back from a pair of the reduced network to one of the network given (01, "The six reductions", what each has under
 -- "Back"): the pair at the original numbers, then the steps undone, the last first, and their old arcs put back into the lent list.
-use Rattle.std.specs.Prelude.{cond, List, ℕ, zero, suc, ℤ}
+use Rattle.std.specs.Prelude.{List, ℕ, zero, suc, ℤ}
 use Rattle.network.specs.declared.Arc.{Arc}
 use Rattle.network.specs.ArcList.{replaced_by}
 use Rattle.step.specs.Back.{old_arcs_of}
-use Rattle.step.specs.Run.{Way, wide, at}
 use Rattle.step_log.specs.Log.{old_in}
-use Rattle.postsolve.specs.declared.Back.{Back}
-
--- ---- at the original numbers
 
 -- ---- the steps undone
-
--- a pair on its way back, or too wide a figure
-abbrev pub way_of : Back → Way
-way_of b = cond b.fits (at b.pair) wide
 
 -- k numbers, the last first
 unfoldable pub down_from : {S : Type 0} → (ℕ → S → S) → ℕ → S → S

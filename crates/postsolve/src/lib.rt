@@ -6,89 +6,54 @@ ghost use Rattle.step.specs.declared.Step.{Step};
 ghost use Rattle.step.specs.Run.{rule_of, back_of, at, undo, way_back};
 ghost use Rattle.rules.specs.Table.{rules};
 ghost use Rattle.step_log.specs.Log.{Holds};
-ghost use Rattle.postsolve.specs.Postsolve.{way_of, arcs_turn, arcs_back};
+ghost use Rattle.postsolve.specs.Postsolve.{arcs_turn, arcs_back};
 ghost use Rattle.postsolve.specs.internal.Turn.{back_turn, old_edit};
 
+use fraction::Misfit;
 use network::pair::Pair;
 use network::{Arc, Edit};
-use step::{Old, Undone};
+use step::Old;
 
-// A pair on its way back; fits is false where a figure was too wide.
-#[derive(Clone, Copy)]
-pub struct Back {
-    pub fits: bool,
-    pub pair: Pair,
-}
-
-// ---- at the original numbers
-
-// ---- the steps undone
-
-// A step undone. Where a figure was too wide, nothing is worked any more.
-fn undo_step(rule: usize, old: Old, b: Back) -> Back
-    ensures { way_of result ≡ undo ((rule_of rules rule).back old) (way_of b) }
+// A step undone, on the pair on its way back.
+#[tactic(auto, using(fraction::proofs::Laws::misfit_is))]
+fn undo_step(rule: usize, old: Old, way: Result<Pair, Misfit>) -> Result<Pair, Misfit>
+    ensures { result ≡ undo ((rule_of rules rule).back old) way }
 {
-    if !b.fits {
-        return b;
-    }
-    let before = b.pair;
-    let Undone::Restores(x) = rules::undo(rule, old, before) else {
-        return Back {
-            fits: false,
-            pair: before,
-        };
-    };
-    let pair = step::restore(before, x);
-    Back { fits: true, pair }
+    let before = way?;
+    let restored = rules::undo(rule, old, before)?;
+    Ok(step::restore(before, restored))
 }
 
 // The old arcs of a step, to be put back.
 fn old_edit(old: Old) -> Edit
     ensures { result ≡ old_edit old }
 {
-    let one = old.one;
-    let two = old.two;
-    let three = old.three;
-    let four = old.four;
-    let none = network::no_supply_update();
-    let constant = network::no_figure();
     Edit {
-        one,
-        two,
-        three,
-        four,
-        left: none,
-        right: none,
-        gone: 0,
-        constant,
+        one: old.one,
+        two: old.two,
+        three: old.three,
+        four: old.four,
+        ..network::no_edit()
     }
 }
 
 // Step k of the log undone, and its old arcs put back into the list.
-fn undo_turn(log: &[i32], k: usize, b: Back, arcs: &mut [Arc]) -> Back
-    ensures { (way_of result ≡ back_turn log.now k (way_of b)) × (arcs.new ≡ arcs_turn log.now k arcs.old) }
+#[tactic(auto, unfolding(network::specs::ArcList::replaced_all))]
+fn undo_turn(log: &[i32], k: usize, way: Result<Pair, Misfit>, arcs: &mut [Arc]) -> Result<Pair, Misfit>
+    ensures { (result ≡ back_turn log.now k way) × (arcs.new ≡ arcs_turn log.now k arcs.old) }
 {
     let old = step_log::old_at(log, k);
     network::list::put_edit(arcs, old_edit(old));
-    undo_step(step_log::rule_at(log, k), old, b)
-}
-
-// The pair that the way back begins with.
-fn begin(pair: Pair) -> Back
-    ensures { way_of result ≡ at pair }
-{
-    Back { fits: true, pair }
+    undo_step(step_log::rule_at(log, k), old, way)
 }
 
 // The steps of the log undone, the last first.
-pub fn undo_steps(log: &[i32], steps: usize, pair: Pair, arcs: &mut [Arc]) -> Back
-    ensures { ((ss : List Step) → length ss ≡ steps → Holds log.now 0 ss → way_of result ≡ way_back (back_of rules) ss (at pair)) × (arcs.new ≡ arcs_back log.now steps arcs.old) }
+pub fn undo_steps(log: &[i32], steps: usize, pair: Pair, arcs: &mut [Arc]) -> Result<Pair, Misfit>
+    ensures { ((ss : List Step) → length ss ≡ steps → Holds log.now 0 ss → result ≡ way_back (back_of rules) ss (at pair)) × (arcs.new ≡ arcs_back log.now steps arcs.old) }
 {
-    let mut b = begin(pair);
-    let mut k = steps;
-    while 0 < k {
-        k -= 1;
-        b = undo_turn(log, k, b, arcs);
+    let mut back = Ok(pair);
+    for k in (0..steps).rev() {
+        back = undo_turn(log, k, back, arcs);
     }
-    b
+    back
 }

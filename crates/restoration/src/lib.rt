@@ -20,7 +20,6 @@ ghost use Rattle.restoration.specs.internal.Parts.{Empty, Offers, Ended};
 use fraction::Fraction;
 use network::pair::Pair;
 use network::{Arc, Net, Nodes};
-use postsolve::Back;
 use search::{Ends, Ran};
 
 pub mod plain;
@@ -108,12 +107,17 @@ fn write(
 }
 
 // The end of the way back, b, on the network given: question 13, and the words of what is restored.
-fn finish(net: Net, reduced: Fraction, b: Back, out: &mut [i32], values: &mut [i32]) -> Answer
+fn finish(
+    net: Net,
+    reduced: Fraction,
+    b: Option<Pair>,
+    out: &mut [i32],
+    values: &mut [i32],
+) -> Answer
     requires { Empty out.old values.old }
     ensures { Ended net reduced (way_of b) result out.new values.new (length out.old) (length values.old) }
 {
-    if b.fits {
-        let back = b.pair;
+    if let Some(back) = b {
         let w = figures::value(net, back);
         if w.is_fit() {
             write(net, back, reduced, w.figure(), out, values);
@@ -128,7 +132,7 @@ fn finish_at(
     nodes: Nodes,
     view: [Arc; network::ARC_PLACES],
     reduced: Fraction,
-    b: Back,
+    b: Option<Pair>,
     out: &mut [i32],
     values: &mut [i32],
 ) -> Answer

@@ -17,7 +17,7 @@ ghost use Rattle.rules.specs.Table.{rules, next_of};
 ghost use Rattle.rules.specs.Tried.{is_of_nodes};
 
 use costly_arc::{Found, Seen};
-use network::{Arc, ArcUpdate, Degrees, Nodes, Parallels};
+use network::{ARC_PLACES, Arc, ArcUpdate, NODE_PLACES, Nodes};
 use step::{Around, Next};
 
 // ---- rule 1
@@ -106,14 +106,14 @@ fn has_degree(here: bool, degree: usize, d: usize) -> bool
 }
 
 // Rule k at the nodes upward.
-pub(crate) fn scan_nodes(nodes: Nodes, arcs: &[Arc], degrees: Degrees, k: usize) -> Next
-    requires { Legal (net_in nodes arcs.now) × AreDegreesTo (net_in nodes arcs.now) nodes.m degrees.at × (is_of_nodes k ≡ true) }
+pub(crate) fn scan_nodes(nodes: Nodes, arcs: &[Arc], degrees: &[usize; NODE_PLACES], k: usize) -> Next
+    requires { Legal (net_in nodes arcs.now) × AreDegreesTo (net_in nodes arcs.now) nodes.m degrees.now × (is_of_nodes k ≡ true) }
     ensures { result ≡ upward ((rule_of rules k).at (net_in nodes arcs.now)) k max_nodes 1 Stops }
 {
     let asks = rules::tried::asks_of(k);
     let d = asks.degree;
     for i in 1..nodes.n + 1 {
-        if has_degree(nodes.here[i], degrees.at[i], d) {
+        if has_degree(nodes.here[i], degrees[i], d) {
             if rules::tried::may_apply(asks, nodes.supply[i]) {
                 let near = gather(arcs, i, d);
                 let x = rules::tried::at_node(nodes.constant, nodes.supply, k, i, d, near);
@@ -149,11 +149,11 @@ pub(crate) fn scan_costly(nodes: Nodes, arcs: &[Arc], seen: Seen, time: u8) -> F
 // ---- rule 7
 
 // Rule 7 at arc j: the parallel arcs after it, upward.
-pub(crate) fn scan_pairs(nodes: Nodes, arcs: &[Arc], parallels: Parallels, j: usize) -> Next
-    requires { Legal (net_in nodes arcs.now) × AreParallel (net_in nodes arcs.now) parallels.next × (is_used (net_in nodes arcs.now) j ≡ true) }
+pub(crate) fn scan_pairs(nodes: Nodes, arcs: &[Arc], next: &[u8; ARC_PLACES], j: usize) -> Next
+    requires { Legal (net_in nodes arcs.now) × AreParallel (net_in nodes arcs.now) next.now × (is_used (net_in nodes arcs.now) j ≡ true) }
     ensures { result ≡ or_else 7 j (parallel_arc (net_in nodes arcs.now) j) Stops }
 {
-    let mut k = parallels.next[j] as usize;
+    let mut k = next[j] as usize;
     while 1 <= k {
         let t = network::list::read(arcs, j);
         let u = network::list::read(arcs, k);
@@ -163,7 +163,7 @@ pub(crate) fn scan_pairs(nodes: Nodes, arcs: &[Arc], parallels: Parallels, j: us
                 return x;
             }
         }
-        k = parallels.next[k] as usize;
+        k = next[k] as usize;
     }
     Next::Stops
 }
@@ -173,10 +173,10 @@ pub(crate) fn scan_parallel(nodes: Nodes, arcs: &[Arc]) -> Next
     requires { Legal (net_in nodes arcs.now) }
     ensures { result ≡ upward (parallel_arc (net_in nodes arcs.now)) 7 max_arcs 1 Stops }
 {
-    let parallels = network::list::parallels(arcs, nodes.m);
+    let next = network::list::parallels(arcs, nodes.m);
     for j in 1..nodes.m + 1 {
-        if parallels.next[j] != 0 {
-            let x = scan_pairs(nodes, arcs, parallels, j);
+        if next[j] != 0 {
+            let x = scan_pairs(nodes, arcs, &next, j);
             if x.is_found() {
                 return x;
             }
@@ -210,7 +210,7 @@ pub(crate) fn next(nodes: Nodes, arcs: &[Arc], mut seen: Seen, time: u8) -> Foun
                 return Found { next: x, seen };
             }
         } else {
-            let x = scan_nodes(nodes, arcs, degrees, k);
+            let x = scan_nodes(nodes, arcs, &degrees, k);
             if x.is_found() {
                 return Found { next: x, seen };
             }

@@ -1,12 +1,13 @@
 // What is left of a network, numbered from 1, and a pair of it at the original numbers.
+// Loops that read one array and write another go by the index, of which their invariants speak: an iterator over both has none.
 #![tactic(auto)]
 
 ghost use Rattle.std.specs.Prelude.{◌≡◌, length};
 ghost use Rattle.loops.specs.Loops.{build, upto};
 ghost use Rattle.network.specs.Limits.{max_nodes, max_arcs, node_places, arc_places};
-ghost use Rattle.network.specs.Network.{empty_net};
-ghost use Rattle.survivors.specs.Survivors.{rank_of, between, pack_node, pack_arc, packed_of, spread_price, spread_flow, spread_of};
-ghost use Rattle.survivors.specs.internal.Ranks.{placed};
+ghost use Rattle.network.specs.Network.{empty_net, is_used};
+ghost use Rattle.survivors.specs.Survivors.{rank_of, between, pack_node, pack_arc, packed_of, spread_of};
+ghost use Rattle.survivors.specs.internal.Ranks.{placed, spread_figure};
 
 use fraction::Fraction;
 use network::pair::Pair;
@@ -40,21 +41,10 @@ fn rank_in(at: &[usize; NODE_PLACES], i: usize) -> usize
 fn renumber(at: &[usize; NODE_PLACES], t: Arc) -> Arc
     ensures { result ≡ between (placed at.now t.from) (placed at.now t.to) t }
 {
-    let from = rank_in(at, t.from);
-    let to = rank_in(at, t.to);
-    let cost = t.cost;
-    let lower = t.lower;
-    let upper = t.upper;
-    let a = t.a;
-    let b = t.b;
     Arc {
-        from,
-        to,
-        cost,
-        lower,
-        upper,
-        a,
-        b,
+        from: rank_in(at, t.from),
+        to: rank_in(at, t.to),
+        ..t
     }
 }
 
@@ -62,14 +52,12 @@ fn renumber(at: &[usize; NODE_PLACES], t: Arc) -> Arc
 fn pack_nodes(net: Net) -> Net
     ensures { (result ≡ upto (pack_node net) max_nodes (empty_net 0 0 net.constant)) × (result.m ≡ 0) }
 {
-    let constant = net.constant;
-    let mut p = network::empty_net(0, 0, constant);
+    let mut p = network::empty_net(0, 0, net.constant);
     for i in 0..MAX_NODES {
         if net.here[i + 1] {
             let k = p.n + 1;
-            let f = net.supply[i + 1];
             p.n = k;
-            p.supply[k] = f;
+            p.supply[k] = net.supply[i + 1];
             p.here[k] = true;
         }
     }
@@ -88,9 +76,8 @@ fn pack_arcs(net: Net, p: Net) -> Net
         let t = net.arcs[j + 1];
         if 1 <= t.from {
             let k = q.m + 1;
-            let u = renumber(&ranks, t);
             q.m = k;
-            q.arcs[k] = u;
+            q.arcs[k] = renumber(&ranks, t);
         }
     }
     q
@@ -105,56 +92,39 @@ pub fn pack(net: Net) -> Net
 
 // ---- a pair at the original numbers
 
-// The prices, at the original numbers of the nodes in use.
-fn spread_prices(net: Net, pair: Pair) -> Pair
-    ensures { result.price ≡ build node_places (spread_price net pair) }
+// The figures of the numbers in use, in their order from 1, at the original numbers.
+fn spread_figures<const N: usize>(used: &[bool; N], figures: &[Fraction; N]) -> [Fraction; N]
+    ensures { result ≡ build N (spread_figure used.now figures.now N) }
 {
-    let mut at = network::pair::no_pair();
-    let mut d: usize = 0;
-    for i in 0..NODE_PLACES {
-        let mut f = network::no_figure();
-        if net.here[i] {
+    let mut at = [Fraction::ZERO; N];
+    let mut d = 0;
+    for i in 0..N {
+        at[i] = if used[i] {
             d += 1;
-            if d < NODE_PLACES {
-                f = pair.price[d];
-            }
+            network::figure_at(figures, d)
         } else {
-            f = Fraction::ZERO;
-        }
-        at.price[i] = f;
+            Fraction::ZERO
+        };
     }
     at
 }
 
-// The flows, at the original numbers of the arcs in use.
-fn spread_flows(net: Net, pair: Pair) -> Pair
-    ensures { result.flow ≡ build arc_places (spread_flow net pair) }
+// Which arcs are in use.
+fn arcs_used(net: Net) -> [bool; ARC_PLACES]
+    ensures { result ≡ build arc_places (is_used net) }
 {
-    let mut at = network::pair::no_pair();
-    let mut d: usize = 0;
+    let mut used = [false; ARC_PLACES];
     for j in 0..ARC_PLACES {
-        let mut f = network::no_figure();
-        let t = net.arcs[j];
-        if 1 <= t.from {
-            d += 1;
-            if d < ARC_PLACES {
-                f = pair.flow[d];
-            }
-        } else {
-            f = Fraction::ZERO;
-        }
-        at.flow[j] = f;
+        used[j] = net.arcs[j].from != 0;
     }
-    at
+    used
 }
 
 // A pair of the reduced network at the original numbers.
 pub fn spread(net: Net, pair: Pair) -> Pair
     ensures { result ≡ spread_of net pair }
 {
-    let p = spread_prices(net, pair);
-    let f = spread_flows(net, pair);
-    let price = p.price;
-    let flow = f.flow;
+    let price = spread_figures(&net.here, &pair.price);
+    let flow = spread_figures(&arcs_used(net), &pair.flow);
     Pair { price, flow }
 }

@@ -6,5 +6,3 @@ use Rattle.costly_arc.proofs.scan.Given as goal
 abbrev pub invariant-loop-j : goal.invariant-loop-j
 invariant-loop-j l = Known l.net l.now l.initial.known → Going l.net l.now l.initial.known l.known l.j
 
-abbrev pub decreases-loop-j : goal.decreases-loop-j
-decreases-loop-j l = 97 - l.j

@@ -18,4 +18,4 @@ pub loop-j-preserved : goal.loop-j-preserved
 unfolding reduced_cost
 loop-j-preserved c =
     let h = c.loop-j.invariant in
-    (one_more _ _ h.0 (rw c.arc_in-t.ensures at c.ask_arc-a.ensures.0), one_more _ _ h.1 (rw (c.arc_in-t.ensures, c.figure_in-x.ensures) at c.ask_arc-a.ensures.1), one_more _ _ h.2 (rw (c.arc_in-t.ensures, c.figure_in-x.ensures) at c.ask_arc-a.ensures.2))
+    (one_more _ _ h.0 (rw c.arc_in-t.ensures at c.ask_arc-a.ensures.0), one_more _ _ h.1 (rw (c.arc_in-t.ensures, c.figure_at-x.ensures) at c.ask_arc-a.ensures.1), one_more _ _ h.2 (rw (c.arc_in-t.ensures, c.figure_at-x.ensures) at c.ask_arc-a.ensures.2))

@@ -20,7 +20,7 @@ loop-j-init c = (refl, λ i h. rw (get_or-replicate {A = Worked} 34 i (Ok zero_f
 pub loop-j-preserved : goal.loop-j-preserved
 loop-j-preserved c =
     let v = c.loop-j.invariant in
-    (simp length-set v.0, λ i h. folded_more _ (v.1 i h) (omega arith) (rw (c.arc_in-t.ensures, c.figure_in-x.ensures) at (added c.loop-j.s c.arc_in-t.result c.figure_in-x.result _ _ _ _ v.0 c.place_of-from.ensures.1 c.to_place-to.ensures.1 c.with_term.ensures c.with_term-in-loop-j.ensures i h)))
+    (simp length-set v.0, λ i h. folded_more _ (v.1 i h) (omega arith) (rw (c.arc_in-t.ensures, c.figure_at-x.ensures) at (added c.loop-j.s c.arc_in-t.result c.figure_at-x.result _ _ _ _ v.0 c.place_of-from.ensures.1 c.to_place-to.ensures.1 c.with_term.ensures c.with_term-in-loop-j.ensures i h)))
 
 pub returns : goal.returns
 unfolding balance_of

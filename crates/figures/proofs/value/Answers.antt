@@ -15,7 +15,7 @@ loop-j-init c = folded-none _ _ _
 
 pub loop-j-preserved : goal.loop-j-preserved
 loop-j-preserved c =
-    folded_more _ c.loop-j.invariant (omega arith) (rw (c.arc_in-t.ensures, c.figure_in-x.ensures) at c.with_term-w.ensures)
+    folded_more _ c.loop-j.invariant (omega arith) (rw (c.arc_in-t.ensures, c.figure_at-x.ensures) at c.with_term-w.ensures)
 
 pub returns : goal.returns
 unfolding value_of

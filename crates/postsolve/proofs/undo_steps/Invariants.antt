@@ -1,10 +1,7 @@
-use Rattle.postsolve.specs.Postsolve.{way_of, arcs_turn}
+use Rattle.postsolve.specs.Postsolve.{arcs_turn}
 use Rattle.postsolve.specs.internal.Turn.{back_turn}
 use Rattle.postsolve.proofs.Steps.{Descended}
 use Rattle.postsolve.proofs.undo_steps.Given as goal
 
 abbrev pub invariant-loop-k : goal.invariant-loop-k
-invariant-loop-k l = Descended (back_turn l.log) l.steps (way_of l.initial.b) l.k (way_of l.b) × Descended (arcs_turn l.log) l.steps l.initial.arcs l.k l.arcs
-
-abbrev pub decreases-loop-k : goal.decreases-loop-k
-decreases-loop-k l = l.k
+invariant-loop-k l = Descended (back_turn l.log) l.steps l.initial.back l.k l.back × Descended (arcs_turn l.log) l.steps l.initial.arcs l.k l.arcs

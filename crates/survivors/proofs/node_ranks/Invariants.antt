@@ -1,4 +1,3 @@
-use Prim.Native.Nat.{◌-◌}
 use Rattle.loops.proofs.Laws.{Counted, Filled}
 use Rattle.network.specs.Network.{is_here}
 use Rattle.survivors.specs.Survivors.{rank_of}
@@ -6,6 +5,3 @@ use Rattle.survivors.proofs.node_ranks.Given as goal
 
 abbrev pub invariant-loop-i : goal.invariant-loop-i
 invariant-loop-i l = Filled (rank_of l.net) 33 l.initial.at l.at l.i × Counted (λ k. is_here l.net k) 33 l.i l.d
-
-abbrev pub decreases-loop-i : goal.decreases-loop-i
-decreases-loop-i l = 33 - l.i

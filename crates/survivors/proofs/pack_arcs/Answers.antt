@@ -23,7 +23,7 @@ loop-j-preserved c =
     let t = arc_at net (c.loop-j.j + 1) in
     let turn : (c.if-t-ge1.q ≡ pack_arc net c.loop-j.j c.loop-j.q) × (c.if-t-ge1.q.m ≤ c.loop-j.j + 1) =
     elim c.if-t-ge1.branch [
-      | then-t-ge1 w ↦ (w.q-is ∙ rw (ne_eqb t.from 0 (λ q. omega arith), lt-ltb _ _ room, number 96 c.loop-j.q.m room, w.renumber-u.ensures, c.node_ranks.ensures, placed-is net t.from, placed-is net t.to), omega (arith, ap (λ (p : Net). p.m) w.q-is))
+      | then-t-ge1 w ↦ (w.q-is ∙ rw (ne_eqb t.from 0 (λ q. omega arith), lt-ltb _ _ room, number 96 c.loop-j.q.m room, w.renumber.ensures, c.node_ranks.ensures, placed-is net t.from, placed-is net t.to), omega (arith, ap (λ (p : Net). p.m) w.q-is))
       | else-t-ge1 w ↦ (w.q-is ∙ rw (eq-eqb t.from 0 (omega arith)), omega (arith, ap (λ (p : Net). p.m) w.q-is))
     ] in
     (folded_more _ c.loop-j.invariant.0 (omega arith) turn.0, turn.1)

@@ -6,7 +6,5 @@ use Rattle.network.specs.Network.{arc_at}
 use Rattle.costly_arc.proofs.due.all_ways.Given as goal
 
 abbrev pub invariant-loop-k : goal.invariant-loop-k
-invariant-loop-k l = Filled (λ k'. way_of (is_old l.seen l.p k') (arc_at l.net k') l.t.from l.t.a) 97 l.initial.from l.from l.k × Filled (λ k'. way_of (is_old l.seen l.q k') (arc_at l.net k') l.t.to l.t.b) 97 l.initial.to l.to l.k
+invariant-loop-k l = Filled (λ k'. way_of (is_old l.seen l.p k') (arc_at l.fn.net k') l.t.from l.t.a) 97 l.initial.from l.from l.k × Filled (λ k'. way_of (is_old l.seen l.q k') (arc_at l.fn.net k') l.t.to l.t.b) 97 l.initial.to l.to l.k
 
-abbrev pub decreases-loop-k : goal.decreases-loop-k
-decreases-loop-k l = 97 - l.k

@@ -5,8 +5,5 @@ use Rattle.network.specs.Legal.{Legal}
 use Rattle.network.specs.declared.Nodes.{Nodes}
 use Rattle.network.proofs.list.parallels.Given as goal
 
-abbrev pub invariant-loop-j : goal.invariant-loop-j
-invariant-loop-j l = (nodes : Nodes) → nodes.m ≡ l.m → Legal (net_in nodes l.arcs) → Linked (net_in nodes l.arcs) l.next l.last l.j
-
-abbrev pub decreases-loop-j : goal.decreases-loop-j
-decreases-loop-j l = l.j
+abbrev pub invariant-loop-k : goal.invariant-loop-k
+invariant-loop-k l = (nodes : Nodes) → nodes.m ≡ l.m → Legal (net_in nodes l.arcs) → Linked (net_in nodes l.arcs) l.next l.last l.k

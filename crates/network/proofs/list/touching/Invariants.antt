@@ -7,6 +7,3 @@ use Rattle.network.proofs.list.touching.Given as goal
 
 abbrev pub invariant-loop-j : goal.invariant-loop-j
 invariant-loop-j l = (nodes : Nodes) → Scanned or_next 0 (touch_at (net_in nodes l.arcs) l.i) (96 - l.k) (l.k + 1) l.j
-
-abbrev pub decreases-loop-j : goal.decreases-loop-j
-decreases-loop-j l = 97 - l.j

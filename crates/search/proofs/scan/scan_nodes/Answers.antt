@@ -9,7 +9,7 @@ use Rattle.search.proofs.scan.scan_nodes.Goals as goal
 use Rattle.search.proofs.scan.scan_nodes.Goals.{then-has_degree+then-may_apply+else-is_found, then-has_degree+else-may_apply, else-has_degree}
 
 pub returns-then-is_found : goal.returns-then-is_found
-returns-then-is_found c = let l : c.loop-i.i ≤ 32 = omega (arith, c.loop-i.invariant, c.loop-i-test.true) in reached-answer c.loop-i.invariant.2 l (answered c.requires.0 c.args.degrees.at c.requires.1 c.loop-i.i (omega (arith, l)) c.args.k c.requires.2 c.asks_of-asks.ensures (sym c.has_degree.ensures ∙ c.if-has_degree.true) (c.gather-near.ensures c.args.nodes) c.at_node-x.ensures) (sym c.is_found.ensures ∙ c.if-is_found.true)
+returns-then-is_found c = let l : c.loop-i.i ≤ 32 = omega (arith, c.loop-i.invariant, c.loop-i-test.true) in reached-answer c.loop-i.invariant.2 l (answered c.requires.0 c.args.degrees.now c.requires.1 c.loop-i.i (omega (arith, l)) c.args.k c.requires.2 c.asks_of-asks.ensures (sym c.has_degree.ensures ∙ c.if-has_degree.true) (c.gather-near.ensures c.args.nodes) c.at_node-x.ensures) (sym c.is_found.ensures ∙ c.if-is_found.true)
 
 pub returns : goal.returns
 returns c = reached-end c.loop-i.invariant.2 refl (λ j l. node-unused c.requires.0 c.args.k j c.requires.2 (c.requires.0.nodes_beyond j (omega (arith, l, c.loop-i-test.false))))
@@ -26,8 +26,8 @@ loop-i-preserved c =
       omega arith,
       h.1,
       elim c.if-has_degree.branch [
-        | then-has_degree+then-may_apply+else-is_found w ↦ reached-on h.2 l (answered r.0 c.args.degrees.at r.1 c.loop-i.i (omega (arith, l)) c.args.k r.2 c.asks_of-asks.ensures (at ∙ w.if-has_degree.true) (w.gather-near.ensures c.args.nodes) w.at_node-x.ensures) (sym w.is_found.ensures ∙ w.if-is_found.false)
-        | then-has_degree+else-may_apply w ↦ reached-more _ _ _ _ h.2 l (not-supplied r.0 c.args.degrees.at r.1 c.loop-i.i (omega (arith, l)) c.args.k r.2 c.asks_of-asks.ensures (sym w.may_apply.ensures ∙ w.if-may_apply.false))
-        | else-has_degree w ↦ reached-more _ _ _ _ h.2 l (elsewhere r.0 c.args.degrees.at r.1 c.loop-i.i (omega (arith, l)) c.args.k r.2 c.asks_of-asks.ensures h.0 (at ∙ w.if-has_degree.false))
+        | then-has_degree+then-may_apply+else-is_found w ↦ reached-on h.2 l (answered r.0 c.args.degrees.now r.1 c.loop-i.i (omega (arith, l)) c.args.k r.2 c.asks_of-asks.ensures (at ∙ w.if-has_degree.true) (w.gather-near.ensures c.args.nodes) w.at_node-x.ensures) (sym w.is_found.ensures ∙ w.if-is_found.false)
+        | then-has_degree+else-may_apply w ↦ reached-more _ _ _ _ h.2 l (not-supplied r.0 c.args.degrees.now r.1 c.loop-i.i (omega (arith, l)) c.args.k r.2 c.asks_of-asks.ensures (sym w.may_apply.ensures ∙ w.if-may_apply.false))
+        | else-has_degree w ↦ reached-more _ _ _ _ h.2 l (elsewhere r.0 c.args.degrees.now r.1 c.loop-i.i (omega (arith, l)) c.args.k r.2 c.asks_of-asks.ensures h.0 (at ∙ w.if-has_degree.false))
       ],
     )

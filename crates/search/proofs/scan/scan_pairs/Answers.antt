@@ -7,23 +7,23 @@ use native.Mathlib.Omega.{arith}
 use Rattle.search.proofs.scan.scan_pairs.Goals as goal
 use Rattle.search.proofs.scan.scan_pairs.Goals.{then-is_multiple+else-is_found, else-is_multiple}
 
-pub bounds-parallels-j : goal.bounds-parallels-j
-bounds-parallels-j c = used-in _ _ c.requires.0 c.requires.2
+pub bounds-next-j : goal.bounds-next-j
+bounds-next-j c = used-in _ _ c.requires.0 c.requires.2
 
 pub loop-k-init : goal.loop-k-init
-loop-k-init c = chain_first _ _ c.requires.2 c.args.parallels.next c.requires.1
+loop-k-init c = chain_first _ _ c.requires.2 c.args.next.now c.requires.1
 
 pub returns : goal.returns
-returns c = ap (λ o. (or_else 7 c.args.j o Stops)) (sym (chain-none _ _ c.requires.2 c.args.parallels.next c.requires.1 c.loop-k.invariant (omega (arith, c.loop-k-test.false))))
+returns c = ap (λ o. (or_else 7 c.args.j o Stops)) (sym (chain-none _ _ c.requires.2 c.args.next.now c.requires.1 c.loop-k.invariant (omega (arith, c.loop-k-test.false))))
 
 pub returns-then-is_found : goal.returns-then-is_found
-returns-then-is_found c = let h = c.loop-k.invariant in let l = c.loop-k-test.true in let p = c.read-t.ensures ∙ arc-is c.args.nodes _ _ (used-in _ _ c.requires.0 c.requires.2) in let q = c.read-u.ensures ∙ arc-is c.args.nodes _ _ (omega (arith, h.within)) in chain-found _ _ c.requires.2 c.args.parallels.next c.requires.1 h l (rw (p, q) at c.at_pair-x.ensures) (sym c.is_found.ensures ∙ c.if-is_found.true)
+returns-then-is_found c = let h = c.loop-k.invariant in let l = c.loop-k-test.true in let p = c.read-t.ensures ∙ arc-is c.args.nodes _ _ (used-in _ _ c.requires.0 c.requires.2) in let q = c.read-u.ensures ∙ arc-is c.args.nodes _ _ (omega (arith, h.within)) in chain-found _ _ c.requires.2 c.args.next.now c.requires.1 h l (rw (p, q) at c.at_pair-x.ensures) (sym c.is_found.ensures ∙ c.if-is_found.true)
 
-pub bounds-parallels-k : goal.bounds-parallels-k
-bounds-parallels-k c = omega (arith, c.loop-k.invariant.within)
+pub bounds-next-k : goal.bounds-next-k
+bounds-next-k c = omega (arith, c.loop-k.invariant.within)
 
 pub loop-k-smaller : goal.loop-k-smaller
-loop-k-smaller c = let h = c.loop-k.invariant in let l = c.loop-k-test.true in chain-falls _ _ c.requires.2 c.args.parallels.next c.requires.1 h l
+loop-k-smaller c = let h = c.loop-k.invariant in let l = c.loop-k-test.true in chain-falls _ _ c.requires.2 c.args.next.now c.requires.1 h l
 
 pub loop-k-preserved : goal.loop-k-preserved
 loop-k-preserved c =
@@ -32,6 +32,6 @@ loop-k-preserved c =
     let p = c.read-t.ensures ∙ arc-is c.args.nodes _ _ (used-in _ _ c.requires.0 c.requires.2) in
     let q = c.read-u.ensures ∙ arc-is c.args.nodes _ _ (omega (arith, h.within)) in
     elim c.if-is_multiple.branch [
-      | then-is_multiple+else-is_found w ↦ chain-past _ _ c.requires.2 c.args.parallels.next c.requires.1 h l (rw (p, q) at w.at_pair-x.ensures) (sym w.is_found.ensures ∙ w.if-is_found.false)
-      | else-is_multiple w ↦ chain-skip _ _ c.requires.2 c.args.parallels.next c.requires.1 h l (rw (p, q) at (sym c.is_multiple.ensures ∙ w.if-is_multiple.false))
+      | then-is_multiple+else-is_found w ↦ chain-past _ _ c.requires.2 c.args.next.now c.requires.1 h l (rw (p, q) at w.at_pair-x.ensures) (sym w.is_found.ensures ∙ w.if-is_found.false)
+      | else-is_multiple w ↦ chain-skip _ _ c.requires.2 c.args.next.now c.requires.1 h l (rw (p, q) at (sym c.is_multiple.ensures ∙ w.if-is_multiple.false))
     ]

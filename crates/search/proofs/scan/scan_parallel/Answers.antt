@@ -4,10 +4,10 @@ use Rattle.search.proofs.Scans.{reached-answer, reached-end, reached-on}
 use mathlib.Core.Path.{◌∙◌, refl, sym}
 use native.Mathlib.Omega.{arith}
 use Rattle.search.proofs.scan.scan_parallel.Goals as goal
-use Rattle.search.proofs.scan.scan_parallel.Goals.{then-parallels-j-ne0+else-is_found, else-parallels-j-ne0}
+use Rattle.search.proofs.scan.scan_parallel.Goals.{then-next-j-ne0+else-is_found, else-next-j-ne0}
 
 pub scan_pairs-x-requires : goal.scan_pairs-x-requires
-scan_pairs-x-requires c = let are = c.parallels-parallels.ensures c.args.nodes refl c.requires in (c.requires, are, pairs-used _ c.loop-j.j c.requires c.parallels-parallels.result.next are c.if-parallels-j-ne0.true)
+scan_pairs-x-requires c = let are = c.parallels-next.ensures c.args.nodes refl c.requires in (c.requires, are, pairs-used _ c.loop-j.j c.requires c.parallels-next.result are c.if-next-j-ne0.true)
 
 pub returns-then-is_found : goal.returns-then-is_found
 returns-then-is_found c = let h = c.loop-j.invariant in reached-answer h.1 (omega (arith, h.0, c.loop-j-test.true)) c.scan_pairs-x.ensures (sym c.is_found.ensures ∙ c.if-is_found.true)
@@ -23,8 +23,8 @@ loop-j-preserved c =
     let h = c.loop-j.invariant in
     let l = c.loop-j-test.true in (
       h.0,
-      elim c.if-parallels-j-ne0.branch [
-        | then-parallels-j-ne0+else-is_found w ↦ reached-on h.1 (omega (arith, h.0, l)) w.scan_pairs-x.ensures (sym w.is_found.ensures ∙ w.if-is_found.false)
-        | else-parallels-j-ne0 w ↦ reached-more _ _ _ _ h.1 (omega (arith, h.0, l)) (no_pairs _ _ c.requires c.parallels-parallels.result.next (c.parallels-parallels.ensures c.args.nodes refl c.requires) w.if-parallels-j-ne0.false)
+      elim c.if-next-j-ne0.branch [
+        | then-next-j-ne0+else-is_found w ↦ reached-on h.1 (omega (arith, h.0, l)) w.scan_pairs-x.ensures (sym w.is_found.ensures ∙ w.if-is_found.false)
+        | else-next-j-ne0 w ↦ reached-more _ _ _ _ h.1 (omega (arith, h.0, l)) (no_pairs _ _ c.requires c.parallels-next.result (c.parallels-next.ensures c.args.nodes refl c.requires) w.if-next-j-ne0.false)
       ],
     )
