@@ -67,3 +67,10 @@ pub fn product(a: i32, b: i32) -> i64
 {
     (a as i64) * (b as i64)
 }
+
+// n times d times e, exactly.
+pub fn cross_both(n: i64, d: u32, e: u32) -> i128
+    ensures { result ≡ n *ℤ pos d *ℤ pos e }
+{
+    (n as i128) * ((d as u64) * (e as u64)) as i128
+}

@@ -1,24 +1,38 @@
 -- The quotients by the divisor; over 0 there is none.
-use Rattle.std.proofs.Common.{◌≡◌, ℕ, ◌≤◌, sym, ◌∙◌, arith}
-use borrow.Author.Tests.{ltb-false, ltb-true}
+use Rattle.std.proofs.Common.{to_z-of_z, ◌≡◌, ◌/◌, sym, ◌∙◌, arith}
+use Rattle.wide.proofs.Machine.{below, not_below}
 use Rattle.integer.specs.Gcd.{gcd-pos}
-use Rattle.fraction.proofs.Laws.{reduce-zero}
-use Rattle.wide.proofs.Arith.{quotient_is}
-use Rattle.wide.proofs.Sign.{reduce-is}
-use Rattle.wide.specs.internal.Wide.{amount}
+use Rattle.integer.specs.Whole.{nat_abs-signed, signed}
+use Rattle.fraction.specs.Exact.{fitted, reduce_of}
+use Rattle.fraction.proofs.Laws.{fitted-no-den, fitted-no-num, fitted-yes, reduce-by, reduce-zero}
 use Rattle.wide.proofs.lowest.Goals as goal
+use Rattle.wide.proofs.lowest.Goals.{then-z-lt0, else-z-lt0, then-n-gt2147483647-via-then-n-gt2147483647, then-n-gt2147483647-via-else-n-gt2147483647+then-m-gt2147483647}
 
-none : {n : ℕ} → n ≤ 0 → n ≡ 0
-none h = omega arith
+pub returns-then-d-eq0 : goal.returns-then-d-eq0
+returns-then-d-eq0 c = sym (reduce-zero _ _ c.if-d-eq0.true)
 
-pub split-top-requires : goal.split-top-requires
-split-top-requires c = (rw c.gcd-g.ensures (gcd-pos _ _ (ltb-true _ _ (sym c.less.ensures ∙ c.if-less.true))), c.requires.0)
+pub nonzero_div-n : goal.nonzero_div-n
+nonzero_div-n c = rw c.gcd-g.ensures (gcd-pos _ _ (omega arith))
 
-pub returns-then-less : goal.returns-then-less
-returns-then-less c =
-    let a = c.args in
-    let more = ltb-true _ _ (sym c.less.ensures ∙ c.if-less.true) in
-    c.narrow.ensures ∙ sym (reduce-is (amount a.n) (amount a.m) (amount c.gcd-g.result) _ _ more c.gcd-g.ensures (quotient_is c.split-top.ensures) (quotient_is c.split-bottom.ensures))
+pub nonzero_div-m : goal.nonzero_div-m
+nonzero_div-m c = rw c.gcd-g.ensures (gcd-pos _ _ (omega arith))
+
+-- over the divisor
+fitting : (c : goal.After-gcd-g) → reduce_of c.args.z c.args.d ≡ fitted (signed c.args.z (c.unsigned_abs-size.result / c.gcd-g.result)) (c.args.d / c.gcd-g.result)
+fitting c = reduce-by _ _ _ _ c.if-d-eq0.false (rw (to_z-of_z c.ranges.z) at c.unsigned_abs-size.ensures.value) c.gcd-g.ensures
+
+pub returns-then-n-gt2147483647 : goal.returns-then-n-gt2147483647
+returns-then-n-gt2147483647 c =
+    elim c.then-n-gt2147483647.branch [
+      | then-n-gt2147483647-via-then-n-gt2147483647 w ↦ sym (fitting c.before ∙ fitted-no-num _ _ (rw nat_abs-signed w.if-n-gt2147483647.true))
+      | then-n-gt2147483647-via-else-n-gt2147483647+then-m-gt2147483647 w ↦ sym (fitting c.before ∙ fitted-no-den _ _ w.if-m-gt2147483647.true)
+    ]
 
 pub returns : goal.returns
-returns c = sym (reduce-zero _ _ (none (ltb-false _ _ (sym c.less.ensures ∙ c.if-less.false))))
+returns c =
+    let h = c.if-n-gt2147483647.false in
+    let e = reduce-by _ _ _ _ c.if-d-eq0.false (rw (to_z-of_z c.ranges.z) at c.unsigned_abs-size.ensures.value) c.gcd-g.ensures ∙ fitted-yes _ _ (rw nat_abs-signed h) c.if-m-gt2147483647.false in
+    elim c.if-z-lt0.branch [
+      | then-z-lt0 w ↦ rw (w.result-is, below c.args.z _ c.ranges.z h w.if-z-lt0.true) (sym e)
+      | else-z-lt0 w ↦ rw (w.result-is, not_below c.args.z _ c.ranges.z h w.if-z-lt0.false) (sym e)
+    ]

@@ -1,16 +1,15 @@
--- By whether the two signs are alike.
-use Rattle.std.proofs.Common.{ap, ◌∙◌}
-use Rattle.fraction.specs.Formula.{⊝◌}
-use Rattle.wide.proofs.Sign.{ratio-other, ratio-same}
-use Rattle.wide.specs.internal.Wide.{amount}
+-- The product by m's sign fits, and is what is reduced.
+use Rattle.std.proofs.Common.{◌∙◌, to_z-of_z}
+use Rattle.wide.proofs.Machine.{ratio-is, sign-fits, sign-read}
 use Rattle.wide.proofs.ratio.Goals as goal
 
-pub returns-then-n-m : goal.returns-then-n-m
-returns-then-n-m c =
-    let a = c.args in
-    c.lowest-w.ensures ∙ ratio-same a.n.neg a.m.neg (amount a.n.size) (amount a.m.size) c.if-n-m.true
+pub overflow_mul-n : goal.overflow_mul-n
+overflow_mul-n c =
+    let s = c.ranges in
+    rw (to_z-of_z s.n, c.signum.ensures.value, to_z-of_z s.m, sign-read) (sign-fits c.args.n c.args.m c.requires)
 
-pub returns-else-n-m : goal.returns-else-n-m
-returns-else-n-m c =
-    let a = c.args in
-    c.negated.ensures ∙ ap ⊝◌ c.lowest-w.ensures ∙ ratio-other a.n.neg a.m.neg (amount a.n.size) (amount a.m.size) c.if-n-m.false
+pub returns : goal.returns
+returns c =
+    let s = c.ranges in
+    c.lowest.ensures
+    ∙ rw (c.unsigned_abs.ensures.value, c.signum.ensures.value, to_z-of_z s.n, to_z-of_z s.m, sign-read, to_z-of_z (sign-fits c.args.n c.args.m c.requires)) (ratio-is c.args.n c.args.m)
