@@ -1,21 +1,16 @@
 -- The cheap test is right: where it says no, rule 7 passes.
-use mathlib.Core.Path.{◌≡◌, refl, sym, ap, ◌∙◌}
-use mathlib.Core.Logic.{◌↔◌}
-use mathlib.Core.Bool.{Bool, true, false, cond, ◌&&◌, not}
-use Prim.Native.Nat.{ℕ, ◌+◌, ◌*◌, ◌/◌, ◌%◌, ◌<◌}
-use native.Mathlib.Nat.{mul_comm, mul-pos, div-add-mod', mul-add-mod_self_right}
-use native.Mathlib.Omega.{arith}
+use mathlib.Core.Path.{◌≡◌, refl, sym, ◌∙◌}
+use mathlib.Core.Bool.{Bool, true, false, ◌&&◌}
+use Prim.Native.Nat.{ℕ}
+use native.Mathlib.Nat.{mul-pos}
 use lib.Dec.{eqb}
-use lib.IntN.{ℤ, pos, nat_abs, ◌*ℤ◌, zero-*ℤ}
-use lib.Signed.{lt_z}
+use lib.IntN.{pos, ◌*ℤ◌}
 use borrow.Author.Tests.{eq-eqb}
 use Rattle.integer.specs.Whole.{eq_z-refl, *ℤ-assoc}
 use Rattle.algebra.proofs.Ring.{combo2}
-use Rattle.algebra.proofs.Solver.{◌:+◌, ◌:*◌, ◌:-◌, :neg, ◌:=◌, ring5}
-use Rattle.algebra.specs.Rat.{◌<ℚ◌, -ℚ◌}
+use Rattle.algebra.proofs.Solver.{◌:+◌, ◌:*◌, ◌:-◌, ◌:=◌, ring5}
 use Rattle.algebra.proofs.Rat.{ℚ-ring}
-use Rattle.algebra.specs.Frac.{frac}
-use Rattle.algebra.proofs.Frac.{frac-mul, frac-lt, frac-exact}
+use Rattle.algebra.proofs.Frac.{frac-mul, frac-exact}
 use Rattle.fraction.specs.declared.Fraction.{Fraction}
 use Rattle.fraction.specs.Value.{value}
 use Rattle.fraction.proofs.Laws.{never}
@@ -33,7 +28,7 @@ unfolding is_cross value
 cross-is g x a y b t u =
     let n = x.num *ℤ b.num in
     let m = y.num *ℤ a.num in
-    let q = sym (frac-mul x.num x.den b.num b.den t.x_pos u.y_pos) ∙ combo2 ℚ-ring (value x) (-ℚ value a) u.is t.is (ring5 ℚ-ring (value g) (value x) (value a) (value y) (value b) (λ g x a y b. x :* b :- y :* a := x :* (b :- g :* a) :+ :neg a :* (y :- g :* x)) refl) ∙ frac-mul y.num y.den a.num a.den t.y_pos u.x_pos in
+    let q = sym (frac-mul x.num x.den b.num b.den t.x_pos u.y_pos) ∙ combo2 ℚ-ring (value x) (value a) u.is (sym t.is) (ring5 ℚ-ring (value g) (value x) (value a) (value y) (value b) (λ g x a y b. x :* b :- y :* a := x :* (b :- g :* a) :+ a :* (g :* x :- y)) refl) ∙ frac-mul y.num y.den a.num a.den t.y_pos u.x_pos in
     let e : n *ℤ pos y.den *ℤ pos a.den ≡ m *ℤ pos x.den *ℤ pos b.den = *ℤ-assoc n _ _ ∙ frac-exact n _ m _ (mul-pos t.x_pos u.y_pos) (mul-pos t.y_pos u.x_pos) q ∙ sym (*ℤ-assoc m _ _) in
     rw e (eq_z-refl (m *ℤ pos x.den *ℤ pos b.den))
 

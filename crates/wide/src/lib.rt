@@ -10,6 +10,9 @@ ghost use Rattle.wide.specs.Share.{ratio_of, over_of, under_of, share_of};
 
 use fraction::{Fraction, Worked};
 
+// The greatest numerator and denominator.
+const MOST: u128 = 2147483647;
+
 // The greatest common divisor: integer::gcd in 128 bits.
 // One function for both needs a trait of numbers with the laws of a remainder, which is no plainer.
 fn gcd(a: u128, b: u128) -> u128
@@ -37,7 +40,7 @@ fn lowest(z: i128, d: u128) -> Worked
     let g = gcd(size, d);
     let n = size / g;
     let m = d / g;
-    if n > 2147483647 || m > 2147483647 {
+    if n > MOST || m > MOST {
         return Worked::Misfit;
     }
     Worked::Fits(Fraction {

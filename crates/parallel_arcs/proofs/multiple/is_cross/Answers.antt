@@ -1,5 +1,5 @@
 -- Both products are exact, so their bits are the same where they are.
-use Rattle.std.proofs.Common.{◌≡◌, ℤ, pos, ◌*ℤ◌, rules}
+use Rattle.std.proofs.Common.{◌≡◌, pos, ◌*ℤ◌, rules}
 use mir.Syntax.{w128}
 use mir.Val.{SFits}
 use Rattle.integer.specs.Machine.{eqb-bits}
