@@ -39,9 +39,12 @@ unsigned d h = to_z_pos w64 (omega arith)
 pub product-fits : (y z : ℤ) → nat_abs y ≤ 2147483648 → nat_abs z ≤ 4294967295 → SFits w64 (y *ℤ z)
 product-fits y z h k = sfits-by (rw nat_abs_mul (omega (arith, mul-le-mul h k)))
 
--- two words, compared by their bits
-pub eqb-words : (a b : ℤ) → mag a < 2147483648 → mag b < 2147483648 → eqb (of_z w32 a) (of_z w32 b) ≡ eq_z a b
-eqb-words a b f g =
+-- two numbers of one width, compared by their bits
+pub eqb-bits : {w : Width} {a b : ℤ} → SFits w a → SFits w b → eqb (of_z w a) (of_z w b) ≡ eq_z a b
+eqb-bits {w} {a} {b} f g =
     same_test _ _
-    (λ t. let e : a ≡ b = sym (back32 a f) ∙ ap (to_z w32) (eqb-true (of_z w32 a) (of_z w32 b) t) ∙ back32 b g in rw e (eq_z-refl b))
-    (λ t. eq-eqb _ _ (ap (of_z w32) (eq_z-true a b t)))
+    (λ t. let e : a ≡ b = sym (to_z-of_z f) ∙ ap (to_z w) (eqb-true (of_z w a) (of_z w b) t) ∙ to_z-of_z g in rw e (eq_z-refl b))
+    (λ t. eq-eqb _ _ (ap (of_z w) (eq_z-true a b t)))
+
+pub eqb-words : (a b : ℤ) → mag a < 2147483648 → mag b < 2147483648 → eqb (of_z w32 a) (of_z w32 b) ≡ eq_z a b
+eqb-words a b f g = eqb-bits {w = w32} {a = a} {b = b} (record { sfits = f }) (record { sfits = g })

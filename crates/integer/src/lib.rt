@@ -60,3 +60,10 @@ pub fn product(a: i32, b: i32) -> i64
 {
     i64::from(a) * i64::from(b)
 }
+
+// n times d times e, exactly.
+pub fn cross_both(n: i64, d: u32, e: u32) -> i128
+    ensures { result ≡ n *ℤ pos d *ℤ pos e }
+{
+    (n as i128) * ((d as u64) * (e as u64)) as i128
+}

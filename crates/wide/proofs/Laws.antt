@@ -16,7 +16,7 @@ use Rattle.algebra.specs.Frac.{frac}
 use Rattle.algebra.proofs.Frac.{frac-eq, frac-sub, frac-mul, frac-inv}
 use Rattle.fraction.specs.declared.Fraction.{Fraction}
 use Rattle.std.specs.Prelude.{Ok, Err}
-use Rattle.fraction.specs.Exact.{Operand, Proper, is_operand, misfit}
+use Rattle.fraction.specs.Exact.{Operand, Proper, is_operand, misfit, Worked}
 use Rattle.fraction.specs.Formula.{◌⊖◌, ◌⊗◌}
 use Rattle.fraction.proofs.Laws.{never, and_both, is-operand, operands-are, reduce-zero}
 use Rattle.fraction.specs.Value.{value, Works}
@@ -98,7 +98,7 @@ module _ (r a l b : Fraction) where
   unfolding share_of ratio_of
   over_zero e = rw (reduce-zero _ (nat_abs (under_of r a l b)) (under-size r a l b ∙ rw (e, zero-times r.den) (zero-times l.den))) (either ((is_operand r && is_operand a) && (is_operand l && is_operand b)))
     where
-      either : (t : Bool) → cond t (Err misfit) (Err misfit) ≡ (Err misfit)
+      either : (t : Bool) → cond {A = Worked} t (Err misfit) (Err misfit) ≡ Err misfit
       either true = refl
       either false = refl
 
@@ -137,5 +137,5 @@ module _ (r a l b : Fraction) where
       (λ v. n (ap (λ q. value a *ℚ q) v ∙ mul-zero ℚ-ring (value a)))
       ).complete z o.is.proper (over-gives (minus-gives (given r) (times-gives (given a) (given l))) (times-gives (given a) (given b)) z e)
     where
-      same : {x y : Fraction} → Ok x ≡ Ok y → Operand y → Operand x
+      same : {x y : Fraction} → ◌≡◌ {A = Worked} (Ok x) (Ok y) → Operand y → Operand x
       same {x} {y} e p = let f : x ≡ y = cc in rw f p

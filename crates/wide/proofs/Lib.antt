@@ -1,3 +1,2 @@
-pub mod Arith
-pub mod Sign
+pub mod Sizes
 pub mod Laws

@@ -1,280 +1,96 @@
 // (r - a × l) ÷ (a × b), of which only the result must fit (02, 2026-03): step by step where each step fits, else in
-// full in numbers of two words.
+// full in 128 bits.
 #![tactic(auto)]
 
-ghost use Rattle.std.specs.Prelude.{◌≡◌, ◌+◌, ◌*◌, ◌-◌, ◌<◌, ◌≤◌, leb, ltb, pos, ◌&&◌};
-ghost use Rattle.fraction.specs.Exact.{Operand, most, is_operand, fitted, reduce_of};
+ghost use Rattle.std.specs.Prelude.{◌≡◌, ◌*ℤ◌, ◌^◌, ◌<◌, pos, nat_abs};
+ghost use Rattle.fraction.specs.Exact.{Operand, reduce_of};
 ghost use Rattle.integer.specs.Gcd.{gcd as gcd_of};
-ghost use Rattle.wide.specs.internal.Wide.{steps_of, amount, whole_of, Product, Divided, Scaled, Less, Cross, Under};
-ghost use Rattle.wide.specs.Share.{ratio_of, share_of};
+ghost use Rattle.wide.specs.internal.Wide.{steps_of};
+ghost use Rattle.wide.specs.Share.{ratio_of, over_of, under_of, share_of};
 
-use fraction::{Fraction, Worked};
+use fraction::{Fraction, Misfit, Worked};
 
-// high × 2^64 + low.
-#[derive(Clone, Copy)]
-struct Wide {
-    high: u64,
-    low: u64,
-}
+// The greatest numerator and denominator.
+const MOST: u128 = 2147483647;
 
-// A number with a sign.
-#[derive(Clone, Copy)]
-struct Whole {
-    neg: bool,
-    size: Wide,
-}
-
-// A quotient and what is left.
-#[derive(Clone, Copy)]
-struct Division {
-    quot: Wide,
-    rest: Wide,
-}
-
-fn plus(a: Wide, b: Wide) -> Wide
-    requires { (a.high < 9223372036854775808) × (b.high < 9223372036854775808) }
-    ensures { amount result ≡ amount a + amount b }
-{
-    let room = 18446744073709551615 - b.low;
-    if a.low <= room {
-        Wide {
-            high: a.high + b.high,
-            low: a.low + b.low,
-        }
-    } else {
-        Wide {
-            high: a.high + b.high + 1,
-            low: a.low - room - 1,
-        }
-    }
-}
-
-fn minus(a: Wide, b: Wide) -> Wide
-    requires { amount b ≤ amount a }
-    ensures { amount result ≡ amount a - amount b }
-{
-    if b.low <= a.low {
-        Wide {
-            high: a.high - b.high,
-            low: a.low - b.low,
-        }
-    } else {
-        Wide {
-            high: a.high - b.high - 1,
-            low: a.low + (18446744073709551615 - b.low) + 1,
-        }
-    }
-}
-
-fn less(a: Wide, b: Wide) -> bool
-    ensures { result ≡ ltb (amount a) (amount b) }
-{
-    if a.high == b.high {
-        a.low < b.low
-    } else {
-        a.high < b.high
-    }
-}
-
-fn times(a: Wide, m: u32) -> Wide
-    requires { a.high < 4294967296 }
-    ensures { Product a m result }
-{
-    let k = m as u64;
-    let first = (a.low % 4294967296) * k;
-    let second = (a.low / 4294967296) * k + first / 4294967296;
-    Wide {
-        high: a.high * k + second / 4294967296,
-        low: (second % 4294967296) * 4294967296 + first % 4294967296,
-    }
-}
-
-// a over b, by twice b.
-fn split(a: Wide, b: Wide) -> Division
-    requires { (0 < amount b) × (a.high < 9223372036854775808) }
-    ensures { Divided a b result }
-{
-    if less(a, b) {
-        return Division {
-            quot: Wide { high: 0, low: 0 },
-            rest: a,
-        };
-    }
-    let half = split(a, plus(b, b));
-    let quot = plus(half.quot, half.quot);
-    let rest = half.rest;
-    if less(rest, b) {
-        return Division { quot, rest };
-    }
-    Division {
-        quot: plus(quot, Wide { high: 0, low: 1 }),
-        rest: minus(rest, b),
-    }
-}
-
-// The greatest common divisor: Euclid's steps in two words while the divisor has two, then in one.
-fn gcd(a: Wide, b: Wide) -> Wide
-    requires { (a.high < 9223372036854775808) × (b.high < 9223372036854775808) }
-    ensures { amount result ≡ gcd_of (amount a) (amount b) }
+// The greatest common divisor: integer::gcd in 128 bits.
+// One function for both needs a trait of numbers with the laws of a remainder, which is no plainer.
+fn gcd(a: u128, b: u128) -> u128
+    ensures { result ≡ gcd_of a b }
 {
     let mut x = a;
     let mut y = b;
-    while 0 < y.high {
-        let d = split(x, y);
+    while y != 0 {
+        let z = x % y;
         x = y;
-        y = d.rest;
+        y = z;
     }
-    if y.low == 0 {
-        return x;
-    }
-    let d = split(x, y);
-    Wide {
-        high: 0,
-        low: integer::gcd(y.low, d.rest.low),
-    }
+    x
 }
 
-// Whether it is within range of a fraction's parts.
-fn is_part(w: Wide) -> bool
-    ensures { result ≡ leb (amount w) most }
+// z over d, fully reduced: Fraction::reduced in 128 bits.
+// One function for both needs that trait too, which is no plainer.
+fn lowest(z: i128, d: u128) -> Worked
+    ensures { result ≡ reduce_of z d }
 {
-    w.high == 0 && w.low <= 2147483647
-}
-
-// n over m, where both are within range.
-fn narrow(n: Wide, m: Wide) -> Worked
-    ensures { result ≡ fitted (pos (amount n)) (amount m) }
-{
-    if is_part(n) {
-        if is_part(m) {
-            return Worked::Fits(Fraction {
-                num: n.low as i32,
-                den: m.low as u32,
-            });
-        }
+    if d == 0 {
+        return Err(Misfit);
     }
-    Worked::Misfit
-}
-
-// n over m, fully reduced.
-fn lowest(n: Wide, m: Wide) -> Worked
-    requires { (n.high < 9223372036854775808) × (m.high < 9223372036854775808) }
-    ensures { result ≡ reduce_of (pos (amount n)) (amount m) }
-{
-    if less(Wide { high: 0, low: 0 }, m) {
-        let g = gcd(n, m);
-        let top = split(n, g);
-        let bottom = split(m, g);
-        return narrow(top.quot, bottom.quot);
+    let size = z.unsigned_abs();
+    let g = gcd(size, d);
+    let n = size / g;
+    let m = d / g;
+    if n > MOST || m > MOST {
+        return Err(Misfit);
     }
-    Worked::Misfit
+    Ok(Fraction {
+        num: if z < 0 { -(n as i32) } else { n as i32 },
+        den: m as u32,
+    })
 }
 
 // n over m, fully reduced, the sign on top.
-fn ratio(n: Whole, m: Whole) -> Worked
-    requires { (n.size.high < 9223372036854775808) × (m.size.high < 9223372036854775808) }
-    ensures { result ≡ ratio_of (whole_of n) (whole_of m) }
+fn ratio(n: i128, m: i128) -> Worked
+    requires { nat_abs n < 2 ^ 127 }
+    ensures { result ≡ ratio_of n m }
 {
-    let w = lowest(n.size, m.size);
-    if n.neg == m.neg { w } else { w.negated() }
+    lowest(n * m.signum(), m.unsigned_abs())
 }
 
-// z, as a number of two words.
-fn of(z: i64) -> Whole
-    ensures { (whole_of result ≡ z) × (result.size.high ≡ 0) }
+// The numerator of r - a × l over the denominators of r, a and l, times the denominator of b.
+fn over(r: Fraction, a: Fraction, l: Fraction, b: Fraction) -> i128
+    requires { Operand r × Operand a × Operand l × Operand b }
+    ensures is { result ≡ over_of r a l *ℤ pos b.den }
+    ensures size { nat_abs result < 2 ^ 127 }
 {
-    Whole {
-        neg: z < 0,
-        size: Wide {
-            high: 0,
-            low: integer::size(z),
-        },
-    }
+    integer::cross_both(integer::cross(r.num, a.den), l.den, b.den)
+        - integer::cross_both(integer::product(l.num, a.num), r.den, b.den)
 }
 
-// a times m.
-fn scaled(a: Whole, m: u32) -> Whole
-    requires { a.size.high < 4294967296 }
-    ensures { Scaled a m result }
+// What it is divided by: a × b, without the denominators that cancel.
+fn under(r: Fraction, a: Fraction, l: Fraction, b: Fraction) -> i128
+    ensures { result ≡ under_of r a l b }
 {
-    Whole {
-        neg: a.neg,
-        size: times(a.size, m),
-    }
-}
-
-// a less b.
-fn apart(a: Whole, b: Whole) -> Whole
-    requires { (a.size.high < 4294967296) × (b.size.high < 4294967296) }
-    ensures { Less a b result }
-{
-    let x = a.size;
-    let y = b.size;
-    if a.neg == b.neg {
-        if less(x, y) {
-            Whole {
-                neg: !a.neg,
-                size: minus(y, x),
-            }
-        } else {
-            Whole {
-                neg: a.neg,
-                size: minus(x, y),
-            }
-        }
-    } else {
-        Whole {
-            neg: a.neg,
-            size: plus(x, y),
-        }
-    }
-}
-
-// Whether an operation can be worked on both.
-fn operands(x: Fraction, y: Fraction) -> bool
-    ensures { result ≡ (is_operand x && is_operand y) }
-{
-    x.is_operand() && y.is_operand()
-}
-
-// The numerator of r - a × l over the denominators of r, a and l.
-fn cross_difference(r: Fraction, a: Fraction, l: Fraction) -> Whole
-    requires { Operand r × Operand l }
-    ensures { Cross r a l result }
-{
-    apart(
-        scaled(of(integer::cross(r.num, a.den)), l.den),
-        scaled(of(integer::product(l.num, a.num)), r.den),
-    )
-}
-
-// What it is divided by with the denominator of b: a × b, without the denominators that cancel.
-fn under(r: Fraction, a: Fraction, l: Fraction, b: Fraction) -> Whole
-    requires { Operand r × Operand l }
-    ensures { Under r a l b result }
-{
-    scaled(scaled(of(integer::product(a.num, b.num)), r.den), l.den)
+    integer::cross_both(integer::product(a.num, b.num), r.den, l.den)
 }
 
 // (r - a × l) ÷ (a × b), step by step.
+#[tactic(auto, using(fraction::proofs::Laws::misfit_is), unfolding(fraction::specs::Formula::subtracted, fraction::specs::Formula::multiplied, fraction::specs::Formula::divided))]
 fn by_steps(r: Fraction, a: Fraction, l: Fraction, b: Fraction) -> Worked
     ensures { result ≡ steps_of r a l b }
 {
-    r.fit()
-        .minus(a.fit().times(l.fit()))
-        .over(a.fit().times(b.fit()))
+    r.difference(a.product(l)?)?.quotient(a.product(b)?)
 }
 
 // The same, in full.
+#[tactic(auto, unfolding(crate::specs::Share::share_of))]
 fn in_full(r: Fraction, a: Fraction, l: Fraction, b: Fraction) -> Worked
     ensures { result ≡ share_of r a l b }
 {
-    if operands(r, a) {
-        if operands(l, b) {
-            return ratio(scaled(cross_difference(r, a, l), b.den), under(r, a, l, b));
-        }
+    if r.is_operand() && a.is_operand() && l.is_operand() && b.is_operand() {
+        return ratio(over(r, a, l, b), under(r, a, l, b));
     }
-    Worked::Misfit
+    Err(Misfit)
 }
 
 // (r - a × l) ÷ (a × b): only the result must fit.
@@ -282,7 +98,7 @@ pub fn share(r: Fraction, a: Fraction, l: Fraction, b: Fraction) -> Worked
     ensures { result ≡ share_of r a l b }
 {
     let w = by_steps(r, a, l, b);
-    if w.is_fit() {
+    if w.is_ok() {
         return w;
     }
     in_full(r, a, l, b)

@@ -1,16 +1,19 @@
--- By whether the two signs are alike.
-use Rattle.std.proofs.Common.{ap, ◌∙◌}
-use Rattle.fraction.specs.Formula.{⊝◌}
-use Rattle.wide.proofs.Sign.{ratio-other, ratio-same}
-use Rattle.wide.specs.internal.Wide.{amount}
+-- The product by m's sign fits, and is what is reduced.
+use Rattle.std.proofs.Common.{◌≡◌, ◌*ℤ◌, rules}
+use Rattle.std.specs.Int.{int_signum}
+use mir.Syntax.{w128}
+use mir.Val.{SFits}
+use Rattle.wide.proofs.Sizes.{ratio-is, sign-fits}
 use Rattle.wide.proofs.ratio.Goals as goal
 
-pub returns-then-n-m : goal.returns-then-n-m
-returns-then-n-m c =
-    let a = c.args in
-    c.lowest-w.ensures ∙ ratio-same a.n.neg a.m.neg (amount a.n.size) (amount a.m.size) c.if-n-m.true
+pub overflow_mul-n : goal.overflow_mul-n
+overflow_mul-n c =
+    let s : c.signum.result ≡ int_signum c.args.m = search rules in
+    let f : SFits w128 (c.args.n *ℤ c.signum.result) = rw s (sign-fits c.args.n c.args.m c.requires) in
+    search rules
 
-pub returns-else-n-m : goal.returns-else-n-m
-returns-else-n-m c =
-    let a = c.args in
-    c.negated.ensures ∙ ap ⊝◌ c.lowest-w.ensures ∙ ratio-other a.n.neg a.m.neg (amount a.n.size) (amount a.m.size) c.if-n-m.false
+pub returns : goal.returns
+returns c =
+    let s : c.signum.result ≡ int_signum c.args.m = search rules in
+    let f : SFits w128 (c.args.n *ℤ c.signum.result) = rw s (sign-fits c.args.n c.args.m c.requires) in
+    rw (← ratio-is c.args.n c.args.m, ← s) (search rules)

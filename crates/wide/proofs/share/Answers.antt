@@ -15,5 +15,5 @@ stepped : (r a l b : Fraction) (w : Worked) → w ≡ steps_of r a l b → is_fi
 stepped r a l b (Ok z) e t = sym (share-steps r a l b z (sym e))
 stepped r a l b (Err m) e t = never cc
 
-pub returns-then-is_fit : goal.returns-then-is_fit
-returns-then-is_fit c = stepped _ _ _ _ c.by_steps-w.result c.by_steps-w.ensures (sym c.is_fit.ensures ∙ c.if-is_fit.true)
+pub returns-then-is_ok : goal.returns-then-is_ok
+returns-then-is_ok c = stepped _ _ _ _ c.by_steps-w.result c.by_steps-w.ensures (sym c.is_ok.ensures.value ∙ c.if-is_ok.true)

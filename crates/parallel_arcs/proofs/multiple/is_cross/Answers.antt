@@ -1,12 +1,17 @@
+-- Both products are exact, so their bits are the same where they are.
+use Rattle.std.proofs.Common.{◌≡◌, pos, ◌*ℤ◌, rules}
+use mir.Syntax.{w128}
+use mir.Val.{SFits}
+use Rattle.integer.specs.Machine.{eqb-bits}
 use Rattle.parallel_arcs.specs.internal.Multiple.{is_cross}
-use Rattle.integer.specs.Machine.{back32, back64}
-use borrow.Author.Rules.{rules}
 use Rattle.parallel_arcs.proofs.multiple.is_cross.Goals as goal
-
-pub returns-then-not-on_one_side : goal.returns-then-not-on_one_side
-unfolding is_cross
-returns-then-not-on_one_side c = let s = c.args in let n = rw (back32 s.x.num (search rules), back32 s.b.num (search rules)) at c.product-n.ensures in let m = rw (back32 s.y.num (search rules), back32 s.a.num (search rules)) at c.product-m.ensures in rw (← n, ← m, ← (rw (back64 c.product-n.result c.product-n.type_inv, back64 c.product-m.result c.product-m.type_inv) at c.on_one_side.ensures), c.if-not-on_one_side.true)
 
 pub returns : goal.returns
 unfolding is_cross
-returns c = let s = c.args in let n = rw (back32 s.x.num (search rules), back32 s.b.num (search rules)) at c.product-n.ensures in let m = rw (back32 s.y.num (search rules), back32 s.a.num (search rules)) at c.product-m.ensures in rw (← n, ← m, ← (rw (back64 c.product-n.result c.product-n.type_inv, back64 c.product-m.result c.product-m.type_inv) at c.on_one_side.ensures), c.if-not-on_one_side.false, ← (rw (back64 c.product-n.result c.product-n.type_inv) at c.low.ensures), ← (rw (back64 c.product-m.result c.product-m.type_inv) at c.low-2.ensures))
+returns c =
+    let s = c.args in
+    let f : SFits w128 c.cross_both.result = search rules in
+    let g : SFits w128 c.cross_both-2.result = search rules in
+    let n : c.cross_both.result ≡ s.x.num *ℤ s.b.num *ℤ pos s.y.den *ℤ pos s.a.den = search rules in
+    let m : c.cross_both-2.result ≡ s.y.num *ℤ s.a.num *ℤ pos s.x.den *ℤ pos s.b.den = search rules in
+    rw (eqb-bits f g, n, m)
