@@ -12,7 +12,7 @@ ghost use Rattle.records.specs.Questions.{first_no};
 ghost use Rattle.records.specs.Network.{figures, arc_figure, sizes_right, role_of, is_permitted, is_in_form, is_end, has_ends, arc_in, is_weighted, is_weighted_at, questions, node_turn, arc_turn, read_of, load_turn, loaded, role_figure, figure_of, network_of};
 ghost use Rattle.records.specs.internal.Put.{num_of, den_of, nums_in, dens_in, put_from, arcs_put};
 
-use crate::Size;
+use crate::refusal::Refusal;
 use fraction::Fraction;
 use network::{ARC_PLACES, Arc, MAX_ARCS, MAX_NODES, NODE_PLACES, Net, Nodes};
 
@@ -32,12 +32,12 @@ fn figure_in(xs: &[i32], t: usize, k: usize) -> Fraction
 pub(crate) fn has_sizes(xs: &[i32]) -> bool
     ensures { result ≡ sizes_right xs.now }
 {
-    match crate::size_at(xs, 0, MAX_NODES) {
-        Size::Off => false,
-        Size::Is(n) => match crate::size_at(xs, 1, MAX_ARCS) {
-            Size::Off => false,
-            Size::Is(m) => xs.len() == 2 + 2 * (1 + n + 7 * m),
-        },
+    match (
+        crate::size_at(xs, 0, MAX_NODES),
+        crate::size_at(xs, 1, MAX_ARCS),
+    ) {
+        (Some(n), Some(m)) => xs.len() == 2 + 2 * (1 + n + 7 * m),
+        _ => false,
     }
 }
 
@@ -64,13 +64,7 @@ fn all_in_form(xs: &[i32], n: usize, t: usize) -> bool
     requires { 2 + 2 * t ≤ length xs.now }
     ensures { result ≡ all (is_in_form xs.now n t) t }
 {
-    for k in 0..t {
-        let f = figure_in(xs, t, k);
-        if permitted(n, k, f) {} else {
-            return false;
-        }
-    }
-    true
+    (0..t).all(|k| permitted(n, k, figure_in(xs, t, k)))
 }
 
 // Whether a figure is whole and from 1 to n.
@@ -98,12 +92,7 @@ fn all_ends(xs: &[i32], n: usize, t: usize, m: usize) -> bool
     requires { (2 + 2 * t ≤ length xs.now) × (figures n m ≤ t) }
     ensures { result ≡ all (has_ends xs.now n t) m }
 {
-    for j in 0..m {
-        if has_ends(xs, n, t, j) {} else {
-            return false;
-        }
-    }
-    true
+    (0..m).all(|j| has_ends(xs, n, t, j))
 }
 
 // The arc of number j + 1.
@@ -149,34 +138,20 @@ fn all_weighted(xs: &[i32], n: usize, t: usize, m: usize) -> bool
     requires { (2 + 2 * t ≤ length xs.now) × (figures n m ≤ t) }
     ensures { result ≡ all (is_weighted_at xs.now n t) m }
 {
-    for j in 0..m {
-        if is_weighted(arc_in(xs, n, t, j)) {} else {
-            return false;
-        }
-    }
-    true
+    (0..m).all(|j| is_weighted(arc_in(xs, n, t, j)))
 }
 
-// The first of the questions 2 to 5 that is answered by no; 0 where none is.
-pub fn ask(network: &[i32]) -> usize
+// The first of the questions 2 to 5 that is answered by no.
+pub fn ask(network: &[i32]) -> Result<(), Refusal>
     ensures { result ≡ first_no (questions network.now) }
 {
-    if has_sizes(network) {} else {
-        return 2;
-    }
+    Refusal::Sizes.unless(has_sizes(network))?;
     let n = crate::number_at(network, 0);
     let m = crate::number_at(network, 1);
     let t = 1 + n + 7 * m;
-    if all_in_form(network, n, t) {} else {
-        return 3;
-    }
-    if all_ends(network, n, t, m) {} else {
-        return 4;
-    }
-    if all_weighted(network, n, t, m) {} else {
-        return 5;
-    }
-    0
+    Refusal::Form.unless(all_in_form(network, n, t))?;
+    Refusal::Ends.unless(all_ends(network, n, t, m))?;
+    Refusal::Multipliers.unless(all_weighted(network, n, t, m))
 }
 
 // No node in use yet, of n nodes and m arcs, with a constant.
@@ -258,11 +233,8 @@ pub(crate) fn load_arcs(arcs: &mut [Arc], network: &[i32], n: usize, t: usize, m
     requires { (2 + 2 * t ≤ length network.now) × (figures n m ≤ t) }
     ensures { arcs.new ≡ upto (load_turn network.now n t) m arcs.old }
 {
-    let mut j = 0;
-    while j < m {
-        let a = arc_in(network, n, t, j);
-        network::list::replace(arcs, j + 1, a);
-        j += 1;
+    for j in 0..m {
+        network::list::replace(arcs, j + 1, arc_in(network, n, t, j));
     }
 }
 

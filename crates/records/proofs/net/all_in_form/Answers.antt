@@ -1,17 +1,8 @@
--- `records::all_in_form` meets its contract.
-use Rattle.loops.proofs.Laws.{passed-fails, passed-more, passed_none}
-use mathlib.Core.Path.{◌∙◌, sym}
+-- `records::net::all_in_form` meets its contract.
+use Rattle.std.proofs.Common.{refl, rules, tests}
+use Rattle.records.proofs.Every.{every}
+use Rattle.records.specs.Network.{is_in_form}
 use Rattle.records.proofs.net.all_in_form.Goals as goal
 
-pub returns-else-permitted : goal.returns-else-permitted
-returns-else-permitted c =
-    let e = rw c.figure_in-f.ensures at c.permitted.ensures in
-    passed-fails c.loop-k.invariant c.loop-k-test.true (sym e ∙ c.if-permitted.false)
-
-pub loop-k-init : goal.loop-k-init
-loop-k-init c = passed_none _ _
-
-pub loop-k-preserved : goal.loop-k-preserved
-loop-k-preserved c =
-    let e = rw c.figure_in-f.ensures at c.permitted.ensures in
-    passed-more c.loop-k.invariant c.loop-k-test.true (sym e ∙ c.if-permitted.true)
+pub returns : goal.returns
+returns c = every (is_in_form c.args.xs.now c.args.n c.args.t) c.args.t _ _ c.all.result refl c.all.ensures.ran (λ x b q k. search (rules, tests))

@@ -1,14 +1,8 @@
--- `records::all_weighted` meets its contract.
-use Rattle.loops.proofs.Laws.{passed-fails, passed-more, passed_none}
-use Rattle.records.specs.Network.{is_weighted}
-use mathlib.Core.Path.{◌∙◌, ap, sym}
+-- `records::net::all_weighted` meets its contract.
+use Rattle.std.proofs.Common.{refl, rules, tests}
+use Rattle.records.proofs.Every.{every}
+use Rattle.records.specs.Network.{is_weighted_at}
 use Rattle.records.proofs.net.all_weighted.Goals as goal
 
-pub returns-else-is_weighted : goal.returns-else-is_weighted
-returns-else-is_weighted c = passed-fails c.loop-j.invariant c.loop-j-test.true (sym (c.is_weighted.ensures ∙ ap is_weighted c.arc_in.ensures) ∙ c.if-is_weighted.false)
-
-pub loop-j-init : goal.loop-j-init
-loop-j-init c = passed_none _ _
-
-pub loop-j-preserved : goal.loop-j-preserved
-loop-j-preserved c = passed-more c.loop-j.invariant c.loop-j-test.true (sym (c.is_weighted.ensures ∙ ap is_weighted c.arc_in.ensures) ∙ c.if-is_weighted.true)
+pub returns : goal.returns
+returns c = every (is_weighted_at c.args.xs.now c.args.n c.args.t) c.args.m _ _ c.all.result refl c.all.ensures.ran (λ x b q k. search (rules, tests))

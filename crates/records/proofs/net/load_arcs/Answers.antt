@@ -7,7 +7,7 @@ pub loop-j-init : goal.loop-j-init
 loop-j-init c = folded-none _ _ _
 
 pub loop-j-preserved : goal.loop-j-preserved
-loop-j-preserved c = folded_more _ c.loop-j.invariant (omega arith) (rw c.arc_in-a.ensures at c.replace.ensures)
+loop-j-preserved c = folded_more _ c.loop-j.invariant (omega arith) (rw c.arc_in.ensures at c.replace.ensures)
 
 pub returns : goal.returns
 returns c = folded-all _ c.loop-j.invariant (omega arith)
