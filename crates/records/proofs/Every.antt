@@ -26,7 +26,8 @@ list_every : (p : ℕ → Bool) (n : ℕ) → list_all p (range_with_len 0 n) �
 unfolding all
 list_every p zero = refl
 list_every p (suc n) =
-    ap (list_all p) (longer 0 n) ∙ list_all-append p (range_with_len 0 n) (n ∷ []) ∙ rw (list_every p n, and-true (p n)) refl
+    let zero-add : 0 + n ≡ n = omega arith in
+    ap (list_all p) (longer 0 n ∙ ap (λ k. range_with_len 0 n ++ k ∷ []) zero-add) ∙ list_all-append p (range_with_len 0 n) (n ∷ []) ∙ rw (list_every p n, and-true (p n)) refl
 
 pub every : {F : Type 0} {g : Mut F (ℕ × Unit {0}) Bool} {s : Range ℕ} (p : ℕ → Bool) (n : ℕ) (u : Range ℕ) (f : F) (r : Bool) → s ≡ record { start = 0; end = n } → (xs : List ℕ) × (o : Option ℕ) × (j : F) × YieldsThen nat_range_steps s xs o u × FoldsTo (λ q x h. Called g q (x, tt) true h) f xs j × MatchOption o (r ≡ true) (λ x. (r ≡ false) × ((h : F) × Called g j (x, tt) false h)) → ((x : ℕ) (b : Bool) (q : F) → Called g f (x, tt) b q → (q ≡ f) × (b ≡ p x)) → r ≡ all p n
 every p n u f r e ran k = all_from_yields_List p u f r ran (YieldsList-from_range 0 n n e (omega arith)) k ∙ list_every p n

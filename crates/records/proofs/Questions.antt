@@ -1,5 +1,5 @@
 -- What the answers to the questions say of a record.
-use mathlib.Core.Path.{◌≡◌, refl, sym}
+use mathlib.Core.Path.{◌≡◌, refl, sym, ◌∙◌}
 use mathlib.Core.Bool.{Bool, true, false, cond}
 use mathlib.Core.List.{List}
 use Prim.Native.Nat.{ℕ, suc, ◌+◌, ◌*◌, ◌≤◌, ◌<◌}
@@ -12,7 +12,7 @@ use lib.IntN.{ℤ, pos, negsuc, nat_abs}
 use lib.Signed.{lt_z, mag}
 use mir.Syntax.{w32}
 use mir.Val.{to_z, of_z}
-use borrow.Author.Tests.{ltb-true, leb-true, le-leb, lt-leb, eqb-true}
+use borrow.Author.Tests.{leb-true, eqb-true, eq-eqb, ne_eqb}
 use Rattle.integer.specs.Machine.{back32}
 use Rattle.loops.specs.Loops.{all}
 use Rattle.fraction.proofs.Laws.{never, and_both}
@@ -75,17 +75,23 @@ sized_by {xs} s e f = rw (e, f) (sizes-are xs s)
 
 -- and by the sizes that were read
 module _ (xs : List ℤ) where
-  pub no-nodes : size_of (word xs 0) 32 ≡ None → false ≡ sizes_right xs
+  pub no-nodes : size_of (word xs 0) 32 ≡ None → sizes_right xs ≡ false
   unfolding sizes_right
   no-nodes e = rw (size-off (word xs 0) 32 e)
 
-  pub no-arcs : (n : ℕ) → size_of (word xs 0) 32 ≡ Some n → size_of (word xs 1) 96 ≡ None → false ≡ sizes_right xs
+  pub no-arcs : (n : ℕ) → size_of (word xs 0) 32 ≡ Some n → size_of (word xs 1) 96 ≡ None → sizes_right xs ≡ false
   unfolding sizes_right
   no-arcs n e f = rw ((size_is (word xs 0) 32 n e).0, size-off (word xs 1) 96 f)
 
-  pub by_length : (n m : ℕ) → size_of (word xs 0) 32 ≡ Some n → size_of (word xs 1) 96 ≡ Some m → eqb (length xs) (2 + 2 * figures n m) ≡ sizes_right xs
+  by_length : (n m : ℕ) → size_of (word xs 0) 32 ≡ Some n → size_of (word xs 1) 96 ≡ Some m → eqb (length xs) (2 + 2 * figures n m) ≡ sizes_right xs
   unfolding sizes_right
   by_length n m e f = let a = size_is (word xs 0) 32 n e in let b = size_is (word xs 1) 96 m f in rw (a.0, b.0, a.1, b.1)
+
+  pub right-length : (n m : ℕ) → size_of (word xs 0) 32 ≡ Some n → size_of (word xs 1) 96 ≡ Some m → length xs ≡ 2 + 2 * figures n m → (sizes_right xs ≡ true) × (n ≡ n_of xs) × (m ≡ m_of xs)
+  right-length n m e f l = (sym (by_length n m e f) ∙ eq-eqb _ _ l, (size_is (word xs 0) 32 n e).1, (size_is (word xs 1) 96 m f).1)
+
+  pub wrong-length : (n m : ℕ) → size_of (word xs 0) 32 ≡ Some n → size_of (word xs 1) 96 ≡ Some m → (length xs ≡ 2 + 2 * figures n m → ⊥) → sizes_right xs ≡ false
+  wrong-length n m e f l = sym (by_length n m e f) ∙ ne_eqb _ _ l
 
 -- ---- questions 3 to 5 are answered by yes
 
@@ -104,10 +110,22 @@ all_yes xs e =
     let d = none-no Refusal.Multipliers (multipliers_right xs) c.1 in
     (a.0, record { in_form = b.0; ends = c.0; weights = d.0 })
 
--- the first no, by the answers to 3 to 5, each where the sizes are right
-pub asked : (xs : List ℤ) (n m : ℕ) {a b d : Bool} → sizes_right xs ≡ true → n ≡ n_of xs → m ≡ m_of xs → all (is_in_form xs n (figures n m)) (figures n m) ≡ a → all (has_ends xs n (figures n m)) m ≡ b → all (is_weighted_at xs n (figures n m)) m ≡ d → cond a (cond b (cond d (Ok tt) (Err Refusal.Multipliers)) (Err Refusal.Ends)) (Err Refusal.Form) ≡ first_no (questions xs)
+-- a question asked on its own: where it refuses, and where it lets pass
+pub refused : (b : Bool) (q : Refusal) (r : Result ⊤ Refusal) {e : Refusal} → ◌≡◌ {A = Result ⊤ Refusal} (Err e) (cond b (Ok tt) (Err q)) → Err e ≡ cond b r (Err q)
+refused true q r h = never cc
+refused false q r h = h
+
+pub passed : (b : Bool) (p q : Refusal) {x : ⊤} {r : Result ⊤ Refusal} → ◌≡◌ {A = Result ⊤ Refusal} (Ok x) (cond b (Ok tt) (Err p)) → r ≡ cond b r (Err q)
+passed true p q h = refl
+passed false p q h = never cc
+
+pub same-refusal : {A : Type 0} {p q : Refusal} → ◌≡◌ {A = Result A Refusal} (Err p) (Err q) → p ≡ q
+same-refusal e = cc
+
+-- the first no, by the answers to 3 to 5, of words whose sizes are right
+pub asked : (xs ws : List ℤ) (n m : ℕ) {a b d : Bool} → (sizes_right xs ≡ true) × (ws ≡ xs) × (n ≡ n_of xs) × (m ≡ m_of xs) → a ≡ all (is_in_form ws n (figures n m)) (figures n m) → b ≡ all (has_ends ws n (figures n m)) m → d ≡ all (is_weighted_at ws n (figures n m)) m → cond a (cond b (cond d (Ok tt) (Err Refusal.Multipliers)) (Err Refusal.Ends)) (Err Refusal.Form) ≡ first_no (questions xs)
 unfolding questions figures_right ends_right multipliers_right
-asked xs n m s e f x y z = rw (s, ← e, ← f, x, y, z)
+asked xs ws n m h x y z = rw (x, y, z, h.0, h.1, h.2, h.3) refl
 
 pub not-asked : (xs : List ℤ) → sizes_right xs ≡ false → Err Refusal.Sizes ≡ first_no (questions xs)
 unfolding questions

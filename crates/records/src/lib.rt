@@ -82,7 +82,8 @@ pub fn size_at(xs: &[i32], at: usize, limit: usize) -> Option<usize>
 
 // A word as a number; 0 below zero and outside.
 pub fn number_at(xs: &[i32], at: usize) -> usize
-    ensures { result ≡ natural_of (word xs.now at) }
+    ensures is { result ≡ natural_of (word xs.now at) }
+    ensures fits { result ≤ 2147483647 }
 {
     usize::try_from(word_at(xs, at)).unwrap_or(0)
 }

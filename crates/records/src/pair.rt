@@ -45,6 +45,7 @@ fn all_fractions(pair: &[i32], t: usize) -> bool
 }
 
 // Question 8.
+#[tactic(auto, unfolding(crate::specs::Pair::has_sizes, crate::specs::Pair::is_pair))]
 pub fn is_pair(pair: &[i32], n: usize, m: usize) -> bool
     ensures { result ≡ is_pair pair.now n m }
 {

@@ -1,11 +1,11 @@
--- `records::arc_in` meets its contract.
+-- `records::net::Record::arc` meets its contract.
 use Prim.Native.Nat.{ℕ, ◌+◌, ◌≤◌, ◌<◌}
 use native.Mathlib.Omega.{arith}
 use lib.Dec.{T, ltb, lit<}
 use mir.Syntax.{w64}
 use mir.Val.{Fits}
-use Rattle.records.specs.Network.{arc_figure, arc_in}
-use Rattle.records.proofs.net.arc_in.Goals as goal
+use Rattle.records.specs.Network.{figures, arc_figure, arc_in}
+use Rattle.records.proofs.net.Record.arc.Goals as goal
 
 -- an arc's figures are among the t
 arc-below : (n j : ℕ) {t : ℕ} → arc_figure n j + 7 ≤ t → arc_figure n j < t
@@ -19,4 +19,4 @@ role-fits n j r h l q = let k : arc_figure n j + r < _ = role-below n j r l q in
 
 pub returns : goal.returns
 unfolding arc_in
-returns c = rw (c.figure_in-b.ensures, c.figure_in-a.ensures, c.figure_in-upper.ensures, c.figure_in-lower.ensures, c.figure_in-cost.ensures, c.natural_of-to.ensures, c.figure_in-2.ensures, c.natural_of-from.ensures, c.figure_in.ensures)
+returns c = rw (c.figure-b.ensures, c.figure-a.ensures, c.figure-upper.ensures, c.figure-lower.ensures, c.figure-cost.ensures, c.natural_of-to.ensures, c.figure-2.ensures, c.natural_of-from.ensures, c.figure.ensures)
