@@ -1,6 +1,6 @@
 -- The run whose arcs stand in the lent list, turn by turn, is the run of its network.
 --     underway-none .. underway-more     the loop's invariant
---     begins, run_is, refused_is     from the record to the end
+--     begins, run_is     from the record to the end
 use mathlib.Core.Path.{◌≡◌, refl, sym, ap, subst, subst⁻¹, ◌∙◌}
 use mathlib.Core.Bool.{Bool, true, false, cond}
 use mathlib.Core.List.{List, [], ◌∷◌}
@@ -35,10 +35,11 @@ use Rattle.step_log.proofs.Logged.{logged-long}
 use Rattle.search.proofs.Questions.{AllYes, all_yes, legal-read}
 use Rattle.search.proofs.Behind.{within, replaced-behind, loaded-behind, drop-none, list-of}
 use Rattle.search.specs.declared.Progress.{Progress}
-use Rattle.search.specs.declared.Ends.{Ends}
+use Rattle.std.specs.Prelude.{Option, Some, None, Ok}
+use Rattle.search.specs.declared.Contradiction.{Contradiction}
 use Rattle.search.specs.declared.Ran.{Ran}
 use Rattle.rules.specs.Found.{found_of}
-use Rattle.search.specs.Search.{refusal_of, refused_by, ends_of, list_of, Searched}
+use Rattle.search.specs.Search.{refusal_of, ends_of, list_of, Reached}
 use Rattle.search.specs.internal.Progress.{noted, moved, ended_by, advanced, begun, end_of, ran_of, Ready, Turned, Told, told_of, told_at, Finished}
 
 -- ---- at the loop's head
@@ -78,11 +79,11 @@ unfolding logged
 told-after s run k zs = let e : k + suc (length run.steps) ≡ k + 1 + length run.steps = omega (arith, add-one (length run.steps)) in rw (e, add-one k)
 
 -- or it ends there
-stands : (many : ℕ) (net : Net) (end : Ends) → next_of net ≡ ends_of end → run_of next_of many net ≡ record { steps = []; net = net; ends = ends_of end }
+stands : (many : ℕ) (net : Net) (end : Option Contradiction) → next_of net ≡ ends_of end → run_of next_of many net ≡ record { steps = []; net = net; ends = ends_of end }
 unfolding run_of run_by
 stands zero net end e = rw e
-stands (suc many) net Ends.Stops e = rw e
-stands (suc many) net (Ends.NoFlow k i) e = rw e
+stands (suc many) net None e = rw e
+stands (suc many) net (Some x) e = rw e
 
 module _ {run : Run} {log : List ℤ} {arcs : List Arc} {at : Progress} {log' : List ℤ} {arcs' : List Arc} (h : Underway run log arcs at log' arcs') (a : at.active ≡ true) where
   abbrev here : Net
@@ -141,7 +142,7 @@ module _ {run : Run} {log : List ℤ} {arcs : List Arc} {at : Progress} {log' : 
 
 -- ---- from the record to the end
 
-module _ (network : List ℤ) (log : ℕ) (arcs : ℕ) (q : refusal_of network log arcs ≡ 0) where
+module _ (network : List ℤ) (log : ℕ) (arcs : ℕ) (q : refusal_of network log arcs ≡ Ok tt) where
   a : AllYes network log arcs
   a = all_yes network log arcs q
 
@@ -165,21 +166,14 @@ module _ (network : List ℤ) (log : ℕ) (arcs : ℕ) (q : refusal_of network l
         let g = legal-read a in
         (subst⁻¹ (λ (x : Net). Ready x nothing_seen 0) read-net (record { legal = g; known = known-nothing net; few = omega arith; done = run-done next_of (back_of rules) next-right 128 net g (legal-left g) }), rw long a.wide)
 
-    pub run_is : {zs zs' : List ℤ} {ks ks' : List Arc} {at : Progress} {r : Ran} → length zs ≡ log → length ks ≡ arcs → Finished (reduced (net_in nodes list)) zs list at zs' ks' → r ≡ ran_of at → Searched network zs ks r zs' ks'
+    pub run_is : {zs zs' : List ℤ} {ks ks' : List Arc} {at : Progress} {r : Ran} → length zs ≡ log → length ks ≡ arcs → Finished (reduced (net_in nodes list)) zs list at zs' ks' → r ≡ ran_of at → Reached network zs ks r zs' ks'
     run_is {zs} {zs'} {ks} {ks'} {at} {r} u v f z =
         let h : Finished (reduced (read_of network)) zs list at zs' ks' = subst (λ (x : Net). Finished (reduced x) zs list at zs' ks') read-net f in
         rw z (record {
-          refused_is = sym (rw (u, v) q);
-          left = λ o. absurd (omega (arith, o));
-          steps_is = λ _. omega (arith, ap (λ (x : Told). x.steps) h.told);
-          ends_is = λ _. ap (λ (x : Told). x.ends) h.told;
-          nodes_is = λ _. sym (ap (λ (x : Told). nodes_of x.net) h.told);
-          log_is = λ _. sym (ap (λ (x : Told). x.log) h.told);
-          list_is = λ _. list-of (h.long ∙ long) a.wide (sym (ap (λ (x : Told). x.net) h.told)) (h.behind ∙ zeros-behind) ∙ ap (list_of (reduced (read_of network)).net) (sym v);
+          asked = rw (u, v) q;
+          steps_is = omega (arith, ap (λ (x : Told). x.steps) h.told);
+          ends_is = ap (λ (x : Told). x.ends) h.told;
+          nodes_is = sym (ap (λ (x : Told). nodes_of x.net) h.told);
+          log_is = sym (ap (λ (x : Told). x.log) h.told);
+          list_is = list-of (h.long ∙ long) a.wide (sym (ap (λ (x : Told). x.net) h.told)) (h.behind ∙ zeros-behind) ∙ ap (list_of (reduced (read_of network)).net) (sym v);
         })
-
-pub refused_is : {network zs : List ℤ} {ks : List Arc} {r : Ran} (q : ℕ) → r ≡ refused_by q → q ≡ refusal_of network (length zs) (length ks) → 1 ≤ q → Searched network zs ks r zs ks
-refused_is {network} {zs} {ks} q e f l = rw e (record { refused_is = f; left = λ _. (refl, refl, refl); steps_is = none; ends_is = none; nodes_is = none; log_is = none; list_is = none })
-  where
-    none : {X : Type 0} → q ≡ 0 → X
-    none z = absurd (omega (arith, z, l))

@@ -5,32 +5,31 @@ ghost use Rattle.std.specs.Prelude.{◌≡◌, List, ◌+◌, ◌≤◌, length}
 ghost use Rattle.network.specs.declared.Arc.{Arc};
 ghost use Rattle.network.specs.Limits.{max_arcs, max_steps};
 ghost use Rattle.network.specs.ArcList.{joined, net_in};
-ghost use Rattle.search.specs.Search.{refusal_of, refused_by, Searched};
+ghost use Rattle.search.specs.Search.{refusal_of, Searched};
 ghost use Rattle.search.specs.internal.Progress.{begun, noted, moved, ended_by, advanced, end_of, ran_of, Ready, Turned, Finished};
 ghost use Rattle.rules.specs.Table.{reduced};
 ghost use Rattle.costly_arc.specs.Seen.{nothing_seen};
 
 use costly_arc::Seen;
-use fraction::Fraction;
 use network::{Arc, Edit, Nodes};
+use records::refusal::Refusal;
 use rules::tried::Looked;
 
 mod scan;
 
-// What a run ends with: no rule applies, or no flow, with the rule and the place that show it.
-#[derive(Clone, Copy)]
-pub enum Ends {
-    Stops,
-    NoFlow(usize, usize),
+// What shows that there is no flow: a rule, at a place.
+#[derive(Clone, Copy, Debug, PartialEq, Eq)]
+pub struct Contradiction {
+    pub rule: usize,
+    pub place: usize,
 }
 
-// A run: the question that is answered by no, or 0; and then what is left beside the arcs, how many steps were taken, and the end.
+// A run at its end: what is left beside the arcs, how many steps were taken, and a contradiction, or none where no rule applies.
 #[derive(Clone, Copy)]
 pub struct Ran {
-    pub refused: usize,
     pub nodes: Nodes,
     pub steps: usize,
-    pub ends: Ends,
+    pub contradiction: Option<Contradiction>,
 }
 
 // A run under way, beside its arcs and its log: where it is not active, the end, with rule and place where it is no flow.
@@ -160,67 +159,46 @@ fn run_on(nodes: Nodes, log: &mut [i32], arcs: &mut [Arc]) -> Progress
     at
 }
 
-// Room for the log and the arcs (1), and questions 2 to 5; 0 where all are answered by yes.
-fn question(network: &[i32], log: usize, arcs: usize) -> usize
+// Room for the log and the arcs, and questions 2 to 5.
+#[tactic(auto, unfolding(crate::specs::Search::refusal_of))]
+fn ask(network: &[i32], log: usize, arcs: usize) -> Result<(), Refusal>
     ensures { result ≡ refusal_of network.now log arcs }
 {
-    if log < records::SCRATCH_WORDS {
-        return 1;
-    }
-    if arcs < network::MAX_ARCS {
-        return 1;
-    }
+    Refusal::Room.unless(records::SCRATCH_WORDS <= log && network::MAX_ARCS <= arcs)?;
     records::net::ask(network)
 }
 
-// A question is answered by no.
-fn refuse(q: usize) -> Ran
-    ensures { result ≡ refused_by q }
-{
-    let nodes = network::nodes_of(network::empty_net(0, 0, Fraction::ZERO));
-    let ends = Ends::Stops;
-    Ran {
-        refused: q,
-        nodes,
-        steps: 0,
-        ends,
-    }
-}
-
-fn end_of(at: Progress) -> Ends
+fn end_of(at: Progress) -> Option<Contradiction>
     ensures { result ≡ end_of at }
 {
     if at.refuted {
-        return Ends::NoFlow(at.rule, at.place);
+        return Some(Contradiction {
+            rule: at.rule,
+            place: at.place,
+        });
     }
-    Ends::Stops
+    None
 }
 
 // A run at its end.
 fn conclude(at: Progress) -> Ran
     ensures { result ≡ ran_of at }
 {
-    let nodes = at.nodes;
-    let ends = end_of(at);
     Ran {
-        refused: 0,
-        nodes,
+        nodes: at.nodes,
         steps: at.steps,
-        ends,
+        contradiction: end_of(at),
     }
 }
 
 // The network of a record reduced until no rule applies: its arcs into the list, the steps into the log.
 // A refusal leaves both as they are.
-pub fn run(network: &[i32], log: &mut [i32], arcs: &mut [Arc]) -> Ran
+pub fn run(network: &[i32], log: &mut [i32], arcs: &mut [Arc]) -> Result<Ran, Refusal>
     ensures { Searched network.now log.old arcs.old result log.new arcs.new }
 {
-    let q = question(network, log.len(), network::list::count(arcs));
-    if 1 <= q {
-        return refuse(q);
-    }
+    ask(network, log.len(), network::list::count(arcs))?;
     network::list::clear(arcs);
     records::net::load(arcs, network);
     let nodes = records::net::read_beside(network);
-    conclude(run_on(nodes, log, arcs))
+    Ok(conclude(run_on(nodes, log, arcs)))
 }

@@ -1,5 +1,5 @@
 -- A run under way, whose arcs stand in the lent list and whose steps stand in the log.
-use Rattle.std.specs.Prelude.{◌≡◌, Bool, true, false, cond, ◌&&◌, not, List, ℕ, ◌+◌, ◌-◌, ◌≤◌, ℤ, length, drop}
+use Rattle.std.specs.Prelude.{Option, Some, None, ◌≡◌, Bool, true, false, cond, ◌&&◌, not, List, ℕ, ◌+◌, ◌-◌, ◌≤◌, ℤ, length, drop}
 use Rattle.network.specs.declared.Arc.{Arc}
 use Rattle.network.specs.declared.Net.{Net}
 use Rattle.network.specs.declared.Nodes.{Nodes}
@@ -18,7 +18,7 @@ use Rattle.rules.specs.declared.found.Found.{Found}
 use Rattle.rules.specs.Found.{found_of}
 use Rattle.rules.specs.Table.{next_of}
 use Rattle.step_log.specs.Log.{with_step, logged}
-use Rattle.search.specs.declared.Ends.{Ends}
+use Rattle.search.specs.declared.Contradiction.{Contradiction}
 use Rattle.search.specs.declared.Ran.{Ran}
 use Rattle.search.specs.declared.Progress.{Progress}
 use Rattle.search.specs.Search.{ends_of}
@@ -44,11 +44,11 @@ advanced at net x = cond (x.found.found && not x.found.refuted) (moved at net x.
 abbrev pub begun : Nodes → Progress
 begun nodes = record { nodes = nodes; steps = 0; seen = nothing_seen; active = true; refuted = false; rule = 0; place = 0 }
 
-abbrev pub end_of : Progress → Ends
-end_of at = cond at.refuted (Ends.NoFlow at.rule at.place) Ends.Stops
+abbrev pub end_of : Progress → Option Contradiction
+end_of at = cond at.refuted (Some (record { rule = at.rule; place = at.place })) None
 
 abbrev pub ran_of : Progress → Ran
-ran_of at = record { refused = 0; nodes = at.nodes; steps = at.steps; ends = end_of at }
+ran_of at = record { nodes = at.nodes; steps = at.steps; contradiction = end_of at }
 
 -- ---- the run
 
