@@ -1,5 +1,6 @@
 -- Questions before work (01): the number of each, a table of questions in their order, and the first that is answered by no.
 use Rattle.std.specs.Prelude.{Bool, cond, List, [], ◌∷◌, ℕ, Result, Ok, Err, ⊤}
+use Rattle.std.specs.Result.{result_and}
 use Rattle.records.specs.declared.refusal.Refusal.{Refusal}
 use Rattle.records.specs.declared.refusal.Refusal.TheVariants.{Room, Sizes, Form, Ends, Multipliers, NoFlow, Stack, Pair, Width, Balance, Bounds, Prices, WayBack, Text}
 
@@ -36,3 +37,7 @@ q asks b = record { refusal = q; yes? = b }
 abbrev pub first_no : List Question → Result ⊤ Refusal
 first_no [] = Ok tt
 first_no (q ∷ qs) = cond q.yes? (first_no qs) (Err q.refusal)
+
+-- a value, where no question is answered by no
+abbrev pub answered : {T : Type 0} → List Question → T → Result T Refusal
+answered qs x = result_and (first_no qs) (Ok x)
