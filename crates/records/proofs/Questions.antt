@@ -115,6 +115,10 @@ pub refused : (b : Bool) (q : Refusal) (r : Result ⊤ Refusal) {e : Refusal} �
 refused true q r h = never cc
 refused false q r h = h
 
+pub yes-asked : (b : Bool) (p : Refusal) {x : ⊤} → ◌≡◌ {A = Result ⊤ Refusal} (Ok x) (cond b (Ok tt) (Err p)) → b ≡ true
+yes-asked true p h = refl
+yes-asked false p h = never cc
+
 pub passed : (b : Bool) (p q : Refusal) {x : ⊤} {r : Result ⊤ Refusal} → ◌≡◌ {A = Result ⊤ Refusal} (Ok x) (cond b (Ok tt) (Err p)) → r ≡ cond b r (Err q)
 passed true p q h = refl
 passed false p q h = never cc

@@ -10,6 +10,16 @@ use Rattle.std.specs.Prelude.{Result, Ok, Err, ⊤}
 use Rattle.fraction.proofs.Laws.{never, and_both}
 use Rattle.records.specs.declared.refusal.Refusal.{Refusal}
 use Rattle.records.specs.Questions.{Question, number_of, number_in, first_no}
+use Rattle.std.specs.Result.{result_and}
+
+-- a value, where no question is answered by no: what each of its results says
+pub answered-no : {T : Type 0} (r : Result ⊤ Refusal) (x : T) {q : Refusal} → ◌≡◌ {A = Result T Refusal} (Err q) (result_and r (Ok x)) → r ≡ Err q
+answered-no (Ok y) x e = never cc
+answered-no (Err p) x {q} e = let z : q ≡ p = cc in rw z refl
+
+pub answered-yes : {T : Type 0} (r : Result ⊤ Refusal) (x : T) {y : T} → ◌≡◌ {A = Result T Refusal} (Ok y) (result_and r (Ok x)) → (r ≡ Ok tt) × (y ≡ x)
+answered-yes (Ok u) x e = (refl, cc)
+answered-yes (Err p) x e = never cc
 
 -- where the first table has a no, it is the first of both
 pub stops : (qs rs : List Question) (q : Refusal) → first_no qs ≡ Err q → first_no (qs ++ rs) ≡ Err q
