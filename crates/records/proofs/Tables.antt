@@ -12,6 +12,27 @@ use Rattle.records.specs.declared.refusal.Refusal.{Refusal}
 use Rattle.records.specs.Questions.{Question, number_of, number_in, first_no}
 use Rattle.std.specs.Result.{result_and}
 
+-- no refusal has the number 0
+pub numbered : (q : Refusal) → 1 ≤ number_of q
+numbered Refusal.Room = omega arith
+numbered Refusal.Sizes = omega arith
+numbered Refusal.Form = omega arith
+numbered Refusal.Ends = omega arith
+numbered Refusal.Multipliers = omega arith
+numbered Refusal.NoFlow = omega arith
+numbered Refusal.Stack = omega arith
+numbered Refusal.Pair = omega arith
+numbered Refusal.Width = omega arith
+numbered Refusal.Balance = omega arith
+numbered Refusal.Bounds = omega arith
+numbered Refusal.Prices = omega arith
+numbered Refusal.WayBack = omega arith
+numbered Refusal.Text = omega arith
+
+pub none-numbered : (r : Result ⊤ Refusal) → number_in r ≡ 0 → r ≡ Ok tt
+none-numbered (Ok x) e = refl
+none-numbered (Err q) e = absurd (omega (arith, numbered q))
+
 -- a value, where no question is answered by no: what each of its results says
 pub answered-no : {T : Type 0} (r : Result ⊤ Refusal) (x : T) {q : Refusal} → ◌≡◌ {A = Result T Refusal} (Err q) (result_and r (Ok x)) → r ≡ Err q
 answered-no (Ok y) x e = never cc
