@@ -49,6 +49,11 @@ searched-room true true false q = refl
 searched-room true false c q = refl
 searched-room false b c q = refl
 
+-- the first of two questions of room, answered by no
+pub out_short : (a b : Bool) (r : Result ⊤ Refusal) {q : Refusal} → ◌≡◌ {A = Result ⊤ Refusal} (Err q) (cond a (Ok tt) (Err Refusal.Room)) → cond (a && b) r (Err Refusal.Room) ≡ Err q
+out_short true b r e = never cc
+out_short false b r e = sym e
+
 -- an answer by how the run ended
 ended-no-flow : (t : Next) (rule i : ℕ) → NoFlow rule i ≡ end_of t → t ≡ Refuted rule i
 ended-no-flow Stops rule i e = never cc

@@ -31,7 +31,7 @@ use Rattle.reduction.specs.declared.End.{End}
 use Rattle.records.specs.Logged.{stack_word, with_stack}
 use Rattle.reduction.specs.Reduce.{refusal_of, end_of, end_output, Written}
 use Rattle.records.proofs.Logged.{stack-written, with-room}
-use Rattle.reduction.proofs.Entry.{room-is}
+use Rattle.reduction.proofs.Entry.{room-is, out_short}
 
 -- ---- the run
 
@@ -60,11 +60,7 @@ found {xs} {zs} s =
 
 module _ (xs : List ℤ) (o s w k : ℕ) where
   pub no-out : {q : Refusal} → ◌≡◌ {A = Result ⊤ Refusal} (Err q) (cond (leb 1412 o) (Ok tt) (Err Refusal.Room)) → refusal_of xs o s w k ≡ Err q
-  no-out {q} e = room-is xs o s w k ∙ by (leb 1412 o) e
-    where
-      by : (b : Bool) → ◌≡◌ {A = Result ⊤ Refusal} (Err q) (cond b (Ok tt) (Err Refusal.Room)) → cond (b && leb 257 s) (Search.refusal_of xs w k) (Err Refusal.Room) ≡ Err q
-      by true e = never cc
-      by false e = sym e
+  no-out e = room-is xs o s w k ∙ out_short (leb 1412 o) (leb 257 s) _ e
 
   module _ {x : ⊤} (out : ◌≡◌ {A = Result ⊤ Refusal} (Ok x) (cond (leb 1412 o) (Ok tt) (Err Refusal.Room))) where
     pub no_stack : {q : Refusal} → ◌≡◌ {A = Result ⊤ Refusal} (Err q) (cond (leb 257 s) (Ok tt) (Err Refusal.Room)) → refusal_of xs o s w k ≡ Err q
