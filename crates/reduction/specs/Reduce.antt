@@ -67,11 +67,10 @@ pub record Written (q : Result ⊤ Refusal) (run : Run) (r : Result End Refusal)
   pub out_is : out ≡ output_of q run o
   pub stack_is : stack ≡ stack_of q run s
 
--- the values of an answer, the rule and the place of no flow
-abbrev pub values_of : Result End Refusal → List ℕ
-values_of (Ok Reduced) = []
-values_of (Ok (NoFlow rule place)) = rule ∷ place ∷ []
-values_of (Err q) = []
+-- the values of an end, the rule and the place of no flow
+abbrev pub values_of : End → List ℕ
+values_of Reduced = []
+values_of (NoFlow rule place) = rule ∷ place ∷ []
 
 -- ---- a call: the network's words, the lengths of the lent output, stack, scratch and arc list; the result, all words written, and the records
 
