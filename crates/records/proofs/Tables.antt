@@ -1,10 +1,11 @@
 -- The first no of two tables of questions, one behind the other.
-use mathlib.Core.Path.{◌≡◌, refl, sym, ◌∙◌}
+use mathlib.Core.Path.{◌≡◌, refl, sym, ap, ◌∙◌}
 use mathlib.Core.Bool.{Bool, true, false, cond, ◌&&◌, not}
 use mathlib.Core.List.{List, [], ◌∷◌, ◌++◌}
 use Prim.Native.Nat.{ℕ, ◌≤◌}
 use native.Mathlib.Omega.{arith}
 use lib.Dec.{eqb, leb}
+use lib.ListN.{get_or}
 use borrow.Author.Tests.{eq-eqb, leb-true}
 use Rattle.std.specs.Prelude.{Result, Ok, Err, ⊤}
 use Rattle.fraction.proofs.Laws.{never, and_both}
@@ -28,6 +29,29 @@ numbered Refusal.Bounds = omega arith
 numbered Refusal.Prices = omega arith
 numbered Refusal.WayBack = omega arith
 numbered Refusal.Text = omega arith
+
+-- a number is that of one refusal
+abbrev by_number : List Refusal
+by_number = Refusal.Room ∷ Refusal.Room ∷ Refusal.Sizes ∷ Refusal.Form ∷ Refusal.Ends ∷ Refusal.Multipliers ∷ Refusal.NoFlow ∷ Refusal.Stack ∷ Refusal.Pair ∷ Refusal.Width ∷ Refusal.Balance ∷ Refusal.Bounds ∷ Refusal.Prices ∷ Refusal.WayBack ∷ Refusal.Text ∷ []
+
+back : (q : Refusal) → get_or by_number (number_of q) Refusal.Room ≡ q
+back Refusal.Room = refl
+back Refusal.Sizes = refl
+back Refusal.Form = refl
+back Refusal.Ends = refl
+back Refusal.Multipliers = refl
+back Refusal.NoFlow = refl
+back Refusal.Stack = refl
+back Refusal.Pair = refl
+back Refusal.Width = refl
+back Refusal.Balance = refl
+back Refusal.Bounds = refl
+back Refusal.Prices = refl
+back Refusal.WayBack = refl
+back Refusal.Text = refl
+
+pub same-by_number : (p q : Refusal) → number_of p ≡ number_of q → p ≡ q
+same-by_number p q e = sym (back p) ∙ ap (λ n. get_or by_number n Refusal.Room) e ∙ back q
 
 pub none-numbered : (r : Result ⊤ Refusal) → number_in r ≡ 0 → r ≡ Ok tt
 none-numbered (Ok x) e = refl
