@@ -1,5 +1,3 @@
-pub mod Sizes
 pub mod Reading
 pub mod Printing
-pub mod Splitting
 pub mod Right

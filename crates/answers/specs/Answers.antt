@@ -1,14 +1,16 @@
 -- The lines that the programs print (01, "Instances", A), as bytes.
-use Rattle.std.specs.Prelude.{◌≡◌, List, [], ◌∷◌, ◌++◌, map, ℕ, ◌+◌, ◌*◌, ◌≤◌, ℤ, length, take, drop, replicate}
+use Rattle.std.specs.Prelude.{◌≡◌, List, [], ◌∷◌, ◌++◌, map, ℕ, ◌+◌, ◌*◌, ◌≤◌, ℤ, length, take, drop, replicate, Result, Ok, Err}
 use Rattle.std.proofs.Math.Option.{Option, some, none}
 use Rattle.fraction.specs.Words.{word, natural_of}
 use Rattle.network.specs.Limits.{max_arcs}
 use Rattle.records.specs.Limits.{network_room, stack_room, scratch_room}
 use Rattle.records.specs.Network.{figures, read_of}
 use Rattle.fraction.specs.Words.{word_of}
-use Rattle.reduction.specs.declared.Answer.{Answer}
-use Rattle.reduction.specs.declared.Answer.TheVariants.{Reduced, NoFlow, Refused}
-use Rattle.reduction.specs.Reduce.{refusal_of, answer_of, output_of, stack_of, number_of, values_of}
+use Rattle.records.specs.declared.refusal.Refusal.{Refusal}
+use Rattle.records.specs.Questions.{number_of}
+use Rattle.reduction.specs.declared.End.{End}
+use Rattle.reduction.specs.declared.End.TheVariants.{Reduced, NoFlow}
+use Rattle.reduction.specs.Reduce.{refusal_of, answer_of, output_of, stack_of, values_of}
 use Rattle.presolve.specs.LP as LP
 use Rattle.network.specs.Program.{program_of}
 use Rattle.rules.specs.Table.{reduced}
@@ -46,11 +48,19 @@ network_lines xs = record_lines xs 2 (figures (size_at xs 0) (size_at xs 1))
 abbrev pub stack_lines : List ℤ → List ℕ
 stack_lines xs = record_lines xs 1 (size_at xs 0)
 
--- an answer, with the words of the reduced network and of the stack
-abbrev pub reduced_lines : Answer → List ℤ → List ℤ → List ℕ
-reduced_lines Reduced net stack = reduced_bytes ++ (network_lines net ++ stack_lines stack)
-reduced_lines (NoFlow rule place) net stack = no_flow_bytes ++ (line_of (map word_of (values_of (NoFlow rule place))) ++ stack_lines stack)
-reduced_lines (Refused q) net stack = refused_bytes ++ line_of (word_of (number_of (Refused q)) ∷ [])
+-- a refusal, with its number
+abbrev pub refused_lines : Refusal → List ℕ
+refused_lines q = refused_bytes ++ line_of (word_of (number_of q) ∷ [])
+
+-- an end, with the words of the reduced network and of the stack
+abbrev pub end_lines : End → List ℤ → List ℤ → List ℕ
+end_lines Reduced net stack = reduced_bytes ++ (network_lines net ++ stack_lines stack)
+end_lines (NoFlow rule place) net stack = no_flow_bytes ++ (line_of (map word_of (values_of (NoFlow rule place))) ++ stack_lines stack)
+
+-- an answer
+abbrev pub reduced_lines : Result End Refusal → List ℤ → List ℤ → List ℕ
+reduced_lines (Ok end) net stack = end_lines end net stack
+reduced_lines (Err q) net stack = refused_lines q
 
 -- ---- the reducing program
 
@@ -62,7 +72,7 @@ reduced_text xs =
 
 -- question 14 first
 abbrev pub on_words : Option (List ℤ) → List ℕ
-on_words none = refused_bytes ++ line_of (word_of 14 ∷ [])
+on_words none = refused_lines Refusal.Text
 on_words (some xs) = reduced_text xs
 
 unfoldable pub reduce_text : List ℕ → List ℕ
@@ -70,7 +80,7 @@ reduce_text text = on_words (words_of text)
 
 -- what is printed says this: no flow only where the network given has no feasible flow, in fractions of any width
 abbrev pub NoFlowRight : List ℕ → Type 0
-NoFlowRight text = (xs : List ℤ) (rule place : ℕ) → words_of text ≡ some xs → answer_of (refusal_of xs network_room stack_room scratch_room max_arcs) (reduced (read_of xs)) ≡ NoFlow rule place → LP.NoFlow (program_of (read_of xs))
+NoFlowRight text = (xs : List ℤ) (rule place : ℕ) → words_of text ≡ some xs → answer_of (refusal_of xs network_room stack_room scratch_room max_arcs) (reduced (read_of xs)) ≡ Ok (NoFlow rule place) → LP.NoFlow (program_of (read_of xs))
 
 abbrev pub no_bytes : ℕ → List ℕ
 no_bytes n = replicate n 0

@@ -1,30 +1,17 @@
 // From the bytes of a text to the bytes of the answer that a program prints.
 #![tactic(auto)]
 
-ghost use Rattle.std.specs.Prelude.{◌≡◌, [], ◌∷◌, ◌++◌, ◌+◌, ◌*◌, ◌≤◌, length};
+ghost use Rattle.std.specs.Prelude.{[], ◌∷◌, ◌++◌, ◌+◌, ◌*◌, ◌≤◌, length};
 ghost use Rattle.fraction.specs.Words.{word_of};
 ghost use Rattle.records.specs.Limits.{network_room, stack_room};
 ghost use Rattle.text.specs.Line.{line_of};
-ghost use Rattle.answers.specs.Answers.{no_flow_bytes, refused_bytes, size_at, part_line, record_lines, network_lines, stack_lines, reduced_lines, reduced_text, reduce_text, no_bytes, Printed, most_of, most_reduced, NoFlowRight};
+ghost use Rattle.answers.specs.Answers.{no_flow_bytes, refused_lines, part_line, record_lines, network_lines, stack_lines, end_lines, reduced_lines, reduced_text, reduce_text, no_bytes, Printed, most_of, most_reduced, NoFlowRight};
 
-use reduction::Answer;
+use records::refusal::Refusal;
+use reduction::End;
 use text::Reading;
 
 pub mod restoring;
-
-// The size that word k of a record says; 0 where there is none.
-fn size_at(words: &[i32], k: usize) -> usize
-    ensures { (result ≡ size_at words.now k) × (result ≤ 2147483647) }
-{
-    if k < words.len() {
-        let w = words[k];
-        if w < 0 {
-            return 0;
-        }
-        return w as usize;
-    }
-    0
-}
 
 // The line of count words from a place on.
 fn put_part(out: &mut [u8], at: usize, words: &[i32], from: usize, count: usize) -> usize
@@ -53,23 +40,23 @@ fn put_record(out: &mut [u8], at: usize, words: &[i32], sizes: usize, k: usize) 
 fn put_network(out: &mut [u8], at: usize, words: &[i32]) -> usize
     ensures { Printed out.old at (network_lines words.now) (most_of (length words.now)) result out.new }
 {
-    let n = size_at(words, 0);
-    let m = size_at(words, 1);
+    let n = records::number_at(words, 0);
+    let m = records::number_at(words, 1);
     put_record(out, at, words, 2, 1 + n + 7 * m)
 }
 
 fn put_stack(out: &mut [u8], at: usize, words: &[i32]) -> usize
     ensures { Printed out.old at (stack_lines words.now) (most_of (length words.now)) result out.new }
 {
-    let s = size_at(words, 0);
+    let s = records::number_at(words, 0);
     put_record(out, at, words, 1, s)
 }
 
-fn put_refusal(out: &mut [u8], at: usize, q: usize) -> usize
-    ensures { Printed out.old at (refused_bytes ++ line_of (word_of q ∷ [])) 33 result out.new }
+fn put_refusal(out: &mut [u8], at: usize, refusal: Refusal) -> usize
+    ensures { Printed out.old at (refused_lines refusal) 33 result out.new }
 {
     let a = text::put_bytes(out, at, b"refused ");
-    let words = [fraction::words::word_of(q)];
+    let words = [fraction::words::word_of(refusal.number())];
     text::put_line(out, a, &words)
 }
 
@@ -85,24 +72,39 @@ fn put_no_flow(out: &mut [u8], at: usize, rule: usize, place: usize) -> usize
 }
 
 fn put_reduced(out: &mut [u8], at: usize, net: &[i32], stack: &[i32]) -> usize
-    ensures { Printed out.old at (reduced_lines Answer.Reduced net.now stack.now) (most_reduced (length net.now) (length stack.now)) result out.new }
+    ensures { Printed out.old at (end_lines End.Reduced net.now stack.now) (most_reduced (length net.now) (length stack.now)) result out.new }
 {
     let a = text::put_bytes(out, at, b"reduced\n");
     let b = put_network(out, a, net);
     put_stack(out, b, stack)
 }
 
-// An answer, with the words of the reduced network and of the stack.
-fn put_answer(out: &mut [u8], at: usize, answer: Answer, net: &[i32], stack: &[i32]) -> usize
-    ensures { Printed out.old at (reduced_lines answer net.now stack.now) (most_reduced (length net.now) (length stack.now)) result out.new }
+// An end, with the words of the reduced network and of the stack.
+fn put_end(out: &mut [u8], at: usize, end: End, net: &[i32], stack: &[i32]) -> usize
+    ensures { Printed out.old at (end_lines end net.now stack.now) (most_reduced (length net.now) (length stack.now)) result out.new }
 {
-    match answer {
-        Answer::Reduced => put_reduced(out, at, net, stack),
-        Answer::NoFlow(rule, place) => {
+    match end {
+        End::Reduced => put_reduced(out, at, net, stack),
+        End::NoFlow { rule, place } => {
             let a = put_no_flow(out, at, rule, place);
             put_stack(out, a, stack)
         },
-        Answer::Refused(q) => put_refusal(out, at, q),
+    }
+}
+
+// An answer, with the same words.
+fn put_answer(
+    out: &mut [u8],
+    at: usize,
+    answer: Result<End, Refusal>,
+    net: &[i32],
+    stack: &[i32],
+) -> usize
+    ensures { Printed out.old at (reduced_lines answer net.now stack.now) (most_reduced (length net.now) (length stack.now)) result out.new }
+{
+    match answer {
+        Ok(end) => put_end(out, at, end, net, stack),
+        Err(refusal) => put_refusal(out, at, refusal),
     }
 }
 
@@ -126,6 +128,6 @@ pub fn reduce_text(text: &[u8], out: &mut [u8]) -> usize
     let mut words = [0i32; text::MAX_WORDS];
     match text::read_words(text, &mut words) {
         Reading::Words(n) => reduce_words(&words[..n], out),
-        Reading::Refused => put_refusal(out, 0, 14),
+        Reading::Refused => put_refusal(out, 0, Refusal::Text),
     }
 }

@@ -12,6 +12,7 @@ use Rattle.network.specs.declared.pair.Pair.{Pair}
 use Rattle.network.specs.Network.{arc_at, supply_at, is_touching, is_root, side_of}
 use Rattle.network.specs.Pair.{price_at, flow_at}
 use Rattle.slackness.specs.Slackness.{keeps_rule}
+use Rattle.records.specs.declared.refusal.Refusal.{Refusal}
 use Rattle.records.specs.Questions.{Question, ◌asks◌}
 
 -- ---- the balance of node i: multiplier × flow over the arcs touching it; "sums start at 0 and run over the arcs upward"
@@ -71,8 +72,8 @@ keeps_rule_at net pair j =
 
 unfoldable pub test_questions : Net → Pair → List Question
 test_questions net pair =
-    9 asks all_fit net pair
-    ∷ 10 asks all (is_balanced net pair) net.n
-    ∷ 11 asks all (is_within_at net pair) net.m
-    ∷ 12 asks all (keeps_rule_at net pair) net.m
+    Refusal.Width asks all_fit net pair
+    ∷ Refusal.Balance asks all (is_balanced net pair) net.n
+    ∷ Refusal.Bounds asks all (is_within_at net pair) net.m
+    ∷ Refusal.Prices asks all (keeps_rule_at net pair) net.m
     ∷ []

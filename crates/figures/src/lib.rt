@@ -2,13 +2,13 @@
 // so that no network is copied for one; beyond the last number there is none.
 #![tactic(auto, using(fraction::proofs::Laws::misfit_is), unfolding(fraction::specs::Formula::added, fraction::specs::Formula::subtracted, fraction::specs::Formula::multiplied, fraction::specs::Exact::is_same, crate::specs::Figures::reduced_cost, crate::specs::Figures::is_within))]
 
-ghost use Rattle.std.specs.Prelude.{◌≡◌, cond, ◌&&◌, not, [], ◌∷◌, ℕ, ◌+◌, ◌<◌, eqb, get_or, Ok};
+ghost use Rattle.std.specs.Prelude.{◌≡◌, cond, ◌&&◌, not, ℕ, ◌+◌, ◌<◌, eqb, get_or, Ok};
 ghost use Rattle.loops.specs.Loops.{all};
 ghost use Rattle.fraction.specs.Exact.{no_figure, is_same};
 ghost use Rattle.fraction.specs.Formula.{is_fit, figure_of, ◌⊕◌, ◌⊖◌, ◌⊗◌};
 ghost use Rattle.network.specs.Limits.{node_places};
 ghost use Rattle.network.specs.Network.{no_arc, is_touching, is_root, side_of};
-ghost use Rattle.records.specs.Questions.{◌asks◌, first_no};
+ghost use Rattle.records.specs.Questions.{answered};
 ghost use Rattle.figures.specs.Figures.{balance_of, value_of, balance_fits, cost_fits, is_balanced, is_within, is_within_at, keeps_rule_at, test_questions};
 ghost use Rattle.figures.specs.internal.Listed.{sum_at, cost_in};
 ghost use Rattle.slackness.specs.Slackness.{keeps_rule};
@@ -16,13 +16,7 @@ ghost use Rattle.slackness.specs.Slackness.{keeps_rule};
 use fraction::{Fraction, Worked};
 use network::pair::Pair;
 use network::{ARC_PLACES, Arc, MAX_NODES, NODE_PLACES, Net};
-
-// The first of the questions 9 to 12 that is answered by no, 0 where none is; and the value.
-#[derive(Clone, Copy)]
-pub struct Judged {
-    pub refused: usize,
-    pub value: Fraction,
-}
+use records::refusal::Refusal;
 
 // The places of balances: those of nodes, and one that is no node's.
 const SUM_PLACES: usize = NODE_PLACES + 1;
@@ -226,31 +220,17 @@ fn ask_arcs(net: Net, pair: Pair) -> Arcs
     a
 }
 
-// The first of the questions 9 to 12 that is answered by no, by the answers; 0 where none is.
-fn first_no(nodes: Nodes, arcs: Arcs, value: bool) -> usize
-    ensures { result ≡ first_no ((9 asks (nodes.fit && (arcs.fit && value))) ∷ ((10 asks nodes.balanced) ∷ ((11 asks arcs.within) ∷ ((12 asks arcs.kept) ∷ [])))) }
-{
-    if nodes.fit && arcs.fit && value {} else {
-        return 9;
-    }
-    if nodes.balanced {} else {
-        return 10;
-    }
-    if arcs.within {} else {
-        return 11;
-    }
-    if arcs.kept {} else {
-        return 12;
-    }
-    0
-}
-
 // The questions 9 to 12 of a pair, and its value.
-pub fn verdict(net: Net, pair: Pair) -> Judged
-    ensures { (result.refused ≡ first_no (test_questions net pair)) × (result.value ≡ figure_of (value_of net pair)) }
+#[tactic(auto, unfolding(crate::specs::Figures::all_fit, crate::specs::Figures::test_questions))]
+pub fn verdict(net: Net, pair: Pair) -> Result<Fraction, Refusal>
+    ensures { result ≡ answered (test_questions net pair) (figure_of (value_of net pair)) }
 {
     let w = value(net, pair);
-    let refused = first_no(ask_nodes(net, pair), ask_arcs(net, pair), w.is_ok());
-    let value = w.unwrap_or(network::no_figure());
-    Judged { refused, value }
+    let nodes = ask_nodes(net, pair);
+    let arcs = ask_arcs(net, pair);
+    Refusal::Width.unless(nodes.fit && arcs.fit && w.is_ok())?;
+    Refusal::Balance.unless(nodes.balanced)?;
+    Refusal::Bounds.unless(arcs.within)?;
+    Refusal::Prices.unless(arcs.kept)?;
+    Ok(w.unwrap_or(network::no_figure()))
 }

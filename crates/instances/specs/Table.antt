@@ -1,6 +1,6 @@
 -- The marked instances of document 01, with the constants of document 02, 2026-01, and a worked example of ours, as one table: what the definitions
 -- compute, and what is written.
-use Rattle.std.specs.Prelude.{◌≡◌, refl, Bool, true, false, List, [], ◌∷◌, ◌++◌, map, ℕ, ◌+◌, ◌-◌, ℤ, pos, neg_ℤ, length}
+use Rattle.std.specs.Prelude.{Result, Ok, Err, ⊤, ◌≡◌, refl, Bool, true, false, List, [], ◌∷◌, ◌++◌, map, ℕ, ◌+◌, ◌-◌, ℤ, pos, neg_ℤ, length}
 use Rattle.integer.specs.Gcd.{gcd, gcd_by}
 use Rattle.loops.specs.Loops.{zeros, build, upto, count, all, any, scan}
 use Rattle.fraction.specs.declared.Fraction.{Fraction}
@@ -41,19 +41,19 @@ use Rattle.step.specs.Junction.{has_sign_at, is_free, is_apart}
 use Rattle.parallel_arcs.specs.ParallelArcs.{ratio_of, is_times, low_end, high_end, upper_sum, joined, alike, parallel_arc, parallel_back}
 use Rattle.rules.specs.Table.{reduced}
 use Rattle.survivors.specs.Survivors.{spread_of}
-use Rattle.reduction.specs.declared.Answer.{Answer}
-use Rattle.reduction.specs.declared.Answer.TheVariants.{Reduced, NoFlow}
+use Rattle.records.specs.declared.refusal.Refusal.{Refusal}
+use Rattle.records.specs.Questions.{number_in}
+use Rattle.reduction.specs.declared.End.{End}
+use Rattle.reduction.specs.declared.End.TheVariants.{Reduced, NoFlow}
 use Rattle.records.specs.Stack.{stack_record, same_words}
 use Rattle.records.specs.Stack as Stack
 use Rattle.reduction.specs.Reduce.{is_roomy, reduce_table, refusal_of, answer_of, output_of, stack_of}
-use Rattle.restoration.specs.declared.Answer.{Answer as AnswerBack}
-use Rattle.restoration.specs.declared.Answer.TheVariants.{Restored, Refused as RefusedBack}
-use Rattle.restoration.specs.Restore.{is_roomy as is_roomy_back, offer_table, run_table, restore_table, refusal_of as refusal_back, answer_of as answer_back, out_of, values_of, brought_back}
+use Rattle.restoration.specs.Restore.{is_roomy as is_roomy_back, offer_table, run_table, restore_table, refusal_of as refusal_back, out_of, values_of, brought_back}
 use Rattle.records.specs.Pair.{pair_figure, pair_words}
 use Rattle.text.specs.Text.{separator, digit, pieces, value_from, words_in, words_of}
 use Rattle.text.specs.Line.{digits_in, digits, behind_spaces, spaced, line_of}
 use Rattle.answers.specs.Answers.{record_lines, reduce_text}
-use Rattle.answers.specs.Restoring.{stack_split, split_sized, split_of, restore_text}
+use Rattle.answers.specs.Restoring.{split_of, restore_text}
 
 pub record Row : Type 1 where
   pub Compared : Type 0
@@ -72,9 +72,9 @@ All (r ∷ rs) = (r.computed ≡ r.documented) × All rs
 
 -- the answer, all words of the network output and all words of the stack
 abbrev Reducing : Type 0
-Reducing = Answer × (List ℤ × List ℤ)
+Reducing = Result End Refusal × (List ℤ × List ℤ)
 
-abbrev reducing_by : ℕ → List ℤ → Reducing
+abbrev reducing_by : Result ⊤ Refusal → List ℤ → Reducing
 reducing_by q xs = (answer_of q (reduced (read_of xs)), (output_of q (reduced (read_of xs)) network_room, stack_of q (reduced (read_of xs)) stack_room))
 
 abbrev reducing : List ℤ → Reducing
@@ -84,7 +84,7 @@ reducing xs = reducing_by (refusal_of xs network_room stack_room scratch_room ma
 abbrev filled : ℕ → List ℤ → List ℤ
 filled k xs = xs ++ zeros (k - length xs)
 
-abbrev outcome : Answer → List ℤ → List ℤ → Reducing
+abbrev outcome : Result End Refusal → List ℤ → List ℤ → Reducing
 outcome r net stack = (r, (filled network_room net, filled stack_room stack))
 
 abbrev neg : ℕ → ℤ
@@ -108,17 +108,17 @@ abbrev stack : List ℤ
 stack = pos 1 ∷ pos 3 ∷ pos 3 ∷ []
 
 abbrev A : Row
-A = row Reducing (reducing given) (outcome Reduced left stack)
+A = row Reducing (reducing given) (outcome (Ok Reduced) left stack)
 
 -- A and B: restoring, with the least that may be lent
 
--- the answer, all words of the pair and all words of the values
+-- the answer with the paper's number, all words of the pair and all words of the values
 abbrev Return : Type 0
-Return = AnswerBack × (List ℤ × List ℤ)
+Return = (Result ⊤ Refusal × ℕ) × (List ℤ × List ℤ)
 
-abbrev return_by : ℕ → List ℤ → List ℤ → Return
+abbrev return_by : Result ⊤ Refusal → List ℤ → List ℤ → Return
 return_by q xs ys =
-    (answer_back q, (out_of q (read_of xs) (brought_back (reduced (read_of xs)) ys) pair_room, values_of q (read_of xs) (reduced (read_of xs)) ys (brought_back (reduced (read_of xs)) ys) value_room))
+    ((q, number_in q), (out_of q (read_of xs) (brought_back (reduced (read_of xs)) ys) pair_room, values_of q (read_of xs) (reduced (read_of xs)) ys (brought_back (reduced (read_of xs)) ys) value_room))
 
 abbrev restoring : List ℤ → List ℤ → List ℤ → Return
 restoring xs zs ys = return_by (refusal_back xs zs ys pair_room value_room scratch_room max_arcs) xs ys
@@ -132,18 +132,18 @@ back = (pos 3 ∷ pos 3 ∷ []) ++ (pos 2 ∷ pos 0 ∷ pos 7 ∷ pos 3 ∷ pos 
 
 -- both values are 19 (02, 2026-01)
 abbrev A-back : Row
-A-back = row Return (restoring given stack (offered 3 1)) (Restored, (filled pair_room back, pos 19 ∷ pos 1 ∷ pos 19 ∷ pos 1 ∷ []))
+A-back = row Return (restoring given stack (offered 3 1)) ((Ok tt, 0), (filled pair_room back, pos 19 ∷ pos 1 ∷ pos 19 ∷ pos 1 ∷ []))
 
 -- B. A's pair with flows 2 and 2, prices unchanged: refusal 12
 abbrev B : Row
-B = row Return (restoring given stack (offered 2 2)) (RefusedBack 12, (zeros pair_room, zeros value_room))
+B = row Return (restoring given stack (offered 2 2)) ((Err Refusal.Prices, 12), (zeros pair_room, zeros value_room))
 
 -- E. n = 0, m = 0: reduced, no steps; the constant is 0
 abbrev nothing : List ℤ
 nothing = pos 0 ∷ pos 0 ∷ pos 0 ∷ pos 1 ∷ []
 
 abbrev E : Row
-E = row Reducing (reducing nothing) (outcome Reduced nothing (pos 0 ∷ []))
+E = row Reducing (reducing nothing) (outcome (Ok Reduced) nothing (pos 0 ∷ []))
 
 -- F. One node, supply 1, no arc: no flow, rule 2, place 1; supply 0: one step
 abbrev one_node : ℤ → List ℤ
@@ -152,7 +152,7 @@ one_node r = pos 1 ∷ pos 0 ∷ pos 0 ∷ r ∷ pos 1 ∷ pos 1 ∷ []
 abbrev F : Row
 F =
     row (Reducing × Reducing) (reducing (one_node (pos 1)), reducing (one_node (pos 0)))
-    (outcome (NoFlow 2 1) [] (pos 0 ∷ []), outcome Reduced nothing (pos 1 ∷ pos 2 ∷ pos 1 ∷ []))
+    (outcome (Ok (NoFlow 2 1)) [] (pos 0 ∷ []), outcome (Ok Reduced) nothing (pos 1 ∷ pos 2 ∷ pos 1 ∷ []))
 
 -- ---- G, H and I: a rule at one place of a small network
 
@@ -250,7 +250,7 @@ K =
 
 -- computed on its own: it and the rows of whole texts are too much at once
 worked : K.computed ≡ K.documented
-unfolding gcd gcd_by upto scan is_operand fitted reduce_of sum_of product_of difference_of quotient_of negation_of reciprocal_of is_less is_same is_finite pair_of added subtracted multiplied divided with_arc with_supply with_node with_flow with_price only_where fits figure restored ratio_of is_times low_end high_end upper_sum joined alike parallel_arc parallel_back
+unfolding gcd gcd_by upto scan is_operand fitted reduce_of sum_of product_of difference_of quotient_of negation_of reciprocal_of is_less is_same is_finite added subtracted multiplied divided with_arc with_supply with_node with_flow with_price only_where fits figure restored ratio_of is_times low_end high_end upper_sum joined alike parallel_arc parallel_back
 worked = refl
 
 -- ---- the table
@@ -279,5 +279,5 @@ abbrev pub table : List Row
 table = A ∷ A-text ∷ A-back ∷ A-back-text ∷ B ∷ E ∷ F ∷ G ∷ H ∷ I ∷ J ∷ K ∷ []
 
 pub marked : All table
-unfolding gcd gcd_by build upto count all any scan is_operand is_proper fitted reduce_of sum_of product_of difference_of quotient_of negation_of reciprocal_of is_less is_same is_zero is_finite from_words den_word pair_of added subtracted multiplied divided negated with_arc with_supply with_node without applied is_touching degree_of touching_after is_root far_end side_of figure_at sizes_right figures_right ends_right multipliers_right questions role_of is_permitted is_end has_ends arc_in is_weighted net_of read_of rank_of pack_node pack_arc packed_of arrays_of word_of role_figure figure_of has_room record_of network_of with_price with_flow has_sizes is_pair pair_read balance_of reduced_cost value_of all_fit is_within is_at keeps_rule test_questions pair_questions only_where no_flow_where fits supply_less cost_added dropped lower_back figure restored quote_at upward next_from rule_from run_by run_of way_back closed bare bare_node bare_back forced_out single single_arc single_back is_open_root is_costlier has_pair costly_arc same_sign tighter image_of gained merged kept two two_arcs two_back has_sign_at signed_after is_free is_apart crossed_arc crossed_at crossing crossing_back ratio_of is_times joined alike parallel_arc parallel_back arc_rank spread_of stack_record Stack.stack_of same_words is_roomy reduce_table is_roomy_back offer_table run_table restore_table brought_back pair_figure pair_words separator digit pieces value_from words_in words_of digits_in digits behind_spaces spaced line_of record_lines reduce_text stack_split split_sized split_of restore_text
+unfolding gcd gcd_by build upto count all any scan is_operand is_proper fitted reduce_of sum_of product_of difference_of quotient_of negation_of reciprocal_of is_less is_same is_zero is_finite from_words den_word added subtracted multiplied divided negated with_arc with_supply with_node without applied is_touching degree_of touching_after is_root far_end side_of figure_at sizes_right figures_right ends_right multipliers_right questions role_of is_permitted is_end has_ends arc_in is_weighted net_of read_of rank_of pack_node pack_arc packed_of arrays_of word_of role_figure figure_of has_room record_of network_of with_price with_flow has_sizes is_pair pair_read balance_of reduced_cost value_of all_fit is_within is_at keeps_rule test_questions pair_questions only_where no_flow_where fits supply_less cost_added dropped lower_back figure restored quote_at upward next_from rule_from run_by run_of way_back closed bare bare_node bare_back forced_out single single_arc single_back is_open_root is_costlier has_pair costly_arc same_sign tighter image_of gained merged kept two two_arcs two_back has_sign_at signed_after is_free is_apart crossed_arc crossed_at crossing crossing_back ratio_of is_times joined alike parallel_arc parallel_back arc_rank spread_of stack_record Stack.stack_of same_words is_roomy reduce_table is_roomy_back offer_table run_table restore_table brought_back pair_figure pair_words separator digit pieces value_from words_in words_of digits_in digits behind_spaces spaced line_of record_lines reduce_text split_of restore_text
 marked = (refl, (refl, (refl, (refl, (refl, (refl, (refl, (refl, (refl, (refl, (refl, (worked, tt))))))))))))

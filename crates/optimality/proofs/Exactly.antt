@@ -46,6 +46,8 @@ use Rattle.network.proofs.Bounds.{not-under, not-over, under}
 use Rattle.network.proofs.Bounds as Beyond
 use Rattle.network.proofs.Sane.{sane}
 use Rattle.records.proofs.Paired.{flow-proper, no-flow-read}
+use Rattle.std.specs.Prelude.{Ok}
+use Rattle.records.specs.declared.refusal.Refusal.{Refusal}
 use Rattle.records.specs.Questions.{first_no}
 use Rattle.records.proofs.Questions.{none-no}
 use Rattle.records.proofs.Written.{words-read}
@@ -220,24 +222,24 @@ module _ {net : Net} (g : Legal net) (h : Gapless net) (ys : List ℤ) where
     none : (j : ℕ) → (j ≡ 0) ⊎ (net.m < j) → flow_at (pair_in net ys) j ≡ no_figure
     none = no-flow-read ys net.n net.m g.few_nodes g.few_arcs
 
-  passed-proven : first_no (pair_questions net ys) ≡ 0 → Proven net ys
+  passed-proven : first_no (pair_questions net ys) ≡ Ok tt → Proven net ys
   unfolding pair_questions test_questions
   passed-proven e =
-      let a = none-no 7 (is_pair ys net.n net.m) e in
-      let b = none-no 8 (all_fit net (pair_in net ys)) a.1 in
-      let c = none-no 9 (all (is_balanced net (pair_in net ys)) net.n) b.1 in
-      let d = none-no 10 (all (is_within_at net (pair_in net ys)) net.m) c.1 in
-      let k = none-no 11 (all (keeps_rule_at net (pair_in net ys)) net.m) d.1 in
+      let a = none-no Refusal.Pair (is_pair ys net.n net.m) e in
+      let b = none-no Refusal.Width (all_fit net (pair_in net ys)) a.1 in
+      let c = none-no Refusal.Balance (all (is_balanced net (pair_in net ys)) net.n) b.1 in
+      let d = none-no Refusal.Bounds (all (is_within_at net (pair_in net ys)) net.m) c.1 in
+      let k = none-no Refusal.Prices (all (keeps_rule_at net (pair_in net ys)) net.m) d.1 in
       record { in_form = a.0; fits = b.0; solved = tests-solve g h (pair_in net ys) (form a.0) (none a.0) b.0 c.0 d.0 k.0 }
 
-  proven-passed : Proven net ys → first_no (pair_questions net ys) ≡ 0
+  proven-passed : Proven net ys → first_no (pair_questions net ys) ≡ Ok tt
   unfolding pair_questions test_questions
   proven-passed v =
       let t = solved-tests g h (pair_in net ys) (form v.in_form) (none v.in_form) v.fits v.solved in
       rw (v.in_form, v.fits, t.0, t.1, t.2)
 
   -- none of 8 to 12 is answered by no exactly where the pair is proven
-  pub exactly-proven : first_no (pair_questions net ys) ≡ 0 ↔ Proven net ys
+  pub exactly-proven : first_no (pair_questions net ys) ≡ Ok tt ↔ Proven net ys
   exactly-proven = (passed-proven, proven-passed)
 
   -- the value of a proven pair is in form, and exactly the program's

@@ -1,5 +1,5 @@
 -- What the optimality test answers, the words that it writes, and what that says in exact numbers (01, "The optimality test").
-use Rattle.std.specs.Prelude.{◌≡◌, true, ◌↔◌, List, ◌∷◌, ◌++◌, ℕ, zero, suc, leb, ℤ}
+use Rattle.std.specs.Prelude.{◌≡◌, true, ◌↔◌, List, ◌∷◌, ◌++◌, ℕ, leb, ℤ, Result, Ok, Err, ⊤}
 use Rattle.loops.specs.Loops.{zeros}
 use Rattle.presolve.specs.LP.{Solved, Optimal}
 use Rattle.presolve.specs.LP as LP
@@ -9,15 +9,14 @@ use Rattle.fraction.specs.Value.{value}
 use Rattle.network.specs.declared.Net.{Net}
 use Rattle.network.specs.declared.pair.Pair.{Pair}
 use Rattle.fraction.specs.Words.{word}
-use Rattle.records.specs.Questions.{Question, ◌asks◌, first_no}
+use Rattle.records.specs.Questions.{Question, ◌asks◌, first_no, number_in}
+use Rattle.records.specs.declared.refusal.Refusal.{Refusal}
 use Rattle.records.specs.Network.{questions, read_of}
 use Rattle.records.specs.Pair.{is_pair, pair_of}
 use Rattle.network.specs.Pair.{exact_pair}
 use Rattle.network.specs.Program.{program_of}
 use Rattle.records.specs.Values.{two_words}
 use Rattle.figures.specs.Figures.{value_of, all_fit, test_questions}
-use Rattle.optimality.specs.declared.Answer.{Answer}
-use Rattle.optimality.specs.declared.Answer.TheVariants.{Passed, Refused}
 use Rattle.optimality.specs.declared.Examined.{Examined}
 
 -- ---- the questions, in their order
@@ -28,33 +27,22 @@ pair_in net ys = pair_of ys net.n net.m
 
 -- of a pair's words, on a network: "Has the pair the reduced sizes, length and only fractions? 8", then 9 to 12
 unfoldable pub pair_questions : Net → List ℤ → List Question
-pair_questions net ys = 8 asks is_pair ys net.n net.m ∷ test_questions net (pair_in net ys)
+pair_questions net ys = Refusal.Pair asks is_pair ys net.n net.m ∷ test_questions net (pair_in net ys)
 
 -- of a call, by the words of the network and the pair and the room for values ("2 for the test on its own"): 1, 2 to 5, then 8 to 12 "of the network given"
 unfoldable pub test_table : List ℤ → List ℤ → ℕ → List Question
-test_table xs ys room = 1 asks leb 2 room ∷ (questions xs ++ pair_questions (read_of xs) ys)
+test_table xs ys room = Refusal.Room asks leb 2 room ∷ (questions xs ++ pair_questions (read_of xs) ys)
 
--- ---- 8 to 12 on a network: the first that is answered by no, 0 where none is; then the pair, and its value
+-- ---- a pair's words, on a network: the pair, and its value
 
-pub record Examines (net : Net) (ys : List ℤ) (r : Examined) : Type 0 where
-  pub refused_is : r.refused ≡ first_no (pair_questions net ys)
-  pub pair_is : r.refused ≡ 0 → r.pair ≡ pair_in net ys
-  pub value_is : r.refused ≡ 0 → r.value ≡ figure_of (value_of net (pair_in net ys))
+abbrev pub examined : Net → List ℤ → Examined
+examined net ys = record { pair = pair_in net ys; value = figure_of (value_of net (pair_in net ys)) }
 
--- ---- the answer, and the value as two words
+-- ---- the value as two words, where no question is answered by no
 
-abbrev pub answer_of : ℕ → Answer
-answer_of zero = Passed
-answer_of (suc q) = Refused (suc q)
-
-abbrev pub values_by : ℕ → Net → Pair → ℕ → List ℤ
-values_by zero net pair room = two_words (figure_of (value_of net pair)) room
-values_by (suc q) net pair room = zeros room
-
--- the paper's number of an answer, 0 where the pair is passed
-abbrev pub number_of : Answer → ℕ
-number_of Passed = 0
-number_of (Refused q) = q
+abbrev pub values_by : Result ⊤ Refusal → Net → Pair → ℕ → List ℤ
+values_by (Ok x) net pair room = two_words (figure_of (value_of net pair)) room
+values_by (Err q) net pair room = zeros room
 
 -- ---- in exact numbers
 
@@ -71,11 +59,11 @@ pub record Least (net : Net) (ys values : List ℤ) : Type 0 where
 
 -- ---- a call: the words of the network and the pair, the room for values; the result and the words written
 
-pub record Tested (xs ys : List ℤ) (room : ℕ) (r : Answer) (values : List ℤ) : Type 0 where
-  pub result : r ≡ answer_of (first_no (test_table xs ys room))
+pub record Tested (xs ys : List ℤ) (room : ℕ) (r : Result ⊤ Refusal) (values : List ℤ) : Type 0 where
+  pub result : r ≡ first_no (test_table xs ys room)
   -- the paper's number
-  pub number : number_of r ≡ first_no (test_table xs ys room)
+  pub number : number_in r ≡ number_in (first_no (test_table xs ys room))
   pub values_are : values ≡ values_by (first_no (test_table xs ys room)) (read_of xs) (pair_in (read_of xs) ys) room
   -- where none of 1 to 5 applies, exactly the proven pairs pass
-  pub exactly : first_no (1 asks leb 2 room ∷ questions xs) ≡ 0 → (r ≡ Passed) ↔ Proven (read_of xs) ys
-  pub least : r ≡ Passed → Least (read_of xs) ys values
+  pub exactly : first_no (Refusal.Room asks leb 2 room ∷ questions xs) ≡ Ok tt → (r ≡ Ok tt) ↔ Proven (read_of xs) ys
+  pub least : r ≡ Ok tt → Least (read_of xs) ys values

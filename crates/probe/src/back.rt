@@ -2,7 +2,6 @@
 // word is 0 where the rule gives no step at that place, 1 where a figure of the way back does not fit, 2 where all fit,
 // 3 where the network's record is refused; then, where all fit, come the numerators of the prices and flows before the
 // step, and their denominators.
-use crate::trial::Tried;
 use fraction::Fraction;
 use network::pair::Pair;
 use step::{Outcome, Undone};
@@ -45,7 +44,7 @@ pub(crate) fn answer(asked: &[i32; 204], told: &mut [i32; 62]) {
     let all = &asked[..];
     let pair = records::pair::read_pair(&all[164..], 6, 9);
     match crate::trial::try_rule(asked) {
-        Tried::Refused => told[0] = 3,
-        Tried::Answers(x) => undo(told, k, pair, x),
+        Ok(x) => undo(told, k, pair, x),
+        Err(_) => told[0] = 3,
     }
 }

@@ -4,7 +4,6 @@
 // nothing is put, and the figures of an arc dropped are 0.
 ghost use Rattle.std.specs.Prelude.{◌<◌};
 
-use crate::trial::Tried;
 use fraction::Fraction;
 use network::{ArcUpdate, Edit, SupplyUpdate};
 use step::Outcome;
@@ -66,7 +65,7 @@ fn put_outcome(told: &mut [i32; 62], x: Outcome) {
 
 pub(crate) fn answer(asked: &[i32; 204], told: &mut [i32; 62]) {
     match crate::trial::try_rule(asked) {
-        Tried::Refused => told[0] = 3,
-        Tried::Answers(x) => put_outcome(told, x),
+        Ok(x) => put_outcome(told, x),
+        Err(_) => told[0] = 3,
     }
 }

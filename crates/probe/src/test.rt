@@ -5,7 +5,7 @@
 // are 7 before the test, and of them those lent come first.
 ghost use Rattle.std.specs.Prelude.{◌≤◌};
 
-use optimality::Answer;
+use records::refusal::Refusal;
 
 fn put(told: &mut [i32; 62], number: i32, values: [i32; 4]) {
     told[0] = number;
@@ -15,10 +15,10 @@ fn put(told: &mut [i32; 62], number: i32, values: [i32; 4]) {
     told[4] = values[3];
 }
 
-fn number_of(a: Answer) -> i32 {
-    match a {
-        Answer::Passed => 0,
-        Answer::Refused(q) => fraction::words::word_of(q),
+fn number_of(answer: Result<(), Refusal>) -> i32 {
+    match answer {
+        Ok(()) => 0,
+        Err(refusal) => fraction::words::word_of(refusal.number()),
     }
 }
 

@@ -1,14 +1,8 @@
 // One rule at one place of a network. Behind the first word come the rule, the place, the length of a network's record,
 // and 160 words that begin with that record.
 use network::{ARC_PLACES, ArcUpdate, Net};
+use records::refusal::Refusal;
 use step::{Around, Outcome};
-
-// What the rule answers; refused where a question about the record is answered by no, or it is longer.
-#[derive(Clone, Copy)]
-pub(crate) enum Tried {
-    Refused,
-    Answers(Outcome),
-}
 
 // The arcs at a node: how many, and their numbers, upward.
 #[derive(Clone, Copy)]
@@ -80,20 +74,17 @@ fn at_place(net: Net, k: usize, i: usize) -> Outcome {
     Outcome::Passes
 }
 
-fn try_record(xs: &[i32], k: usize, i: usize) -> Tried {
-    if records::net::ask(xs) == 0 {
-        return Tried::Answers(at_place(records::net::read(xs), k, i));
-    }
-    Tried::Refused
+fn try_record(xs: &[i32], k: usize, i: usize) -> Result<Outcome, Refusal> {
+    records::net::ask(xs)?;
+    Ok(at_place(records::net::read(xs), k, i))
 }
 
-pub(crate) fn try_rule(asked: &[i32; 204]) -> Tried {
+// What the rule answers; refused where a question about the record is answered by no, or it is longer.
+pub(crate) fn try_rule(asked: &[i32; 204]) -> Result<Outcome, Refusal> {
     let k = crate::words::number(asked[1]);
     let i = crate::words::number(asked[2]);
     let length = crate::words::number(asked[3]);
-    if 160 < length {
-        return Tried::Refused;
-    }
+    Refusal::Sizes.unless(length <= 160)?;
     let all = &asked[..];
     let end = 4 + length;
     try_record(&all[4..end], k, i)

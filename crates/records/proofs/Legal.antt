@@ -11,6 +11,7 @@ use lib.Dec.{eqb, leb}
 use lib.IntN.{ℤ}
 use lib.ListN.{length, replicate}
 use borrow.Author.Tests.{le-leb, lt-leb, leb-true, eqb-true}
+use Rattle.std.specs.Prelude.{Ok}
 use Rattle.loops.specs.Loops.{upto}
 use Rattle.loops.proofs.Laws.{all-each}
 use Rattle.fraction.specs.declared.Fraction.{Fraction}
@@ -213,8 +214,8 @@ pub read_is : (xs : List ℤ) → sizes_right xs ≡ true → read_of xs ≡ net
 unfolding read_of
 read_is xs e = rw e
 
-pub read-legal : (xs : List ℤ) → first_no (questions xs) ≡ 0 → Legal (read_of xs)
+pub read-legal : (xs : List ℤ) → first_no (questions xs) ≡ Ok tt → Legal (read_of xs)
 read-legal xs e = let a = all_yes xs e in rw (read_is xs a.0) (formed-legal xs _ _ (sizes-are xs a.0) a.1)
 
-pub read-gapless : (xs : List ℤ) → first_no (questions xs) ≡ 0 → Gapless (read_of xs)
+pub read-gapless : (xs : List ℤ) → first_no (questions xs) ≡ Ok tt → Gapless (read_of xs)
 read-gapless xs e = let a = all_yes xs e in rw (read_is xs a.0) (formed-gapless xs _ _ (sizes-are xs a.0) a.1)

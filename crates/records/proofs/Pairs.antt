@@ -8,22 +8,22 @@ use lib.IntN.{ℤ, pos, negsuc}
 use borrow.Author.Tests.{leb-false, ne_eqb}
 use Rattle.integer.specs.Whole.{eq_z}
 use Rattle.fraction.proofs.Laws.{never}
-use Rattle.records.specs.declared.Size.TheVariants.{Is, Off}
+use Rattle.std.specs.Prelude.{Some, None}
 use Rattle.records.specs.Network.{size_of}
 
 -- a word that is a number, by what it is as a size up to that number
-pub size_is : (z : ℤ) (n k : ℕ) → size_of z n ≡ Is k → eqb k n ≡ eq_z z (pos n)
+pub size_is : (z : ℤ) (n k : ℕ) → size_of z n ≡ Some k → eqb k n ≡ eq_z z (pos n)
 size_is (pos j) n k e = by (leb j n) e
   where
-    by : (b : Bool) → cond b (Is j) Off ≡ Is k → eqb k n ≡ eqb j n
+    by : (b : Bool) → cond b (Some j) None ≡ Some k → eqb k n ≡ eqb j n
     by true e = let f : j ≡ k = cc in ap (λ (x : ℕ). eqb x n) (sym f)
     by false e = never cc
 size_is (negsuc j) n k e = never cc
 
-pub size-off : (z : ℤ) (n : ℕ) → size_of z n ≡ Off → false ≡ eq_z z (pos n)
+pub size-off : (z : ℤ) (n : ℕ) → size_of z n ≡ None → false ≡ eq_z z (pos n)
 size-off (pos j) n e = by (leb j n) refl e
   where
-    by : (b : Bool) → leb j n ≡ b → cond b (Is j) Off ≡ Off → false ≡ eqb j n
+    by : (b : Bool) → leb j n ≡ b → cond b (Some j) None ≡ None → false ≡ eqb j n
     by true f e = never cc
     by false f e = let h = leb-false j n f in sym (ne_eqb j n (λ (q : j ≡ n). omega arith))
 size-off (negsuc j) n e = refl

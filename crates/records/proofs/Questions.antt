@@ -1,5 +1,5 @@
 -- What the answers to the questions say of a record.
-use mathlib.Core.Path.{◌≡◌, refl, sym}
+use mathlib.Core.Path.{◌≡◌, refl, sym, ◌∙◌}
 use mathlib.Core.Bool.{Bool, true, false, cond}
 use mathlib.Core.List.{List}
 use Prim.Native.Nat.{ℕ, suc, ◌+◌, ◌*◌, ◌≤◌, ◌<◌}
@@ -12,54 +12,31 @@ use lib.IntN.{ℤ, pos, negsuc, nat_abs}
 use lib.Signed.{lt_z, mag}
 use mir.Syntax.{w32}
 use mir.Val.{to_z, of_z}
-use borrow.Author.Tests.{ltb-true, leb-true, le-leb, lt-leb, eqb-true}
+use borrow.Author.Tests.{leb-true, eqb-true, eq-eqb, ne_eqb}
 use Rattle.integer.specs.Machine.{back32}
 use Rattle.loops.specs.Loops.{all}
 use Rattle.fraction.proofs.Laws.{never, and_both}
 use Rattle.fraction.specs.Words.{word, natural_of}
 use Rattle.fraction.proofs.Signs.{negative, positive}
-use Rattle.records.specs.declared.Size.TheVariants.{Is, Off}
+use Rattle.std.specs.Prelude.{Some, None, Result, Ok, Err, ⊤}
+use Rattle.records.specs.declared.refusal.Refusal.{Refusal}
 use Rattle.records.specs.Questions.{first_no}
 use Rattle.records.specs.Network.{figures, size_of, is_size, n_of, m_of, sizes_right, figures_right, ends_right, multipliers_right, questions, is_in_form, has_ends, is_weighted_at}
 
--- ---- a word that was read as a size
-
-module _ (z : ℤ) (h : mag z < 2147483648) where
-  pub size-neg : (l : ℕ) → lt_z (to_z w32 (of_z w32 z)) (pos 0) ≡ true → Off ≡ size_of z l
-  size-neg l e = by z (negative z h e)
-    where
-      by : (z : ℤ) → lt_z z (pos 0) ≡ true → Off ≡ size_of z l
-      by (pos n) e = absurd (not-suc-le-zero (ltb-true n 0 e))
-      by (negsuc n) e = refl
-
-  pub size-yes : (l : ℕ) → lt_z (to_z w32 (of_z w32 z)) (pos 0) ≡ false → nat_abs (to_z w32 (of_z w32 z)) ≤ l → Is (nat_abs (to_z w32 (of_z w32 z))) ≡ size_of z l
-  size-yes l e k = rw (back32 z h) (by z (positive z h e) (rw (back32 z h) at k))
-    where
-      by : (z : ℤ) → lt_z z (pos 0) ≡ false → nat_abs z ≤ l → Is (nat_abs z) ≡ size_of z l
-      by (pos n) e k = rw (le-leb n l k)
-      by (negsuc n) e k = never cc
-
-  pub size-no : (l : ℕ) → lt_z (to_z w32 (of_z w32 z)) (pos 0) ≡ false → l < nat_abs (to_z w32 (of_z w32 z)) → Off ≡ size_of z l
-  size-no l e k = by z (positive z h e) (rw (back32 z h) at k)
-    where
-      by : (z : ℤ) → lt_z z (pos 0) ≡ false → l < nat_abs z → Off ≡ size_of z l
-      by (pos n) e k = rw (lt-leb n l k)
-      by (negsuc n) e k = never cc
-
 -- ---- what a size says
 
-came-is : (b : Bool) (n k : ℕ) → cond b (Is n) Off ≡ Is k → (b ≡ true) × (n ≡ k)
+came-is : (b : Bool) (n k : ℕ) → cond b (Some n) None ≡ Some k → (b ≡ true) × (n ≡ k)
 came-is true n k e = (refl, cc)
 came-is false n k e = never cc
 
-pub size_is : (z : ℤ) (l k : ℕ) → size_of z l ≡ Is k → (is_size l z ≡ true) × (k ≡ natural_of z)
+pub size_is : (z : ℤ) (l k : ℕ) → size_of z l ≡ Some k → (is_size l z ≡ true) × (k ≡ natural_of z)
 size_is (pos n) l k e = let h = came-is (leb n l) n k e in (h.0, sym h.1)
 size_is (negsuc n) l k e = never cc
 
-pub size-off : (z : ℤ) (l : ℕ) → size_of z l ≡ Off → is_size l z ≡ false
+pub size-off : (z : ℤ) (l : ℕ) → size_of z l ≡ None → is_size l z ≡ false
 size-off (pos n) l e = by (leb n l) e
   where
-    by : (b : Bool) → cond b (Is n) Off ≡ Off → b ≡ false
+    by : (b : Bool) → cond b (Some n) None ≡ None → b ≡ false
     by true e = never cc
     by false e = refl
 size-off (negsuc n) l e = refl
@@ -68,15 +45,15 @@ size_few : (z : ℤ) (l : ℕ) → is_size l z ≡ true → natural_of z ≤ l
 size_few (pos n) l e = leb-true n l e
 size_few (negsuc n) l e = omega arith
 
-pub size-le : (z : ℤ) (l k : ℕ) → size_of z l ≡ Is k → k ≤ l
+pub size-le : (z : ℤ) (l k : ℕ) → size_of z l ≡ Some k → k ≤ l
 size-le z l k e = let h = size_is z l k e in let b = size_few z l h.0 in omega (arith, h.1)
 
 -- ---- a table of questions
 
 -- none is answered by no: the first is not, and none of the others
-pub none-no : (q : ℕ) (b : Bool) {r : ℕ} → cond b r (suc q) ≡ 0 → (b ≡ true) × (r ≡ 0)
+pub none-no : (q : Refusal) (b : Bool) {r : Result ⊤ Refusal} → cond b r (Err q) ≡ Ok tt → (b ≡ true) × (r ≡ Ok tt)
 none-no q true e = (refl, e)
-none-no q false e = absurd (omega (arith, add-one q))
+none-no q false e = never cc
 
 -- ---- question 2 is answered by yes
 
@@ -98,17 +75,23 @@ sized_by {xs} s e f = rw (e, f) (sizes-are xs s)
 
 -- and by the sizes that were read
 module _ (xs : List ℤ) where
-  pub no-nodes : size_of (word xs 0) 32 ≡ Off → false ≡ sizes_right xs
+  pub no-nodes : size_of (word xs 0) 32 ≡ None → sizes_right xs ≡ false
   unfolding sizes_right
   no-nodes e = rw (size-off (word xs 0) 32 e)
 
-  pub no-arcs : (n : ℕ) → size_of (word xs 0) 32 ≡ Is n → size_of (word xs 1) 96 ≡ Off → false ≡ sizes_right xs
+  pub no-arcs : (n : ℕ) → size_of (word xs 0) 32 ≡ Some n → size_of (word xs 1) 96 ≡ None → sizes_right xs ≡ false
   unfolding sizes_right
   no-arcs n e f = rw ((size_is (word xs 0) 32 n e).0, size-off (word xs 1) 96 f)
 
-  pub by_length : (n m : ℕ) → size_of (word xs 0) 32 ≡ Is n → size_of (word xs 1) 96 ≡ Is m → eqb (length xs) (2 + 2 * figures n m) ≡ sizes_right xs
+  by_length : (n m : ℕ) → size_of (word xs 0) 32 ≡ Some n → size_of (word xs 1) 96 ≡ Some m → eqb (length xs) (2 + 2 * figures n m) ≡ sizes_right xs
   unfolding sizes_right
   by_length n m e f = let a = size_is (word xs 0) 32 n e in let b = size_is (word xs 1) 96 m f in rw (a.0, b.0, a.1, b.1)
+
+  pub right-length : (n m : ℕ) → size_of (word xs 0) 32 ≡ Some n → size_of (word xs 1) 96 ≡ Some m → length xs ≡ 2 + 2 * figures n m → (sizes_right xs ≡ true) × (n ≡ n_of xs) × (m ≡ m_of xs)
+  right-length n m e f l = (sym (by_length n m e f) ∙ eq-eqb _ _ l, (size_is (word xs 0) 32 n e).1, (size_is (word xs 1) 96 m f).1)
+
+  pub wrong-length : (n m : ℕ) → size_of (word xs 0) 32 ≡ Some n → size_of (word xs 1) 96 ≡ Some m → (length xs ≡ 2 + 2 * figures n m → ⊥) → sizes_right xs ≡ false
+  wrong-length n m e f l = sym (by_length n m e f) ∙ ne_eqb _ _ l
 
 -- ---- questions 3 to 5 are answered by yes
 
@@ -118,20 +101,36 @@ pub record Formed (xs : List ℤ) (n m : ℕ) : Type 0 where
   pub weights : all (is_weighted_at xs n (figures n m)) m ≡ true
 
 -- the questions let a record pass: what each of them says
-pub all_yes : (xs : List ℤ) → first_no (questions xs) ≡ 0 → (sizes_right xs ≡ true) × Formed xs (n_of xs) (m_of xs)
+pub all_yes : (xs : List ℤ) → first_no (questions xs) ≡ Ok tt → (sizes_right xs ≡ true) × Formed xs (n_of xs) (m_of xs)
 unfolding questions figures_right ends_right multipliers_right
 all_yes xs e =
-    let a = none-no 1 (sizes_right xs) e in
-    let b = none-no 2 (figures_right xs) a.1 in
-    let c = none-no 3 (ends_right xs) b.1 in
-    let d = none-no 4 (multipliers_right xs) c.1 in
+    let a = none-no Refusal.Sizes (sizes_right xs) e in
+    let b = none-no Refusal.Form (figures_right xs) a.1 in
+    let c = none-no Refusal.Ends (ends_right xs) b.1 in
+    let d = none-no Refusal.Multipliers (multipliers_right xs) c.1 in
     (a.0, record { in_form = b.0; ends = c.0; weights = d.0 })
 
--- the first no, by the answers to 3 to 5, each where the sizes are right
-pub asked : (xs : List ℤ) (n m : ℕ) {a b d : Bool} → sizes_right xs ≡ true → n ≡ n_of xs → m ≡ m_of xs → all (is_in_form xs n (figures n m)) (figures n m) ≡ a → all (has_ends xs n (figures n m)) m ≡ b → all (is_weighted_at xs n (figures n m)) m ≡ d → cond a (cond b (cond d 0 5) 4) 3 ≡ first_no (questions xs)
-unfolding questions figures_right ends_right multipliers_right
-asked xs n m s e f x y z = rw (s, ← e, ← f, x, y, z)
+-- a question asked on its own: where it refuses, and where it lets pass
+pub refused : (b : Bool) (q : Refusal) (r : Result ⊤ Refusal) {e : Refusal} → ◌≡◌ {A = Result ⊤ Refusal} (Err e) (cond b (Ok tt) (Err q)) → Err e ≡ cond b r (Err q)
+refused true q r h = never cc
+refused false q r h = h
 
-pub not-asked : (xs : List ℤ) → sizes_right xs ≡ false → 2 ≡ first_no (questions xs)
+pub yes-asked : (b : Bool) (p : Refusal) {x : ⊤} → ◌≡◌ {A = Result ⊤ Refusal} (Ok x) (cond b (Ok tt) (Err p)) → b ≡ true
+yes-asked true p h = refl
+yes-asked false p h = never cc
+
+pub passed : (b : Bool) (p q : Refusal) {x : ⊤} {r : Result ⊤ Refusal} → ◌≡◌ {A = Result ⊤ Refusal} (Ok x) (cond b (Ok tt) (Err p)) → r ≡ cond b r (Err q)
+passed true p q h = refl
+passed false p q h = never cc
+
+pub same-refusal : {A : Type 0} {p q : Refusal} → ◌≡◌ {A = Result A Refusal} (Err p) (Err q) → p ≡ q
+same-refusal e = cc
+
+-- the first no, by the answers to 3 to 5, of words whose sizes are right
+pub asked : (xs ws : List ℤ) (n m : ℕ) {a b d : Bool} → (sizes_right xs ≡ true) × (ws ≡ xs) × (n ≡ n_of xs) × (m ≡ m_of xs) → a ≡ all (is_in_form ws n (figures n m)) (figures n m) → b ≡ all (has_ends ws n (figures n m)) m → d ≡ all (is_weighted_at ws n (figures n m)) m → cond a (cond b (cond d (Ok tt) (Err Refusal.Multipliers)) (Err Refusal.Ends)) (Err Refusal.Form) ≡ first_no (questions xs)
+unfolding questions figures_right ends_right multipliers_right
+asked xs ws n m h x y z = rw (x, y, z, h.0, h.1, h.2, h.3) refl
+
+pub not-asked : (xs : List ℤ) → sizes_right xs ≡ false → Err Refusal.Sizes ≡ first_no (questions xs)
 unfolding questions
 not-asked xs s = rw s

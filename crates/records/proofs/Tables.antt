@@ -1,91 +1,134 @@
 -- The first no of two tables of questions, one behind the other.
-use mathlib.Core.Path.{◌≡◌, refl, sym, ◌∙◌}
+use mathlib.Core.Path.{◌≡◌, refl, sym, ap, ◌∙◌}
 use mathlib.Core.Bool.{Bool, true, false, cond, ◌&&◌, not}
 use mathlib.Core.List.{List, [], ◌∷◌, ◌++◌}
-use Prim.Native.Nat.{ℕ, zero, suc, ◌≤◌}
-use native.Mathlib.Numerals.{add-one}
+use Prim.Native.Nat.{ℕ, ◌≤◌}
 use native.Mathlib.Omega.{arith}
 use lib.Dec.{eqb, leb}
+use lib.ListN.{get_or}
 use borrow.Author.Tests.{eq-eqb, leb-true}
-use lib.IntN.{ℤ}
+use Rattle.std.specs.Prelude.{Result, Ok, Err, ⊤}
 use Rattle.fraction.proofs.Laws.{never, and_both}
-use Rattle.records.specs.Questions.{Question, first_no}
-use Rattle.records.specs.Network.{questions}
+use Rattle.records.specs.declared.refusal.Refusal.{Refusal}
+use Rattle.records.specs.Questions.{Question, number_of, number_in, first_no}
+use Rattle.std.specs.Result.{result_and}
 
--- no question has the number 0
-abbrev pub is_numbered : List Question → Bool
-is_numbered [] = true
-is_numbered (q ∷ qs) = not (eqb q.number 0) && is_numbered qs
+-- no refusal has the number 0
+pub numbered : (q : Refusal) → 1 ≤ number_of q
+numbered Refusal.Room = omega arith
+numbered Refusal.Sizes = omega arith
+numbered Refusal.Form = omega arith
+numbered Refusal.Ends = omega arith
+numbered Refusal.Multipliers = omega arith
+numbered Refusal.NoFlow = omega arith
+numbered Refusal.Stack = omega arith
+numbered Refusal.Pair = omega arith
+numbered Refusal.Width = omega arith
+numbered Refusal.Balance = omega arith
+numbered Refusal.Bounds = omega arith
+numbered Refusal.Prices = omega arith
+numbered Refusal.WayBack = omega arith
+numbered Refusal.Text = omega arith
 
-pub numbered-questions : (xs : List ℤ) → is_numbered (questions xs) ≡ true
-unfolding questions
-numbered-questions xs = refl
+-- a number is that of one refusal
+abbrev by_number : List Refusal
+by_number = Refusal.Room ∷ Refusal.Room ∷ Refusal.Sizes ∷ Refusal.Form ∷ Refusal.Ends ∷ Refusal.Multipliers ∷ Refusal.NoFlow ∷ Refusal.Stack ∷ Refusal.Pair ∷ Refusal.Width ∷ Refusal.Balance ∷ Refusal.Bounds ∷ Refusal.Prices ∷ Refusal.WayBack ∷ Refusal.Text ∷ []
+
+back : (q : Refusal) → get_or by_number (number_of q) Refusal.Room ≡ q
+back Refusal.Room = refl
+back Refusal.Sizes = refl
+back Refusal.Form = refl
+back Refusal.Ends = refl
+back Refusal.Multipliers = refl
+back Refusal.NoFlow = refl
+back Refusal.Stack = refl
+back Refusal.Pair = refl
+back Refusal.Width = refl
+back Refusal.Balance = refl
+back Refusal.Bounds = refl
+back Refusal.Prices = refl
+back Refusal.WayBack = refl
+back Refusal.Text = refl
+
+pub same-by_number : (p q : Refusal) → number_of p ≡ number_of q → p ≡ q
+same-by_number p q e = sym (back p) ∙ ap (λ n. get_or by_number n Refusal.Room) e ∙ back q
+
+pub none-numbered : (r : Result ⊤ Refusal) → number_in r ≡ 0 → r ≡ Ok tt
+none-numbered (Ok x) e = refl
+none-numbered (Err q) e = absurd (omega (arith, numbered q))
+
+-- a value, where no question is answered by no: what each of its results says
+pub answered-no : {T : Type 0} (r : Result ⊤ Refusal) (x : T) {q : Refusal} → ◌≡◌ {A = Result T Refusal} (Err q) (result_and r (Ok x)) → r ≡ Err q
+answered-no (Ok y) x e = never cc
+answered-no (Err p) x {q} e = let z : q ≡ p = cc in rw z refl
+
+pub answered-yes : {T : Type 0} (r : Result ⊤ Refusal) (x : T) {y : T} → ◌≡◌ {A = Result T Refusal} (Ok y) (result_and r (Ok x)) → (r ≡ Ok tt) × (y ≡ x)
+answered-yes (Ok u) x e = (refl, cc)
+answered-yes (Err p) x e = never cc
 
 -- where the first table has a no, it is the first of both
-pub stops : (qs rs : List Question) → ¬ (first_no qs ≡ 0) → first_no (qs ++ rs) ≡ first_no qs
-stops [] rs n = absurd (n refl)
-stops (q ∷ qs) rs n = by q.yes? n (stops qs rs)
+pub stops : (qs rs : List Question) (q : Refusal) → first_no qs ≡ Err q → first_no (qs ++ rs) ≡ Err q
+stops [] rs q e = never cc
+stops (p ∷ qs) rs q e = by p.yes? e (stops qs rs q)
   where
-    by : (b : Bool) → ¬ (cond b (first_no qs) q.number ≡ 0) → (¬ (first_no qs ≡ 0) → first_no (qs ++ rs) ≡ first_no qs) → cond b (first_no (qs ++ rs)) q.number ≡ cond b (first_no qs) q.number
-    by true n k = k n
-    by false n k = refl
-
--- where it has none, the first of both is that of the second
-pub goes_on_lem : (qs rs : List Question) → is_numbered qs ≡ true → first_no qs ≡ 0 → first_no (qs ++ rs) ≡ first_no rs
-goes_on_lem [] rs h e = refl
-goes_on_lem (q ∷ qs) rs h e = let a = and_both (not (eqb q.number 0)) _ h in by q.yes? q.number a.0 e (goes_on_lem qs rs a.1)
-  where
-    by : (b : Bool) (n : ℕ) → not (eqb n 0) ≡ true → cond b (first_no qs) n ≡ 0 → (first_no qs ≡ 0 → first_no (qs ++ rs) ≡ first_no rs) → cond b (first_no (qs ++ rs)) n ≡ first_no rs
-    by true n h e k = k e
-    by false zero h e k = never cc
-    by false (suc n) h e k = absurd (omega (arith, add-one n))
-
--- where both have none, each has none
-pub none_before : (qs rs : List Question) → first_no (qs ++ rs) ≡ 0 → first_no qs ≡ 0
-none_before [] rs e = refl
-none_before (q ∷ qs) rs e = by q.yes? e (none_before qs rs)
-  where
-    by : (b : Bool) → cond b (first_no (qs ++ rs)) q.number ≡ 0 → (first_no (qs ++ rs) ≡ 0 → first_no qs ≡ 0) → cond b (first_no qs) q.number ≡ 0
+    by : (b : Bool) → cond b (first_no qs) (Err p.refusal) ≡ Err q → (first_no qs ≡ Err q → first_no (qs ++ rs) ≡ Err q) → cond b (first_no (qs ++ rs)) (Err p.refusal) ≡ Err q
     by true e k = k e
     by false e k = e
 
-pub none-behind : (qs rs : List Question) → is_numbered qs ≡ true → first_no (qs ++ rs) ≡ 0 → first_no rs ≡ 0
-none-behind qs rs h e = sym (goes_on_lem qs rs h (none_before qs rs e)) ∙ e
+-- where it has none, the first of both is that of the second
+pub goes_on_lem : (qs rs : List Question) → first_no qs ≡ Ok tt → first_no (qs ++ rs) ≡ first_no rs
+goes_on_lem [] rs e = refl
+goes_on_lem (q ∷ qs) rs e = by q.yes? e (goes_on_lem qs rs)
+  where
+    by : (b : Bool) → cond b (first_no qs) (Err q.refusal) ≡ Ok tt → (first_no qs ≡ Ok tt → first_no (qs ++ rs) ≡ first_no rs) → cond b (first_no (qs ++ rs)) (Err q.refusal) ≡ first_no rs
+    by true e k = k e
+    by false e k = never cc
 
--- a number that no question of the table has is not the first no
+-- where both have none, each has none
+pub none_before : (qs rs : List Question) → first_no (qs ++ rs) ≡ Ok tt → first_no qs ≡ Ok tt
+none_before [] rs e = refl
+none_before (q ∷ qs) rs e = by q.yes? e (none_before qs rs)
+  where
+    by : (b : Bool) → cond b (first_no (qs ++ rs)) (Err q.refusal) ≡ Ok tt → (first_no (qs ++ rs) ≡ Ok tt → first_no qs ≡ Ok tt) → cond b (first_no qs) (Err q.refusal) ≡ Ok tt
+    by true e k = k e
+    by false e k = never cc
+
+pub none-behind : (qs rs : List Question) → first_no (qs ++ rs) ≡ Ok tt → first_no rs ≡ Ok tt
+none-behind qs rs e = sym (goes_on_lem qs rs (none_before qs rs e)) ∙ e
+
+-- a question that the table has not is not the first no
 abbrev pub is_absent : ℕ → List Question → Bool
-is_absent n [] = not (eqb n 0)
-is_absent n (q ∷ qs) = not (eqb q.number n) && is_absent n qs
+is_absent n [] = not (eqb 0 n)
+is_absent n (q ∷ qs) = not (eqb (number_of q.refusal) n) && is_absent n qs
 
-pub absent : (n : ℕ) (qs : List Question) → is_absent n qs ≡ true → first_no qs ≡ n → ⊥
-absent n [] h e = by (eqb n 0) (eq-eqb n 0 (sym e)) h
+unlike : (k n : ℕ) → not (eqb k n) ≡ true → k ≡ n → ⊥
+unlike k n h e = never (let z = eq-eqb k n e in let w : not true ≡ true = rw z at h in cc)
+
+pub absent : (n : ℕ) (qs : List Question) → is_absent n qs ≡ true → number_in (first_no qs) ≡ n → ⊥
+absent n [] h e = unlike 0 n h e
+absent n (q ∷ qs) h e = let a = and_both (not (eqb (number_of q.refusal) n)) _ h in by q.yes? a.0 e (absent n qs a.1)
   where
-    by : (b : Bool) → b ≡ true → not b ≡ true → ⊥
-    by true e h = never cc
-    by false e h = never cc
-absent n (q ∷ qs) h e = let a = and_both (not (eqb q.number n)) _ h in by q.yes? a.0 e (absent n qs a.1)
-  where
-    by : (b : Bool) → not (eqb q.number n) ≡ true → cond b (first_no qs) q.number ≡ n → (first_no qs ≡ n → ⊥) → ⊥
+    by : (b : Bool) → not (eqb (number_of q.refusal) n) ≡ true → number_in (cond b (first_no qs) (Err q.refusal)) ≡ n → (number_in (first_no qs) ≡ n → ⊥) → ⊥
     by true h e k = k e
-    by false h e k = never (let z = eq-eqb q.number n e in let w : not true ≡ true = rw z at h in cc)
+    by false h e k = unlike _ n h e
 
 -- so where it is the first of both, the first table has none, and it is the first of the second
-pub behind : (n : ℕ) (qs rs : List Question) → is_numbered qs ≡ true → is_absent n qs ≡ true → first_no (qs ++ rs) ≡ n → (first_no qs ≡ 0) × (first_no rs ≡ n)
-behind n qs rs h a e = by (first_no qs) refl
+pub behind : (n : ℕ) (qs rs : List Question) → is_absent n qs ≡ true → number_in (first_no (qs ++ rs)) ≡ n → (first_no qs ≡ Ok tt) × (number_in (first_no rs) ≡ n)
+behind n qs rs a e = by (first_no qs) refl
   where
-    by : (q : ℕ) → first_no qs ≡ q → (first_no qs ≡ 0) × (first_no rs ≡ n)
-    by zero z = (z, sym (goes_on_lem qs rs h z) ∙ e)
-    by (suc q) z = absurd (absent n qs a (sym (stops qs rs (λ y. omega (arith, add-one q, sym z ∙ y))) ∙ e))
+    by : (r : Result ⊤ Refusal) → first_no qs ≡ r → (first_no qs ≡ Ok tt) × (number_in (first_no rs) ≡ n)
+    by (Ok x) z = (z, rw (goes_on_lem qs rs z) at e)
+    by (Err q) z = absurd (absent n qs a (rw z (rw (stops qs rs q z) at e)))
 
 -- where no number of the table is above n, neither is the first no
 abbrev pub is_up_to : ℕ → List Question → Bool
 is_up_to n [] = true
-is_up_to n (q ∷ qs) = leb q.number n && is_up_to n qs
+is_up_to n (q ∷ qs) = leb (number_of q.refusal) n && is_up_to n qs
 
-pub up_to : (n : ℕ) (qs : List Question) → is_up_to n qs ≡ true → first_no qs ≤ n
+pub up_to : (n : ℕ) (qs : List Question) → is_up_to n qs ≡ true → number_in (first_no qs) ≤ n
 up_to n [] h = omega arith
-up_to n (q ∷ qs) h = let a = and_both (leb q.number n) _ h in by q.yes? (leb-true _ _ a.0) (up_to n qs a.1)
+up_to n (q ∷ qs) h = let a = and_both (leb (number_of q.refusal) n) _ h in by q.yes? (leb-true _ _ a.0) (up_to n qs a.1)
   where
-    by : (b : Bool) → q.number ≤ n → first_no qs ≤ n → cond b (first_no qs) q.number ≤ n
+    by : (b : Bool) → number_of q.refusal ≤ n → number_in (first_no qs) ≤ n → number_in (cond b (first_no qs) (Err q.refusal)) ≤ n
     by true h k = k
     by false h k = h

@@ -6,7 +6,7 @@ use Rattle.fraction.specs.Exact.{is_proper, is_operand, is_same, from_words, den
 use Rattle.fraction.specs.Words.{word_of}
 use Rattle.network.specs.Network.{is_root, with_arc, with_supply, with_node}
 use Rattle.records.specs.Limits.{network_room}
-use Rattle.records.specs.Questions.{first_no}
+use Rattle.records.specs.Questions.{first_no, number_in}
 use Rattle.records.specs.Arrays.{figure_at, arrays_of, has_room, record_of}
 use Rattle.records.specs.Network.{sizes_right, figures_right, ends_right, multipliers_right, questions, role_of, is_permitted, is_end, has_ends, arc_in, is_weighted, net_of, read_of, role_figure, figure_of, network_of}
 
@@ -20,7 +20,7 @@ pub record Example : Type 0 where
 
 abbrev pub AllRight : List Example → Type 0
 AllRight [] = Unit {0}
-AllRight (e ∷ es) = (first_no (questions e.network) ≡ e.answer) × AllRight es
+AllRight (e ∷ es) = (number_in (first_no (questions e.network)) ≡ e.answer) × AllRight es
 
 -- the empty network, and without its constant; no word; a word more; a mark for the constant; arc 1's lower bound 1 over 0; its to node 4; its to node 1
 abbrev pub table : List Example

@@ -1,5 +1,5 @@
 -- A network's record (01, "Records"; 02, 2026-01): the questions 2 to 5 in their order ("Questions before work"), the network that it holds, and the record of a network.
-use Rattle.std.specs.Prelude.{Bool, false, cond, ◌&&◌, ◌||◌, not, List, [], ◌∷◌, ℕ, ◌+◌, ◌-◌, ◌*◌, ◌/◌, ◌%◌, eqb, leb, ℤ, pos, negsuc, length}
+use Rattle.std.specs.Prelude.{Bool, false, cond, Option, Some, None, ◌&&◌, ◌||◌, not, List, [], ◌∷◌, ℕ, ◌+◌, ◌-◌, ◌*◌, ◌/◌, ◌%◌, eqb, leb, ℤ, pos, negsuc, length}
 use Rattle.loops.specs.Loops.{all, upto}
 use Rattle.fraction.specs.declared.Fraction.{Fraction}
 use Rattle.fraction.specs.Exact.{zero_fraction, no_lower, no_upper, is_proper, is_same, is_zero}
@@ -9,8 +9,7 @@ use Rattle.network.specs.declared.Net.{Net}
 use Rattle.network.specs.Limits.{max_nodes, max_arcs}
 use Rattle.network.specs.Network.{empty_net, arc_at, supply_at, is_number, is_root, with_arc, with_node}
 use Rattle.network.specs.ArcList.{replaced}
-use Rattle.records.specs.declared.Size.{Size}
-use Rattle.records.specs.declared.Size.TheVariants.{Is, Off}
+use Rattle.records.specs.declared.refusal.Refusal.{Refusal}
 use Rattle.records.specs.Limits.{network_room}
 use Rattle.records.specs.Questions.{Question, ◌asks◌}
 use Rattle.records.specs.Arrays.{figure_at, record_of}
@@ -26,9 +25,9 @@ arc_figure n j = 1 + n + 7 * j
 -- ---- 2. "Are n and m within limits and the length exactly right?"
 
 -- a word as a size up to a limit; and whether it is one
-abbrev pub size_of : ℤ → ℕ → Size
-size_of (pos n) limit = cond (leb n limit) (Is n) Off
-size_of (negsuc n) limit = Off
+abbrev pub size_of : ℤ → ℕ → Option ℕ
+size_of (pos n) limit = cond (leb n limit) (Some n) None
+size_of (negsuc n) limit = None
 
 abbrev pub is_size : ℕ → ℤ → Bool
 is_size limit (pos n) = leb n limit
@@ -98,7 +97,7 @@ multipliers_right xs = all (is_weighted_at xs (n_of xs) (figures (n_of xs) (m_of
 -- ---- the questions of a network's record
 
 unfoldable pub questions : List ℤ → List Question
-questions xs = 2 asks sizes_right xs ∷ 3 asks figures_right xs ∷ 4 asks ends_right xs ∷ 5 asks multipliers_right xs ∷ []
+questions xs = Refusal.Sizes asks sizes_right xs ∷ Refusal.Form asks figures_right xs ∷ Refusal.Ends asks ends_right xs ∷ Refusal.Multipliers asks multipliers_right xs ∷ []
 
 -- ---- the network that a record holds
 

@@ -16,6 +16,7 @@ use network::{MAX_ARCS, MAX_NODES, NODE_PLACES};
 
 pub mod net;
 pub mod pair;
+pub mod refusal;
 pub mod stack;
 pub mod values;
 
@@ -40,13 +41,6 @@ pub const VALUE_WORDS: usize = 4;
 // The least words of scratch: the log of the longest run.
 pub const SCRATCH_WORDS: usize = step_log::LOG_WORDS;
 
-// A size within its limit.
-#[derive(Clone, Copy)]
-pub enum Size {
-    Is(usize),
-    Off,
-}
-
 // The word t + k places behind the two sizes; 0 outside.
 fn word_behind(xs: &[i32], t: usize, k: usize) -> i32
     ensures { result ≡ word xs.now (2 + t + k) }
@@ -70,36 +64,28 @@ pub fn figure_at(xs: &[i32], t: usize, k: usize) -> Fraction
     Fraction::from_words(word_behind(xs, 0, k), word_behind(xs, t, k))
 }
 
+// The word at a place; 0 outside.
+fn word_at(xs: &[i32], at: usize) -> i32
+    ensures { result ≡ word xs.now at }
+{
+    xs.get(at).copied().unwrap_or(0)
+}
+
 // A word as a size, up to a limit; 0 outside.
-pub fn size_at(xs: &[i32], at: usize, limit: usize) -> Size
+pub fn size_at(xs: &[i32], at: usize, limit: usize) -> Option<usize>
     ensures { result ≡ size_of (word xs.now at) limit }
 {
-    if at < xs.len() {
-        let n = xs[at];
-        if n < 0 {
-            return Size::Off;
-        }
-        let k = n as usize;
-        if k <= limit {
-            return Size::Is(k);
-        }
-        return Size::Off;
-    }
-    Size::Is(0)
+    usize::try_from(word_at(xs, at))
+        .ok()
+        .filter(|n| *n <= limit)
 }
 
 // A word as a number; 0 below zero and outside.
 pub fn number_at(xs: &[i32], at: usize) -> usize
-    ensures { result ≡ natural_of (word xs.now at) }
+    ensures is { result ≡ natural_of (word xs.now at) }
+    ensures fits { result ≤ 2147483647 }
 {
-    if at < xs.len() {
-        let z = xs[at];
-        if z < 0 {
-            return 0;
-        }
-        return z as usize;
-    }
-    0
+    usize::try_from(word_at(xs, at)).unwrap_or(0)
 }
 
 // ---- writing

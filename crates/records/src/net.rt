@@ -1,5 +1,5 @@
 // A network's record: the questions 2 to 5 before work, the network that it holds, and the record of a network.
-ghost use Rattle.std.specs.Prelude.{◌≡◌, List, ◌+◌, ◌*◌, ◌≤◌, ◌<◌, length};
+ghost use Rattle.std.specs.Prelude.{◌≡◌, true, false, MatchOption, List, ◌+◌, ◌*◌, ◌≤◌, ◌<◌, length};
 ghost use Rattle.loops.specs.Loops.{all, upto, build};
 ghost use Rattle.network.specs.declared.Arc.{Arc};
 ghost use Rattle.network.specs.declared.Nodes.{Nodes};
@@ -9,36 +9,24 @@ ghost use Rattle.network.specs.ArcList.{no_arcs, nodes_of, joined};
 ghost use Rattle.records.specs.Limits.{network_figures};
 ghost use Rattle.records.specs.Arrays.{figure_at, arrays_of};
 ghost use Rattle.records.specs.Questions.{first_no};
-ghost use Rattle.records.specs.Network.{figures, arc_figure, sizes_right, role_of, is_permitted, is_in_form, is_end, has_ends, arc_in, is_weighted, is_weighted_at, questions, node_turn, arc_turn, read_of, load_turn, loaded, role_figure, figure_of, network_of};
+ghost use Rattle.records.specs.Network.{n_of, m_of, figures, arc_figure, sizes_right, role_of, is_permitted, is_in_form, is_end, has_ends, arc_in, is_weighted, is_weighted_at, questions, node_turn, arc_turn, read_of, load_turn, loaded, role_figure, figure_of, network_of};
 ghost use Rattle.records.specs.internal.Put.{num_of, den_of, nums_in, dens_in, put_from, arcs_put};
 
-use crate::Size;
+use crate::refusal::Refusal;
 use fraction::Fraction;
 use network::{ARC_PLACES, Arc, MAX_ARCS, MAX_NODES, NODE_PLACES, Net, Nodes};
 
 // ---- the questions, and reading
 
-// The same, of a record that is long enough.
-fn figure_in(xs: &[i32], t: usize, k: usize) -> Fraction
-    requires { (2 + 2 * t ≤ length xs.now) × (k < t) }
-    ensures { result ≡ figure_at xs.now t k }
-{
-    let num = xs[2 + k];
-    let den = xs[2 + t + k];
-    Fraction::from_words(num, den)
-}
-
-// Question 2: whether the sizes are within limits and the length is right.
-pub(crate) fn has_sizes(xs: &[i32]) -> bool
-    ensures { result ≡ sizes_right xs.now }
-{
-    match crate::size_at(xs, 0, MAX_NODES) {
-        Size::Off => false,
-        Size::Is(n) => match crate::size_at(xs, 1, MAX_ARCS) {
-            Size::Off => false,
-            Size::Is(m) => xs.len() == 2 + 2 * (1 + n + 7 * m),
-        },
-    }
+// The words of a network's record, with the sizes that they begin with.
+#[derive(Clone, Copy)]
+pub(crate) struct Record<'a> {
+    words: &'a [i32],
+    n: usize,
+    m: usize,
+    ghost few_nodes: { n ≤ max_nodes },
+    ghost few_arcs: { m ≤ max_arcs },
+    ghost long: { 2 + 2 * figures n m ≡ length words.now },
 }
 
 // Whether figure k is a fraction in form, or the mark that its place permits.
@@ -60,20 +48,6 @@ fn permitted(n: usize, k: usize, f: Fraction) -> bool
     }
 }
 
-// Question 3: whether each figure is a fraction in form or a permitted mark.
-fn all_in_form(xs: &[i32], n: usize, t: usize) -> bool
-    requires { 2 + 2 * t ≤ length xs.now }
-    ensures { result ≡ all (is_in_form xs.now n t) t }
-{
-    for k in 0..t {
-        let f = figure_in(xs, t, k);
-        if permitted(n, k, f) {} else {
-            return false;
-        }
-    }
-    true
-}
-
 // Whether a figure is whole and from 1 to n.
 fn is_end(n: usize, f: Fraction) -> bool
     ensures { result ≡ is_end n f }
@@ -83,52 +57,6 @@ fn is_end(n: usize, f: Fraction) -> bool
         return 1 <= i && i <= n;
     }
     false
-}
-
-// Whether both ends of the arc of number j + 1 are right.
-fn has_ends(xs: &[i32], n: usize, t: usize, j: usize) -> bool
-    requires { (2 + 2 * t ≤ length xs.now) × (arc_figure n j + 7 ≤ t) }
-    ensures { result ≡ has_ends xs.now n t j }
-{
-    let k = 1 + n + 7 * j;
-    is_end(n, figure_in(xs, t, k)) && is_end(n, figure_in(xs, t, k + 1))
-}
-
-// Question 4: whether all ends are whole and from 1 to n.
-fn all_ends(xs: &[i32], n: usize, t: usize, m: usize) -> bool
-    requires { (2 + 2 * t ≤ length xs.now) × (figures n m ≤ t) }
-    ensures { result ≡ all (has_ends xs.now n t) m }
-{
-    for j in 0..m {
-        if has_ends(xs, n, t, j) {} else {
-            return false;
-        }
-    }
-    true
-}
-
-// The arc of number j + 1.
-pub(crate) fn arc_in(xs: &[i32], n: usize, t: usize, j: usize) -> Arc
-    requires { (2 + 2 * t ≤ length xs.now) × (arc_figure n j + 7 ≤ t) }
-    ensures { result ≡ arc_in xs.now n t j }
-{
-    let k = 1 + n + 7 * j;
-    let from = fraction::words::natural_of(figure_in(xs, t, k));
-    let to = fraction::words::natural_of(figure_in(xs, t, k + 1));
-    let cost = figure_in(xs, t, k + 2);
-    let lower = figure_in(xs, t, k + 3);
-    let upper = figure_in(xs, t, k + 4);
-    let a = figure_in(xs, t, k + 5);
-    let b = figure_in(xs, t, k + 6);
-    Arc {
-        from,
-        to,
-        cost,
-        lower,
-        upper,
-        a,
-        b,
-    }
 }
 
 // Whether of an arc a is nonzero, and b zero exactly where from = to.
@@ -145,41 +73,6 @@ fn is_weighted(t: Arc) -> bool
     !z
 }
 
-// Question 5: whether every a is nonzero, and b zero exactly where from = to.
-fn all_weighted(xs: &[i32], n: usize, t: usize, m: usize) -> bool
-    requires { (2 + 2 * t ≤ length xs.now) × (figures n m ≤ t) }
-    ensures { result ≡ all (is_weighted_at xs.now n t) m }
-{
-    for j in 0..m {
-        if is_weighted(arc_in(xs, n, t, j)) {} else {
-            return false;
-        }
-    }
-    true
-}
-
-// The first of the questions 2 to 5 that is answered by no; 0 where none is.
-pub fn ask(network: &[i32]) -> usize
-    ensures { result ≡ first_no (questions network.now) }
-{
-    if has_sizes(network) {} else {
-        return 2;
-    }
-    let n = crate::number_at(network, 0);
-    let m = crate::number_at(network, 1);
-    let t = 1 + n + 7 * m;
-    if all_in_form(network, n, t) {} else {
-        return 3;
-    }
-    if all_ends(network, n, t, m) {} else {
-        return 4;
-    }
-    if all_weighted(network, n, t, m) {} else {
-        return 5;
-    }
-    0
-}
-
 // No node in use yet, of n nodes and m arcs, with a constant.
 fn no_nodes(n: usize, m: usize, constant: Fraction) -> Nodes
     ensures { result ≡ nodes_of (empty_net n m constant) }
@@ -194,87 +87,162 @@ fn no_nodes(n: usize, m: usize, constant: Fraction) -> Nodes
     }
 }
 
-// The constant, and nodes 1 to n with their supplies, whatever the arcs.
-fn read_nodes(xs: &[i32], n: usize, m: usize) -> Nodes
-    requires { (n ≤ max_nodes) × (m ≤ max_arcs) × (2 + 2 * figures n m ≤ length xs.now) }
-    ensures { (arcs : List Arc) → joined result arcs ≡ upto (node_turn xs.now (figures n m)) n (joined (nodes_of (empty_net n m (figure_at xs.now (figures n m) 0))) arcs) }
-{
-    let t = 1 + n + 7 * m;
-    let mut at = no_nodes(n, m, figure_in(xs, t, 0));
-    for i in 0..n {
-        let f = figure_in(xs, t, i + 1);
-        at.supply[i + 1] = f;
-        at.here[i + 1] = true;
+impl<'a> Record<'a> {
+    // Question 2: the record, where the sizes are within limits and the length is right.
+    fn of(words: &'a [i32]) -> Option<Record<'a>>
+        ensures { MatchOption result (sizes_right words.now ≡ false) (λ r. (sizes_right words.now ≡ true) × (r.words.now ≡ words.now) × (r.n ≡ n_of words.now) × (r.m ≡ m_of words.now)) }
+    {
+        let n = crate::size_at(words, 0, MAX_NODES)?;
+        let m = crate::size_at(words, 1, MAX_ARCS)?;
+        if words.len() == 2 + 2 * (1 + n + 7 * m) {
+            Some(Record { words, n, m })
+        } else {
+            None
+        }
     }
-    at
+
+    // How many figures there are.
+    fn count(self) -> usize
+        ensures { result ≡ figures self.entry.n self.entry.m }
+    {
+        1 + self.n + 7 * self.m
+    }
+
+    // Figure k.
+    fn figure(self, k: usize) -> Fraction
+        requires { k < figures self.n self.m }
+        ensures { result ≡ figure_at self.entry.words.now (figures self.entry.n self.entry.m) k }
+    {
+        let num = self.words[2 + k];
+        let den = self.words[2 + self.count() + k];
+        Fraction::from_words(num, den)
+    }
+
+    // The arc of number j + 1.
+    fn arc(self, j: usize) -> Arc
+        requires { j < self.m }
+        ensures { result ≡ arc_in self.entry.words.now self.entry.n (figures self.entry.n self.entry.m) j }
+    {
+        let k = 1 + self.n + 7 * j;
+        let from = fraction::words::natural_of(self.figure(k));
+        let to = fraction::words::natural_of(self.figure(k + 1));
+        let cost = self.figure(k + 2);
+        let lower = self.figure(k + 3);
+        let upper = self.figure(k + 4);
+        let a = self.figure(k + 5);
+        let b = self.figure(k + 6);
+        Arc {
+            from,
+            to,
+            cost,
+            lower,
+            upper,
+            a,
+            b,
+        }
+    }
+
+    // Question 3: whether each figure is a fraction in form or a permitted mark.
+    fn is_in_form(self) -> bool
+        ensures { result ≡ all (is_in_form self.entry.words.now self.entry.n (figures self.entry.n self.entry.m)) (figures self.entry.n self.entry.m) }
+    {
+        (0..self.count()).all(|k| permitted(self.n, k, self.figure(k)))
+    }
+
+    // Whether both ends of the arc of number j + 1 are right.
+    fn has_ends_at(self, j: usize) -> bool
+        requires { j < self.m }
+        ensures { result ≡ has_ends self.entry.words.now self.entry.n (figures self.entry.n self.entry.m) j }
+    {
+        let k = 1 + self.n + 7 * j;
+        is_end(self.n, self.figure(k)) && is_end(self.n, self.figure(k + 1))
+    }
+
+    // Question 4: whether all ends are whole and from 1 to n.
+    fn has_ends(self) -> bool
+        ensures { result ≡ all (has_ends self.entry.words.now self.entry.n (figures self.entry.n self.entry.m)) self.entry.m }
+    {
+        (0..self.m).all(|j| self.has_ends_at(j))
+    }
+
+    // Question 5: whether every a is nonzero, and b zero exactly where from = to.
+    fn is_weighted(self) -> bool
+        ensures { result ≡ all (is_weighted_at self.entry.words.now self.entry.n (figures self.entry.n self.entry.m)) self.entry.m }
+    {
+        (0..self.m).all(|j| is_weighted(self.arc(j)))
+    }
+
+    // The constant, and nodes 1 to n with their supplies, whatever the arcs.
+    fn nodes(self) -> Nodes
+        ensures { (arcs : List Arc) → joined result arcs ≡ upto (node_turn self.entry.words.now (figures self.entry.n self.entry.m)) self.entry.n (joined (nodes_of (empty_net self.entry.n self.entry.m (figure_at self.entry.words.now (figures self.entry.n self.entry.m) 0))) arcs) }
+    {
+        let mut at = no_nodes(self.n, self.m, self.figure(0));
+        for i in 0..self.n {
+            let f = self.figure(i + 1);
+            at.supply[i + 1] = f;
+            at.here[i + 1] = true;
+        }
+        at
+    }
+
+    // Arcs 1 to m, whatever the nodes.
+    fn arcs(self) -> [Arc; ARC_PLACES]
+        ensures { (nodes : Nodes) → joined nodes result ≡ upto (arc_turn self.entry.words.now self.entry.n (figures self.entry.n self.entry.m)) self.entry.m (joined nodes (no_arcs arc_places)) }
+    {
+        let z = network::no_arc();
+        let mut at = [z; ARC_PLACES];
+        for j in 0..self.m {
+            at[j + 1] = self.arc(j);
+        }
+        at
+    }
+
+    // The arcs into the lent list.
+    fn load(self, arcs: &mut [Arc])
+        ensures { arcs.new ≡ upto (load_turn self.entry.words.now self.entry.n (figures self.entry.n self.entry.m)) self.entry.m arcs.old }
+    {
+        for j in 0..self.m {
+            network::list::replace(arcs, j + 1, self.arc(j));
+        }
+    }
 }
 
-// Arcs 1 to m, whatever the nodes.
-fn read_arcs(xs: &[i32], n: usize, t: usize, m: usize) -> [Arc; ARC_PLACES]
-    requires { (m ≤ max_arcs) × (2 + 2 * t ≤ length xs.now) × (figures n m ≤ t) }
-    ensures { (nodes : Nodes) → joined nodes result ≡ upto (arc_turn xs.now n t) m (joined nodes (no_arcs arc_places)) }
+// The first of the questions 2 to 5 that is answered by no.
+pub fn ask(network: &[i32]) -> Result<(), Refusal>
+    ensures { result ≡ first_no (questions network.now) }
 {
-    let z = network::no_arc();
-    let mut at = [z; ARC_PLACES];
-    for j in 0..m {
-        let a = arc_in(xs, n, t, j);
-        at[j + 1] = a;
-    }
-    at
+    let record = Record::of(network).ok_or(Refusal::Sizes)?;
+    Refusal::Form.unless(record.is_in_form())?;
+    Refusal::Ends.unless(record.has_ends())?;
+    Refusal::Multipliers.unless(record.is_weighted())
 }
 
 // The network of a record; one without nodes and arcs where question 2 is answered by no.
 pub fn read(network: &[i32]) -> Net
     ensures { result ≡ read_of network.now }
 {
-    if has_sizes(network) {
-        let n = crate::number_at(network, 0);
-        let m = crate::number_at(network, 1);
-        return network::join(
-            read_nodes(network, n, m),
-            read_arcs(network, n, 1 + n + 7 * m, m),
-        );
+    match Record::of(network) {
+        Some(record) => network::join(record.nodes(), record.arcs()),
+        None => network::empty_net(0, 0, Fraction::ZERO),
     }
-    network::empty_net(0, 0, Fraction::ZERO)
 }
 
 // The constant and the nodes of a record's network.
 pub fn read_beside(network: &[i32]) -> Nodes
     ensures { result ≡ nodes_of (read_of network.now) }
 {
-    if has_sizes(network) {
-        return read_nodes(
-            network,
-            crate::number_at(network, 0),
-            crate::number_at(network, 1),
-        );
-    }
-    no_nodes(0, 0, Fraction::ZERO)
-}
-
-// ---- reading into the lent list
-
-// The arcs 1 to m of a network's record.
-pub(crate) fn load_arcs(arcs: &mut [Arc], network: &[i32], n: usize, t: usize, m: usize)
-    requires { (2 + 2 * t ≤ length network.now) × (figures n m ≤ t) }
-    ensures { arcs.new ≡ upto (load_turn network.now n t) m arcs.old }
-{
-    let mut j = 0;
-    while j < m {
-        let a = arc_in(network, n, t, j);
-        network::list::replace(arcs, j + 1, a);
-        j += 1;
+    match Record::of(network) {
+        Some(record) => record.nodes(),
+        None => no_nodes(0, 0, Fraction::ZERO),
     }
 }
 
-// The arcs of a network's record, where question 2 is answered by yes.
+// The arcs of a network's record into the lent list, where question 2 is answered by yes.
 pub fn load(arcs: &mut [Arc], network: &[i32])
     ensures { arcs.new ≡ loaded network.now arcs.old }
 {
-    if has_sizes(network) {
-        let n = crate::number_at(network, 0);
-        let m = crate::number_at(network, 1);
-        load_arcs(arcs, network, n, 1 + n + 7 * m, m);
+    if let Some(record) = Record::of(network) {
+        record.load(arcs);
     }
 }
 

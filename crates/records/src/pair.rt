@@ -9,7 +9,6 @@ ghost use Rattle.records.specs.Arrays.{arrays_of};
 ghost use Rattle.records.specs.Pair.{is_fraction, is_pair, price_turn, flow_turn, pair_of, pair_figure, pair_words};
 ghost use Rattle.records.specs.internal.Put.{nums_at, dens_at, put_from};
 
-use crate::Size;
 use fraction::Fraction;
 use network::pair::Pair;
 use network::{ARC_PLACES, MAX_ARCS, MAX_NODES};
@@ -18,10 +17,7 @@ use network::{ARC_PLACES, MAX_ARCS, MAX_NODES};
 pub fn is_size(pair: &[i32], at: usize, n: usize) -> bool
     ensures { result ≡ eq_z (word pair.now at) (pos n) }
 {
-    match crate::size_at(pair, at, n) {
-        Size::Is(k) => k == n,
-        Size::Off => false,
-    }
+    crate::size_at(pair, at, n) == Some(n)
 }
 
 // Whether so many words are two sizes and twice n + m figures.
@@ -45,29 +41,18 @@ fn is_long(len: usize, n: usize, m: usize) -> bool
 fn all_fractions(pair: &[i32], t: usize) -> bool
     ensures { result ≡ all (is_fraction pair.now t) t }
 {
-    for k in 0..t {
-        let f = crate::figure_at(pair, t, k);
-        if f.is_proper() {} else {
-            return false;
-        }
-    }
-    true
+    (0..t).all(|k| crate::figure_at(pair, t, k).is_proper())
 }
 
 // Question 8.
+#[tactic(auto, unfolding(crate::specs::Pair::has_sizes, crate::specs::Pair::is_pair))]
 pub fn is_pair(pair: &[i32], n: usize, m: usize) -> bool
     ensures { result ≡ is_pair pair.now n m }
 {
-    if is_long(pair.len(), n, m) {} else {
-        return false;
-    }
-    if is_size(pair, 0, n) {} else {
-        return false;
-    }
-    if is_size(pair, 1, m) {} else {
-        return false;
-    }
-    all_fractions(pair, n + m)
+    is_long(pair.len(), n, m)
+        && is_size(pair, 0, n)
+        && is_size(pair, 1, m)
+        && all_fractions(pair, n + m)
 }
 
 // Prices of the nodes 1 to n.

@@ -2,7 +2,7 @@
 use mathlib.Core.Path.{◌≡◌, refl, sym, ap, ◌∙◌}
 use mathlib.Core.Bool.{Bool, true, false, cond, ◌&&◌}
 use mathlib.Core.List.{List}
-use Prim.Native.Nat.{ℕ, zero, suc, ◌+◌, ◌≤◌}
+use Prim.Native.Nat.{ℕ, ◌+◌, ◌≤◌}
 use native.Mathlib.Omega.{arith}
 use lib.Dec.{leb}
 use lib.IntN.{ℤ}
@@ -26,96 +26,103 @@ use Rattle.rules.specs.Table.{rules, last_rule, next_of, reduced}
 use Rattle.rules.proofs.Whole as Whole
 use Rattle.search.specs.Search as Search
 use Rattle.search.proofs.Questions.{AllYes, all_yes, legal-read}
-use Rattle.reduction.specs.declared.Answer.{Answer}
-use Rattle.reduction.specs.declared.Answer.TheVariants.{Reduced, NoFlow}
-use Rattle.records.specs.Questions.{first_no}
+use Rattle.std.specs.Prelude.{Result, Ok, Err, ⊤}
+use Rattle.std.specs.Result.{result_and}
+use Rattle.records.specs.declared.refusal.Refusal.{Refusal}
+use Rattle.reduction.specs.declared.End.{End}
+use Rattle.reduction.specs.declared.End.TheVariants.{Reduced, NoFlow}
+use Rattle.records.specs.Questions.{first_no, number_in}
+use Rattle.records.proofs.Tables.{none-numbered}
 use Rattle.records.specs.Cut.{cut_network}
 use Rattle.reduction.proofs.ReadBack.{network-back}
 use Rattle.survivors.specs.Survivors.{packed_of}
 use Rattle.survivors.proofs.Tidy.{packed-tidy}
 use Rattle.records.proofs.Questions.{none-no, all_yes as answered}
-use Rattle.reduction.specs.Reduce.{is_roomy, reduce_table, refusal_of, end_answer, answer_of, end_output, output_of, number_of, Written, Reduction}
+use Rattle.reduction.specs.Reduce.{is_roomy, reduce_table, refusal_of, end_of, answer_of, end_output, output_of, Written, Reduction}
 use Rattle.reduction.proofs.Named.{next-shown}
 use Rattle.reduction.proofs.Sizes.{read-sizes}
 
 -- the room that the search asks for, among others
-pub searched-room : (a b c : Bool) (q : ℕ) → cond (a && (b && c)) q 1 ≡ cond (a && b) (cond c q 1) 1
+pub searched-room : (a b c : Bool) (q : Result ⊤ Refusal) → cond (a && (b && c)) q (Err Refusal.Room) ≡ cond (a && b) (cond c q (Err Refusal.Room)) (Err Refusal.Room)
 searched-room true true true q = refl
 searched-room true true false q = refl
 searched-room true false c q = refl
 searched-room false b c q = refl
 
--- an answer by how the run ended
-ended-number : (t : Next) → number_of (end_answer t) ≡ 0
-ended-number Stops = refl
-ended-number (Takes s) = refl
-ended-number (Refuted a b) = refl
+-- the first of two questions of room, answered by no
+pub out_short : (a b : Bool) (r : Result ⊤ Refusal) {q : Refusal} → ◌≡◌ {A = Result ⊤ Refusal} (Err q) (cond a (Ok tt) (Err Refusal.Room)) → cond (a && b) r (Err Refusal.Room) ≡ Err q
+out_short true b r e = never cc
+out_short false b r e = sym e
 
-ended-no-flow : (t : Next) (rule i : ℕ) → NoFlow rule i ≡ end_answer t → t ≡ Refuted rule i
+-- an answer by how the run ended
+ended-no-flow : (t : Next) (rule i : ℕ) → NoFlow rule i ≡ end_of t → t ≡ Refuted rule i
 ended-no-flow Stops rule i e = never cc
 ended-no-flow (Takes s) rule i e = never cc
 ended-no-flow (Refuted a b) rule i e = cc
 
-ended-output : (t : Next) (net : Net) (o : ℕ) → Reduced ≡ end_answer t → end_output t net o ≡ network_of (packed_of net) o
+ended-output : (t : Next) (net : Net) (o : ℕ) → Reduced ≡ end_of t → end_output t net o ≡ network_of (packed_of net) o
 ended-output Stops net o e = refl
 ended-output (Takes s) net o e = refl
 ended-output (Refuted a b) net o e = never cc
+
+same-number : (q : Result ⊤ Refusal) (e : End) → number_in (result_and q (Ok e)) ≡ number_in q
+same-number (Ok x) e = refl
+same-number (Err q) e = refl
 
 module _ (xs : List ℤ) (o s w k : ℕ) where
   abbrev run : Run
   run = reduced (read_of xs)
 
   -- room for the outputs, then the questions of the search
-  pub room-is : refusal_of xs o s w k ≡ cond (leb 1412 o && leb 257 s) (Search.refusal_of xs w k) 1
+  pub room-is : refusal_of xs o s w k ≡ cond (leb 1412 o && leb 257 s) (Search.refusal_of xs w k) (Err Refusal.Room)
   unfolding reduce_table is_roomy Search.refusal_of
   room-is = searched-room (leb 1412 o) (leb 257 s) (leb 10240 w && leb 96 k) (first_no (questions xs))
 
-  number-of : (q : ℕ) → number_of (answer_of q run) ≡ q
-  number-of zero = ended-number run.ends
-  number-of (suc q) = refl
+  module _ {r : Result End Refusal} (is : r ≡ answer_of (refusal_of xs o s w k) run) where
+    number : number_in r ≡ number_in (refusal_of xs o s w k)
+    number = ap number_in is ∙ same-number (refusal_of xs o s w k) (end_of run.ends)
 
-  module _ {r : Answer} (is : r ≡ answer_of (refusal_of xs o s w k) run) where
-    number : number_of r ≡ refusal_of xs o s w k
-    number = ap number_of is ∙ number-of (refusal_of xs o s w k)
+    none : number_in r ≡ 0 → refusal_of xs o s w k ≡ Ok tt
+    none z = none-numbered (refusal_of xs o s w k) (sym number ∙ z)
 
     -- where nothing is refused, there is room, the record holds a legal network, and the answer is by how its run ended
-    yes : number_of r ≡ 0 → (1412 ≤ o) × AllYes xs w k
+    yes : number_in r ≡ 0 → (1412 ≤ o) × AllYes xs w k
     yes z =
-        let a = none-no 0 (leb 1412 o && leb 257 s) (sym room-is ∙ sym number ∙ z) in
+        let a = none-no Refusal.Room (leb 1412 o && leb 257 s) (sym room-is ∙ none z) in
         (leb-true _ _ (and_both (leb 1412 o) _ a.0).0, all_yes xs w k a.1)
 
-    legal : number_of r ≡ 0 → Legal (read_of xs)
+    legal : number_in r ≡ 0 → Legal (read_of xs)
     legal z = legal-read (yes z).1
 
-    ended : number_of r ≡ 0 → r ≡ end_answer run.ends
-    ended z = is ∙ ap (λ q. answer_of q run) (sym number ∙ z)
+    ended : (e : End) → r ≡ Ok e → e ≡ end_of run.ends
+    ended e z = let f = sym z ∙ is ∙ ap (λ q. answer_of q run) (none (ap number_in z)) in cc
 
     -- no rule applies to what is left, at any place; "there are at most n + m steps"
-    until_none : r ≡ Reduced → NoneApplies last_rule rules run.net
-    until_none e = let z = ap number_of e in Whole.none-applies (read_of xs) (legal z) (λ k i q. never (let c = sym e ∙ ended z ∙ ap end_answer q in cc))
+    until_none : r ≡ Ok Reduced → NoneApplies last_rule rules run.net
+    until_none e = let z = ap number_in e in Whole.none-applies (read_of xs) (legal z) (λ k i q. never (let c = ended Reduced e ∙ ap end_of q in cc))
 
-    few_steps : number_of r ≡ 0 → length run.steps ≤ n_of xs + m_of xs
+    few_steps : number_in r ≡ 0 → length run.steps ≤ n_of xs + m_of xs
     few_steps z = let a = read-sizes xs (answered xs (yes z).1.asked).0 in omega (arith, Whole.few_steps (read_of xs) (legal z), a.0, a.1)
 
     -- the record written is read as the network that it is of
-    reads_back : {out : List ℤ} → out ≡ output_of (refusal_of xs o s w k) run o → r ≡ Reduced → (first_no (questions (cut_network (packed_of run.net) out)) ≡ 0) × (read_of (cut_network (packed_of run.net) out) ≡ packed_of run.net)
+    reads_back : {out : List ℤ} → out ≡ output_of (refusal_of xs o s w k) run o → r ≡ Ok Reduced → (first_no (questions (cut_network (packed_of run.net) out)) ≡ Ok tt) × (read_of (cut_network (packed_of run.net) out) ≡ packed_of run.net)
     reads_back f e =
-        let z = ap number_of e in
+        let z = ap number_in e in
         let t = packed-tidy (Whole.whole (read_of xs) (legal z)).legal in
-        rw (f ∙ ap (λ q. output_of q run o) (sym number ∙ z) ∙ ended-output run.ends run.net o (sym e ∙ ended z)) (network-back (packed_of run.net) o t.0 t.1 t.2 (yes z).0)
+        rw (f ∙ ap (λ q. output_of q run o) (none z) ∙ ended-output run.ends run.net o (ended Reduced e)) (network-back (packed_of run.net) o t.0 t.1 t.2 (yes z).0)
 
     -- no flow: the rule named shows it at the place named, and the network given has no feasible flow
-    refuted : (rule i : ℕ) → r ≡ NoFlow rule i → run.ends ≡ Refuted rule i
-    refuted rule i e = ended-no-flow run.ends rule i (sym e ∙ ended (ap number_of e))
+    refuted : (rule i : ℕ) → r ≡ Ok (NoFlow rule i) → run.ends ≡ Refuted rule i
+    refuted rule i e = ended-no-flow run.ends rule i (ended (NoFlow rule i) e)
 
-    pub shown : (rule i : ℕ) → r ≡ NoFlow rule i → Shown rules run.net rule i
+    pub shown : (rule i : ℕ) → r ≡ Ok (NoFlow rule i) → Shown rules run.net rule i
     shown rule i e = next-shown last_rule rules _ rule i (sym (run_ends next_of (back_of rules) Whole.next-right 128 (read_of xs)) ∙ refuted rule i e)
 
-    pub flowless : (rule i : ℕ) → r ≡ NoFlow rule i → LP.NoFlow (program_of (read_of xs))
-    flowless rule i e = Whole.flowless (read_of xs) (legal (ap number_of e)) rule i (refuted rule i e)
+    pub flowless : (rule i : ℕ) → r ≡ Ok (NoFlow rule i) → LP.NoFlow (program_of (read_of xs))
+    flowless rule i e = Whole.flowless (read_of xs) (legal (ap number_in e)) rule i (refuted rule i e)
 
   -- ALL THAT A CALL SAYS, from the result and the words
-  pub says : {r : Answer} {out stack scratch : List ℤ} {arcs : List Arc} → Written (refusal_of xs o s w k) run r out stack o s → scratch ≡ zeros w → arcs ≡ no_arcs k → Reduction xs o s w k r out stack scratch arcs
+  pub says : {r : Result End Refusal} {out stack scratch : List ℤ} {arcs : List Arc} → Written (refusal_of xs o s w k) run r out stack o s → scratch ≡ zeros w → arcs ≡ no_arcs k → Reduction xs o s w k r out stack scratch arcs
   says h z a =
       let is = h.result in
       record { number = number is; result = is; out_is = h.out_is; stack_is = h.stack_is; scratch_is = z; arcs_is = a; until_none = until_none is; few_steps = few_steps is; reads_back = reads_back is h.out_is; shown = shown is; flowless = flowless is }

@@ -23,6 +23,7 @@ use Rattle.network.specs.Legal.{Bound, LegalArc, Legal, Gapless}
 use Rattle.network.proofs.Numbers.{puts, puts-long, puts-out, puts-in, get_or-all, by_number}
 use Rattle.network.proofs.Kept.{here-within}
 use Rattle.step.proofs.Lines.{split}
+use Rattle.std.specs.Prelude.{Ok}
 use Rattle.records.specs.Questions.{first_no}
 use Rattle.records.specs.Arrays.{figure_at, arrays_of}
 use Rattle.records.specs.Network.{figures, arc_figure, sizes_right, role_of, is_permitted, is_in_form, is_end, has_ends, arc_in, is_weighted, is_weighted_at, questions, read_of, role_figure, figure_of, network_of}
@@ -185,13 +186,13 @@ module _ {net : Net} (g : Legal net) (u : Gapless net) where
     ends_held j l = let h = arc-legal j l in rw (from-held j l, role-held j 1 l (omega arith), here_end _ h.from_here, here_end _ h.to_here)
 
     -- they pass the questions
-    none-held : first_no (questions xs) ≡ 0
+    none-held : first_no (questions xs) ≡ Ok tt
     none-held =
         sym
-        (asked xs net.n net.m sizes-held (rw w.first) (rw w.second)
-        (each_all (is_in_form xs net.n many) _ (λ k l. rw (figure-held k l) (figure-permitted k l)))
-        (each_all (has_ends xs net.n many) _ ends_held)
-        (each_all (is_weighted_at xs net.n many) _ (λ j l. let h = arc-legal j l in rw (arc-held j l) (weighted (arc_at net (j + 1)) h.a_nonzero h.b_zero))))
+        (asked xs xs net.n net.m (sizes-held, refl, rw w.first, rw w.second)
+        (sym (each_all (is_in_form xs net.n many) _ (λ k l. rw (figure-held k l) (figure-permitted k l))))
+        (sym (each_all (has_ends xs net.n many) _ ends_held))
+        (sym (each_all (is_weighted_at xs net.n many) _ (λ j l. let h = arc-legal j l in rw (arc-held j l) (weighted (arc_at net (j + 1)) h.a_nonzero h.b_zero)))))
 
     -- and they are read as the network
     net-held : ((i : ℕ) → (i ≡ 0) ⊎ (net.n < i) → supply_at net i ≡ no_figure) → read_of xs ≡ net
@@ -222,7 +223,7 @@ module _ {net : Net} (g : Legal net) (u : Gapless net) where
         no-arc j (inr l) = g.unused j (g.arcs_beyond j l)
 
 -- a network's record
-pub network-back : (net : Net) (room : ℕ) → Legal net → Gapless net → ((i : ℕ) → (i ≡ 0) ⊎ (net.n < i) → supply_at net i ≡ no_figure) → 1412 ≤ room → (first_no (questions (cut_network net (network_of net room))) ≡ 0) × (read_of (cut_network net (network_of net room)) ≡ net)
+pub network-back : (net : Net) (room : ℕ) → Legal net → Gapless net → ((i : ℕ) → (i ≡ 0) ⊎ (net.n < i) → supply_at net i ≡ no_figure) → 1412 ≤ room → (first_no (questions (cut_network net (network_of net room))) ≡ Ok tt) × (read_of (cut_network net (network_of net room)) ≡ net)
 unfolding network_of
 network-back net room g u bare l = (none-held g u _ held, net-held g u _ held bare)
   where

@@ -8,19 +8,19 @@ ghost use Rattle.records.specs.Network.{read_of};
 ghost use Rattle.rules.specs.Table.{reduced};
 ghost use Rattle.search.specs.Search.{ends_of};
 ghost use Rattle.records.specs.Logged.{with_stack};
-ghost use Rattle.reduction.specs.Reduce.{refusal_of, end_answer, end_output, Written, Reduction};
+ghost use Rattle.reduction.specs.Reduce.{refusal_of, end_of, end_output, Written, Reduction};
 
 use network::Arc;
-use search::{Ends, Ran};
+use records::refusal::Refusal;
+use search::{Contradiction, Ran};
 
 pub mod plain;
 
-// A reduced network; no flow, with the rule and the place that show it; or the number of the question that is answered by no.
-#[derive(Clone, Copy)]
-pub enum Answer {
+// A reduced network; or no flow, with the rule and the place that show it.
+#[derive(Clone, Copy, Debug, PartialEq, Eq)]
+pub enum End {
     Reduced,
-    NoFlow(usize, usize),
-    Refused(usize),
+    NoFlow { rule: usize, place: usize },
 }
 
 // The end of a run whose steps stand in the log and whose arcs are `view`, into slices of zeros.
@@ -30,18 +30,17 @@ fn finish(
     log: &[i32],
     out: &mut [i32],
     stack: &mut [i32],
-) -> Answer
+) -> End
     requires { out.old ≡ zeros (length out.old) }
-    ensures { (result ≡ end_answer (ends_of ran.ends)) × (out.new ≡ end_output (ends_of ran.ends) (joined ran.nodes view) (length out.old)) × (stack.new ≡ with_stack log.now ran.steps stack.old) }
+    ensures { (result ≡ end_of (ends_of ran.contradiction)) × (out.new ≡ end_output (ends_of ran.contradiction) (joined ran.nodes view) (length out.old)) × (stack.new ≡ with_stack log.now ran.steps stack.old) }
 {
     records::stack::write(log, ran.steps, stack);
-    let ends = ran.ends;
-    match ends {
-        Ends::NoFlow(rule, place) => Answer::NoFlow(rule, place),
-        Ends::Stops => {
+    match ran.contradiction {
+        Some(Contradiction { rule, place }) => End::NoFlow { rule, place },
+        None => {
             let net = network::join(ran.nodes, view);
             records::net::write_network(survivors::pack(net), out);
-            Answer::Reduced
+            End::Reduced
         },
     }
 }
@@ -53,22 +52,15 @@ fn reduce_in(
     stack: &mut [i32],
     scratch: &mut [i32],
     arcs: &mut [Arc],
-) -> Answer
+) -> Result<End, Refusal>
     requires { (out.old ≡ zeros (length out.old)) × (stack.old ≡ zeros (length stack.old)) }
     ensures { Written (refusal_of network.now (length out.old) (length stack.old) (length scratch.old) (length arcs.old)) (reduced (read_of network.now)) result out.new stack.new (length out.old) (length stack.old) }
 {
-    if out.len() < records::NETWORK_WORDS {
-        return Answer::Refused(1);
-    }
-    if stack.len() < records::STACK_WORDS {
-        return Answer::Refused(1);
-    }
-    let ran = search::run(network, scratch, arcs);
-    if ran.refused == 0 {
-        let view = network::list::view(arcs);
-        return finish(ran, view, scratch, out, stack);
-    }
-    Answer::Refused(ran.refused)
+    Refusal::Room.unless(records::NETWORK_WORDS <= out.len())?;
+    Refusal::Room.unless(records::STACK_WORDS <= stack.len())?;
+    let ran = search::run(network, scratch, arcs)?;
+    let view = network::list::view(arcs);
+    Ok(finish(ran, view, scratch, out, stack))
 }
 
 // Reduces a network until no rule applies: the reduced network into `out`, the steps into `stack`. Every other word of the
@@ -79,7 +71,7 @@ pub fn reduce(
     stack: &mut [i32],
     scratch: &mut [i32],
     arcs: &mut [Arc],
-) -> Answer
+) -> Result<End, Refusal>
     ensures { Reduction network.now (length out.old) (length stack.old) (length scratch.old) (length arcs.old) result out.new stack.new scratch.new arcs.new }
 {
     loops::clear(out);

@@ -1,23 +1,21 @@
 -- All that a call of `restore` says, from the result and the words.
-use mathlib.Core.Path.{◌≡◌, refl, sym, ap, ◌∙◌}
+use mathlib.Core.Path.{◌≡◌, sym, ap, ◌∙◌}
 use mathlib.Core.List.{List}
-use Prim.Native.Nat.{ℕ, zero, suc}
+use Prim.Native.Nat.{ℕ}
 use lib.IntN.{ℤ}
 use Rattle.loops.specs.Loops.{zeros}
 use Rattle.network.specs.declared.Arc.{Arc}
 use Rattle.network.specs.ArcList.{no_arcs}
 use Rattle.records.specs.Network.{read_of}
 use Rattle.rules.specs.Table.{reduced}
-use Rattle.restoration.specs.declared.Answer.{Answer}
-use Rattle.restoration.specs.Restore.{refusal_of, answer_of, number_of, Written, Restoration}
+use Rattle.std.specs.Prelude.{Result, ⊤}
+use Rattle.records.specs.declared.refusal.Refusal.{Refusal}
+use Rattle.records.specs.Questions.{number_in}
+use Rattle.restoration.specs.Restore.{refusal_of, Written, Restoration}
 use Rattle.restoration.proofs.Optimum.{restored-optimum}
 use Rattle.restoration.proofs.Passed.{passed-exactly, six-flowless}
 
-number-of : (q : ℕ) → number_of (answer_of q) ≡ q
-number-of zero = refl
-number-of (suc q) = refl
-
-pub says : (xs zs ys : List ℤ) (o v w k : ℕ) {r : Answer} {out values scratch : List ℤ} {arcs : List Arc} → Written (refusal_of xs zs ys o v w k) (read_of xs) (reduced (read_of xs)) ys r out values o v → scratch ≡ zeros w → arcs ≡ no_arcs k → Restoration xs zs ys o v w k r out values scratch arcs
+pub says : (xs zs ys : List ℤ) (o v w k : ℕ) {r : Result ⊤ Refusal} {out values scratch : List ℤ} {arcs : List Arc} → Written (refusal_of xs zs ys o v w k) (read_of xs) (reduced (read_of xs)) ys r out values o v → scratch ≡ zeros w → arcs ≡ no_arcs k → Restoration xs zs ys o v w k r out values scratch arcs
 says xs zs ys o v w k {r} h z a =
     record {
       number = n;
@@ -31,5 +29,5 @@ says xs zs ys o v w k {r} h z a =
       optimum = restored-optimum xs zs ys o v w k h;
     }
   where
-    n : number_of r ≡ refusal_of xs zs ys o v w k
-    n = ap number_of h.result ∙ number-of (refusal_of xs zs ys o v w k)
+    n : number_in r ≡ number_in (refusal_of xs zs ys o v w k)
+    n = ap number_in h.result

@@ -45,7 +45,7 @@ use Rattle.records.proofs.Legal.{read-gapless}
 use Rattle.survivors.proofs.Survivors.{packed-gapless}
 use Rattle.survivors.proofs.Packed.{packed-legal}
 use Rattle.records.proofs.Paired.{no-flow-read}
-use Rattle.step.specs.Run.{Run, Way, wide, at}
+use Rattle.step.specs.Run.{Run, Way, at}
 use Rattle.rules.specs.Table.{reduced}
 use Rattle.rules.proofs.Whole as Whole
 use Rattle.figures.specs.Figures.{value_turn, value_of}
@@ -55,15 +55,14 @@ use Rattle.optimality.proofs.Exactly.{exactly-proven, proven-value}
 use Rattle.search.proofs.Questions.{AllYes, legal-read}
 use Rattle.records.specs.Questions.{first_no}
 use Rattle.records.proofs.Questions.{none-no}
-use Rattle.records.proofs.Tables.{numbered-questions, none_before, none-behind}
-use Rattle.restoration.specs.declared.Answer.{Answer}
-use Rattle.restoration.specs.declared.Answer.TheVariants.{Restored}
+use Rattle.records.proofs.Tables.{none_before, none-behind}
+use Rattle.std.specs.Prelude.{Result, Ok, ⊤}
+use Rattle.records.specs.declared.refusal.Refusal.{Refusal}
 use Rattle.survivors.specs.Survivors.{spread_of}
-use Rattle.restoration.specs.Restore.{is_reduced, is_stack, reduced_net, brought_back, pair_back, original_value, reduced_value, is_roomy, is_back, offer_table, back_table, run_table, restore_table, refusal_of, answer_of, written_pair, Written, Optimum}
+use Rattle.restoration.specs.Restore.{is_reduced, is_stack, reduced_net, brought_back, pair_back, original_value, reduced_value, is_roomy, is_back, offer_table, back_table, run_table, restore_table, refusal_of, written_pair, Written, Optimum}
 use Rattle.records.specs.Cut.{cut_pair}
 use Rattle.records.specs.Pair.{has_sizes, is_pair, pair_figure, pair_words}
 use Rattle.records.specs.Values.{four_words}
-use Rattle.restoration.proofs.Parts.{numbered-pair}
 use Rattle.restoration.proofs.Spread.{no_value, read-sized, read-solved, read-value}
 use Rattle.records.proofs.Arrays.{with-room}
 use Rattle.records.proofs.Written.{price-written, flow-written, value_written}
@@ -185,18 +184,18 @@ module _ (xs zs ys : List ℤ) (o v w k : ℕ) where
   record Restores : Type 0 where
     room : 258 ≤ o
     asked : AllYes xs w k
-    tested : first_no (pair_questions (reduced_net run) ys) ≡ 0
+    tested : first_no (pair_questions (reduced_net run) ys) ≡ Ok tt
     fits : is_back net way ≡ true
 
-  restores : refusal_of xs zs ys o v w k ≡ 0 → Restores
+  restores : refusal_of xs zs ys o v w k ≡ Ok tt → Restores
   unfolding restore_table run_table offer_table is_roomy
   restores e =
-      let a = none-no 0 (is_roomy o v w k) e in
-      let b = none-behind (questions xs) (run_table net run zs ys) (numbered-questions xs) a.1 in
-      let c = none-no 5 (is_reduced run.ends) b in
-      let d = none-no 6 (is_stack run zs) c.1 in
+      let a = none-no Refusal.Room (is_roomy o v w k) e in
+      let b = none-behind (questions xs) (run_table net run zs ys) a.1 in
+      let c = none-no Refusal.NoFlow (is_reduced run.ends) b in
+      let d = none-no Refusal.Stack (is_stack run zs) c.1 in
       let p = none_before (pair_questions (reduced_net run) ys) (back_table net way) d.1 in
-      let f = none-behind (pair_questions (reduced_net run) ys) (back_table net way) (numbered-pair (reduced_net run) ys) d.1 in
+      let f = none-behind (pair_questions (reduced_net run) ys) (back_table net way) d.1 in
       let x = and_both (leb 258 o) _ a.0 in
       let y = and_both (leb 4 v) _ x.1 in
       let z = and_both (leb 10240 w) _ y.1 in
@@ -204,7 +203,7 @@ module _ (xs zs ys : List ℤ) (o v w k : ℕ) where
         room = leb-true 258 o x.0;
         asked = record { room = leb-true 10240 w z.0; wide = leb-true 96 k z.1; asked = none_before (questions xs) (run_table net run zs ys) a.1 };
         tested = p;
-        fits = (none-no 12 (is_back net way) f).0;
+        fits = (none-no Refusal.WayBack (is_back net way) f).0;
       }
 
   module _ (y : Restores) where
@@ -243,12 +242,8 @@ module _ (xs zs ys : List ℤ) (o v w k : ℕ) where
           same_values = (ap (λ (f : Fraction). f.num) same_value, ap (λ (f : Fraction). den_word f.den) same_value);
         }
 
-  restored-is : (q : ℕ) → answer_of q ≡ Restored → q ≡ 0
-  restored-is zero e = refl
-  restored-is (suc q) e = never cc
-
   -- the words of a call that answers so
-  pub restored-optimum : {r : Answer} {out values : List ℤ} → Written (refusal_of xs zs ys o v w k) net run ys r out values o v → r ≡ Restored → Optimum net run ys out values
+  pub restored-optimum : {r : Result ⊤ Refusal} {out values : List ℤ} → Written (refusal_of xs zs ys o v w k) net run ys r out values o v → r ≡ Ok tt → Optimum net run ys out values
   restored-optimum a p =
-      let z = restored-is (refusal_of xs zs ys o v w k) (sym a.result ∙ p) in
+      let z = sym a.result ∙ p in
       rw (rw z at a.out_is, rw z at a.values_is) (optimum (restores z))

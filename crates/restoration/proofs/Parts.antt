@@ -1,13 +1,11 @@
 -- The parts of a call make up the whole.
-use mathlib.Core.Path.{◌≡◌, refl, sym, ap, ap₂, ◌∙◌, subst, subst₂}
+use mathlib.Core.Path.{◌≡◌, refl, sym, ap, ap₂, ◌∙◌, subst₂}
 use mathlib.Core.Bool.{Bool, true, false, cond, ◌&&◌}
 use mathlib.Core.List.{List, ◌++◌}
-use Prim.Native.Nat.{ℕ, zero, suc, ◌+◌, ◌*◌, ◌≤◌, ◌<◌}
-use native.Mathlib.Omega.{arith}
+use Prim.Native.Nat.{ℕ, ◌+◌, ◌*◌}
 use lib.Dec.{leb}
 use lib.IntN.{ℤ}
 use lib.ListN.{length}
-use borrow.Author.Tests.{le-leb, lt-leb}
 use Rattle.loops.specs.Loops.{zeros, build}
 use Rattle.fraction.specs.declared.Fraction.{Fraction}
 use Rattle.fraction.specs.Formula.{is_fit, figure_of}
@@ -19,17 +17,16 @@ use Rattle.network.specs.ArcList.{arcs_in, nodes_of, joined}
 use Rattle.step.specs.declared.Next.{Next}
 use Rattle.step.specs.Run.{Run, back_of, Way, at, way_back}
 use Rattle.rules.specs.Table.{rules, reduced}
-use Rattle.records.specs.Questions.{Question, first_no}
+use Rattle.records.specs.Questions.{Question, first_no, answered}
 use Rattle.records.specs.Network.{questions, read_of}
 use Rattle.records.specs.Logged.{stack_word, is_stack_of}
 use Rattle.records.specs.Stack.{same_words}
 use Rattle.records.specs.Pair.{pair_words}
 use Rattle.records.specs.Values.{four_words}
-use Rattle.records.proofs.Tables.{is_numbered, numbered-questions, stops, goes_on_lem}
+use Rattle.records.proofs.Tables.{stops, goes_on_lem}
 use Rattle.records.proofs.Logged.{recorded, few-enough}
 use Rattle.survivors.specs.Survivors.{packed_of}
-use Rattle.figures.specs.Figures.{value_of, test_questions}
-use Rattle.optimality.specs.Test.{pair_questions}
+use Rattle.figures.specs.Figures.{value_of}
 use Rattle.search.specs.declared.Ran.{Ran}
 use Rattle.search.specs.Search.{ends_of}
 use Rattle.search.specs.Search as Search
@@ -37,81 +34,77 @@ use Rattle.search.proofs.Questions.{legal-read}
 use Rattle.postsolve.specs.Postsolve.{arcs_back}
 use Rattle.postsolve.proofs.Reduced.{arcs-given}
 use Rattle.reduction.proofs.Found.{Found}
-use Rattle.reduction.proofs.Entry.{searched-room}
-use Rattle.restoration.specs.declared.Answer.{Answer}
-use Rattle.restoration.specs.declared.Answer.TheVariants.{Restored, Refused}
+use Rattle.reduction.proofs.Entry.{searched-room, out_short}
+use Rattle.std.specs.Prelude.{Result, Ok, Err, ⊤}
+use Rattle.records.specs.declared.refusal.Refusal.{Refusal}
+use Rattle.records.proofs.Questions as No
+use Rattle.records.proofs.Questions.{yes-asked}
+use Rattle.fraction.proofs.Laws.{never}
 use Rattle.restoration.specs.declared.Offer.{Offer}
 use Rattle.restoration.specs.Restore.{is_reduced, is_stack, is_roomy, reduced_net, brought_back, original_value, is_back, offer_table, back_table, run_table, restore_table, refusal_of, values_of, Written}
-use Rattle.restoration.specs.internal.Parts.{Offers, values_with, Ended}
+use Rattle.restoration.specs.internal.Parts.{offer_of, values_with, Ended}
 
 -- ---- the questions
-
-pub numbered-pair : (net : Net) (ys : List ℤ) → is_numbered (pair_questions net ys) ≡ true
-unfolding pair_questions test_questions
-numbered-pair net ys = refl
-
-numbered-offers : (a b : Bool) (net : Net) (ys : List ℤ) → is_numbered (offer_table a b net ys) ≡ true
-unfolding offer_table pair_questions test_questions
-numbered-offers a b net ys = refl
 
 module _ (xs zs ys : List ℤ) (o v w k : ℕ) where
   abbrev later : List Question
   later = run_table (read_of xs) (reduced (read_of xs)) zs ys
 
   -- room for the outputs, then that for the search, then the other questions
-  pub room-is : refusal_of xs zs ys o v w k ≡ cond (leb 258 o && leb 4 v) (cond (leb 10240 w && leb 96 k) (first_no (questions xs ++ later)) 1) 1
+  pub room-is : refusal_of xs zs ys o v w k ≡ cond (leb 258 o && leb 4 v) (cond (leb 10240 w && leb 96 k) (first_no (questions xs ++ later)) (Err Refusal.Room)) (Err Refusal.Room)
   unfolding restore_table is_roomy
   room-is = searched-room (leb 258 o) (leb 4 v) (leb 10240 w && leb 96 k) _
 
-  pub no-out : o < 258 → refusal_of xs zs ys o v w k ≡ 1
-  no-out l = room-is ∙ rw (lt-leb 258 o l)
+  pub no-out : {q : Refusal} → ◌≡◌ {A = Result ⊤ Refusal} (Err q) (cond (leb 258 o) (Ok tt) (Err Refusal.Room)) → refusal_of xs zs ys o v w k ≡ Err q
+  no-out e = room-is ∙ out_short (leb 258 o) (leb 4 v) _ e
 
-  pub no_values : 258 ≤ o → v < 4 → refusal_of xs zs ys o v w k ≡ 1
-  no_values a l = room-is ∙ rw (le-leb 258 o a, lt-leb 4 v l)
+  module _ {x : ⊤} (out : ◌≡◌ {A = Result ⊤ Refusal} (Ok x) (cond (leb 258 o) (Ok tt) (Err Refusal.Room))) where
+    pub no_values : {q : Refusal} → ◌≡◌ {A = Result ⊤ Refusal} (Err q) (cond (leb 4 v) (Ok tt) (Err Refusal.Room)) → refusal_of xs zs ys o v w k ≡ Err q
+    no_values e = room-is ∙ rw (yes-asked _ _ out) (sym (No.refused _ _ _ e))
 
-  -- where there is room for the outputs: a refusal of the search, or else one of the others
-  pub search_no : 258 ≤ o → 4 ≤ v → (q : ℕ) → q ≡ Search.refusal_of xs w k → ¬ (q ≡ 0) → refusal_of xs zs ys o v w k ≡ q
-  unfolding Search.refusal_of
-  search_no a b q e n = room-is ∙ rw (le-leb 258 o a, le-leb 4 v b) (by (leb 10240 w && leb 96 k) e)
-    where
-      by : (c : Bool) → q ≡ cond c (first_no (questions xs)) 1 → cond c (first_no (questions xs ++ later)) 1 ≡ q
-      by true e = stops (questions xs) later (λ z. n (e ∙ z)) ∙ sym e
-      by false e = sym e
+    -- where there is room for the outputs: a refusal of the search, or else one of the others
+    module _ {y : ⊤} (values : ◌≡◌ {A = Result ⊤ Refusal} (Ok y) (cond (leb 4 v) (Ok tt) (Err Refusal.Room))) where
+      pub search_no : {q : Refusal} → Search.refusal_of xs w k ≡ Err q → refusal_of xs zs ys o v w k ≡ Err q
+      unfolding Search.refusal_of
+      search_no {q} e = room-is ∙ rw (yes-asked _ _ out, yes-asked _ _ values) (by (leb 10240 w && leb 96 k) e)
+        where
+          by : (c : Bool) → cond c (first_no (questions xs)) (Err Refusal.Room) ≡ Err q → cond c (first_no (questions xs ++ later)) (Err Refusal.Room) ≡ Err q
+          by true e = stops (questions xs) later q e
+          by false e = e
 
-  pub search-yes : 258 ≤ o → 4 ≤ v → Search.refusal_of xs w k ≡ 0 → refusal_of xs zs ys o v w k ≡ first_no later
-  unfolding Search.refusal_of
-  search-yes a b e = room-is ∙ rw (le-leb 258 o a, le-leb 4 v b) (by (leb 10240 w && leb 96 k) e)
-    where
-      by : (c : Bool) → cond c (first_no (questions xs)) 1 ≡ 0 → cond c (first_no (questions xs ++ later)) 1 ≡ first_no later
-      by true e = goes_on_lem (questions xs) later (numbered-questions xs) e
-      by false e = absurd (omega arith)
+      pub search-yes : Search.refusal_of xs w k ≡ Ok tt → refusal_of xs zs ys o v w k ≡ first_no later
+      unfolding Search.refusal_of
+      search-yes e = room-is ∙ rw (yes-asked _ _ out, yes-asked _ _ values) (by (leb 10240 w && leb 96 k) e)
+        where
+          by : (c : Bool) → cond c (first_no (questions xs)) (Err Refusal.Room) ≡ Ok tt → cond c (first_no (questions xs ++ later)) (Err Refusal.Room) ≡ first_no later
+          by true e = goes_on_lem (questions xs) later e
+          by false e = never cc
 
 -- 6 to 12 of a run
 abbrev pub earlier : Run → List ℤ → List ℤ → List Question
 earlier run zs ys = offer_table (is_reduced run.ends) (is_stack run zs) (reduced_net run) ys
 
 module _ (net : Net) (run : Run) (zs ys : List ℤ) where
-  pub offer-no : (q : ℕ) → q ≡ first_no (earlier run zs ys) → ¬ (q ≡ 0) → first_no (run_table net run zs ys) ≡ q
+  pub offer-no : {q : Refusal} → first_no (earlier run zs ys) ≡ Err q → first_no (run_table net run zs ys) ≡ Err q
   unfolding run_table
-  offer-no q e n = stops (earlier run zs ys) _ (λ z. n (e ∙ z)) ∙ sym e
+  offer-no {q} e = stops (earlier run zs ys) _ q e
 
-  pub offer-yes : first_no (earlier run zs ys) ≡ 0 → first_no (run_table net run zs ys) ≡ first_no (back_table net (brought_back run ys))
+  pub offer-yes : first_no (earlier run zs ys) ≡ Ok tt → first_no (run_table net run zs ys) ≡ first_no (back_table net (brought_back run ys))
   unfolding run_table
-  offer-yes e = goes_on_lem (earlier run zs ys) _ (numbered-offers (is_reduced run.ends) (is_stack run zs) (reduced_net run) ys) e
+  offer-yes e = goes_on_lem (earlier run zs ys) _ e
 
 -- ---- nothing is written on a refusal
 
-pub refused : {net : Net} {run : Run} {ys out values : List ℤ} {o v : ℕ} (p q : ℕ) → p ≡ q → (q ≡ 0 → ⊥) → out ≡ zeros o → values ≡ zeros v → Written p net run ys (Refused q) out values o v
-refused p zero e n a b = absurd (n refl)
-refused p (suc q) e n a b = rw e (record { result = refl; out_is = a; values_is = b })
+pub refused : {net : Net} {run : Run} {ys out values : List ℤ} {o v : ℕ} {p : Result ⊤ Refusal} {q : Refusal} → p ≡ Err q → out ≡ zeros o → values ≡ zeros v → Written p net run ys (Err q) out values o v
+refused e a b = rw e (record { result = refl; out_is = a; values_is = b })
 
 -- ---- question 13
 
 module _ {net : Net} {x : Fraction} {way : Way} {out values : List ℤ} {o v : ℕ} where
-  pub ended-no : is_back net way ≡ false → out ≡ zeros o → values ≡ zeros v → Ended net x way (Refused 13) out values o v
+  pub ended-no : is_back net way ≡ false → out ≡ zeros o → values ≡ zeros v → Ended net x way (Err Refusal.WayBack) out values o v
   ended-no f a c = record { result = rw f; out_is = rw f a; values_is = rw f c }
 
-  pub ended-yes : (pair : Pair) → way ≡ at pair → is_fit (value_of net pair) ≡ true → out ≡ pair_words net.n net.m pair o → values ≡ four_words x (figure_of (value_of net pair)) v → Ended net x way Restored out values o v
+  pub ended-yes : (pair : Pair) → way ≡ at pair → is_fit (value_of net pair) ≡ true → out ≡ pair_words net.n net.m pair o → values ≡ four_words x (figure_of (value_of net pair)) v → Ended net x way (Ok tt) out values o v
   ended-yes pair e f a c = rw e (record { result = rw f; out_is = rw f a; values_is = rw f c })
 
 -- ---- over a run that was found
@@ -125,34 +118,31 @@ module _ {xs log : List ℤ} {ran : Ran} {arcs : List Arc} {w k : ℕ} (f : Foun
   arcs-first e = ap (λ n. arcs_in (arcs_back log n arcs)) (sym f.steps_is) ∙ (arcs-given (read_of xs) (legal-read f.asked) log arcs f.holds (rw (← e) f.asked.wide) (ap (λ (t : Net). t.arcs) f.net_is)).0
 
   -- 6 to 12
-  pub offered : (zs ys : List ℤ) {view : List Arc} {r : Offer} → view ≡ arcs_in arcs
-      → Offers (joined ran.nodes view) ys (first_no (offer_table (is_reduced (ends_of ran.ends)) (is_stack_of log ran.steps zs) (packed_of (joined ran.nodes view)) ys)) r
-      → Offers run.net ys (first_no (earlier run zs ys)) r
+  pub offered : (zs ys : List ℤ) {view : List Arc} {r : Result Offer Refusal} → view ≡ arcs_in arcs
+      → r ≡ answered (offer_table (is_reduced (ends_of ran.contradiction)) (is_stack_of log ran.steps zs) (packed_of (joined ran.nodes view)) ys) (offer_of (joined ran.nodes view) ys)
+      → r ≡ answered (earlier run zs ys) (offer_of run.net ys)
   offered zs ys {view} {r} v h =
-      subst (λ (n : Net). Offers n ys (first_no (offer_table (is_reduced run.ends) (is_stack run zs) (packed_of n) ys)) r) (ap (joined ran.nodes) v ∙ f.net_is)
-      (subst (λ b. Offers (joined ran.nodes view) ys (first_no (offer_table (is_reduced run.ends) b (packed_of (joined ran.nodes view)) ys)) r) stack_is
-      (subst (λ (n : Next). Offers (joined ran.nodes view) ys (first_no (offer_table (is_reduced n) (is_stack_of log ran.steps zs) (packed_of (joined ran.nodes view)) ys)) r) (sym f.ends_is) h))
+      h ∙ ap (λ (n : Next). answered (offer_table (is_reduced n) (is_stack_of log ran.steps zs) (packed_of (joined ran.nodes view)) ys) (offer_of (joined ran.nodes view) ys)) (sym f.ends_is)
+      ∙ ap (λ b. answered (offer_table (is_reduced run.ends) b (packed_of (joined ran.nodes view)) ys) (offer_of (joined ran.nodes view) ys)) stack_is
+      ∙ ap (λ (n : Net). answered (offer_table (is_reduced run.ends) (is_stack run zs) (packed_of n) ys) (offer_of n ys)) (ap (joined ran.nodes) v ∙ f.net_is)
     where
       stack_is : is_stack_of log ran.steps zs ≡ is_stack run zs
       stack_is = few-enough log ran.steps zs f.few ∙ ap (λ n. same_words zs (build (1 + 2 * n) (stack_word log n))) (sym f.steps_is) ∙ ap (same_words zs) (recorded log run.steps f.holds)
 
   -- 13, and the words; the network given is read from its record beside the arcs, which are put back
-  pub went_back : (zs ys : List ℤ) {there : Offer} {way : Way} {nodes : Nodes} {view : List Arc} {r : Answer} {out values : List ℤ} {o v : ℕ} → Offers run.net ys (first_no (earlier run zs ys)) there → there.refused ≡ 0 → way ≡ way_back (back_of rules) run.steps (at there.pair)
+  pub went_back : (zs ys : List ℤ) {there : Offer} {way : Way} {nodes : Nodes} {view : List Arc} {r : Result ⊤ Refusal} {out values : List ℤ} {o v : ℕ} → first_no (earlier run zs ys) ≡ Ok tt → there ≡ offer_of run.net ys → way ≡ way_back (back_of rules) run.steps (at there.pair)
       → nodes ≡ nodes_of (read_of xs) → view ≡ (read_of xs).arcs → Ended (joined nodes view) there.value way r out values o v
-      → (q : ℕ) → q ≡ first_no (run_table (read_of xs) run zs ys) → Written q (read_of xs) run ys r out values o v
+      → {q : Result ⊤ Refusal} → q ≡ first_no (run_table (read_of xs) run zs ys) → Written q (read_of xs) run ys r out values o v
   unfolding brought_back
-  went_back zs ys {there} {way} {nodes} {view} {r} {out} {values} {o} {v} h z b n a e q t =
+  went_back zs ys {there} {way} {nodes} {view} {r} {out} {values} {o} {v} none h b n a e t =
       rw (t ∙ offer-yes (read_of xs) run zs ys none) (whole (subst₂ (λ (net : Net) (y : Way). Ended net there.value y r out values o v) (ap₂ joined n a) back e))
     where
-      none : first_no (earlier run zs ys) ≡ 0
-      none = sym h.refused_is ∙ z
-
       back : way ≡ brought_back run ys
-      back = b ∙ ap (λ (t : Pair). way_back (back_of rules) run.steps (at t)) (h.pair_is none)
+      back = b ∙ ap (λ (t : Offer). way_back (back_of rules) run.steps (at t.pair)) h
 
-      values_are : (q : ℕ) → values_with q there.value (read_of xs) (brought_back run ys) v ≡ values_of q (read_of xs) run ys (brought_back run ys) v
-      values_are zero = ap (λ x. four_words x (original_value (read_of xs) (brought_back run ys)) v) (h.value_is none)
-      values_are (suc q) = refl
+      values_are : (q : Result ⊤ Refusal) → values_with q there.value (read_of xs) (brought_back run ys) v ≡ values_of q (read_of xs) run ys (brought_back run ys) v
+      values_are (Ok x) = ap (λ (t : Offer). four_words t.value (original_value (read_of xs) (brought_back run ys)) v) h
+      values_are (Err q) = refl
 
       whole : Ended (read_of xs) there.value (brought_back run ys) r out values o v → Written (first_no (back_table (read_of xs) (brought_back run ys))) (read_of xs) run ys r out values o v
       whole e = record { result = e.result; out_is = e.out_is; values_is = e.values_is ∙ values_are (first_no (back_table (read_of xs) (brought_back run ys))) }

@@ -4,8 +4,8 @@ ghost use Rattle.network.specs.Limits.{max_arcs};
 ghost use Rattle.network.specs.ArcList.{no_arcs};
 ghost use Rattle.restoration.specs.Restore.{Restoration};
 
-use crate::Answer;
 use network::{Arc, MAX_ARCS};
+use records::refusal::Refusal;
 
 // Restores a pair, as `restore` of the crate does with a list of `MAX_ARCS` records.
 pub fn restore(
@@ -15,7 +15,7 @@ pub fn restore(
     out: &mut [i32],
     values: &mut [i32],
     scratch: &mut [i32],
-) -> Answer
+) -> Result<(), Refusal>
     ensures { Restoration network.now stack.now pair.now (length out.old) (length values.old) (length scratch.old) max_arcs result out.new values.new scratch.new (no_arcs max_arcs) }
 {
     let z = network::no_arc();

@@ -7,6 +7,8 @@ use lib.Dec.{leb}
 use lib.IntN.{ℤ}
 use borrow.Author.Tests.{leb-true}
 use Rattle.fraction.proofs.Laws.{and_both}
+use Rattle.std.specs.Prelude.{Ok}
+use Rattle.records.specs.declared.refusal.Refusal.{Refusal}
 use Rattle.network.specs.Legal.{Legal}
 use Rattle.records.specs.Questions.{first_no}
 use Rattle.records.specs.Network.{questions, read_of}
@@ -17,12 +19,12 @@ use Rattle.search.specs.Search.{refusal_of}
 pub record AllYes (network : List ℤ) (log arcs : ℕ) : Type 0 where
   pub room : 10240 ≤ log
   pub wide : 96 ≤ arcs
-  pub asked : first_no (questions network) ≡ 0
+  pub asked : first_no (questions network) ≡ Ok tt
 
-pub all_yes : (network : List ℤ) (log arcs : ℕ) → refusal_of network log arcs ≡ 0 → AllYes network log arcs
+pub all_yes : (network : List ℤ) (log arcs : ℕ) → refusal_of network log arcs ≡ Ok tt → AllYes network log arcs
 unfolding refusal_of
 all_yes network log arcs q =
-    let a = none-no 0 (leb 10240 log && leb 96 arcs) q in
+    let a = none-no Refusal.Room (leb 10240 log && leb 96 arcs) q in
     let b = and_both (leb 10240 log) _ a.0 in
     record { room = leb-true _ _ b.0; wide = leb-true _ _ b.1; asked = a.1 }
 

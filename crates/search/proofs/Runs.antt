@@ -1,6 +1,6 @@
 -- The run whose arcs stand in the lent list, turn by turn, is the run of its network.
 --     underway-none .. underway-more     the loop's invariant
---     begins, run_is, refused_is     from the record to the end
+--     begins, run_is     from the record to the end
 use mathlib.Core.Path.{◌≡◌, refl, sym, ap, subst, subst⁻¹, ◌∙◌}
 use mathlib.Core.Bool.{Bool, true, false, cond}
 use mathlib.Core.List.{List, [], ◌∷◌}
@@ -35,34 +35,25 @@ use Rattle.step_log.proofs.Logged.{logged-long}
 use Rattle.search.proofs.Questions.{AllYes, all_yes, legal-read}
 use Rattle.search.proofs.Behind.{within, replaced-behind, loaded-behind, drop-none, list-of}
 use Rattle.search.specs.declared.Progress.{Progress}
-use Rattle.search.specs.declared.Ends.{Ends}
+use Rattle.std.specs.Prelude.{Option, Some, None, Ok}
+use Rattle.search.specs.declared.Contradiction.{Contradiction}
 use Rattle.search.specs.declared.Ran.{Ran}
-use Rattle.search.specs.Search.{refusal_of, refused_by, ends_of, list_of, Searched}
-use Rattle.search.specs.internal.Progress.{noted, edited, moved, ended, advanced, begun, is_active, end_of, ran_of, Ready, Turned, Told, told_of, told_at, Finished}
+use Rattle.search.specs.Search.{refusal_of, ends_of, list_of, Reached}
+use Rattle.search.specs.internal.Progress.{moved, begun, ended, Ready, Told, told_of, told_at, Finished}
 
 -- ---- at the loop's head
-
--- what the run `at` on the network net will come to
-abbrev tells : Progress → Net → List ℤ → Told
-tells at net zs = cond (is_active at) (told_of (run_of next_of (128 - at.steps) net) at.steps zs) (told_at at net zs)
 
 pub record Underway (run : Run) (log : List ℤ) (arcs : List Arc) (at : Progress) (log' : List ℤ) (arcs' : List Arc) : Type 0 where
   pub wide : 96 ≤ length arcs'
   pub long : length arcs' ≡ length arcs
   pub behind : drop 96 arcs' ≡ drop 96 arcs
   pub log_long : length log' ≡ length log
-  pub ready : is_active at ≡ true → Ready (net_in at.nodes arcs') at.seen at.steps
-  pub told : told_of run 0 log ≡ tells at (net_in at.nodes arcs') log'
+  pub ready : Ready (net_in at.nodes arcs') at.seen at.steps
+  -- what the run comes to
+  pub told : told_of run 0 log ≡ told_of (run_of next_of (128 - at.steps) (net_in at.nodes arcs')) at.steps log'
 
 pub underway-none : {nodes : Nodes} {log : List ℤ} {arcs : List Arc} → 96 ≤ length arcs → Ready (net_in nodes arcs) nothing_seen 0 → Underway (reduced (net_in nodes arcs)) log arcs (begun nodes) log arcs
-underway-none l g = record { wide = l; long = refl; behind = refl; log_long = refl; ready = λ _. g; told = refl }
-
-pub underway-ends : {run : Run} {log : List ℤ} {arcs : List Arc} {at : Progress} {log' : List ℤ} {arcs' : List Arc} → Underway run log arcs at log' arcs' → is_active at ≡ false → Finished run log arcs at log' arcs'
-underway-ends h e = record { told = h.told ∙ rw e; long = h.long; behind = h.behind }
-
--- what each turn makes smaller
-abbrev pub left : Progress → ℕ
-left at = cond (is_active at) (129 - at.steps) 0
+underway-none l g = record { wide = l; long = refl; behind = refl; log_long = refl; ready = g; told = refl }
 
 -- ---- one turn
 
@@ -77,37 +68,37 @@ unfolding logged
 told-after s run k zs = let e : k + suc (length run.steps) ≡ k + 1 + length run.steps = omega (arith, add-one (length run.steps)) in rw (e, add-one k)
 
 -- or it ends there
-stands : (many : ℕ) (net : Net) (end : Ends) → next_of net ≡ ends_of end → run_of next_of many net ≡ record { steps = []; net = net; ends = ends_of end }
+stands : (many : ℕ) (net : Net) (end : Option Contradiction) → next_of net ≡ ends_of end → run_of next_of many net ≡ record { steps = []; net = net; ends = ends_of end }
 unfolding run_of run_by
 stands zero net end e = rw e
-stands (suc many) net Ends.Stops e = rw e
-stands (suc many) net (Ends.NoFlow k i) e = rw e
+stands (suc many) net None e = rw e
+stands (suc many) net (Some x) e = rw e
 
-module _ {run : Run} {log : List ℤ} {arcs : List Arc} {at : Progress} {log' : List ℤ} {arcs' : List Arc} (h : Underway run log arcs at log' arcs') (a : is_active at ≡ true) where
+module _ {run : Run} {log : List ℤ} {arcs : List Arc} {at : Progress} {log' : List ℤ} {arcs' : List Arc} (h : Underway run log arcs at log' arcs') where
   abbrev here : Net
   here = net_in at.nodes arcs'
 
   -- there is room for a step
-  room : (s : Step) → next_of here ≡ Takes s → at.steps < 128
+  pub room : (s : Step) → next_of here ≡ Takes s → at.steps < 128
   unfolding run_of
-  room s e = by (128 - at.steps) refl ((h.ready a).done s)
+  room s e = by (128 - at.steps) refl (h.ready.done s)
     where
       by : (many : ℕ) → 128 - at.steps ≡ many → ((run_of next_of many here).ends ≡ Takes s → ⊥) → at.steps < 128
       by zero q d = absurd (d e)
       by (suc many) q d = omega (arith, q, add-one many)
 
   -- the run ends
-  ends-here : (seen : Seen) (end : Ends) → next_of here ≡ ends_of end → Underway run log arcs (ended at seen end) log' arcs'
+  pub ends-here : (end : Option Contradiction) → next_of here ≡ ends_of end → Finished run log arcs (ended at end) log' arcs'
   unfolding logged
-  ends-here seen end e =
+  ends-here end e =
       let z : at.steps + 0 ≡ at.steps = omega arith in
-      record { wide = h.wide; long = h.long; behind = h.behind; log_long = h.log_long; ready = λ f. unlike f; told = h.told ∙ rw (a, stands (128 - at.steps) here end e, z) }
+      record { long = h.long; behind = h.behind; told = h.told ∙ rw (stands (128 - at.steps) here end e, z) }
 
   -- or a step is taken
-  goes_on_lem : {seen : Seen} → Known here (at.steps + 1) seen → (s : Step) → next_of here ≡ Takes s → Underway run log arcs (moved at here seen s) (with_step log' at.steps s) (replaced_all arcs' s.change.edit)
+  pub goes-on : {seen : Seen} → Known here (at.steps + 1) seen → (s : Step) → next_of here ≡ Takes s → Underway run log arcs (moved at here seen s) (with_step log' at.steps s) (replaced_all arcs' s.change.edit)
   unfolding logged
-  goes_on_lem {seen} known s e =
-      let g = h.ready a in
+  goes-on {seen} known s e =
+      let g = h.ready in
       let right = (next-right here g.legal).taken s e in
       let edit = s.change.edit in
       let m = 128 - (at.steps + 1) in
@@ -119,24 +110,14 @@ module _ {run : Run} {log : List ℤ} {arcs : List Arc} {at : Progress} {log' : 
         long = length-replaced-all arcs' edit ∙ h.long;
         behind = replaced-behind arcs' edit (within right.handed_on) ∙ h.behind;
         log_long = logged-long at.steps (s ∷ []) log' ∙ h.log_long;
-        ready = λ _. subst⁻¹ (λ (x : Net). Ready x (marked_all seen edit (at.steps + 1)) (at.steps + 1)) net_is
+        ready = subst⁻¹ (λ (x : Net). Ready x (marked_all seen edit (at.steps + 1)) (at.steps + 1)) net_is
             (record { legal = right.legal; known = known-after known edit; few = omega (arith, room s e); done = λ u z. g.done u (ap (λ (x : Run). x.ends) more ∙ z) });
-        told = h.told ∙ rw a (ap (λ (x : Run). told_of x at.steps log') more ∙ told-after s (run_of next_of m (applied here edit)) at.steps log' ∙ ap (λ (x : Net). told_of (run_of next_of m x) (at.steps + 1) (with_step log' at.steps s)) (sym net_is));
+        told = h.told ∙ (ap (λ (x : Run). told_of x at.steps log') more ∙ told-after s (run_of next_of m (applied here edit)) at.steps log' ∙ ap (λ (x : Net). told_of (run_of next_of m x) (at.steps + 1) (with_step log' at.steps s)) (sym net_is));
       }
-
-  module _ {r : Progress} {log'' : List ℤ} {arcs'' : List Arc} (t : Turned at log' arcs' r log'' arcs'') where
-    pub underway-more : Underway run log arcs r log'' arcs'' × (left r < left at)
-    unfolding replaced_all replaced
-    underway-more = rw (t.is, t.log_is, t.arcs_are) (by (next_of here) refl)
-      where
-        by : (n : Next) → next_of here ≡ n → Underway run log arcs (advanced at here t.seen n) (noted log' at.steps n) (edited arcs' n) × (left (advanced at here t.seen n) < left at)
-        by Stops e = (ends-here t.seen Ends.Stops e, rw a (omega (arith, (h.ready a).few)))
-        by (Refuted k i) e = (ends-here t.seen (Ends.NoFlow k i) e, rw a (omega (arith, (h.ready a).few)))
-        by (Takes s) e = (goes_on_lem t.known s e, rw a (omega (arith, room s e)))
 
 -- ---- from the record to the end
 
-module _ (network : List ℤ) (log : ℕ) (arcs : ℕ) (q : refusal_of network log arcs ≡ 0) where
+module _ (network : List ℤ) (log : ℕ) (arcs : ℕ) (q : refusal_of network log arcs ≡ Ok tt) where
   a : AllYes network log arcs
   a = all_yes network log arcs q
 
@@ -160,21 +141,14 @@ module _ (network : List ℤ) (log : ℕ) (arcs : ℕ) (q : refusal_of network l
         let g = legal-read a in
         (subst⁻¹ (λ (x : Net). Ready x nothing_seen 0) read-net (record { legal = g; known = known-nothing net; few = omega arith; done = run-done next_of (back_of rules) next-right 128 net g (legal-left g) }), rw long a.wide)
 
-    pub run_is : {zs zs' : List ℤ} {ks ks' : List Arc} {at : Progress} {r : Ran} → length zs ≡ log → length ks ≡ arcs → Finished (reduced (net_in nodes list)) zs list at zs' ks' → r ≡ ran_of at → Searched network zs ks r zs' ks'
-    run_is {zs} {zs'} {ks} {ks'} {at} {r} u v f z =
-        let h : Finished (reduced (read_of network)) zs list at zs' ks' = subst (λ (x : Net). Finished (reduced x) zs list at zs' ks') read-net f in
-        rw z (record {
-          refused_is = sym (rw (u, v) q);
-          left = λ o. absurd (omega (arith, o));
-          steps_is = λ _. omega (arith, ap (λ (x : Told). x.steps) h.told);
-          ends_is = λ _. ap (λ (x : Told). x.ends) h.told;
-          nodes_is = λ _. sym (ap (λ (x : Told). nodes_of x.net) h.told);
-          log_is = λ _. sym (ap (λ (x : Told). x.log) h.told);
-          list_is = λ _. list-of (h.long ∙ long) a.wide (sym (ap (λ (x : Told). x.net) h.told)) (h.behind ∙ zeros-behind) ∙ ap (list_of (reduced (read_of network)).net) (sym v);
-        })
-
-pub refused_is : {network zs : List ℤ} {ks : List Arc} {r : Ran} (q : ℕ) → r ≡ refused_by q → q ≡ refusal_of network (length zs) (length ks) → 1 ≤ q → Searched network zs ks r zs ks
-refused_is {network} {zs} {ks} q e f l = rw e (record { refused_is = f; left = λ _. (refl, refl, refl); steps_is = none; ends_is = none; nodes_is = none; log_is = none; list_is = none })
-  where
-    none : {X : Type 0} → q ≡ 0 → X
-    none z = absurd (omega (arith, z, l))
+    pub run_is : {zs zs' : List ℤ} {ks ks' : List Arc} {r : Ran} → length zs ≡ log → length ks ≡ arcs → Finished (reduced (net_in nodes list)) zs list r zs' ks' → Reached network zs ks r zs' ks'
+    run_is {zs} {zs'} {ks} {ks'} {r} u v f =
+        let h : Finished (reduced (read_of network)) zs list r zs' ks' = subst (λ (x : Net). Finished (reduced x) zs list r zs' ks') read-net f in
+        record {
+          asked = rw (u, v) q;
+          steps_is = omega (arith, ap (λ (x : Told). x.steps) h.told);
+          ends_is = ap (λ (x : Told). x.ends) h.told;
+          nodes_is = sym (ap (λ (x : Told). nodes_of x.net) h.told);
+          log_is = sym (ap (λ (x : Told). x.log) h.told);
+          list_is = list-of (h.long ∙ long) a.wide (sym (ap (λ (x : Told). x.net) h.told)) (h.behind ∙ zeros-behind) ∙ ap (list_of (reduced (read_of network)).net) (sym v);
+        }

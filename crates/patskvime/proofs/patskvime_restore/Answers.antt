@@ -1,5 +1,5 @@
 use Rattle.patskvime.proofs.Ranges.{restore-ranged}
 use Rattle.patskvime.proofs.patskvime_restore.Goals as goal
 
-pub returns-in-Refused : goal.returns-in-Refused
-returns-in-Refused c = record { answer = _; says = c.restore.ensures; code = rw c.in-Refused.is; ranged = rw c.in-Refused.is at (restore-ranged c.restore.ensures) }
+pub returns : goal.returns
+returns c = record { answer = _; says = c.restore-restored.ensures; code = c.number.ensures; ranged = rw c.number.ensures (restore-ranged c.restore-restored.ensures) }

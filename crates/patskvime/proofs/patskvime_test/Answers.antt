@@ -1,5 +1,5 @@
 use Rattle.patskvime.proofs.Ranges.{test-ranged}
 use Rattle.patskvime.proofs.patskvime_test.Goals as goal
 
-pub returns-in-Refused : goal.returns-in-Refused
-returns-in-Refused c = record { answer = _; says = c.test.ensures; code = rw c.in-Refused.is; ranged = rw c.in-Refused.is at (test-ranged c.test.ensures) }
+pub returns : goal.returns
+returns c = record { answer = _; says = c.test-answer.ensures; code = c.number.ensures; ranged = rw c.number.ensures (test-ranged c.test-answer.ensures) }

@@ -1,5 +1,5 @@
 -- What the parts of restoring ask and answer.
-use Rattle.std.specs.Prelude.{◌≡◌, List, ℕ, zero, suc, ◌≤◌, ℤ, length}
+use Rattle.std.specs.Prelude.{◌≡◌, List, ℕ, ◌≤◌, ℤ, length, Result, Ok, Err, ⊤}
 use Rattle.loops.specs.Loops.{zeros}
 use Rattle.fraction.specs.declared.Fraction.{Fraction}
 use Rattle.fraction.specs.Formula.{figure_of}
@@ -11,9 +11,9 @@ use Rattle.optimality.specs.Test.{pair_in}
 use Rattle.survivors.specs.Survivors.{spread_of}
 use Rattle.records.specs.Limits.{pair_room, value_room}
 use Rattle.records.specs.Questions.{first_no}
-use Rattle.restoration.specs.declared.Answer.{Answer}
+use Rattle.records.specs.declared.refusal.Refusal.{Refusal}
 use Rattle.restoration.specs.declared.Offer.{Offer}
-use Rattle.restoration.specs.Restore.{original_value, back_table, answer_of, out_of}
+use Rattle.restoration.specs.Restore.{original_value, back_table, out_of}
 use Rattle.records.specs.Values.{four_words}
 
 -- lent slices of zeros, with room
@@ -23,18 +23,16 @@ pub record Empty (out values : List ℤ) : Type 0 where
   pub out_room : pair_room ≤ length out
   pub values_room : value_room ≤ length values
 
--- the number of a question, and where it is 0 the pair at the original numbers and its value on the reduced network
-pub record Offers (net : Net) (ys : List ℤ) (q : ℕ) (r : Offer) : Type 0 where
-  pub refused_is : r.refused ≡ q
-  pub pair_is : q ≡ 0 → r.pair ≡ spread_of net (pair_in (packed_of net) ys)
-  pub value_is : q ≡ 0 → r.value ≡ figure_of (value_of (packed_of net) (pair_in (packed_of net) ys))
+-- the pair at the original numbers, and its value on the reduced network
+abbrev pub offer_of : Net → List ℤ → Offer
+offer_of net ys = record { pair = spread_of net (pair_in (packed_of net) ys); value = figure_of (value_of (packed_of net) (pair_in (packed_of net) ys)) }
 
 -- question 13 at the end of the way, with the reduced value x
-abbrev pub values_with : ℕ → Fraction → Net → Way → ℕ → List ℤ
-values_with zero x net way v = four_words x (original_value net way) v
-values_with (suc q) x net way v = zeros v
+abbrev pub values_with : Result ⊤ Refusal → Fraction → Net → Way → ℕ → List ℤ
+values_with (Ok y) x net way v = four_words x (original_value net way) v
+values_with (Err q) x net way v = zeros v
 
-pub record Ended (net : Net) (x : Fraction) (way : Way) (r : Answer) (out values : List ℤ) (o v : ℕ) : Type 0 where
-  pub result : r ≡ answer_of (first_no (back_table net way))
+pub record Ended (net : Net) (x : Fraction) (way : Way) (r : Result ⊤ Refusal) (out values : List ℤ) (o v : ℕ) : Type 0 where
+  pub result : r ≡ first_no (back_table net way)
   pub out_is : out ≡ out_of (first_no (back_table net way)) net way o
   pub values_is : values ≡ values_with (first_no (back_table net way)) x net way v

@@ -1,13 +1,8 @@
--- `records::all_fractions` meets its contract.
-use Rattle.loops.proofs.Laws.{passed-fails, passed-more, passed_none}
-use mathlib.Core.Path.{◌∙◌, sym}
+-- `records::pair::all_fractions` meets its contract.
+use Rattle.std.proofs.Common.{refl, rules, tests}
+use Rattle.records.proofs.Every.{every}
+use Rattle.records.specs.Pair.{is_fraction}
 use Rattle.records.proofs.pair.all_fractions.Goals as goal
 
-pub returns-else-is_proper : goal.returns-else-is_proper
-returns-else-is_proper c = passed-fails c.loop-k.invariant c.loop-k-test.true (sym (rw c.figure_at-f.ensures at c.is_proper.ensures) ∙ c.if-is_proper.false)
-
-pub loop-k-init : goal.loop-k-init
-loop-k-init c = passed_none _ _
-
-pub loop-k-preserved : goal.loop-k-preserved
-loop-k-preserved c = passed-more c.loop-k.invariant c.loop-k-test.true (sym (rw c.figure_at-f.ensures at c.is_proper.ensures) ∙ c.if-is_proper.true)
+pub returns : goal.returns
+returns c = every (is_fraction c.args.pair.now c.args.t) c.args.t _ _ c.all.result refl c.all.ensures.ran (λ x b q k. search (rules, tests))
