@@ -8,4 +8,4 @@ pub mod Paired
 pub mod Written
 pub mod Logged
 pub mod Loaded
-pub mod Put
+pub mod Places

@@ -7,8 +7,8 @@ ghost use Rattle.network.specs.Limits.{max_nodes, max_arcs};
 ghost use Rattle.records.specs.Limits.{pair_figures};
 ghost use Rattle.records.specs.Arrays.{arrays_of};
 ghost use Rattle.records.specs.Pair.{is_fraction, is_pair, price_turn, flow_turn, pair_of, pair_figure, pair_words};
-ghost use Rattle.records.specs.internal.Put.{nums_at, dens_at, put_from};
 
+use crate::writing::Figures;
 use fraction::Fraction;
 use network::pair::Pair;
 use network::{ARC_PLACES, MAX_ARCS, MAX_NODES};
@@ -98,28 +98,32 @@ pub fn read_pair(words: &[i32], n: usize, m: usize) -> Pair
 
 // ---- writing
 
-// The figures of the arcs 1 to m, behind those of n nodes.
-fn put_flows(at: [Fraction; ARC_PLACES], n: usize, m: usize, out: &mut [i32], dens: &mut [i32])
-    requires { (n ≤ max_nodes) × (m ≤ max_arcs) }
-    ensures { (out.new ≡ put_from (nums_at at) n m out.old) × (dens.new ≡ put_from (dens_at at) n m dens.old) }
-{
-    for j in 0..m {
-        crate::put_figure(at[j + 1], n + j, out, dens);
-    }
+// A pair with the number of its nodes.
+#[derive(Clone, Copy)]
+struct Numbered {
+    n: usize,
+    pair: Pair,
 }
 
-// The figures' numerators, as many denominators, and zeros behind them.
-fn write_figures(n: usize, m: usize, pair: Pair, out: &mut [i32])
-    requires { (n ≤ max_nodes) × (m ≤ max_arcs) × (2 * pair_figures ≤ length out.old) }
-    ensures { out.new ≡ arrays_of (pair_figure n pair) (n + m) (length out.old) }
-{
-    let mut dens = [0i32; crate::PAIR_FIGURES];
-    let price = pair.price;
-    crate::put_nodes(price, n, 0, out, &mut dens);
-    let flow = pair.flow;
-    put_flows(flow, n, m, out, &mut dens);
-    let t = n + m;
-    crate::write_denominators(&dens[..t], &mut out[t..]);
+impl Figures for Numbered {
+    ghost figures = { λ p. pair_figure p.n p.pair };
+
+    #[tactic(auto, unfolding(crate::specs::Pair::pair_figure))]
+    fn figure(&self, k: usize) -> Fraction {
+        if k < self.n {
+            return self
+                .pair
+                .price
+                .get(k + 1)
+                .copied()
+                .unwrap_or(network::no_figure());
+        }
+        self.pair
+            .flow
+            .get(k - self.n + 1)
+            .copied()
+            .unwrap_or(network::no_figure())
+    }
 }
 
 // A pair's record, and zeros behind it; zeros alone where it has no room.
@@ -127,6 +131,6 @@ pub fn write_pair(n: usize, m: usize, pair: Pair, out: &mut [i32])
     ensures { out.new ≡ pair_words n m pair (length out.old) }
 {
     if crate::write_sizes(crate::PAIR_WORDS, n, m, out) {
-        write_figures(n, m, pair, &mut out[2..]);
+        crate::writing::write(&Numbered { n, pair }, n + m, &mut out[2..]);
     }
 }

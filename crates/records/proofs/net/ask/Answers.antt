@@ -1,5 +1,5 @@
 -- `records::net::ask` meets its contract.
-use mathlib.Core.Path.{◌∙◌, sym, refl}
+use mathlib.Core.Path.{◌∙◌, refl}
 use Rattle.std.proofs.lemmas.Result.{err_from_is_err_and}
 use Rattle.records.proofs.Questions.{same-refusal, refused, passed, asked, not-asked}
 use Rattle.records.proofs.net.ask.Goals as goal

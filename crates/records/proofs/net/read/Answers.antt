@@ -1,5 +1,5 @@
 -- `records::net::read` meets its contract.
-use mathlib.Core.Path.{◌∙◌, ap, sym}
+use mathlib.Core.Path.{◌∙◌, ap}
 use Rattle.loops.specs.Loops.{upto}
 use Rattle.records.specs.Network.{arc_turn, net_of, read_of}
 use Rattle.records.proofs.net.read.Goals as goal

@@ -4,7 +4,7 @@ use native.Mathlib.Omega.{arith}
 use lib.Dec.{T, ltb, lit<}
 use mir.Syntax.{w64}
 use mir.Val.{Fits}
-use Rattle.records.specs.Network.{figures, arc_figure, arc_in}
+use Rattle.records.specs.Network.{arc_figure, arc_in}
 use Rattle.records.proofs.net.Record.arc.Goals as goal
 
 -- an arc's figures are among the t
