@@ -2,12 +2,13 @@
 ghost use Rattle.std.specs.Prelude.{◌≡◌, ◌+◌, ◌*◌, ◌≤◌, length};
 ghost use Rattle.network.specs.Limits.{max_nodes, max_arcs};
 ghost use Rattle.records.specs.Limits.{pair_room, value_room};
+ghost use Rattle.text.specs.Page.{Prints};
 ghost use Rattle.answers.specs.Answers.{no_bytes, Printed, most_of};
 ghost use Rattle.answers.specs.Restoring.{stack_split, split_sized, split_of, pair_lines, value_lines, restored_lines, restored_text, on_split, restore_text, most_restored, RestoredRight};
 
 use records::Size;
 use restoration::Answer;
-use text::Reading;
+use text::Page;
 
 // Where the network and where the stack ends in the words of a text, or the number of the refusal.
 #[derive(Clone, Copy)]
@@ -55,42 +56,42 @@ fn split_words(words: &[i32]) -> Split
     }
 }
 
-fn put_pair(out: &mut [u8], at: usize, words: &[i32]) -> usize
-    ensures { Printed out.old at (pair_lines words.now) (most_of (length words.now)) result out.new }
+fn put_pair(page: &mut Page, words: &[i32])
+    ensures { Prints page.old (pair_lines words.now) (most_of (length words.now)) page.new }
 {
     let n = crate::size_at(words, 0);
     let m = crate::size_at(words, 1);
-    crate::put_record(out, at, words, 2, n + m)
+    crate::put_record(page, words, 2, n + m);
 }
 
-fn put_values(out: &mut [u8], at: usize, words: &[i32]) -> usize
-    ensures { Printed out.old at (value_lines words.now) (most_of (length words.now)) result out.new }
+fn put_values(page: &mut Page, words: &[i32])
+    ensures { Prints page.old (value_lines words.now) (most_of (length words.now)) page.new }
 {
-    let a = crate::put_part(out, at, words, 0, 2);
-    crate::put_part(out, a, words, 2, 2)
+    crate::put_part(page, words, 0, 2);
+    crate::put_part(page, words, 2, 2);
 }
 
-fn put_restored(out: &mut [u8], at: usize, pair: &[i32], values: &[i32]) -> usize
-    ensures { Printed out.old at (restored_lines Answer.Restored pair.now values.now) (most_restored (length pair.now) (length values.now)) result out.new }
+fn put_restored(page: &mut Page, pair: &[i32], values: &[i32])
+    ensures { Prints page.old (restored_lines Answer.Restored pair.now values.now) (most_restored (length pair.now) (length values.now)) page.new }
 {
-    let a = text::put_bytes(out, at, b"restored\n");
-    let b = put_pair(out, a, pair);
-    put_values(out, b, values)
+    page.bytes(b"restored\n");
+    put_pair(page, pair);
+    put_values(page, values);
 }
 
 // An answer, with the words of the restored pair and of the values.
-fn put_answer(out: &mut [u8], at: usize, answer: Answer, pair: &[i32], values: &[i32]) -> usize
-    ensures { Printed out.old at (restored_lines answer pair.now values.now) (most_restored (length pair.now) (length values.now)) result out.new }
+fn put_answer(page: &mut Page, answer: Answer, pair: &[i32], values: &[i32])
+    ensures { Prints page.old (restored_lines answer pair.now values.now) (most_restored (length pair.now) (length values.now)) page.new }
 {
     match answer {
-        Answer::Restored => put_restored(out, at, pair, values),
-        Answer::Refused(q) => crate::put_refusal(out, at, q),
+        Answer::Restored => put_restored(page, pair, values),
+        Answer::Refused(q) => crate::put_refusal(page, q),
     }
 }
 
 // The parts of a text, restored; the answer's bytes.
-fn restore_parts(network: &[i32], stack: &[i32], pair: &[i32], out: &mut [u8]) -> usize
-    ensures { Printed out.old 0 (restored_text network.now stack.now pair.now) (most_restored pair_room value_room) result out.new }
+fn restore_parts(page: &mut Page, network: &[i32], stack: &[i32], pair: &[i32])
+    ensures { Prints page.old (restored_text network.now stack.now pair.now) (most_restored pair_room value_room) page.new }
 {
     let mut back = [0i32; records::PAIR_WORDS];
     let mut values = [0i32; records::VALUE_WORDS];
@@ -103,28 +104,35 @@ fn restore_parts(network: &[i32], stack: &[i32], pair: &[i32], out: &mut [u8]) -
         &mut values,
         &mut scratch,
     );
-    put_answer(out, 0, answer, &back, &values)
+    put_answer(page, answer, &back, &values);
 }
 
 // The words of a text whose network ends at e and whose stack ends at f.
-fn restore_split(words: &[i32], e: usize, f: usize, out: &mut [u8]) -> usize
+fn restore_split(page: &mut Page, words: &[i32], e: usize, f: usize)
     requires { (e ≤ f) × (f ≤ length words.now) }
-    ensures { Printed out.old 0 (on_split words.now (Split.Parts e f)) (most_restored pair_room value_room) result out.new }
+    ensures { Prints page.old (on_split words.now (Split.Parts e f)) (most_restored pair_room value_room) page.new }
 {
-    let network = &words[..e];
-    let behind = &words[e..];
-    let stack = &behind[..f - e];
-    let pair = &words[f..];
-    restore_parts(network, stack, pair, out)
+    restore_parts(page, &words[..e], &words[e..f], &words[f..]);
 }
 
 // The words of a text, split and restored.
-fn restore_words(words: &[i32], out: &mut [u8]) -> usize
-    ensures { Printed out.old 0 (on_split words.now (split_of words.now)) (most_restored pair_room value_room) result out.new }
+fn restore_words(page: &mut Page, words: &[i32])
+    ensures { Prints page.old (on_split words.now (split_of words.now)) (most_restored pair_room value_room) page.new }
 {
     match split_words(words) {
-        Split::No(q) => crate::put_refusal(out, 0, q),
-        Split::Parts(e, f) => restore_split(words, e, f, out),
+        Split::No(q) => crate::put_refusal(page, q),
+        Split::Parts(e, f) => restore_split(page, words, e, f),
+    }
+}
+
+// A text, restored.
+fn put_text(page: &mut Page, text: &[u8])
+    ensures { Prints page.old (restore_text text.now) (most_restored pair_room value_room) page.new }
+{
+    let mut words = [0i32; text::MAX_WORDS];
+    match text::read_words(text, &mut words) {
+        Some(n) => restore_words(page, &words[..n]),
+        None => crate::put_refusal(page, 14),
     }
 }
 
@@ -133,10 +141,7 @@ fn restore_words(words: &[i32], out: &mut [u8]) -> usize
 pub fn restore_text(text: &[u8], out: &mut [u8]) -> usize
     ensures { Printed (no_bytes (length out.old)) 0 (restore_text text.now) (most_restored pair_room value_room) result out.new × RestoredRight text.now }
 {
-    text::clear(out);
-    let mut words = [0i32; text::MAX_WORDS];
-    match text::read_words(text, &mut words) {
-        Reading::Words(n) => restore_words(&words[..n], out),
-        Reading::Refused => crate::put_refusal(out, 0, 14),
-    }
+    let mut page = Page::new(out);
+    put_text(&mut page, text);
+    page.at
 }
