@@ -123,7 +123,7 @@ fn end_word(state: State, words: &mut [i32], count: usize) -> usize
     }
 }
 
-// How many words there are, n of them stored, unless the text is refused.
+// How many words there are, n, unless the text is refused.
 fn close(state: State, n: usize) -> Option<usize>
     ensures { result ≡ closed state n }
 {
