@@ -8,7 +8,7 @@ use lib.IntN.{ℤ}
 use lib.ListN.{length, take, length-append}
 use lib.Seq.{take_at}
 use Rattle.fraction.proofs.Laws.{never}
-use Rattle.text.specs.declared.Reading.TheVariants.{Words, Refused}
+use Rattle.std.specs.Prelude.{Some, None}
 use Rattle.text.specs.Text.{words_of, answer, padded, Read}
 use Rattle.text.proofs.Count.{room-enough}
 
@@ -17,18 +17,18 @@ module _ (text : List ℕ) (room : ℕ) (ws : List ℤ) (h : 12288 ≤ room) whe
     pub is : words_of text ≡ some (take n ws)
     pub few : n ≤ length ws
 
-  pub read_some : (n : ℕ) → Read text room (Words n) ws → Found n
+  pub read_some : (n : ℕ) → Read text room (Some n) ws → Found n
   read_some n r = by (words_of text) refl (rw (room-enough text room h) at r.result) (rw (room-enough text room h) at r.words_are)
     where
-      by : (o : Option (List ℤ)) → words_of text ≡ o → Words n ≡ answer o → ws ≡ padded room o → Found n
+      by : (o : Option (List ℤ)) → words_of text ≡ o → Some n ≡ answer o → ws ≡ padded room o → Found n
       by none e q w = never cc
       by (some zs) e q w =
           let l : n ≡ length zs = cc in
           record { is = e ∙ ap some (sym (rw (w, l) (take_at zs _ (length zs) refl))); few = rw (w, length-append) (omega arith) }
 
-  pub read_none : Read text room Refused ws → words_of text ≡ none
+  pub read_none : Read text room None ws → words_of text ≡ none
   read_none r = by (words_of text) refl (rw (room-enough text room h) at r.result)
     where
-      by : (o : Option (List ℤ)) → words_of text ≡ o → Refused ≡ answer o → words_of text ≡ none
+      by : (o : Option (List ℤ)) → words_of text ≡ o → None ≡ answer o → words_of text ≡ none
       by none e q = e
       by (some zs) e q = never cc

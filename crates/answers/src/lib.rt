@@ -5,118 +5,116 @@ ghost use Rattle.std.specs.Prelude.{[], ◌∷◌, ◌++◌, ◌+◌, ◌*◌, �
 ghost use Rattle.fraction.specs.Words.{word_of};
 ghost use Rattle.records.specs.Limits.{network_room, stack_room};
 ghost use Rattle.text.specs.Line.{line_of};
+ghost use Rattle.text.specs.Page.{Prints};
 ghost use Rattle.answers.specs.Answers.{no_flow_bytes, refused_lines, part_line, record_lines, network_lines, stack_lines, end_lines, reduced_lines, reduced_text, reduce_text, no_bytes, Printed, most_of, most_reduced, NoFlowRight};
 
 use records::refusal::Refusal;
 use reduction::End;
-use text::Reading;
+use text::Page;
 
 pub mod restoring;
 
 // The line of count words from a place on.
-fn put_part(out: &mut [u8], at: usize, words: &[i32], from: usize, count: usize) -> usize
-    ensures { Printed out.old at (part_line words.now from count) (length words.now * 12 + 1) result out.new }
+fn put_part(page: &mut Page, words: &[i32], from: usize, count: usize)
+    ensures { Prints page.old (part_line words.now from count) (length words.now * 12 + 1) page.new }
 {
-    if from <= words.len() {
-        let rest = &words[from..];
-        if count <= rest.len() {
-            return text::put_line(out, at, &rest[..count]);
-        }
-        return text::put_line(out, at, rest);
-    }
-    text::put_line(out, at, &words[..0])
+    let rest = &words[from.min(words.len())..];
+    page.line(&rest[..count.min(rest.len())]);
 }
 
 // The lines of a record: its sizes, and two parallel arrays of k words.
-fn put_record(out: &mut [u8], at: usize, words: &[i32], sizes: usize, k: usize) -> usize
+fn put_record(page: &mut Page, words: &[i32], sizes: usize, k: usize)
     requires { (sizes ≤ 2) × (k ≤ 17179869184) }
-    ensures { Printed out.old at (record_lines words.now sizes k) (most_of (length words.now)) result out.new }
+    ensures { Prints page.old (record_lines words.now sizes k) (most_of (length words.now)) page.new }
 {
-    let a = put_part(out, at, words, 0, sizes);
-    let b = put_part(out, a, words, sizes, k);
-    put_part(out, b, words, sizes + k, k)
+    put_part(page, words, 0, sizes);
+    put_part(page, words, sizes, k);
+    put_part(page, words, sizes + k, k);
 }
 
-fn put_network(out: &mut [u8], at: usize, words: &[i32]) -> usize
-    ensures { Printed out.old at (network_lines words.now) (most_of (length words.now)) result out.new }
+fn put_network(page: &mut Page, words: &[i32])
+    ensures { Prints page.old (network_lines words.now) (most_of (length words.now)) page.new }
 {
     let n = records::number_at(words, 0);
     let m = records::number_at(words, 1);
-    put_record(out, at, words, 2, 1 + n + 7 * m)
+    put_record(page, words, 2, 1 + n + 7 * m);
 }
 
-fn put_stack(out: &mut [u8], at: usize, words: &[i32]) -> usize
-    ensures { Printed out.old at (stack_lines words.now) (most_of (length words.now)) result out.new }
+fn put_stack(page: &mut Page, words: &[i32])
+    ensures { Prints page.old (stack_lines words.now) (most_of (length words.now)) page.new }
 {
     let s = records::number_at(words, 0);
-    put_record(out, at, words, 1, s)
+    put_record(page, words, 1, s);
 }
 
-fn put_refusal(out: &mut [u8], at: usize, refusal: Refusal) -> usize
-    ensures { Printed out.old at (refused_lines refusal) 33 result out.new }
+fn put_refusal(page: &mut Page, refusal: Refusal)
+    ensures { Prints page.old (refused_lines refusal) 33 page.new }
 {
-    let a = text::put_bytes(out, at, b"refused ");
-    let words = [fraction::words::word_of(refusal.number())];
-    text::put_line(out, a, &words)
+    page.bytes(b"refused ");
+    page.line(&[fraction::words::word_of(refusal.number())]);
 }
 
-fn put_no_flow(out: &mut [u8], at: usize, rule: usize, place: usize) -> usize
-    ensures { Printed out.old at (no_flow_bytes ++ line_of (word_of rule ∷ word_of place ∷ [])) 33 result out.new }
+fn put_no_flow(page: &mut Page, rule: usize, place: usize)
+    ensures { Prints page.old (no_flow_bytes ++ line_of (word_of rule ∷ word_of place ∷ [])) 33 page.new }
 {
-    let a = text::put_bytes(out, at, b"no flow ");
-    let words = [
+    page.bytes(b"no flow ");
+    page.line(&[
         fraction::words::word_of(rule),
         fraction::words::word_of(place),
-    ];
-    text::put_line(out, a, &words)
+    ]);
 }
 
-fn put_reduced(out: &mut [u8], at: usize, net: &[i32], stack: &[i32]) -> usize
-    ensures { Printed out.old at (end_lines End.Reduced net.now stack.now) (most_reduced (length net.now) (length stack.now)) result out.new }
+fn put_reduced(page: &mut Page, net: &[i32], stack: &[i32])
+    ensures { Prints page.old (end_lines End.Reduced net.now stack.now) (most_reduced (length net.now) (length stack.now)) page.new }
 {
-    let a = text::put_bytes(out, at, b"reduced\n");
-    let b = put_network(out, a, net);
-    put_stack(out, b, stack)
+    page.bytes(b"reduced\n");
+    put_network(page, net);
+    put_stack(page, stack);
 }
 
 // An end, with the words of the reduced network and of the stack.
-fn put_end(out: &mut [u8], at: usize, end: End, net: &[i32], stack: &[i32]) -> usize
-    ensures { Printed out.old at (end_lines end net.now stack.now) (most_reduced (length net.now) (length stack.now)) result out.new }
+fn put_end(page: &mut Page, end: End, net: &[i32], stack: &[i32])
+    ensures { Prints page.old (end_lines end net.now stack.now) (most_reduced (length net.now) (length stack.now)) page.new }
 {
     match end {
-        End::Reduced => put_reduced(out, at, net, stack),
+        End::Reduced => put_reduced(page, net, stack),
         End::NoFlow { rule, place } => {
-            let a = put_no_flow(out, at, rule, place);
-            put_stack(out, a, stack)
+            put_no_flow(page, rule, place);
+            put_stack(page, stack);
         },
     }
 }
 
 // An answer, with the same words.
-fn put_answer(
-    out: &mut [u8],
-    at: usize,
-    answer: Result<End, Refusal>,
-    net: &[i32],
-    stack: &[i32],
-) -> usize
-    ensures { Printed out.old at (reduced_lines answer net.now stack.now) (most_reduced (length net.now) (length stack.now)) result out.new }
+fn put_answer(page: &mut Page, answer: Result<End, Refusal>, net: &[i32], stack: &[i32])
+    ensures { Prints page.old (reduced_lines answer net.now stack.now) (most_reduced (length net.now) (length stack.now)) page.new }
 {
     match answer {
-        Ok(end) => put_end(out, at, end, net, stack),
-        Err(refusal) => put_refusal(out, at, refusal),
+        Ok(end) => put_end(page, end, net, stack),
+        Err(refusal) => put_refusal(page, refusal),
     }
 }
 
 // The words of a text, reduced; the answer's bytes.
-fn reduce_words(words: &[i32], out: &mut [u8]) -> usize
-    ensures { Printed out.old 0 (reduced_text words.now) (most_reduced network_room stack_room) result out.new }
+fn reduce_words(page: &mut Page, words: &[i32])
+    ensures { Prints page.old (reduced_text words.now) (most_reduced network_room stack_room) page.new }
 {
     let mut net = [0i32; records::NETWORK_WORDS];
     let mut stack = [0i32; records::STACK_WORDS];
     let mut scratch = [0i32; records::SCRATCH_WORDS];
     let answer = reduction::plain::reduce(words, &mut net, &mut stack, &mut scratch);
-    put_answer(out, 0, answer, &net, &stack)
+    put_answer(page, answer, &net, &stack);
+}
+
+// A text, reduced.
+fn put_text(page: &mut Page, text: &[u8])
+    ensures { Prints page.old (reduce_text text.now) (most_reduced network_room stack_room) page.new }
+{
+    let mut words = [0i32; text::MAX_WORDS];
+    match text::read_words(text, &mut words) {
+        Some(n) => reduce_words(page, &words[..n]),
+        None => put_refusal(page, Refusal::Text),
+    }
 }
 
 // From the bytes of a text to the bytes of the reducing program's answer, and how many they are; what stands behind them is zero.
@@ -124,10 +122,7 @@ fn reduce_words(words: &[i32], out: &mut [u8]) -> usize
 pub fn reduce_text(text: &[u8], out: &mut [u8]) -> usize
     ensures { Printed (no_bytes (length out.old)) 0 (reduce_text text.now) (most_reduced network_room stack_room) result out.new × NoFlowRight text.now }
 {
-    text::clear(out);
-    let mut words = [0i32; text::MAX_WORDS];
-    match text::read_words(text, &mut words) {
-        Reading::Words(n) => reduce_words(&words[..n], out),
-        Reading::Refused => put_refusal(out, 0, Refusal::Text),
-    }
+    let mut page = Page::new(out);
+    put_text(&mut page, text);
+    page.at
 }

@@ -1,11 +1,12 @@
 // From the bytes of a restoring text to the bytes of the answer.
 ghost use Rattle.std.specs.Prelude.{◌≡◌, Ok, Err, MatchResult, ◌+◌, length};
 ghost use Rattle.records.specs.Limits.{pair_room, value_room};
+ghost use Rattle.text.specs.Page.{Prints};
 ghost use Rattle.answers.specs.Answers.{no_bytes, Printed, most_of};
 ghost use Rattle.answers.specs.Restoring.{words_in, split_of, pair_lines, value_lines, restored_lines, restored_text, on_split, restore_text, most_restored, RestoredRight};
 
 use records::refusal::Refusal;
-use text::Reading;
+use text::Page;
 
 // The words of a text: those of the network, of the stack and of the pair.
 #[derive(Clone, Copy)]
@@ -33,48 +34,42 @@ fn split(words: &[i32]) -> Result<Parts<'_>, Refusal>
     })
 }
 
-fn put_pair(out: &mut [u8], at: usize, words: &[i32]) -> usize
-    ensures { Printed out.old at (pair_lines words.now) (most_of (length words.now)) result out.new }
+fn put_pair(page: &mut Page, words: &[i32])
+    ensures { Prints page.old (pair_lines words.now) (most_of (length words.now)) page.new }
 {
     let n = records::number_at(words, 0);
     let m = records::number_at(words, 1);
-    crate::put_record(out, at, words, 2, n + m)
+    crate::put_record(page, words, 2, n + m);
 }
 
-fn put_values(out: &mut [u8], at: usize, words: &[i32]) -> usize
-    ensures { Printed out.old at (value_lines words.now) (most_of (length words.now)) result out.new }
+fn put_values(page: &mut Page, words: &[i32])
+    ensures { Prints page.old (value_lines words.now) (most_of (length words.now)) page.new }
 {
-    let a = crate::put_part(out, at, words, 0, 2);
-    crate::put_part(out, a, words, 2, 2)
+    crate::put_part(page, words, 0, 2);
+    crate::put_part(page, words, 2, 2);
 }
 
-fn put_restored(out: &mut [u8], at: usize, pair: &[i32], values: &[i32]) -> usize
-    ensures { Printed out.old at (restored_lines (Ok tt) pair.now values.now) (most_restored (length pair.now) (length values.now)) result out.new }
+fn put_restored(page: &mut Page, pair: &[i32], values: &[i32])
+    ensures { Prints page.old (restored_lines (Ok tt) pair.now values.now) (most_restored (length pair.now) (length values.now)) page.new }
 {
-    let a = text::put_bytes(out, at, b"restored\n");
-    let b = put_pair(out, a, pair);
-    put_values(out, b, values)
+    page.bytes(b"restored\n");
+    put_pair(page, pair);
+    put_values(page, values);
 }
 
 // An answer, with the words of the restored pair and of the values.
-fn put_answer(
-    out: &mut [u8],
-    at: usize,
-    answer: Result<(), Refusal>,
-    pair: &[i32],
-    values: &[i32],
-) -> usize
-    ensures { Printed out.old at (restored_lines answer pair.now values.now) (most_restored (length pair.now) (length values.now)) result out.new }
+fn put_answer(page: &mut Page, answer: Result<(), Refusal>, pair: &[i32], values: &[i32])
+    ensures { Prints page.old (restored_lines answer pair.now values.now) (most_restored (length pair.now) (length values.now)) page.new }
 {
     match answer {
-        Ok(()) => put_restored(out, at, pair, values),
-        Err(refusal) => crate::put_refusal(out, at, refusal),
+        Ok(()) => put_restored(page, pair, values),
+        Err(refusal) => crate::put_refusal(page, refusal),
     }
 }
 
 // The parts of a text, restored; the answer's bytes.
-fn restore_parts(network: &[i32], stack: &[i32], pair: &[i32], out: &mut [u8]) -> usize
-    ensures { Printed out.old 0 (restored_text network.now stack.now pair.now) (most_restored pair_room value_room) result out.new }
+fn restore_parts(page: &mut Page, network: &[i32], stack: &[i32], pair: &[i32])
+    ensures { Prints page.old (restored_text network.now stack.now pair.now) (most_restored pair_room value_room) page.new }
 {
     let mut back = [0i32; records::PAIR_WORDS];
     let mut values = [0i32; records::VALUE_WORDS];
@@ -87,16 +82,27 @@ fn restore_parts(network: &[i32], stack: &[i32], pair: &[i32], out: &mut [u8]) -
         &mut values,
         &mut scratch,
     );
-    put_answer(out, 0, answer, &back, &values)
+    put_answer(page, answer, &back, &values);
 }
 
 // The words of a text, split and restored.
-fn restore_words(words: &[i32], out: &mut [u8]) -> usize
-    ensures { Printed out.old 0 (on_split (split_of words.now)) (most_restored pair_room value_room) result out.new }
+fn restore_words(page: &mut Page, words: &[i32])
+    ensures { Prints page.old (on_split (split_of words.now)) (most_restored pair_room value_room) page.new }
 {
     match split(words) {
-        Ok(parts) => restore_parts(parts.network, parts.stack, parts.pair, out),
-        Err(refusal) => crate::put_refusal(out, 0, refusal),
+        Ok(parts) => restore_parts(page, parts.network, parts.stack, parts.pair),
+        Err(refusal) => crate::put_refusal(page, refusal),
+    }
+}
+
+// A text, restored.
+fn put_text(page: &mut Page, text: &[u8])
+    ensures { Prints page.old (restore_text text.now) (most_restored pair_room value_room) page.new }
+{
+    let mut words = [0i32; text::MAX_WORDS];
+    match text::read_words(text, &mut words) {
+        Some(n) => restore_words(page, &words[..n]),
+        None => crate::put_refusal(page, Refusal::Text),
     }
 }
 
@@ -105,10 +111,7 @@ fn restore_words(words: &[i32], out: &mut [u8]) -> usize
 pub fn restore_text(text: &[u8], out: &mut [u8]) -> usize
     ensures { Printed (no_bytes (length out.old)) 0 (restore_text text.now) (most_restored pair_room value_room) result out.new × RestoredRight text.now }
 {
-    text::clear(out);
-    let mut words = [0i32; text::MAX_WORDS];
-    match text::read_words(text, &mut words) {
-        Reading::Words(n) => restore_words(&words[..n], out),
-        Reading::Refused => crate::put_refusal(out, 0, Refusal::Text),
-    }
+    let mut page = Page::new(out);
+    put_text(&mut page, text);
+    page.at
 }

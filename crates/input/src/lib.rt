@@ -14,6 +14,7 @@ pub fn read_full<R: Read>(reader: &mut R, buf: &mut [u8]) -> io::Result<usize>
     ensures end { IfOk result (λ n. n < length buf.old → IsAtEnd (R.remaining reader.new)) }
 {
     let mut n = 0;
+    // the reader says how far each read comes, so no iterator yields these places
     while n < buf.len() {
         let got = reader.read(&mut buf[n..])?;
         if got == 0 {

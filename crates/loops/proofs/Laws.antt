@@ -136,7 +136,7 @@ all-each p (suc n) e i h =
   where
     both : (s t : Bool) → (s && t) ≡ true → (s ≡ true) × (t ≡ true)
     both true t e = (refl, e)
-    both false t e = absurd (let z : ◌≡◌ {A = ℕ} 0 1 = cc in omega arith)
+    both false t e = cc
 
 all-fails : (p : ℕ → Bool) (i k : ℕ) → p i ≡ false → all p (k + suc i) ≡ false
 unfolding all
@@ -170,7 +170,7 @@ any-all p (suc n) = rw (any-all p n) (by (all (λ k. not (p k)) n))
 -- what some pass, one of them passes
 pub any_some : (p : ℕ → Bool) (n : ℕ) → any p n ≡ true → (i : ℕ) × (i < n) × (p i ≡ true)
 unfolding any
-any_some p zero e = absurd (let z : ◌≡◌ {A = ℕ} 0 1 = cc in omega arith)
+any_some p zero e = cc
 any_some p (suc n) e = by (any p n) (any_some p n) e
   where
     by : (b : Bool) → (b ≡ true → (i : ℕ) × (i < n) × (p i ≡ true)) → (b || p n) ≡ true → (i : ℕ) × (i < suc n) × (p i ≡ true)
@@ -236,7 +236,7 @@ count-mono p q (suc n) h = by (q n) (p n) (h n) (count-mono p q n h)
   where
     by : (b a : Bool) → (b ≡ true → a ≡ true) → count q n ≤ count p n → tally b (count q n) ≤ tally a (count p n)
     by true true f c = omega arith
-    by true false f c = absurd (let e = f refl in let z : ◌≡◌ {A = ℕ} 0 1 = cc in omega arith)
+    by true false f c = let e = f refl in cc
     by false true f c = omega arith
     by false false f c = c
 
@@ -251,12 +251,12 @@ count_under p q (suc n) k l t f h =
   where
     by : (b a : Bool) → (b ≡ true → a ≡ true) → count q n < count p n → tally b (count q n) < tally a (count p n)
     by true true f c = omega arith
-    by true false f c = absurd (let e = f refl in let z : ◌≡◌ {A = ℕ} 0 1 = cc in omega arith)
+    by true false f c = let e = f refl in cc
     by false true f c = omega arith
     by false false f c = c
 
 pub count-some : (p : ℕ → Bool) (n k : ℕ) → k < n → p k ≡ true → 1 ≤ count p n
-count-some p n k l t = omega (arith, count_under p (λ _. false) n k l t refl (λ i e. absurd (let z : ◌≡◌ {A = ℕ} 0 1 = cc in omega arith)))
+count-some p n k l t = omega (arith, count_under p (λ _. false) n k l t refl (λ i e. cc))
 
 -- a test that 0 does not pass, asked of the numbers from 1
 pub count-shift : (p : ℕ → Bool) (n : ℕ) → p 0 ≡ false → count p (suc n) ≡ count (λ k. p (k + 1)) n

@@ -8,17 +8,14 @@ ghost use Rattle.loops.specs.Loops.{zeros};
 pub fn clear(s: &mut [i32])
     ensures { s.new ≡ zeros (length s.old) }
 {
-    let mut i = 0;
-    while i < s.len() {
-        s[i] = 0;
-        i += 1;
-    }
+    s.fill(0);
 }
 
 // One word; none where the place is outside.
 pub fn put(s: &mut [i32], at: usize, v: i32)
     ensures { s.new ≡ set s.old at v }
 {
+    // by index: of a write through `get_mut` a proof knows the length alone
     if at < s.len() {
         s[at] = v;
     }

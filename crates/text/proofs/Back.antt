@@ -15,7 +15,11 @@ use borrow.Author.Tests.{le-leb, ne_eqb, ltb-true, ltb-false}
 use Rattle.text.specs.Text.{separator, digit, pieces, value_from, value_of, signed, word_of, both, words_in, words_of}
 use Rattle.text.specs.Line.{digits_by, digits_in, digits, decimal, behind_spaces, spaced, line_of}
 use Rattle.text.proofs.Words.{digit_low}
-use Rattle.text.proofs.Lines.{Within}
+
+-- words within signed 32 bits
+abbrev pub Within : List ℤ → Type 0
+Within [] = Unit {0}
+Within (z ∷ zs) = (mag z < 2147483648) × Within zs
 
 -- bytes with no separator among them
 abbrev Plain : List ℕ → Type 0
@@ -39,7 +43,7 @@ value-plain (x ∷ xs) v m e = by (digit x) refl e (λ q. value-plain xs (v * 10
   where
     by : (t : Bool) → digit x ≡ t → cond t (value_from (v * 10 + (x - 48)) xs) none ≡ some m → (value_from (v * 10 + (x - 48)) xs ≡ some m → Plain xs) → Plain (x ∷ xs)
     by true q e more = (digit-plain x q, more e)
-    by false q e more = absurd (let z : ◌≡◌ {A = ℕ} 0 1 = cc in omega arith)
+    by false q e more = cc
 
 value_none : (v : ℕ) → value_from v [] ≡ some v
 unfolding value_from
@@ -53,7 +57,7 @@ value-snoc (x ∷ xs) b v m e q = by (digit x) e (λ g. value-snoc xs b (v * 10 
     by : (t : Bool) → cond t (value_from (v * 10 + (x - 48)) xs) none ≡ some m → (value_from (v * 10 + (x - 48)) xs ≡ some m → value_from (v * 10 + (x - 48)) (xs ++ (b ∷ [])) ≡ some (m * 10 + (b - 48)))
         → cond t (value_from (v * 10 + (x - 48)) (xs ++ (b ∷ []))) none ≡ some (m * 10 + (b - 48))
     by true e more = more e
-    by false e more = absurd (let z : ◌≡◌ {A = ℕ} 0 1 = cc in omega arith)
+    by false e more = cc
 
 value-digits : (f n : ℕ) → n < f → (value_from 0 (digits_in f n) ≡ some n) × (0 < length (digits_in f n))
 unfolding digits_in
@@ -88,7 +92,7 @@ digits-word (x ∷ xs) n e h = by (digit x) refl e
   where
     by : (t : Bool) → digit x ≡ t → cond t (value_from (0 * 10 + (x - 48)) xs) none ≡ some n → word_of (x ∷ xs) ≡ signed false (some n)
     by true q e = let l = digit_low x q in rw (ne_eqb x 45 (λ z. omega arith), q, e) refl
-    by false q e = absurd (let z : ◌≡◌ {A = ℕ} 0 1 = cc in omega arith)
+    by false q e = cc
 
 decimal-word : (z : ℤ) → mag z < 2147483648 → word_of (decimal z) ≡ some z
 decimal-word (pos n) h = let v = value-of n in digits-word (digits n) n v.0 v.1 ∙ rw (le-leb n 2147483647 (omega arith)) refl
@@ -109,7 +113,7 @@ pieces-word (x ∷ xs) s t h e = rw (h.0, pieces-word xs s t h.1 e) refl
 
 words-cons : (p : List ℕ) (ps : List (List ℕ)) (z : ℤ) → word_of p ≡ some z → words_in (p ∷ ps) ≡ both (some z) (words_in ps)
 unfolding words_in
-words-cons [] ps z e = absurd (let z : ◌≡◌ {A = ℕ} 0 1 = cc in omega arith)
+words-cons [] ps z e = cc
 words-cons (b ∷ p) ps z e = rw e refl
 
 words-word : (z : ℤ) (s : ℕ) (t : List ℕ) → mag z < 2147483648 → separator s ≡ true → words_in (pieces (decimal z ++ (s ∷ t))) ≡ both (some z) (words_in (pieces t))

@@ -49,8 +49,8 @@ full-words ([] ∷ ps) ws e = full-words ps ws e
 full-words ((b ∷ p) ∷ ps) ws e = by (word_of (b ∷ p)) (words_in ps) e (λ us q. full-words ps us q)
   where
     by : (o : Option ℤ) (r : Option (List ℤ)) → both o r ≡ some ws → ((us : List ℤ) → r ≡ some us → length us ≡ full ps) → length ws ≡ full ps + 1
-    by none r e more = absurd (let z : ◌≡◌ {A = ℕ} 0 1 = cc in omega arith)
-    by (some z) none e more = absurd (let z : ◌≡◌ {A = ℕ} 0 1 = cc in omega arith)
+    by none r e more = cc
+    by (some z) none e more = cc
     by (some z) (some us) e more = let q : ws ≡ z ∷ us = cc in rw q (omega (arith, more us refl, add-one (length us)))
 
 -- a text of at most 24576 bytes has at most 12288 words
@@ -60,7 +60,7 @@ few_words text ws e = by (leb (length text) 24576) refl e
   where
     by : (t : Bool) → leb (length text) 24576 ≡ t → cond t (words_in (pieces text)) none ≡ some ws → length ws ≤ 12288
     by true q e = omega (arith, leb-true (length text) 24576 q, full-words (pieces text) ws e, full-pieces text, first-le (pieces text))
-    by false q e = absurd (let z : ◌≡◌ {A = ℕ} 0 1 = cc in omega arith)
+    by false q e = cc
 
 -- a slice of 12288 words has room for the words of every text
 pub room-enough : (text : List ℕ) (room : ℕ) → 12288 ≤ room → fitted room (words_of text) ≡ words_of text

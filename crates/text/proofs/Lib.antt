@@ -1,5 +1,5 @@
-pub mod Signed
 pub mod Writing
+pub mod Pages
 pub mod Words
 pub mod Count
 pub mod Lines

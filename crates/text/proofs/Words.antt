@@ -7,17 +7,16 @@ use mathlib.Core.Logic.{◌⊎◌, inl, inr}
 use Prim.Native.Nat.{ℕ, suc, ◌+◌, ◌-◌, ◌*◌, ◌≤◌, ◌<◌}
 use native.Mathlib.Numerals.{add-one}
 use native.Mathlib.Omega.{arith}
-use lib.ListN.{length, get_or, drop, set, replicate, length-append, drop_of_length-le}
-use lib.Seq.{drop-cons, set_out}
+use lib.ListN.{length, get_or, drop, replicate, length-append, drop_of_length-le}
+use lib.Seq.{drop-cons}
 use lib.Dec.{leb, eqb}
 use lib.IntN.{ℤ, pos}
 use borrow.Author.Tests.{le-leb, lt-leb, leb-true, leb-false, ne_eqb}
 use Rattle.text.specs.Text.{separator, digit, onto, pieces, value_from, value_of, limit, with_sign, signed, both, words_in, words_of, answer, Read}
 use Rattle.text.specs.Placed.{placed}
 use Rattle.text.specs.Pass.{after_value, after_digit, after_minus, after_separator, after, ended_at, ended, Sound, Stored, closed, Passed}
-use Rattle.text.proofs.Writing.{placed-append, length-placed, placed-zeros}
-use Rattle.text.specs.declared.Reading.{Reading}
-use Rattle.text.specs.declared.Reading.TheVariants.{Words, Refused}
+use Rattle.text.proofs.Writing.{placed-append, placed-zeros}
+use Rattle.std.specs.Prelude.{Option as Optional, Some, None}
 use Rattle.text.specs.declared.State.{State}
 use Rattle.text.specs.declared.State.TheVariants.{Between, Minus, Digits, Bad}
 
@@ -68,12 +67,6 @@ too_large minus v (b ∷ p) h = by (digit b) (too_large minus (v * 10 + (b - 48)
     by true e = e
     by false e = refl
 
-pub value_in : (minus : Bool) (v : ℕ) → v ≤ limit minus → Digits minus v ≡ after_value minus v
-value_in minus v h = rw (le-leb v (limit minus) h) refl
-
-pub value_out : (minus : Bool) (v : ℕ) → limit minus < v → Bad ≡ after_value minus v
-value_out minus v h = rw (lt-leb v (limit minus) h) refl
-
 at_value : (minus : Bool) (v : ℕ) (ps : List (List ℕ)) → both (signed minus (value_from v (head_of ps))) (words_in (tail_of ps)) ≡ words_from (after_value minus v) ps
 at_value minus v ps = by (leb v (limit minus)) refl
   where
@@ -94,7 +87,7 @@ digit_low b e = by (leb 48 b) refl e
   where
     by : (t : Bool) → leb 48 b ≡ t → t && leb b 57 ≡ true → 48 ≤ b
     by true q e = leb-true 48 b q
-    by false q e = absurd (let z : ◌≡◌ {A = ℕ} 0 1 = cc in omega arith)
+    by false q e = cc
 
 at-digit : (s : State) (b : ℕ) (ps : List (List ℕ)) → digit b ≡ true → words_from s ((b ∷ head_of ps) ∷ tail_of ps) ≡ words_from (after_digit s (b - 48)) ps
 unfolding words_in value_from
@@ -192,14 +185,6 @@ pub stored-none : (d : List ℤ) (n : ℕ) → Stored d n [] n d
 unfolding placed
 stored-none d n = record { result = omega arith; words_are = refl }
 
-pub stored-in : (d : List ℤ) (n : ℕ) (z : ℤ) → Stored d n (z ∷ []) (n + 1) (set d n z)
-unfolding placed
-stored-in d n z = record { result = refl; words_are = refl }
-
-pub stored-out : (d : List ℤ) (n : ℕ) (z : ℤ) → length d ≤ n → Stored d n (z ∷ []) (n + 1) d
-unfolding placed
-stored-out d n z h = record { result = refl; words_are = rw (set_out d n z h) refl }
-
 -- words stored, and more behind them
 store-more : (d done : List ℤ) {w e new : List ℤ} {n r : ℕ} → n ≡ length done → w ≡ placed d 0 done → Stored w n new r e → (r ≡ length (done ++ new)) × (e ≡ placed d 0 (done ++ new))
 store-more d done {w} {e} {new} {n} {r} c p s =
@@ -208,7 +193,6 @@ store-more d done {w} {e} {new} {n} {r} c p s =
 
 -- the loop of `pass`, at its head: behind i bytes, in a state, with so many words in the slice
 pub record Passing (text : List ℕ) (d : List ℤ) (i : ℕ) (s : State) (n : ℕ) (w : List ℤ) : Type 0 where
-  pub upto : i ≤ length text
   pub small : n ≤ i
   pub sound : Sound s
   pub done : List ℤ
@@ -219,7 +203,7 @@ pub record Passing (text : List ℕ) (d : List ℤ) (i : ℕ) (s : State) (n : �
 pub passing-none : (text : List ℕ) (d : List ℤ) → Passing text d 0 Between 0 d
 unfolding placed
 passing-none text d =
-    record { upto = omega arith; small = omega arith; sound = tt; done = []; is = joined-none _; counted = refl; words_are = refl }
+    record { small = omega arith; sound = tt; done = []; is = joined-none _; counted = refl; words_are = refl }
 
 pub passing-more : {text : List ℕ} {d : List ℤ} {i : ℕ} {s s' : State} {n n' : ℕ} {w w' : List ℤ}
     → Passing text d i s n w → i < length text → Stored w n (ended s (get_or text i 0)) n' w' → s' ≡ after s (get_or text i 0) → Passing text d (i + 1) s' n' w'
@@ -227,7 +211,6 @@ passing-more {text} {d} {i} {s} {s'} {n} {n'} {w} {w'} h l st e =
     let b = get_or text i 0 in
     let m = store-more d h.done h.counted h.words_are st in
     record {
-      upto = omega arith;
       small = omega (arith, few s b, st.result, h.small);
       sound = rw e (sound-after s b);
       done = h.done ++ ended s b;
@@ -236,15 +219,12 @@ passing-more {text} {d} {i} {s} {s'} {n} {n'} {w} {w'} h l st e =
       words_are = m.1;
     }
 
-pub passing-long : {text : List ℕ} {d : List ℤ} {i : ℕ} {s : State} {n : ℕ} {w : List ℤ} → Passing text d i s n w → length w ≡ length d
-passing-long {d = d} h = ap length h.words_are ∙ length-placed d 0 h.done
-
 -- what a pass gives, by what the text is
-found : {text : List ℕ} {d w : List ℤ} {n : ℕ} (ws : List ℤ) → words_in (pieces text) ≡ some ws → n ≡ length ws → w ≡ placed d 0 ws → Passed text d (Words n) w
+found : {text : List ℕ} {d w : List ℤ} {n : ℕ} (ws : List ℤ) → words_in (pieces text) ≡ some ws → n ≡ length ws → w ≡ placed d 0 ws → Passed text d (Some n) w
 found ws e c p = record { result = rw (e, c) refl; words_are = λ us q. let z : ws ≡ us = cc in rw (← z) p }
 
-refused : {text : List ℕ} {d w : List ℤ} → words_in (pieces text) ≡ none → Passed text d Refused w
-refused {text} e = record { result = rw e refl; words_are = λ us q. absurd (let z : ◌≡◌ {A = ℕ} 0 1 = cc in omega arith) }
+refused : {text : List ℕ} {d w : List ℤ} → words_in (pieces text) ≡ none → Passed text d None w
+refused {text} e = record { result = rw e refl; words_are = λ us q. cc }
 
 pub passing-all : {text : List ℕ} {d : List ℤ} {i : ℕ} {s : State} {n n' : ℕ} {w w' : List ℤ}
     → Passing text d i s n w → length text ≤ i → Stored w n (ended_at s) n' w' → Passed text d (closed (after_separator s) n') w'
@@ -266,28 +246,24 @@ passing-all {text} {d} {i} {s} {n} {n'} {w} {w'} h l st =
     by t (inl z) ws e c p = rw z (found ws (rw z at e ∙ ap some (append-nil ws)) c p)
     by t (inr z) ws e c p = rw z (refused (rw z at e))
 
-pub at_most : (minus : Bool) (v : ℕ) → v ≤ limit minus → v ≤ 2147483648
-at_most true v h = h
-at_most false v h = omega arith
-
 -- what reading gives, by what the text is
-answered : (o : Option (List ℤ)) (n : ℕ) → Words n ≡ answer o → (ws : List ℤ) × ((o ≡ some ws) × (n ≡ length ws))
-answered none n e = absurd (let z : ◌≡◌ {A = ℕ} 0 1 = cc in omega arith)
+answered : (o : Option (List ℤ)) (n : ℕ) → Some n ≡ answer o → (ws : List ℤ) × ((o ≡ some ws) × (n ≡ length ws))
+answered none n e = cc
 answered (some ws) n e = (ws, (refl, (cc)))
 
-unanswered : (o : Option (List ℤ)) → Refused ≡ answer o → o ≡ none
+unanswered : (o : Option (List ℤ)) → None ≡ answer o → o ≡ none
 unanswered none e = refl
 unanswered (some ws) e = cc
 
-pub read-long : {text : List ℕ} {room : ℕ} {r : Reading} {w : List ℤ} → 24576 < length text → r ≡ Refused → w ≡ replicate room (pos 0) → Read text room r w
+pub read-long : {text : List ℕ} {room : ℕ} {r : Optional ℕ} {w : List ℤ} → 24576 < length text → r ≡ None → w ≡ replicate room (pos 0) → Read text room r w
 unfolding words_of
 read-long h e p = let q = lt-leb _ _ h in record { result = rw q e; words_are = rw q p }
 
-pub read-refused : {text : List ℕ} {room : ℕ} {d u w : List ℤ} {a r : Reading} → Passed text d a u → length text ≤ 24576 → a ≡ Refused → r ≡ Refused → w ≡ replicate room (pos 0) → Read text room r w
+pub read-refused : {text : List ℕ} {room : ℕ} {d u w : List ℤ} {a r : Optional ℕ} → Passed text d a u → length text ≤ 24576 → a ≡ None → r ≡ None → w ≡ replicate room (pos 0) → Read text room r w
 unfolding words_of
 read-refused {text} g h z e p = let q = le-leb _ _ h in let o = unanswered (words_in (pieces text)) (sym z ∙ g.result) in record { result = rw (q, o) e; words_are = rw (q, o) p }
 
-pub read-many : {text : List ℕ} {room n : ℕ} {d u w : List ℤ} {a r : Reading} → Passed text d a u → length text ≤ 24576 → a ≡ Words n → room < n → r ≡ Refused → w ≡ replicate room (pos 0) → Read text room r w
+pub read-many : {text : List ℕ} {room n : ℕ} {d u w : List ℤ} {a r : Optional ℕ} → Passed text d a u → length text ≤ 24576 → a ≡ Some n → room < n → r ≡ None → w ≡ replicate room (pos 0) → Read text room r w
 unfolding words_of
 read-many {text} {room = room} {n = n} g h z l e p =
     let q = le-leb _ _ h in
@@ -295,11 +271,11 @@ read-many {text} {room = room} {n = n} g h z l e p =
     let m = lt-leb (length o.0) room (rw o.1.1 at l) in
     record { result = rw (q, o.1.0, m) e; words_are = rw (q, o.1.0, m) p }
 
-pub read_found : {text : List ℕ} {room n : ℕ} {d w : List ℤ} {a : Reading} → Passed text d a w → length text ≤ 24576 → a ≡ Words n → n ≤ room → d ≡ replicate room (pos 0) → Read text room (Words n) w
+pub read_found : {text : List ℕ} {room n : ℕ} {d w : List ℤ} {a : Optional ℕ} → Passed text d a w → length text ≤ 24576 → a ≡ Some n → n ≤ room → d ≡ replicate room (pos 0) → Read text room (Some n) w
 unfolding words_of
 read_found {text} {room = room} {n = n} g h z l e =
     let q = le-leb _ _ h in
     let o = answered (words_in (pieces text)) n (sym z ∙ g.result) in
     let k : length o.0 ≤ room = rw o.1.1 at l in
     let m = le-leb (length o.0) room k in
-    record { result = rw (q, o.1.0, m) (ap Words o.1.1); words_are = rw (q, o.1.0, m) (g.words_are o.0 o.1.0 ∙ rw e (placed-zeros room (pos 0) o.0 k)) }
+    record { result = rw (q, o.1.0, m) (ap Some o.1.1); words_are = rw (q, o.1.0, m) (g.words_are o.0 o.1.0 ∙ rw e (placed-zeros room (pos 0) o.0 k)) }

@@ -1,15 +1,16 @@
 -- Laws of what is written into a slice from a place on.
 use mathlib.Core.Path.{◌≡◌, refl, sym, ap, ◌∙◌}
 use mathlib.Core.Logic.{◌⊎◌, inl, inr, ⊎_elim}
-use mathlib.Core.List.{List, [], ◌∷◌, ◌++◌, append-nil}
+use mathlib.Core.List.{List, [], ◌∷◌, ◌++◌}
 use mathlib.Core.Bool.{Bool, true, false, cond}
 use Prim.Native.Nat.{ℕ, zero, suc, ◌+◌, ◌-◌, ◌≤◌, ◌<◌}
 use native.Mathlib.Numerals.{add-one}
 use native.Mathlib.Omega.{arith}
-use lib.ListN.{length, take, drop, set, replicate, length-set, length-append, length-replicate, replicate-append-replicate, drop_of_length-le}
+use lib.ListN.{length, take, drop, set, replicate, length-set, length-append, length-replicate}
 use lib.Seq.{set_out, sets, sets-eq}
 use lib.Dec.{ltb}
 use borrow.Author.Tests.{lt-ltb, le-ltb, ltb-true, ltb-false}
+use Rattle.std.proofs.lemmas.List.{drop-replicate}
 use Rattle.text.specs.Placed.{placed, onward, behind, Put}
 
 module _ {A : Type 0} where
@@ -41,24 +42,12 @@ module _ {A : Type 0} where
   pub placed-within : (d : List A) (at : ℕ) (xs : List A) → at + length xs ≤ length d → placed d at xs ≡ take at d ++ xs ++ drop (at + length xs) d
   placed-within d at xs h = placed-sets d at xs ∙ sets-eq xs d at h
 
-  drop-replicate : (n k : ℕ) (a : A) → drop k (replicate n a) ≡ replicate (n - k) a
-  drop-replicate zero zero a = refl
-  drop-replicate zero (suc k) a = let e : 0 - suc k ≡ 0 = omega arith in rw e refl
-  drop-replicate (suc n) zero a = let e : suc n - 0 ≡ suc n = omega arith in rw e refl
-  drop-replicate (suc n) (suc k) a = let e : suc n - suc k ≡ n - k = omega (arith, add-one n, add-one k) in rw e (drop-replicate n k a)
-
   -- what is placed at the start of zeros (or of any one element) is followed by zeros
   pub placed-zeros : (n : ℕ) (a : A) (xs : List A) → length xs ≤ n → placed (replicate n a) 0 xs ≡ xs ++ replicate (n - length xs) a
   placed-zeros n a xs h =
       let l = length-replicate n a in
       let e : 0 + length xs ≡ length xs = omega arith in
-      placed-within (replicate n a) 0 xs (omega arith) ∙ rw (e, drop-replicate n (length xs) a) refl
-
-  -- a whole slice
-  pub placed-whole : (d xs : List A) → length xs ≡ length d → placed d 0 xs ≡ xs
-  placed-whole d xs h =
-      let e : 0 + length xs ≡ length d = omega arith in
-      placed-within d 0 xs (omega arith) ∙ rw (drop_of_length-le d {i = 0 + length xs} (omega arith)) (append-nil xs)
+      placed-within (replicate n a) 0 xs (omega arith) ∙ rw (e, drop-replicate (length xs) n a) refl
 
 behind-outside : (room at n : ℕ) → room ≤ at → behind room at n ≡ at
 unfolding behind
@@ -138,50 +127,8 @@ pub put-outside : (d : List ℕ) (at b : ℕ) → length d ≤ at → Put d at (
 unfolding placed behind
 put-outside d at b h = record { result = rw (le-ltb at (length d) h) refl; bytes_are = rw (set_out d at b h) refl }
 
--- where there is room, the bytes stand at their places, and the place behind them follows
-pub put-within : {d : List ℕ} {at : ℕ} {xs : List ℕ} {r : ℕ} {e : List ℕ} → Put d at xs r e → at + length xs ≤ length d → (r ≡ at + length xs) × (e ≡ take at d ++ xs ++ drop (at + length xs) d)
-put-within {d} {at} {xs} p h = (p.result ∙ behind-within (length d) at (length xs) h, p.bytes_are ∙ placed-within d at xs h)
-
 -- a whole text, from the start of a slice of zeros
 pub put-zeros : {n : ℕ} {xs : List ℕ} {r : ℕ} {e : List ℕ} → Put (replicate n 0) 0 xs r e → length xs ≤ n → (r ≡ length xs) × (e ≡ xs ++ replicate (n - length xs) 0)
 put-zeros {n} {xs} p h =
     let l = length-replicate {A = ℕ} n 0 in
     (p.result ∙ behind-within _ 0 (length xs) (omega arith) ∙ omega arith, p.bytes_are ∙ placed-zeros n 0 xs h)
-
--- a loop that puts one item a turn, where f i is what the first i are: at its head
-pub record Written (f : ℕ → List ℕ) (n : ℕ) (d : List ℕ) (at i r : ℕ) (e : List ℕ) : Type 0 where
-  pub upto : i ≤ n
-  pub put : Put d at (f i) r e
-
-pub written_none : (f : ℕ → List ℕ) (n : ℕ) (d : List ℕ) (at : ℕ) → f 0 ≡ [] → Written f n d at 0 at d
-written_none f n d at e = record { upto = omega arith; put = rw e (put-none d at) }
-
-pub written-more : {f : ℕ → List ℕ} {n : ℕ} {d : List ℕ} {at i r s : ℕ} {e x w : List ℕ} → Written f n d at i r e → i < n → Put e r x s w → f i ++ x ≡ f (i + 1) → Written f n d at (i + 1) s w
-written-more h l p q = record { upto = omega arith; put = rw (← q) (put-append h.put p) }
-
-pub written_all : {f : ℕ → List ℕ} {n : ℕ} {d : List ℕ} {at i r : ℕ} {e : List ℕ} → Written f n d at i r e → n ≤ i → Put d at (f n) r e
-written_all {f} {n} {i = i} h l = let q : i ≡ n = omega arith in rw q at h.put
-
--- a loop that puts one element at every place: at its head, with i of them
-module _ {A : Type 0} (a : A) where
-  pub record Cleared (d w : List A) (i : ℕ) : Type 0 where
-    pub upto : i ≤ length d
-    pub is : w ≡ placed d 0 (replicate i a)
-
-  pub cleared-none : (d : List A) → Cleared d d 0
-  unfolding placed
-  cleared-none d = record { upto = omega arith; is = refl }
-
-  pub cleared_more : {d w : List A} {i : ℕ} → Cleared d w i → i < length d → Cleared d (set w i a) (i + 1)
-  unfolding placed
-  cleared_more {d} {w} {i} h l =
-      let e : 0 + length (replicate i a) ≡ i = omega (arith, length-replicate i a) in
-      record { upto = omega arith; is = rw h.is (rw (e, replicate-append-replicate i 1 a) at (placed-append d 0 (replicate i a) (a ∷ []))) }
-
-  pub cleared-long : {d w : List A} {i : ℕ} → Cleared d w i → length w ≡ length d
-  cleared-long {d} {i = i} h = ap length h.is ∙ length-placed d 0 (replicate i a)
-
-  pub cleared-all : {d w : List A} {i : ℕ} → Cleared d w i → length d ≤ i → w ≡ replicate (length d) a
-  cleared-all {d} {i = i} h l =
-      let e : i ≡ length d = omega arith in
-      h.is ∙ rw e (placed-whole d (replicate (length d) a) (length-replicate (length d) a))

@@ -1,6 +1,5 @@
 -- The bytes of numbers and of lines.
-use Rattle.std.specs.Prelude.{List, [], ◌∷◌, ◌++◌, Bool, true, false, ℕ, zero, suc, ◌+◌, ◌*◌, ◌/◌, ◌%◌, ◌≤◌, length, ltb, ℤ, pos, negsuc}
-use Rattle.text.specs.Placed.{Put}
+use Rattle.std.specs.Prelude.{List, [], ◌∷◌, ◌++◌, Bool, true, false, ℕ, zero, suc, ◌+◌, ◌/◌, ◌%◌, ltb, ℤ, pos, negsuc}
 
 -- the digits of n, by whether it has one alone; `front` gives the digits of a number that are before the last
 abbrev pub digits_by : Bool → ℕ → (ℕ → List ℕ) → List ℕ
@@ -34,13 +33,3 @@ spaced (z ∷ zs) = decimal z ++ behind_spaces zs
 -- a line of words
 unfoldable pub line_of : List ℤ → List ℕ
 line_of zs = spaced zs ++ (10 ∷ [])
-
--- what a line has more for one more word: a space before it, unless it is the first
-abbrev pub item_of : Bool → ℤ → List ℕ
-item_of true z = decimal z
-item_of false z = 32 ∷ decimal z
-
--- what writing a line of words gives; a line has at most twelve bytes for each word, and one
-pub record Line (d : List ℕ) (at : ℕ) (words : List ℤ) (r : ℕ) (e : List ℕ) : Type 0 where
-  pub put : Put d at (line_of words) r e
-  pub few : length (line_of words) ≤ length words * 12 + 1

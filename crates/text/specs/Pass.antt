@@ -1,10 +1,8 @@
 -- One pass through a text, byte by byte: where it stands, and the words that end.
-use Rattle.std.specs.Prelude.{◌≡◌, List, [], ◌∷◌, Bool, true, false, cond, ℕ, ◌+◌, ◌-◌, ◌*◌, ◌≤◌, length, leb, eqb, ℤ}
+use Rattle.std.specs.Prelude.{◌≡◌, List, [], ◌∷◌, Bool, true, false, cond, ℕ, ◌+◌, ◌-◌, ◌*◌, ◌≤◌, length, leb, eqb, ℤ, Option, Some, None}
 use Rattle.std.proofs.Math.Option.{some}
 use Rattle.text.specs.Text.{separator, digit, limit, with_sign, pieces, words_in, answer}
 use Rattle.text.specs.Placed.{placed}
-use Rattle.text.specs.declared.Reading.{Reading}
-use Rattle.text.specs.declared.Reading.TheVariants.{Words, Refused}
 use Rattle.text.specs.declared.State.{State}
 use Rattle.text.specs.declared.State.TheVariants.{Between, Minus, Digits, Bad}
 
@@ -57,13 +55,13 @@ pub record Stored (d : List ℤ) (count : ℕ) (new : List ℤ) (r : ℕ) (e : L
   pub words_are : e ≡ placed d count new
 
 -- the answer of a pass that ends in a state behind a separator, with n words
-abbrev pub closed : State → ℕ → Reading
-closed Between n = Words n
-closed Minus n = Refused
-closed (Digits minus v) n = Refused
-closed Bad n = Refused
+abbrev pub closed : State → ℕ → Option ℕ
+closed Between n = Some n
+closed Minus n = None
+closed (Digits minus v) n = None
+closed Bad n = None
 
 -- what a pass through a text gives: the answer r, and words over those of d
-pub record Passed (text : List ℕ) (d : List ℤ) (r : Reading) (e : List ℤ) : Type 0 where
+pub record Passed (text : List ℕ) (d : List ℤ) (r : Option ℕ) (e : List ℤ) : Type 0 where
   pub result : r ≡ answer (words_in (pieces text))
   pub words_are : (ws : List ℤ) → words_in (pieces text) ≡ some ws → e ≡ placed d 0 ws

@@ -1,8 +1,6 @@
 -- The words of a text: decimal words between spaces and line ends, each a minus sign or none, then digits, with a value within signed 32 bits.
-use Rattle.std.specs.Prelude.{List, [], ◌∷◌, ◌++◌, Bool, true, false, cond, ◌&&◌, ◌||◌, ◌≡◌, ℕ, ◌+◌, ◌-◌, ◌*◌, length, replicate, leb, eqb, ℤ, pos, neg_ℤ}
+use Rattle.std.specs.Prelude.{List, [], ◌∷◌, ◌++◌, Bool, true, false, cond, ◌&&◌, ◌||◌, ◌≡◌, ℕ, ◌+◌, ◌-◌, ◌*◌, length, replicate, leb, eqb, ℤ, pos, neg_ℤ, Option as Optional, Some, None}
 use Rattle.std.proofs.Math.Option.{Option, some, none}
-use Rattle.text.specs.declared.Reading.{Reading}
-use Rattle.text.specs.declared.Reading.TheVariants.{Words, Refused}
 
 -- a space or a line end
 unfoldable pub separator : ℕ → Bool
@@ -77,16 +75,16 @@ abbrev pub fitted : ℕ → Option (List ℤ) → Option (List ℤ)
 fitted room none = none
 fitted room (some ws) = cond (leb (length ws) room) (some ws) none
 
--- the answer of a reading, and the words that it leaves in a slice of so many: zeros behind them
-abbrev pub answer : Option (List ℤ) → Reading
-answer none = Refused
-answer (some ws) = Words (length ws)
+-- the answer of a reading, how many words there are, and the words that it leaves in a slice of so many: zeros behind them
+abbrev pub answer : Option (List ℤ) → Optional ℕ
+answer none = None
+answer (some ws) = Some (length ws)
 
 abbrev pub padded : ℕ → Option (List ℤ) → List ℤ
 padded room none = replicate room (pos 0)
 padded room (some ws) = ws ++ replicate (room - length ws) (pos 0)
 
 -- what reading a text into a slice of room words gives: the answer r, and the slice's words
-pub record Read (text : List ℕ) (room : ℕ) (r : Reading) (words : List ℤ) : Type 0 where
+pub record Read (text : List ℕ) (room : ℕ) (r : Optional ℕ) (words : List ℤ) : Type 0 where
   pub result : r ≡ answer (fitted room (words_of text))
   pub words_are : words ≡ padded room (fitted room (words_of text))

@@ -1,7 +1,7 @@
-use Rattle.answers.proofs.Printing.{printed-line}
-use Rattle.integer.specs.Machine.{back32}
 use lib.Dec.{lit≤}
+use Rattle.integer.specs.Machine.{back32}
+use Rattle.text.proofs.Pages.{prints_append, prints_most}
 use Rattle.answers.proofs.put_refusal.Goals as goal
 
 pub returns : goal.returns
-returns c = printed-line {k = 8} c.put_bytes-a.ensures (lit≤ tt) (rw (back32 c.word_of.result c.word_of.type_inv, c.word_of.ensures, c.number.ensures) at c.put_line.ensures) (lit≤ tt)
+returns c = prints_most (prints_append c.bytes.ensures (rw (back32 c.word_of.result c.word_of.type_inv, c.word_of.ensures, c.number.ensures) at c.line.ensures)) (lit≤ tt)

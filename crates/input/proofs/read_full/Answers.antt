@@ -1,29 +1,16 @@
-use Rattle.std.proofs.Common.{◌≡◌, ℕ, ◌+◌, ◌-◌, ◌≤◌, List, ◌++◌, rules, arith, length, take, slice_range, sym, ap, ◌∙◌, subst, le_refl, drop_at, length-take-le}
-use Rattle.std.proofs.lemmas.Slice.{take-put_mid_below}
+use Rattle.std.proofs.Common.{◌≡◌, ℕ, ◌+◌, ◌≤◌, List, ◌++◌, rules, length, take, subst, length-take-le}
 use Rattle.std.specs.Io.KnownBytes.{Consumes}
 use Rattle.std.proofs.KnownBytes.{Consumes-trans}
-use borrow.Rule.Slice.PartMut.{put_mid, post_of}
-use lib.Seq.{take-add, take-append-le}
+use Rattle.std.proofs.lemmas.List.{take-append-le}
+use Rattle.std.proofs.Math.Seq.{take-append-add}
 use Rattle.input.proofs.read_full.Goals as goal
 
--- what was there up to a, and then what stands from a to b, is what stands up to b
-joined : (a b : ℕ) (old new : List ℕ) → a ≤ b → take a new ≡ take a old → take a old ++ slice_range new a b ≡ take b new
-joined a b old new h front =
-    let same : a + (b - a) ≡ b = omega arith in
-    ap (λ l. l ++ slice_range new a b) (sym front) ∙ sym (take-add a (b - a) new) ∙ ap (λ n. take n new) same
-
--- the first n of the part that was lent stand from a on
-lent : (a k n : ℕ) (xs ys : List ℕ) → a ≤ length xs → n ≤ length ys → slice_range (put_mid a k xs ys) a (a + n) ≡ take n ys
-lent a k n xs ys within fits =
-    let same : (a + n) - a ≡ n = omega arith in
-    let after = post_of a k xs in
-    ap (take ((a + n) - a)) (drop_at (take a xs) (ys ++ after) a (length-take-le a xs within)) ∙ ap (λ m. take m (ys ++ after)) same ∙ take-append-le n ys after fits
+-- what stands up to a, and then the first n that are read into the part behind, is what stands up to a + n
+joined : (a n : ℕ) (xs ys behind : List ℕ) → a ≤ length xs → n ≤ length ys → take a xs ++ take n ys ≡ take (a + n) (take a xs ++ (ys ++ behind))
+joined a n xs ys behind h k =
+    let e = rw (length-take-le a xs h) at (take-append-add (take a xs) (ys ++ behind) n) in
+    rw (e, take-append-le n ys behind k)
 
 pub loop-n-preserved : goal.loop-n-preserved
 loop-n-preserved g c =
-    let from = c.loop-n.n in
-    let room = length c.loop-n.buf - from in
-    let within = c.loop-n.invariant.0 in
-    let part = lent from room c.in_ok-got.got c.loop-n.buf c.read.new.buf within c.in_ok-got.ensures.bound.0 in
-    let whole = joined from (from + c.in_ok-got.got) c.loop-n.buf (put_mid from room c.loop-n.buf c.read.new.buf) (omega arith) (take-put_mid_below _ _ _ _ _ (le_refl _) within) in
-    (search rules, subst (Consumes _ _) (ap (λ l. take from c.loop-n.buf ++ l) (sym part) ∙ whole) (Consumes-trans _ _ _ _ _ c.loop-n.invariant.1 c.in_ok-got.ensures.bytes.0))
+    (search rules, subst (Consumes _ _) (joined c.loop-n.n c.in_ok-got.got c.loop-n.buf c.read.new.buf _ c.loop-n.invariant.0 c.in_ok-got.ensures.bound.0) (Consumes-trans _ _ _ _ _ c.loop-n.invariant.1 c.in_ok-got.ensures.bytes.0))

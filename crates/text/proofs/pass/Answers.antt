@@ -1,12 +1,21 @@
-use Rattle.text.proofs.Words.{passing-all, passing-more, passing-none}
+use Rattle.text.specs.Pass.{ended}
+use Rattle.text.proofs.Words.{passing-all, passing-more, passing-none, stored-none}
 use Rattle.text.proofs.pass.Goals as goal
+use Rattle.text.proofs.pass.Goals.{then-is_separator, else-is_separator}
 
-pub loop-i-init : goal.loop-i-init
-loop-i-init c = passing-none _ _
+pub loop-b-init : goal.loop-b-init
+loop-b-init c = passing-none _ _
 
-pub loop-i-preserved : goal.loop-i-preserved
-loop-i-preserved c = passing-more c.loop-i.invariant c.loop-i-test.true c.store_ended-count.ensures c.step-state.ensures
+pub loop-b-preserved : goal.loop-b-preserved
+unfolding ended
+loop-b-preserved c =
+    passing-more c.loop-b.invariant c.loop-b-test.true
+    (elim c.if-is_separator.branch [
+      | then-is_separator w ↦ rw (← c.is_separator.ensures, w.if-is_separator.true, w.count-is, w.words-is) w.end_word-count.ensures
+      | else-is_separator w ↦ rw (← c.is_separator.ensures, w.if-is_separator.false, w.count-is, w.words-is) (stored-none _ _)
+    ])
+    c.step-state.ensures
 
 pub returns : goal.returns
 returns c =
-    rw (c.close.ensures, c.after_separator.ensures) (passing-all c.loop-i.invariant c.loop-i-test.false c.end_word-n.ensures)
+    rw (c.close.ensures, c.after_separator.ensures) (passing-all c.loop-b.invariant c.loop-b-test.false c.end_word-n.ensures)

@@ -1,10 +1,6 @@
--- The words that end among the first i bytes are stored. The measure is how many bytes are left.
-use Rattle.std.proofs.Common.{◌-◌, length}
+-- The words that end among the bytes before the index are stored.
 use Rattle.text.proofs.Words.{Passing}
 use Rattle.text.proofs.pass.Given as goal
 
-abbrev pub invariant-loop-i : goal.invariant-loop-i
-invariant-loop-i l = Passing l.text l.fn.words l.i l.state l.count l.words
-
-abbrev pub decreases-loop-i : goal.decreases-loop-i
-decreases-loop-i l = length l.text - l.i
+abbrev pub invariant-loop-b : goal.invariant-loop-b
+invariant-loop-b l = Passing l.text l.fn.words l.b-index l.state l.count l.words

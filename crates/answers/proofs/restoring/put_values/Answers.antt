@@ -1,6 +1,6 @@
-use Rattle.answers.proofs.Printing.{printed-append, printed-most}
 use native.Mathlib.Omega.{arith}
+use Rattle.text.proofs.Pages.{prints_append, prints_most}
 use Rattle.answers.proofs.restoring.put_values.Goals as goal
 
 pub returns : goal.returns
-returns c = printed-most (printed-append c.put_part-a.ensures c.put_part.ensures) (omega arith)
+returns c = prints_most (prints_append c.put_part.ensures c.put_part-2.ensures) (omega arith)
