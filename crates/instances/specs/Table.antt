@@ -5,9 +5,8 @@ use Rattle.integer.specs.Gcd.{gcd, gcd_by}
 use Rattle.loops.specs.Loops.{zeros, build, upto, count, all, any, scan}
 use Rattle.fraction.specs.declared.Fraction.{Fraction}
 use Rattle.fraction.specs.Exact.{Worked, misfit}
-use Rattle.std.specs.Prelude.{Ok, Err}
 use Rattle.fraction.specs.Exact.{over, no_upper, is_operand, is_proper, fitted, reduce_of, sum_of, product_of, difference_of, quotient_of, negation_of, reciprocal_of, is_less, is_same, is_zero, from_words, den_word, is_finite}
-use Rattle.fraction.specs.Formula.{pair_of, ◌⊕◌, ◌⊖◌, ◌⊗◌, ◌⊘◌, ⊝◌, divided, subtracted, negated, added, multiplied}
+use Rattle.fraction.specs.Formula.{◌⊕◌, ◌⊖◌, ◌⊗◌, ◌⊘◌, ⊝◌, divided, subtracted, negated, added, multiplied}
 use Rattle.network.specs.declared.Arc.{Arc}
 use Rattle.network.specs.declared.Net.{Net}
 use Rattle.network.specs.Limits.{max_arcs}
@@ -26,19 +25,18 @@ use Rattle.figures.specs.Figures.{balance_of, reduced_cost, value_of, all_fit, i
 use Rattle.slackness.specs.Slackness.{is_at, keeps_rule}
 use Rattle.optimality.specs.Test.{pair_questions}
 use Rattle.step.specs.Outcome.{Outcome}
-use Rattle.step.specs.declared.Halt.TheVariants.{Passes}
 use Rattle.step.specs.Outcome.{only_where, no_flow_where, fits}
-use Rattle.step.specs.Dropped.{supply_less, cost_added, dropped, lower_back}
+use Rattle.step.specs.Dropped.{supply_less, cost_added, gained, dropped, lower_back}
 use Rattle.step.specs.Back.{figure, restored, quote_at}
-use Rattle.step.specs.Run.{rule_from, upward, next_from, run_by, run_of, Way, wide, at, undo, way_back}
+use Rattle.step.specs.Run.{rule_from, upward, next_from, run_by, run_of, Way, at, undo, way_back}
 use Rattle.closed_arc.specs.ClosedArc.{closed}
 use Rattle.bare_node.specs.BareNode.{bare, bare_node, bare_back}
 use Rattle.single_arc.specs.SingleArc.{forced_out, single, single_arc, single_back}
 use Rattle.costly_arc.specs.CostlyArc.{is_open_root, is_costlier, has_pair, costly_arc}
-use Rattle.two_arcs.specs.TwoArcs.{same_sign, tighter, image_of, gained, merged, kept, two, two_arcs, two_back}
+use Rattle.two_arcs.specs.TwoArcs.{same_sign, tighter, image_of, merged, kept, two, two_arcs, two_back}
 use Rattle.crossing.specs.Crossing.{signed_after, crossed as crossed_arc, crossed_at, crossing, crossing_back}
 use Rattle.step.specs.Junction.{has_sign_at, is_free, is_apart}
-use Rattle.parallel_arcs.specs.ParallelArcs.{ratio_of, is_times, low_end, high_end, upper_sum, joined, alike, parallel_arc, parallel_back}
+use Rattle.parallel_arcs.specs.ParallelArcs.{ratio_of, is_times, low_end, high_end, upper_sum, joined, alike, parallel_arc, parallel_back, parallel_back_by}
 use Rattle.rules.specs.Table.{reduced}
 use Rattle.survivors.specs.Survivors.{spread_of}
 use Rattle.records.specs.declared.refusal.Refusal.{Refusal}
@@ -181,8 +179,7 @@ costing c =
 
 -- whether a rule gives a step, and the arcs that it puts
 abbrev puts : Outcome → Bool × List Arc
-puts (Err Passes) = (false, [])
-puts NoFlow·outcome = (false, [])
+puts (Err h) = (false, [])
 puts (Ok c) = (true, map (λ (u : ArcUpdate). u.arc) (updates_of c.edit))
 
 abbrev is_step : Outcome → Bool
@@ -234,12 +231,11 @@ roads = network 2 (arc 1 2 (whole 2) (whole 0) (whole 3) (whole 2) (over (neg 1)
 
 -- the flows of arcs 1 and 2 that come back from the flow x of arc 1
 abbrev flows_in : Way → List Fraction
-flows_in wide = []
-flows_in (at pair) = flow_at pair 1 ∷ flow_at pair 2 ∷ []
+flows_in (Err m) = []
+flows_in (Ok pair) = flow_at pair 1 ∷ flow_at pair 2 ∷ []
 
 abbrev back_by : Outcome → Fraction → List Fraction
-back_by (Err Passes) x = []
-back_by NoFlow·outcome x = []
+back_by (Err h) x = []
 back_by (Ok c) x = flows_in (undo (parallel_back c.old) (at (with_flow no_pair 1 x)))
 
 -- back with flow 4: 4 - (-1) is above 3, so that arc 1 takes 3, and arc 2 (4 - 3) ÷ (-1/2); with flow 1: arc 1 takes 1 - (-1), and arc 2 its upper bound
@@ -250,7 +246,7 @@ K =
 
 -- computed on its own: it and the rows of whole texts are too much at once
 worked : K.computed ≡ K.documented
-unfolding gcd gcd_by upto scan is_operand fitted reduce_of sum_of product_of difference_of quotient_of negation_of reciprocal_of is_less is_same is_finite added subtracted multiplied divided with_arc with_supply with_node with_flow with_price only_where fits figure restored ratio_of is_times low_end high_end upper_sum joined alike parallel_arc parallel_back
+unfolding gcd gcd_by upto scan is_operand fitted reduce_of sum_of product_of difference_of quotient_of negation_of reciprocal_of is_less is_same is_finite added subtracted multiplied divided with_arc with_supply with_node with_flow with_price only_where fits figure restored ratio_of is_times low_end high_end upper_sum joined alike parallel_arc parallel_back parallel_back_by
 worked = refl
 
 -- ---- the table
@@ -279,5 +275,5 @@ abbrev pub table : List Row
 table = A ∷ A-text ∷ A-back ∷ A-back-text ∷ B ∷ E ∷ F ∷ G ∷ H ∷ I ∷ J ∷ K ∷ []
 
 pub marked : All table
-unfolding gcd gcd_by build upto count all any scan is_operand is_proper fitted reduce_of sum_of product_of difference_of quotient_of negation_of reciprocal_of is_less is_same is_zero is_finite from_words den_word added subtracted multiplied divided negated with_arc with_supply with_node without applied is_touching degree_of touching_after is_root far_end side_of figure_at sizes_right figures_right ends_right multipliers_right questions role_of is_permitted is_end has_ends arc_in is_weighted net_of read_of rank_of pack_node pack_arc packed_of arrays_of word_of role_figure figure_of has_room record_of network_of with_price with_flow has_sizes is_pair pair_read balance_of reduced_cost value_of all_fit is_within is_at keeps_rule test_questions pair_questions only_where no_flow_where fits supply_less cost_added dropped lower_back figure restored quote_at upward next_from rule_from run_by run_of way_back closed bare bare_node bare_back forced_out single single_arc single_back is_open_root is_costlier has_pair costly_arc same_sign tighter image_of gained merged kept two two_arcs two_back has_sign_at signed_after is_free is_apart crossed_arc crossed_at crossing crossing_back ratio_of is_times joined alike parallel_arc parallel_back arc_rank spread_of stack_record Stack.stack_of same_words is_roomy reduce_table is_roomy_back offer_table run_table restore_table brought_back pair_figure pair_words separator digit pieces value_from words_in words_of digits_in digits behind_spaces spaced line_of record_lines reduce_text split_of restore_text
+unfolding gcd gcd_by build upto count all any scan is_operand is_proper fitted reduce_of sum_of product_of difference_of quotient_of negation_of reciprocal_of is_less is_same is_zero is_finite from_words den_word added subtracted multiplied divided negated with_arc with_supply with_node without applied is_touching degree_of touching_after is_root far_end side_of figure_at sizes_right figures_right ends_right multipliers_right questions role_of is_permitted is_end has_ends arc_in is_weighted net_of read_of rank_of pack_node pack_arc packed_of arrays_of word_of role_figure figure_of has_room record_of network_of with_price with_flow has_sizes is_pair pair_read balance_of reduced_cost value_of all_fit is_within is_at keeps_rule test_questions pair_questions only_where no_flow_where fits supply_less cost_added dropped lower_back figure restored quote_at upward next_from rule_from run_by run_of way_back closed bare bare_node bare_back forced_out single single_arc single_back is_open_root is_costlier has_pair costly_arc same_sign tighter image_of gained merged kept two two_arcs two_back has_sign_at signed_after is_free is_apart crossed_arc crossed_at crossing crossing_back ratio_of is_times joined alike parallel_arc parallel_back parallel_back_by arc_rank spread_of stack_record Stack.stack_of same_words is_roomy reduce_table is_roomy_back offer_table run_table restore_table brought_back pair_figure pair_words separator digit pieces value_from words_in words_of digits_in digits behind_spaces spaced line_of record_lines reduce_text split_of restore_text
 marked = (refl, (refl, (refl, (refl, (refl, (refl, (refl, (refl, (refl, (refl, (refl, (worked, tt))))))))))))

@@ -26,16 +26,15 @@ fn put_pair(told: &mut [i32; 62], pair: Pair) {
 
 fn put_undone(told: &mut [i32; 62], pair: Pair, u: Undone) {
     match u {
-        Undone::Wide => told[0] = 1,
-        Undone::Restores(r) => put_pair(told, step::restore(pair, r)),
+        Err(_) => told[0] = 1,
+        Ok(r) => put_pair(told, step::restore(pair, r)),
     }
 }
 
 fn undo(told: &mut [i32; 62], k: usize, pair: Pair, x: Outcome) {
     match x {
-        Outcome::Passes => told[0] = 0,
-        Outcome::NoFlow => told[0] = 0,
-        Outcome::Changes(c) => put_undone(told, pair, rules::undo(k, c.old, pair)),
+        Err(_) => told[0] = 0,
+        Ok(c) => put_undone(told, pair, rules::undo(k, c.old, pair)),
     }
 }
 

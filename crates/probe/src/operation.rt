@@ -28,8 +28,8 @@ fn figure(x: Fraction) -> Told {
 
 fn worked(w: Worked) -> Told {
     match w {
-        Worked::Fits(x) => figure(x),
-        Worked::Misfit => plain(0),
+        Ok(x) => figure(x),
+        Err(_) => plain(0),
     }
 }
 

@@ -6,7 +6,7 @@ ghost use Rattle.std.specs.Prelude.{◌<◌};
 
 use fraction::Fraction;
 use network::{ArcUpdate, Edit, SupplyUpdate};
-use step::Outcome;
+use step::{Halt, Outcome};
 
 fn put_figure(told: &mut [i32; 62], at: usize, f: Fraction)
     requires { at < 61 }
@@ -57,9 +57,9 @@ fn put_edit(told: &mut [i32; 62], c: Edit) {
 
 fn put_outcome(told: &mut [i32; 62], x: Outcome) {
     match x {
-        Outcome::Passes => told[0] = 0,
-        Outcome::NoFlow => told[0] = 1,
-        Outcome::Changes(change) => put_edit(told, change.edit),
+        Err(Halt::Passes) => told[0] = 0,
+        Err(Halt::NoFlow) => told[0] = 1,
+        Ok(change) => put_edit(told, change.edit),
     }
 }
 

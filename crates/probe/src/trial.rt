@@ -2,7 +2,7 @@
 // and 160 words that begin with that record.
 use network::{ARC_PLACES, ArcUpdate, Net};
 use records::refusal::Refusal;
-use step::{Around, Outcome};
+use step::{Around, Halt, Outcome};
 
 // The arcs at a node: how many, and their numbers, upward.
 #[derive(Clone, Copy)]
@@ -71,7 +71,7 @@ fn at_place(net: Net, k: usize, i: usize) -> Outcome {
             return at_node(net, k, i);
         }
     }
-    Outcome::Passes
+    Err(Halt::Passes)
 }
 
 fn try_record(xs: &[i32], k: usize, i: usize) -> Result<Outcome, Refusal> {
