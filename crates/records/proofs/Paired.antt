@@ -1,5 +1,5 @@
 -- The pair that a record holds, where question 8 lets it pass: fractions in form at the numbers of nodes and arcs, and nothing elsewhere.
-use mathlib.Core.Path.{◌≡◌, refl, ◌∙◌}
+use mathlib.Core.Path.{◌≡◌, refl, sym, ◌∙◌}
 use mathlib.Core.Bool.{true}
 use mathlib.Core.List.{List}
 use mathlib.Core.Logic.{◌⊎◌}
@@ -7,7 +7,8 @@ use Prim.Native.Nat.{ℕ, zero, suc, ◌+◌, ◌-◌, ◌≤◌, ◌<◌}
 use native.Mathlib.Numerals.{add-one}
 use native.Mathlib.Omega.{arith}
 use lib.IntN.{ℤ}
-use lib.ListN.{replicate}
+use lib.ListN.{set, replicate}
+use Rattle.fraction.specs.declared.Fraction.{Fraction}
 use borrow.Author.Tests.{le-leb}
 use Rattle.loops.specs.Loops.{upto}
 use Rattle.loops.proofs.Laws.{all-each}
@@ -29,10 +30,18 @@ unfolding puts upto with_flow
 flows-are ys n t zero pair h = refl
 flows-are ys n t (suc m) pair h = rw (flows-are ys n t m pair (omega (arith, add-one m)), number 96 m (omega (arith, add-one m)))
 
+from_0 : (k : ℕ) → 0 + k ≡ k
+from_0 k = omega arith
+
 module _ (ys : List ℤ) (n m : ℕ) (h : n ≤ 32) (k : m ≤ 96) where
   pair_is : pair_of ys n m ≡ record { price = puts (figure_at ys (n + m)) (replicate 33 no_figure) n; flow = puts (λ j. figure_at ys (n + m) (n + j)) (replicate 97 no_figure) m }
   unfolding pair_of
   pair_is = rw (le-leb n 32 h, le-leb m 96 k, prices-are ys (n + m) n no_pair h, flows-are ys n (n + m) m _ k)
+
+  -- the pair whose prices and flows are read so
+  pub pair-read : {price flow : List Fraction} → price ≡ upto (λ k at. set at (k + 1) (figure_at ys (n + m) (0 + k))) n (replicate 33 no_figure) → flow ≡ upto (λ k at. set at (k + 1) (figure_at ys (n + m) (n + k))) m (replicate 97 no_figure) → record { price = price; flow = flow } ≡ pair_of ys n m
+  unfolding puts
+  pair-read p q = rw (simp from_0 at p, q) (sym pair_is)
 
   -- what stands at each number
   pub price-read : (i : ℕ) → i < n → price_at (pair_of ys n m) (i + 1) ≡ figure_at ys (n + m) i

@@ -1,17 +1,17 @@
 // A pair's record: question 8, the pair that it holds, and the record of a pair.
-ghost use Rattle.std.specs.Prelude.{◌≡◌, ◌+◌, ◌*◌, ◌≤◌, eqb, pos, length};
+ghost use Rattle.std.specs.Prelude.{◌≡◌, ◌+◌, ◌*◌, ◌≤◌, ◌<◌, eqb, pos, length, set, replicate};
 ghost use Rattle.integer.specs.Whole.{eq_z};
 ghost use Rattle.loops.specs.Loops.{all, upto};
 ghost use Rattle.fraction.specs.Words.{word};
-ghost use Rattle.network.specs.Limits.{max_nodes, max_arcs};
+ghost use Rattle.fraction.specs.Exact.{no_figure};
+ghost use Rattle.records.specs.Arrays.{figure_at};
 ghost use Rattle.records.specs.Limits.{pair_figures};
-ghost use Rattle.records.specs.Arrays.{arrays_of};
-ghost use Rattle.records.specs.Pair.{is_fraction, is_pair, price_turn, flow_turn, pair_of, pair_figure, pair_words};
+ghost use Rattle.records.specs.Pair.{is_fraction, is_pair, pair_of, pair_figure, pair_words};
 
 use crate::writing::Figures;
 use fraction::Fraction;
 use network::pair::Pair;
-use network::{ARC_PLACES, MAX_ARCS, MAX_NODES};
+use network::{MAX_ARCS, MAX_NODES};
 
 // Whether the word at a place is this number.
 pub fn is_size(pair: &[i32], at: usize, n: usize) -> bool
@@ -55,28 +55,19 @@ pub fn is_pair(pair: &[i32], n: usize, m: usize) -> bool
         && all_fractions(pair, n + m)
 }
 
-// Prices of the nodes 1 to n.
-fn read_prices(pair: Pair, words: &[i32], t: usize, n: usize) -> Pair
-    requires { n ≤ max_nodes }
-    ensures { result ≡ upto (price_turn words.now t) n pair }
+// The figures of a record of t from one on, at the numbers 1 to `count`.
+fn read_numbered<const N: usize>(
+    words: &[i32],
+    t: usize,
+    from: usize,
+    count: usize,
+) -> [Fraction; N]
+    requires { (count < N) × (from + count ≤ pair_figures) }
+    ensures { result ≡ upto (λ k at. set at (k + 1) (figure_at words.now t (from + k))) count (replicate N no_figure) }
 {
-    let mut at = pair;
-    for i in 0..n {
-        let f = crate::figure_at(words, t, i);
-        at.price[i + 1] = f;
-    }
-    at
-}
-
-// Flows of the arcs 1 to m.
-fn read_flows(pair: Pair, words: &[i32], n: usize, t: usize, m: usize) -> Pair
-    requires { (n ≤ max_nodes) × (m ≤ max_arcs) }
-    ensures { result ≡ upto (flow_turn words.now n t) m pair }
-{
-    let mut at = pair;
-    for j in 0..m {
-        let f = crate::figure_at(words, t, n + j);
-        at.flow[j + 1] = f;
+    let mut at = [network::no_figure(); N];
+    for k in 0..count {
+        at[k + 1] = crate::figure_at(words, t, from + k);
     }
     at
 }
@@ -85,15 +76,16 @@ fn read_flows(pair: Pair, words: &[i32], n: usize, t: usize, m: usize) -> Pair
 pub fn read_pair(words: &[i32], n: usize, m: usize) -> Pair
     ensures { result ≡ pair_of words.now n m }
 {
-    let p = network::pair::no_pair();
     if MAX_NODES < n {
-        return p;
+        return network::pair::no_pair();
     }
     if MAX_ARCS < m {
-        return p;
+        return network::pair::no_pair();
     }
-    let q = read_prices(p, words, n + m, n);
-    read_flows(q, words, n, n + m, m)
+    Pair {
+        price: read_numbered(words, n + m, 0, n),
+        flow: read_numbered(words, n + m, n, m),
+    }
 }
 
 // ---- writing

@@ -1,5 +1,6 @@
 // The stack's record, word by word, from the log; and question 7, whether the stack offered is that one.
 ghost use Rattle.std.specs.Prelude.{◌≡◌};
+ghost use Rattle.integer.specs.Whole.{eq_z};
 ghost use Rattle.records.specs.Logged.{stack_word, with_stack, is_stack_of};
 
 use network::MAX_STEPS;
@@ -31,6 +32,13 @@ pub fn write(log: &[i32], s: usize, out: &mut [i32])
     }
 }
 
+// Whether a word is word k of that record.
+fn is_word(log: &[i32], s: usize, k: usize, v: i32) -> bool
+    ensures { result ≡ eq_z v (stack_word log.now s k) }
+{
+    v == word_at(log, s, k)
+}
+
 // Whether the words are the record of the s steps in the log.
 pub fn is_stack(log: &[i32], s: usize, stack: &[i32]) -> bool
     ensures { result ≡ is_stack_of log.now s stack.now }
@@ -39,13 +47,8 @@ pub fn is_stack(log: &[i32], s: usize, stack: &[i32]) -> bool
         return false;
     }
     let end = 1 + 2 * s;
-    if stack.len() == end {
-        for k in 0..end {
-            if stack[k] != word_at(log, s, k) {
-                return false;
-            }
-        }
-        return true;
+    if stack.len() != end {
+        return false;
     }
-    false
+    (0..end).all(|k| is_word(log, s, k, stack[k]))
 }
