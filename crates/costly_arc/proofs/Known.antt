@@ -49,9 +49,6 @@ known-nothing net =
       vain = λ j x y l m e f. absurd (omega (arith, ltb-true (get_or (replicate 97 0) x 0) (get_or (replicate 97 0) j 0) e, zeros 97 j));
     }
 
-pub known-later : {net : Net} {now later : ℕ} {seen : Seen} → Known net now seen → now ≤ later → Known net later seen
-known-later k h = record { past = λ j. omega (arith, k.past j); long = k.long; vain = k.vain }
-
 -- ---- a pair was sought, in vain
 
 abbrev pub sought_now : Seen → ℕ → ℕ → Seen

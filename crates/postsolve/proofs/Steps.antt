@@ -28,9 +28,6 @@ module _ {S : Type 0} (f : ℕ → S → S) where
     pub few : k ≤ n
     pub is : down_from f k s ≡ down_from f n s₀
 
-  pub descended-none : (n : ℕ) (s : S) → Descended n s n s
-  descended-none n s = record { few = omega arith; is = refl }
-
   pub descended-more : {n : ℕ} {s₀ : S} {k : ℕ} {s t : S} → Descended n s₀ k s → 0 < k → t ≡ f (k - 1) s → Descended n s₀ (k - 1) t
   unfolding down_from
   descended-more {n} {s₀} {k} {s} {t} h l e =

@@ -7,6 +7,7 @@ ghost use Rattle.slackness.specs.Slackness.{is_at, keeps_rule};
 use fraction::Fraction;
 
 // Whether a bound is finite and the flow is at it.
+#[tactic(auto, unfolding(crate::specs::Slackness::is_at, fraction::specs::Exact::is_finite))]
 fn is_at(bound: Fraction, x: Fraction) -> bool
     ensures { result ≡ is_at bound x }
 {
@@ -17,6 +18,7 @@ fn is_at(bound: Fraction, x: Fraction) -> bool
 }
 
 // The price rule, for a flow x and a reduced cost d.
+#[tactic(auto, unfolding(crate::specs::Slackness::keeps_rule))]
 pub fn keeps_rule(l: Fraction, u: Fraction, x: Fraction, d: Fraction) -> bool
     ensures { result ≡ keeps_rule l u x d }
 {

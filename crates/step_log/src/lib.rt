@@ -18,16 +18,17 @@ pub const LOG_WORDS: usize = STEP_WORDS * MAX_STEPS;
 
 // ---- written
 
+#[tactic(auto, unfolding(crate::specs::Log::with_figure))]
 fn put_figure(words: &mut [i32], at: usize, f: Fraction)
     requires { at + 2 ≤ length words.old }
     ensures { words.new ≡ with_figure words.old at f }
 {
-    let num = f.num;
-    words[at] = num;
+    words[at] = f.num;
     words[at + 1] = f.den_word();
 }
 
 // A whole number, over 1.
+#[tactic(auto, unfolding(crate::specs::Log::with_figure, fraction::specs::Exact::den_word))]
 fn put_number(words: &mut [i32], at: usize, k: usize)
     requires { at + 2 ≤ length words.old }
     ensures { words.new ≡ with_figure words.old at (whole_of k) }
@@ -79,15 +80,12 @@ fn put_old(words: &mut [i32], at: usize, rule: usize, place: usize, old: Old)
 }
 
 // Step k, from 0; nothing is written where there is no such step, or no room for it.
+#[tactic(auto, unfolding(crate::specs::Log::with_step))]
 pub fn store(words: &mut [i32], k: usize, s: Step)
     ensures { words.new ≡ with_step words.old k s }
 {
-    if k < MAX_STEPS {
-        if STEP_WORDS * k + STEP_WORDS <= words.len() {
-            let c = s.change;
-            let old = c.old;
-            put_old(words, STEP_WORDS * k, s.rule, s.place, old);
-        }
+    if k < MAX_STEPS && STEP_WORDS * k + STEP_WORDS <= words.len() {
+        put_old(words, STEP_WORDS * k, s.rule, s.place, s.change.old);
     }
 }
 
@@ -96,12 +94,10 @@ pub fn store(words: &mut [i32], k: usize, s: Step)
 fn word_in(words: &[i32], at: usize) -> i32
     ensures { result ≡ word words.now at }
 {
-    if at < words.len() {
-        return words[at];
-    }
-    0
+    words.get(at).copied().unwrap_or(0)
 }
 
+#[tactic(auto, unfolding(crate::specs::Log::figure_in))]
 fn figure_in(words: &[i32], at: usize) -> Fraction
     requires { at ≤ 3 * log_words }
     ensures { result ≡ figure_in words.now at }
@@ -116,43 +112,35 @@ fn number_in(words: &[i32], at: usize) -> usize
     fraction::words::natural_of(figure_in(words, at))
 }
 
+#[tactic(auto, unfolding(crate::specs::Log::update_in))]
 fn update_in(words: &[i32], at: usize) -> ArcUpdate
     requires { at ≤ 2 * log_words }
     ensures { result ≡ update_in words.now at }
 {
-    let number = number_in(words, at);
-    let from = number_in(words, at + 2);
-    let to = number_in(words, at + 4);
-    let cost = figure_in(words, at + 6);
-    let lower = figure_in(words, at + 8);
-    let upper = figure_in(words, at + 10);
-    let a = figure_in(words, at + 12);
-    let b = figure_in(words, at + 14);
-    let arc = Arc {
-        from,
-        to,
-        cost,
-        lower,
-        upper,
-        a,
-        b,
-    };
-    ArcUpdate { number, arc }
+    ArcUpdate {
+        number: number_in(words, at),
+        arc: Arc {
+            from: number_in(words, at + 2),
+            to: number_in(words, at + 4),
+            cost: figure_in(words, at + 6),
+            lower: figure_in(words, at + 8),
+            upper: figure_in(words, at + 10),
+            a: figure_in(words, at + 12),
+            b: figure_in(words, at + 14),
+        },
+    }
 }
 
+#[tactic(auto, unfolding(crate::specs::Log::numbers_in))]
 fn numbers_in(words: &[i32], at: usize) -> Numbers
     requires { at ≤ 2 * log_words }
     ensures { result ≡ numbers_in words.now at }
 {
-    let first = number_in(words, at);
-    let second = number_in(words, at + 2);
-    let third = number_in(words, at + 4);
-    let fourth = number_in(words, at + 6);
     Numbers {
-        first,
-        second,
-        third,
-        fourth,
+        first: number_in(words, at),
+        second: number_in(words, at + 2),
+        third: number_in(words, at + 4),
+        fourth: number_in(words, at + 6),
     }
 }
 
@@ -168,6 +156,7 @@ fn start(k: usize) -> usize
 }
 
 // The rule of step k.
+#[tactic(auto, unfolding(crate::specs::Log::rule_in))]
 pub fn rule_at(words: &[i32], k: usize) -> usize
     ensures { result ≡ rule_in words.now k }
 {
@@ -175,6 +164,7 @@ pub fn rule_at(words: &[i32], k: usize) -> usize
 }
 
 // The place of step k.
+#[tactic(auto, unfolding(crate::specs::Log::place_in))]
 pub fn place_at(words: &[i32], k: usize) -> usize
     ensures { result ≡ place_in words.now k }
 {
@@ -182,24 +172,18 @@ pub fn place_at(words: &[i32], k: usize) -> usize
 }
 
 // What the way back needs of step k.
+#[tactic(auto, unfolding(crate::specs::Log::old_in, crate::specs::Log::old_from))]
 pub fn old_at(words: &[i32], k: usize) -> Old
     ensures { result ≡ old_in words.now k }
 {
     let at = start(k);
-    let node = number_in(words, at + 4);
-    let supply = figure_in(words, at + 6);
-    let one = update_in(words, at + 8);
-    let two = update_in(words, at + 24);
-    let three = update_in(words, at + 40);
-    let four = update_in(words, at + 56);
-    let new = numbers_in(words, at + 72);
     Old {
-        node,
-        supply,
-        one,
-        two,
-        three,
-        four,
-        new,
+        node: number_in(words, at + 4),
+        supply: figure_in(words, at + 6),
+        one: update_in(words, at + 8),
+        two: update_in(words, at + 24),
+        three: update_in(words, at + 40),
+        four: update_in(words, at + 56),
+        new: numbers_in(words, at + 72),
     }
 }

@@ -1,7 +1,5 @@
-use Prim.Native.Nat.{◌-◌}
 use Rattle.costly_arc.proofs.Times.{Timed}
 use Rattle.costly_arc.proofs.due.all_times.Given as goal
 
 abbrev pub invariant-loop-k : goal.invariant-loop-k
 invariant-loop-k l = Timed l.fn.net l.seen.put l.at l.k
-
