@@ -10,8 +10,10 @@ ghost use Rattle.step.specs.Junction.{is_free, is_apart};
 use fraction::{Fraction, Misfit, Worked};
 use network::pair::Pair;
 use network::{Arc, ArcUpdate, Side};
-use step::junctions;
-use step::{Around, Change, FlowUpdate, Halt, Numbers, Old, Outcome, PriceUpdate, Restored, Undone};
+use step::{
+    Around, Change, FlowUpdate, Halt, Numbers, Old, Outcome, PriceUpdate, Restored, Undone,
+    junctions,
+};
 
 // Of the arcs at a node, the first two of a sign; number 0 where there is none.
 #[derive(Clone, Copy)]
@@ -25,14 +27,17 @@ struct Signed {
 fn all_free(n1: Arc, n2: Arc, p1: Arc, p2: Arc) -> bool
     ensures { result ≡ (is_free n1 && (is_free n2 && (is_free p1 && is_free p2))) }
 {
-    junctions::is_free(n1) && (junctions::is_free(n2) && (junctions::is_free(p1) && junctions::is_free(p2)))
+    junctions::is_free(n1)
+        && (junctions::is_free(n2) && (junctions::is_free(p1) && junctions::is_free(p2)))
 }
 
 // Whether no N shares its other end with a P.
 fn all_apart(n1: Arc, n2: Arc, p1: Arc, p2: Arc, i: usize) -> bool
     ensures { result ≡ (is_apart n1 p1 i && (is_apart n1 p2 i && (is_apart n2 p1 i && is_apart n2 p2 i))) }
 {
-    junctions::is_apart(n1, p1, i) && (junctions::is_apart(n1, p2, i) && (junctions::is_apart(n2, p1, i) && junctions::is_apart(n2, p2, i)))
+    junctions::is_apart(n1, p1, i)
+        && (junctions::is_apart(n1, p2, i)
+            && (junctions::is_apart(n2, p1, i) && junctions::is_apart(n2, p2, i)))
 }
 
 // ---- the step
@@ -41,10 +46,7 @@ fn all_apart(n1: Arc, n2: Arc, p1: Arc, p2: Arc, i: usize) -> bool
 fn cost(n: Arc, w: Side, p: Arc, v: Side) -> Worked
     ensures { result ≡ ⊝ (Ok n.cost ⊘ Ok w.e) ⊕ Ok p.cost ⊘ Ok v.e }
 {
-    n.cost
-        .quotient(w.e)?
-        .negation()?
-        .sum(p.cost.quotient(v.e)?)
+    n.cost.quotient(w.e)?.negation()?.sum(p.cost.quotient(v.e)?)
 }
 
 // The new arc of an N and a P at node i.

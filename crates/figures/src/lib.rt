@@ -198,7 +198,8 @@ fn ask_arc(a: Arcs, t: Arc, x: Fraction, price: [Fraction; NODE_PLACES]) -> Arcs
     let w = reduced_cost(t, price);
     let fit = a.fit && w.is_ok();
     let within = a.within && is_within(t, x);
-    let kept = a.kept && slackness::keeps_rule(t.lower, t.upper, x, w.unwrap_or(network::no_figure()));
+    let kept = a.kept
+        && slackness::keeps_rule(t.lower, t.upper, x, w.unwrap_or(network::no_figure()));
     Arcs { fit, within, kept }
 }
 

@@ -56,7 +56,6 @@ pub misfit_is : (w : Worked) → IsErr w → w ≡ Err misfit
 misfit_is (Ok x) e = never cc
 misfit_is (Err m) e = refl
 
-
 pub fitted-no-num : (n : ℤ) (d : ℕ) → most < nat_abs n → fitted n d ≡ (Err misfit)
 unfolding fitted
 fitted-no-num n d h = rw (lt-leb _ _ h)

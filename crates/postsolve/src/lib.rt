@@ -39,7 +39,12 @@ fn old_edit(old: Old) -> Edit
 
 // Step k of the log undone, and its old arcs put back into the list.
 #[tactic(auto, unfolding(network::specs::ArcList::replaced_all))]
-fn undo_turn(log: &[i32], k: usize, way: Result<Pair, Misfit>, arcs: &mut [Arc]) -> Result<Pair, Misfit>
+fn undo_turn(
+    log: &[i32],
+    k: usize,
+    way: Result<Pair, Misfit>,
+    arcs: &mut [Arc],
+) -> Result<Pair, Misfit>
     ensures { (result ≡ back_turn log.now k way) × (arcs.new ≡ arcs_turn log.now k arcs.old) }
 {
     let old = step_log::old_at(log, k);

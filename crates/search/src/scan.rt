@@ -106,7 +106,12 @@ fn has_degree(here: bool, degree: usize, d: usize) -> bool
 }
 
 // Rule k at the nodes upward.
-pub(crate) fn scan_nodes(nodes: Nodes, arcs: &[Arc], degrees: &[usize; NODE_PLACES], k: usize) -> Next
+pub(crate) fn scan_nodes(
+    nodes: Nodes,
+    arcs: &[Arc],
+    degrees: &[usize; NODE_PLACES],
+    k: usize,
+) -> Next
     requires { Legal (net_in nodes arcs.now) × AreDegreesTo (net_in nodes arcs.now) nodes.m degrees.now × (is_of_nodes k ≡ true) }
     ensures { result ≡ upward ((rule_of rules k).at (net_in nodes arcs.now)) k max_nodes 1 Stops }
 {

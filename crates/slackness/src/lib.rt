@@ -1,5 +1,5 @@
 // The price rule of one arc (01, "The optimality test"): complementary slackness.
-#![tactic(auto, unfolding(fraction::specs::Exact::is_same, fraction::specs::Exact::is_finite, crate::specs::Slackness::is_at, crate::specs::Slackness::keeps_rule))]
+#![tactic(auto)]
 
 ghost use Rattle.std.specs.Prelude.{◌≡◌};
 ghost use Rattle.slackness.specs.Slackness.{is_at, keeps_rule};
@@ -7,7 +7,7 @@ ghost use Rattle.slackness.specs.Slackness.{is_at, keeps_rule};
 use fraction::Fraction;
 
 // Whether a bound is finite and the flow is at it.
-#[tactic(auto, unfolding(crate::specs::Slackness::is_at, fraction::specs::Exact::is_finite))]
+#[tactic(auto, unfolding(crate::specs::Slackness::is_at, fraction::specs::Exact::is_finite, fraction::specs::Exact::is_same))]
 fn is_at(bound: Fraction, x: Fraction) -> bool
     ensures { result ≡ is_at bound x }
 {

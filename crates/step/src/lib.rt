@@ -1,9 +1,5 @@
 // One step of a reduction: what a rule answers at a place (01, "The six reductions"), and what its way back answers.
-#![tactic(auto, using(fraction::proofs::Laws::misfit_is), unfolding(
-    fraction::specs::Formula::added, fraction::specs::Formula::subtracted, fraction::specs::Formula::multiplied,
-    fraction::specs::Formula::divided, fraction::specs::Formula::negated,
-    crate::specs::Outcome::fits, crate::specs::Dropped::supply_less, crate::specs::Dropped::cost_added, crate::specs::Dropped::gained,
-    crate::specs::Dropped::dropped, crate::specs::Dropped::lower_back, crate::specs::Back::quote_at))]
+#![tactic(auto, using(fraction::proofs::Laws::misfit_is), unfolding(fraction::specs::Formula::added, fraction::specs::Formula::subtracted, fraction::specs::Formula::multiplied, fraction::specs::Formula::divided, fraction::specs::Formula::negated, crate::specs::Outcome::fits, crate::specs::Dropped::supply_less, crate::specs::Dropped::cost_added, crate::specs::Dropped::gained, crate::specs::Dropped::dropped, crate::specs::Dropped::lower_back, crate::specs::Back::quote_at))]
 
 ghost use Rattle.std.specs.Prelude.{◌≡◌, true, ◌≤◌};
 ghost use Rattle.network.specs.Network.{is_number};
