@@ -5,7 +5,7 @@ use Rattle.fraction.specs.declared.Fraction.{Fraction}
 use Rattle.fraction.specs.Exact.{Worked}
 use Rattle.std.specs.Prelude.{Result, Ok}
 use Rattle.fraction.specs.declared.Misfit.{Misfit}
-use Rattle.fraction.specs.Exact.{zero_fraction, no_upper, is_zero, is_less, is_same}
+use Rattle.fraction.specs.Exact.{zero_fraction, no_upper, is_zero}
 use Rattle.fraction.specs.Formula.{◌⊕◌, ◌⊘◌, ⊝◌}
 use Rattle.network.specs.declared.Arc.{Arc}
 use Rattle.network.specs.declared.Net.{Net}
@@ -14,9 +14,8 @@ use Rattle.network.specs.declared.ArcUpdate.{ArcUpdate}
 use Rattle.network.specs.declared.Edit.{Edit}
 use Rattle.network.specs.declared.pair.Pair.{Pair}
 use Rattle.network.specs.Limits.{max_arcs}
-use Rattle.network.specs.Network.{no_supply_update, arc_at, supply_at, is_here, degree_of, is_touching, or_next, is_root, side_of}
+use Rattle.network.specs.Network.{no_supply_update, arc_at, supply_at, is_here, degree_of, or_next, side_of}
 use Rattle.network.specs.Pair.{flow_at}
-use Rattle.step.specs.declared.FlowUpdate.{FlowUpdate}
 use Rattle.step.specs.declared.Numbers.{Numbers}
 use Rattle.step.specs.declared.Old.{Old}
 use Rattle.step.specs.Outcome.{Outcome}

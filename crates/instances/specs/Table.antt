@@ -6,7 +6,7 @@ use Rattle.loops.specs.Loops.{zeros, build, upto, count, all, any, scan}
 use Rattle.fraction.specs.declared.Fraction.{Fraction}
 use Rattle.fraction.specs.Exact.{Worked, misfit}
 use Rattle.fraction.specs.Exact.{over, no_upper, is_operand, is_proper, fitted, reduce_of, sum_of, product_of, difference_of, quotient_of, negation_of, reciprocal_of, is_less, is_same, is_zero, from_words, den_word, is_finite}
-use Rattle.fraction.specs.Formula.{◌⊕◌, ◌⊖◌, ◌⊗◌, ◌⊘◌, ⊝◌, divided, subtracted, negated, added, multiplied}
+use Rattle.fraction.specs.Formula.{divided, subtracted, negated, added, multiplied}
 use Rattle.network.specs.declared.Arc.{Arc}
 use Rattle.network.specs.declared.Net.{Net}
 use Rattle.network.specs.Limits.{max_arcs}

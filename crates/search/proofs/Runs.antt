@@ -2,26 +2,23 @@
 --     underway-none .. underway-more     the loop's invariant
 --     begins, run_is     from the record to the end
 use mathlib.Core.Path.{◌≡◌, refl, sym, ap, subst, subst⁻¹, ◌∙◌}
-use mathlib.Core.Bool.{Bool, true, false, cond}
 use mathlib.Core.List.{List, [], ◌∷◌}
 use Prim.Native.Nat.{ℕ, zero, suc, ◌+◌, ◌-◌, ◌≤◌, ◌<◌}
 use native.Mathlib.Numerals.{add-one}
 use native.Mathlib.Omega.{arith}
 use lib.IntN.{ℤ}
 use lib.ListN.{length, drop, length-replicate}
-use Rattle.step.proofs.Touch.{unlike}
 use Rattle.network.specs.declared.Arc.{Arc}
 use Rattle.network.specs.declared.Net.{Net}
 use Rattle.network.specs.declared.Nodes.{Nodes}
 use Rattle.network.specs.Network.{no_arc, applied}
-use Rattle.network.specs.ArcList.{nodes_of, net_in, no_arcs, replaced, replaced_all}
+use Rattle.network.specs.ArcList.{nodes_of, net_in, no_arcs, replaced_all}
 use Rattle.records.specs.Network.{loaded, read_of}
 use Rattle.network.proofs.Lists.{changed-net, length-replaced-all}
 use Rattle.records.proofs.Loaded.{length-loaded, loaded-net}
 use Rattle.records.proofs.Questions.{all_yes as answered}
 use Rattle.step.specs.declared.Step.{Step}
-use Rattle.step.specs.declared.Next.{Next}
-use Rattle.step.specs.declared.Next.TheVariants.{Stops, Refuted, Takes}
+use Rattle.step.specs.declared.Next.TheVariants.{Takes}
 use Rattle.step.specs.Run.{Run, after, run_by, run_of, back_of}
 use Rattle.step.proofs.RunLaws.{run-done}
 use Rattle.step.proofs.Fewer.{legal-left}
@@ -39,7 +36,7 @@ use Rattle.std.specs.Prelude.{Option, Some, None, Ok}
 use Rattle.search.specs.declared.Contradiction.{Contradiction}
 use Rattle.search.specs.declared.Ran.{Ran}
 use Rattle.search.specs.Search.{refusal_of, ends_of, list_of, Reached}
-use Rattle.search.specs.internal.Progress.{moved, begun, ended, Ready, Told, told_of, told_at, Finished}
+use Rattle.search.specs.internal.Progress.{moved, begun, ended, Ready, Told, told_of, Finished}
 
 -- ---- at the loop's head
 

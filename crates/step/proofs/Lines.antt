@@ -3,15 +3,12 @@ use mathlib.Core.Path.{◌≡◌, refl}
 use mathlib.Core.Bool.{Bool, true, false, not, ◌||◌}
 use mathlib.Core.Logic.{◌⊎◌, inl, inr}
 use borrow.Author.Tests.{not-true, not-false}
-use Rattle.fraction.specs.declared.Fraction.{Fraction}
 use Rattle.fraction.specs.declared.Misfit.{Misfit}
 use Rattle.std.specs.Prelude.{Result, Ok, Err}
 use Rattle.fraction.proofs.Laws.{never}
 use Rattle.step.specs.declared.Change.{Change}
 use Rattle.step.specs.Outcome.{Outcome}
 use Rattle.step.specs.declared.Halt.TheVariants.{Passes, NoFlow}
-use Rattle.step.specs.declared.Restored.{Restored}
-use Rattle.step.specs.Back.{Undone}
 use Rattle.step.specs.Outcome.{only_where, no_flow_where, fits}
 use Rattle.step.specs.Back.{figure}
 

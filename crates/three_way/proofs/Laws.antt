@@ -61,7 +61,7 @@ use Rattle.step.proofs.Node.{AtNode, ArcsAt, arcs-here}
 use Rattle.step.proofs.Figures.{Sized, Holds, Figure, itself, flow-put, price-put, over-exactly, negated-exactly, gained-exactly}
 use Rattle.step.proofs.Junction.{Signed, sign-is, open-upper, zero-bound, Free, free-at, ends-differ, NewArc, new-arc, new-puts, new_in}
 use Rattle.step.proofs.Laws.{supply-small, no_old, Right, right_of, RuleLaws}
-use Rattle.three_way.specs.ThreeWay.{is_below, turned, is_rising, altered_arc, altered, added_arc, between, low_of, high_of, added, old_three, joining, joined, sorted, three, three_way, three_back, rule}
+use Rattle.three_way.specs.ThreeWay.{is_below, turned, is_rising, altered_arc, altered, added_arc, between, low_of, high_of, old_three, joining, joined, sorted, three, three_way, three_back, rule}
 use Rattle.three_way.proofs.BothSigns.{side_by, turned-exactly, turned-inverse, with-sign, against-sign, nearer-is}
 use Rattle.three_way.proofs.Tried.{elsewhere, tried}
 

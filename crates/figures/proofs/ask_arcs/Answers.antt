@@ -1,12 +1,7 @@
 -- An arc and its flow are read in place, and beyond the last number there is none.
-use Rattle.std.proofs.Common.{◌≡◌, ◌+◌, length, ◌∙◌, refl}
-use borrow.Author.Rules.{rules}
-use Rattle.fraction.specs.Exact.{no_figure}
+use Rattle.std.proofs.Common.{refl}
 use Rattle.loops.specs.Loops.{all}
-use Rattle.network.proofs.Laws.{length-mapped}
-use Rattle.network.specs.Network.{arc_at, no_arc}
-use Rattle.network.specs.Pair.{flow_at}
-use Rattle.figures.proofs.Laws.{one_more, past}
+use Rattle.figures.proofs.Laws.{one_more}
 use Rattle.figures.specs.Figures.{reduced_cost}
 use Rattle.figures.proofs.ask_arcs.Goals as goal
 

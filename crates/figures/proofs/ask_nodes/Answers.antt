@@ -1,11 +1,6 @@
 -- A node's balance and supply are those of its number, whether listed or not.
-use Rattle.std.proofs.Common.{◌≡◌, ◌+◌, arith, length, ◌∙◌, refl, sym}
-use Rattle.std.proofs.Math.ListN.{get_or-eq_default}
-use borrow.Author.Rules.{rules}
-use Rattle.fraction.specs.Exact.{no_figure}
+use Rattle.std.proofs.Common.{◌≡◌, ◌+◌, arith, ◌∙◌, refl}
 use Rattle.loops.specs.Loops.{all}
-use Rattle.network.proofs.Laws.{length-mapped}
-use Rattle.network.specs.Network.{supply_at}
 use Rattle.figures.proofs.Laws.{one_more}
 use Rattle.figures.specs.Figures.{balance_of}
 use Rattle.figures.proofs.ask_nodes.Goals as goal

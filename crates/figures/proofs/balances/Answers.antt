@@ -1,15 +1,10 @@
 -- An arc adds at the places of its nodes; what it adds is read in place, and beyond the last number there is none.
-use Rattle.std.proofs.Common.{◌≡◌, ◌+◌, arith, length, ◌∙◌, refl}
+use Rattle.std.proofs.Common.{arith, refl}
 use Rattle.std.proofs.Math.ListN.{get_or-replicate, length-set}
-use borrow.Author.Rules.{rules}
 use Rattle.fraction.specs.Exact.{no_figure}
 use Rattle.std.specs.Prelude.{Ok}
 use Rattle.loops.proofs.Laws.{folded-all, folded_more, folded-none}
-use Rattle.network.proofs.Laws.{length-mapped}
-use Rattle.network.specs.Network.{arc_at, no_arc}
-use Rattle.network.specs.Pair.{flow_at}
 use Rattle.figures.proofs.Added.{added}
-use Rattle.figures.proofs.Laws.{past}
 use Rattle.figures.specs.Figures.{balance_of}
 use Rattle.fraction.specs.Exact.{Worked, zero_fraction}
 use Rattle.figures.proofs.balances.Goals as goal

@@ -1,12 +1,6 @@
 -- What an arc adds is read in place, and beyond the last number there is none.
-use Rattle.std.proofs.Common.{◌≡◌, ◌+◌, arith, length, ◌∙◌}
-use borrow.Author.Rules.{rules}
-use Rattle.fraction.specs.Exact.{no_figure}
+use Rattle.std.proofs.Common.{arith}
 use Rattle.loops.proofs.Laws.{folded-all, folded_more, folded-none}
-use Rattle.network.proofs.Laws.{length-mapped}
-use Rattle.network.specs.Network.{arc_at, no_arc}
-use Rattle.network.specs.Pair.{flow_at}
-use Rattle.figures.proofs.Laws.{past}
 use Rattle.figures.specs.Figures.{value_of}
 use Rattle.figures.proofs.value.Goals as goal
 

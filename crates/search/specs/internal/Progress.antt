@@ -5,16 +5,16 @@ use Rattle.network.specs.declared.Net.{Net}
 use Rattle.network.specs.declared.Nodes.{Nodes}
 use Rattle.network.specs.Limits.{max_arcs, max_steps}
 use Rattle.network.specs.Network.{applied}
-use Rattle.network.specs.ArcList.{nodes_of, net_in, replaced_all}
+use Rattle.network.specs.ArcList.{nodes_of, net_in}
 use Rattle.network.specs.Legal.{Legal}
 use Rattle.step.specs.declared.Step.{Step}
 use Rattle.step.specs.declared.Next.{Next}
-use Rattle.step.specs.declared.Next.TheVariants.{Stops, Refuted, Takes}
+use Rattle.step.specs.declared.Next.TheVariants.{Takes}
 use Rattle.step.specs.Run.{Run, run_of}
 use Rattle.costly_arc.specs.declared.Seen.{Seen}
 use Rattle.costly_arc.specs.Seen.{Known, nothing_seen, marked_all}
 use Rattle.rules.specs.Table.{next_of}
-use Rattle.step_log.specs.Log.{with_step, logged}
+use Rattle.step_log.specs.Log.{logged}
 use Rattle.search.specs.declared.Contradiction.{Contradiction}
 use Rattle.search.specs.declared.Ran.{Ran}
 use Rattle.search.specs.declared.Progress.{Progress}

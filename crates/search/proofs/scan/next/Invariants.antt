@@ -1,4 +1,4 @@
-use Prim.Native.Nat.{◌+◌, ◌≤◌}
+use Prim.Native.Nat.{◌≤◌}
 use Rattle.costly_arc.specs.Seen.{Known}
 use Rattle.network.specs.ArcList.{net_in}
 use Rattle.search.proofs.Scans.{From}
