@@ -6,7 +6,7 @@ use native.Mathlib.Omega.{arith}
 use lib.IntN.{ℤ}
 use lib.ListN.{length}
 use lib.Dec.{leb}
-use mathlib.Core.Bool.{Bool, true, false, cond, ◌&&◌}
+use mathlib.Core.Bool.{cond}
 use Rattle.loops.specs.Loops.{zeros, written}
 use Rattle.network.specs.declared.Arc.{Arc}
 use Rattle.records.specs.Network.{read_of}
@@ -26,7 +26,6 @@ use Rattle.std.specs.Prelude.{Result, Ok, Err, ⊤}
 use Rattle.records.specs.declared.refusal.Refusal.{Refusal}
 use Rattle.records.proofs.Questions as No
 use Rattle.records.proofs.Questions.{yes-asked}
-use Rattle.fraction.proofs.Laws.{never}
 use Rattle.reduction.specs.declared.End.{End}
 use Rattle.records.specs.Logged.{stack_word, with_stack}
 use Rattle.reduction.specs.Reduce.{refusal_of, end_of, end_output, Written}

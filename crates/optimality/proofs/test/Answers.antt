@@ -25,7 +25,7 @@ returns-in_err-there c =
     let p = err_from_is_err_and c.from_residual-in_err-there.result c.from_residual-in_err-there.ensures.1 in
     rw (p.1, p.2)
     (refused-pair _ _ _ (sym (c.in_ok-ask.ensures ∙ let_by _ _ _ (rw c.clear.auto.s at c.in_ok-unless.ensures)))
-      (answered-no _ _ (rw c.read.ensures at c.in_err-there.ensures)) c.clear.ensures)
+    (answered-no _ _ (rw c.read.ensures at c.in_err-there.ensures)) c.clear.ensures)
 
 pub returns : goal.returns
 returns c =
