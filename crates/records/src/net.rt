@@ -250,8 +250,8 @@ pub fn load(arcs: &mut [Arc], network: &[i32])
 
 // An arc's seven figures, in their order.
 #[tactic(auto, unfolding(crate::specs::Network::role_figure))]
-fn role_figure(t: Arc, r: usize) -> Fraction
-    ensures { result ≡ role_figure t r }
+fn role_figure(t: &Arc, r: usize) -> Fraction
+    ensures { result ≡ role_figure t.now r }
 {
     match r {
         0 => fraction::words::whole(t.from),
@@ -276,12 +276,10 @@ impl Figures for Net {
             return self.supply.get(k).copied().unwrap_or(network::no_figure());
         }
         let at = k - self.n - 1;
-        let t = self
-            .arcs
-            .get(at / 7 + 1)
-            .copied()
-            .unwrap_or(network::no_arc());
-        role_figure(t, at % 7)
+        match self.arcs.get(at / 7 + 1) {
+            Some(t) => role_figure(t, at % 7),
+            None => role_figure(&network::no_arc(), at % 7),
+        }
     }
 }
 
