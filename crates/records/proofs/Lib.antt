@@ -1,7 +1,6 @@
 pub mod Questions
 pub mod Every
 pub mod Tables
-pub mod Pairs
 pub mod Arrays
 pub mod Legal
 pub mod Paired

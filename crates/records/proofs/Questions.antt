@@ -38,9 +38,6 @@ size_few : (z : ℤ) (l : ℕ) → is_size l z ≡ true → natural_of z ≤ l
 size_few (pos n) l e = leb-true n l e
 size_few (negsuc n) l e = omega arith
 
-pub size-le : (z : ℤ) (l k : ℕ) → size_of z l ≡ Some k → k ≤ l
-size-le z l k e = let h = size_is z l k e in let b = size_few z l h.0 in omega (arith, h.1)
-
 -- ---- a table of questions
 
 -- none is answered by no: the first is not, and none of the others
@@ -62,11 +59,7 @@ sizes-are xs e =
     let b = and_both (is_size 96 (word xs 1)) _ a.1 in
     record { few_nodes = size_few (word xs 0) 32 a.0; few_arcs = size_few (word xs 1) 96 b.0; long = sym (eqb-true _ _ b.1) }
 
--- the same, of the sizes that were read
-pub sized_by : {xs : List ℤ} {n m : ℕ} → sizes_right xs ≡ true → n ≡ n_of xs → m ≡ m_of xs → Sized xs n m
-sized_by {xs} s e f = rw (e, f) (sizes-are xs s)
-
--- and by the sizes that were read
+-- by the sizes that were read
 module _ (xs : List ℤ) where
   pub no-nodes : size_of (word xs 0) 32 ≡ None → sizes_right xs ≡ false
   unfolding sizes_right

@@ -1,15 +1,14 @@
 // A network's record: the questions 2 to 5 before work, the network that it holds, and the record of a network.
 ghost use Rattle.std.specs.Prelude.{◌≡◌, true, false, MatchOption, List, ◌+◌, ◌*◌, ◌≤◌, ◌<◌, length};
-ghost use Rattle.loops.specs.Loops.{all, upto, build};
+ghost use Rattle.loops.specs.Loops.{all, upto};
 ghost use Rattle.network.specs.declared.Arc.{Arc};
 ghost use Rattle.network.specs.declared.Nodes.{Nodes};
 ghost use Rattle.network.specs.Limits.{max_nodes, max_arcs, arc_places};
 ghost use Rattle.network.specs.Network.{empty_net};
 ghost use Rattle.network.specs.ArcList.{no_arcs, nodes_of, joined};
-ghost use Rattle.records.specs.Limits.{network_figures};
-ghost use Rattle.records.specs.Arrays.{figure_at, arrays_of};
+ghost use Rattle.records.specs.Arrays.{figure_at};
 ghost use Rattle.records.specs.Questions.{first_no};
-ghost use Rattle.records.specs.Network.{n_of, m_of, figures, arc_figure, sizes_right, role_of, is_permitted, is_in_form, is_end, has_ends, arc_in, is_weighted, is_weighted_at, questions, node_turn, arc_turn, read_of, load_turn, loaded, role_figure, figure_of, network_of};
+ghost use Rattle.records.specs.Network.{n_of, m_of, figures, sizes_right, role_of, is_permitted, is_in_form, is_end, has_ends, arc_in, is_weighted, is_weighted_at, questions, node_turn, arc_turn, read_of, load_turn, loaded, role_figure, figure_of, network_of};
 
 use crate::refusal::Refusal;
 use crate::writing::Figures;
