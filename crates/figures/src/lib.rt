@@ -1,5 +1,5 @@
-// The figures of the test: balances, reduced costs and the value; and its questions 9 to 12. The loops read an arc in place,
-// so that no network is copied for one; beyond the last number there is none.
+// The figures of the test: balances, reduced costs and the value; and its questions 9 to 12. The loops go by number and read an arc
+// in place, so that no network is copied for one; a network may say more arcs than have a place, which no slice of its arcs can.
 #![tactic(auto, using(fraction::proofs::Laws::misfit_is), unfolding(fraction::specs::Formula::added, fraction::specs::Formula::subtracted, fraction::specs::Formula::multiplied, fraction::specs::Exact::is_same, crate::specs::Figures::reduced_cost, crate::specs::Figures::is_within))]
 
 ghost use Rattle.std.specs.Prelude.{◌≡◌, cond, ◌&&◌, not, ℕ, ◌+◌, ◌<◌, eqb, get_or, Ok};

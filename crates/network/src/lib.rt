@@ -65,21 +65,23 @@ pub struct Nodes {
     pub supply: [Fraction; NODE_PLACES],
 }
 
-// An arc for a number; none where the number is 0.
+// An arc for a number; none where the number is 0. Number 0 stands for none here and below, and no `Option` beside it: every
+// array keeps place 0 for no node and no arc, and records and log have the number as a word (docs/DECISIONS.md, "Numbers, not
+// places in lists").
 #[derive(Clone, Copy)]
 pub struct ArcUpdate {
     pub number: usize,
     pub arc: Arc,
 }
 
-// A supply for a node; none where the node is 0.
+// A supply for a node; none where the node is 0 (as in `ArcUpdate`).
 #[derive(Clone, Copy)]
 pub struct SupplyUpdate {
     pub node: usize,
     pub supply: Fraction,
 }
 
-// What a step changes: at most four arcs, two supplies, the node that is dropped, or 0, and the constant.
+// What a step changes: at most four arcs, two supplies, the node that is dropped, or 0 (as in `ArcUpdate`), and the constant.
 #[derive(Clone, Copy)]
 pub struct Edit {
     pub one: ArcUpdate,
@@ -92,7 +94,8 @@ pub struct Edit {
     pub constant: Fraction,
 }
 
-// An arc at node i: its multiplier e there, the multiplier o at its other end, and that end, which is 0 for a root arc.
+// An arc at node i: its multiplier e there, the multiplier o at its other end, and that end, which is 0 for a root arc
+// (as in `ArcUpdate`).
 #[derive(Clone, Copy)]
 pub struct Side {
     pub e: Fraction,

@@ -1,4 +1,5 @@
-// The two parallel arrays of a record, written from its figures.
+// The two parallel arrays of a record, written from its figures. The loops here and where a record is read go by place: a figure is
+// two words, one in each array, and no item of either.
 ghost use Rattle.std.specs.Prelude.{◌≡◌, ◌++◌, ℕ, ◌-◌, ◌*◌, ◌≤◌, ◌<◌, length};
 ghost use Rattle.loops.specs.Loops.{zeros};
 ghost use Rattle.fraction.specs.declared.Fraction.{Fraction};

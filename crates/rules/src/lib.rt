@@ -11,7 +11,8 @@ use step::{Old, Undone};
 
 pub mod tried;
 
-// What the way back over a step of a rule restores.
+// What the way back over a step of a rule restores. The choice is a match on the rule's number, the form that document 01 lists for
+// it; functions in a table would have to be handed out, which is not allowed.
 pub fn undo(rule: usize, old: Old, pair: Pair) -> Undone
     ensures { result ≡ (rule_of rules rule).back old pair }
 {

@@ -76,7 +76,7 @@ fn asking(places: usize, degree: usize, balanced: bool) -> Asks
     }
 }
 
-// What rule k asks; where there is no such rule, it has no place.
+// What rule k asks; where there is no such rule, it has no place (a match, as in `undo`).
 pub fn asks_of(k: usize) -> Asks
     ensures { result ≡ asks_of k }
 {
@@ -99,7 +99,7 @@ pub fn may_apply(asks: Asks, r: Fraction) -> bool
     !asks.balanced || r.is_zero()
 }
 
-// Rule k at node i, by its degree and the arcs there: the one place that chooses a step by the rule's number.
+// Rule k at node i, by its degree and the arcs there: the one place that chooses a step by the rule's number (a match, as in `undo`).
 pub fn try_node(
     constant: Fraction,
     supply: [Fraction; NODE_PLACES],

@@ -25,7 +25,7 @@ pub struct Numbers {
     pub fourth: usize,
 }
 
-// What the way back needs of a step: the node that it drops, or 0, with its supply; the old arcs, each at its number,
+// What the way back needs of a step: the node that it drops, or 0 (as in `network::ArcUpdate`), with its supply; the old arcs, each at its number,
 // in the order in which the rule names them; and the numbers of the new arcs.
 #[derive(Clone, Copy)]
 pub struct Old {
@@ -73,14 +73,14 @@ impl From<Misfit> for Halt {
 // What a rule answers at a place.
 pub type Outcome = Result<Change, Halt>;
 
-// A flow for an arc; none where the arc is 0.
+// A flow for an arc; none where the arc is 0 (as in `network::ArcUpdate`).
 #[derive(Clone, Copy)]
 pub struct FlowUpdate {
     pub arc: usize,
     pub flow: Fraction,
 }
 
-// A price for a node; none where the node is 0.
+// A price for a node; none where the node is 0 (as in `network::ArcUpdate`).
 #[derive(Clone, Copy)]
 pub struct PriceUpdate {
     pub node: usize,
@@ -100,7 +100,8 @@ pub struct Restored {
 // What the way back answers: these figures, or that some figure doesn't fit.
 pub type Undone = Result<Restored, Misfit>;
 
-// A step taken: its rule's number, its place, and its change.
+// A step taken: its rule's number, its place, and its change. A rule is its number, and no enum: stack and log have it as a word, the
+// table is indexed by it, and document 02 counts steps by it.
 #[derive(Clone, Copy)]
 pub struct Step {
     pub rule: usize,
