@@ -1,10 +1,10 @@
 use Prim.Native.Nat.{◌-◌}
-use Rattle.fraction.specs.Exact.{den_word}
 use Rattle.loops.proofs.Laws.{Filled}
+use Rattle.fraction.specs.Words.{word}
 use Rattle.records.proofs.writing.write_denominators.Given as goal
 
 abbrev pub invariant-loop-k : goal.invariant-loop-k
-invariant-loop-k g l = Filled (λ k. den_word (g.F.Figures.figures l.from k).den) l.t l.initial.rest l.rest l.k
+invariant-loop-k l = Filled (word l.dens) l.t l.initial.rest l.rest l.k
 
 abbrev pub decreases-loop-k : goal.decreases-loop-k
-decreases-loop-k g l = l.t - l.k
+decreases-loop-k l = l.t - l.k
