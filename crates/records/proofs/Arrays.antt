@@ -15,7 +15,7 @@ use Rattle.fraction.specs.Exact.{den_word}
 use Rattle.fraction.proofs.Laws.{and_both}
 use Rattle.fraction.specs.Words.{word, word_of}
 use Rattle.records.specs.Arrays.{numerators, denominators, arrays_of, has_room, record_of}
-use Rattle.records.specs.internal.Sized.{sized}
+use Rattle.records.specs.internal.Put.{sized}
 
 -- the first of what was written over a longer list
 take-front : {A : Type 0} (xs ys : List A) → take (length xs) (xs ++ ys) ≡ xs

@@ -7,4 +7,4 @@ pub mod Paired
 pub mod Written
 pub mod Logged
 pub mod Loaded
-pub mod Places
+pub mod Put

@@ -18,7 +18,7 @@ use Rattle.network.specs.Pair.{price_at, flow_at}
 use Rattle.records.specs.Pair.{pair_of}
 use Rattle.records.proofs.Arrays.{first-at, second_at_lem, with-room}
 use Rattle.records.proofs.Paired.{price-read, flow-read}
-use Rattle.records.proofs.Places.{price-figure, flow-figure}
+use Rattle.records.proofs.Put.{price-figure, flow-figure}
 use Rattle.records.specs.Pair.{pair_figure, pair_words}
 use Rattle.records.specs.Values.{two_words, four_words, with_value}
 

@@ -1,11 +1,14 @@
 // The records of 01, "Records": network, stack, pair and values, each with its questions, its reading and its writing.
 #![tactic(auto)]
 
-ghost use Rattle.std.specs.Prelude.{◌≡◌, ◌+◌, ◌≤◌, length};
+ghost use Rattle.std.specs.Prelude.{◌≡◌, ◌++◌, ◌+◌, ◌-◌, ◌≤◌, ◌<◌, length, set};
+ghost use Rattle.loops.specs.Loops.{zeros};
+ghost use Rattle.fraction.specs.Exact.{den_word};
 ghost use Rattle.fraction.specs.Words.{word, natural_of};
+ghost use Rattle.records.specs.Limits.{network_figures};
 ghost use Rattle.records.specs.Arrays.{figure_at, has_room};
 ghost use Rattle.records.specs.Network.{size_of};
-ghost use Rattle.records.specs.internal.Sized.{sized};
+ghost use Rattle.records.specs.internal.Put.{sized, nums_at, dens_at, put_from};
 
 use fraction::Fraction;
 use network::{MAX_ARCS, MAX_NODES};
@@ -15,7 +18,6 @@ pub mod pair;
 pub mod refusal;
 pub mod stack;
 pub mod values;
-mod writing;
 
 // The most figures of a network's record.
 pub const NETWORK_FIGURES: usize = 1 + MAX_NODES + 7 * MAX_ARCS;
@@ -85,7 +87,8 @@ pub fn number_at(xs: &[i32], at: usize) -> usize
     usize::try_from(word_at(xs, at)).unwrap_or(0)
 }
 
-// ---- writing
+// ---- writing: the numerators in place, the denominators beside them for behind. One trait for the figures of both records, each found by
+// its place, made reducing a third slower.
 
 // Whether the sizes are within the limits, and there are at least so many words of room.
 fn has_room(least: usize, n: usize, m: usize, room: usize) -> bool
@@ -108,4 +111,40 @@ pub(crate) fn write_sizes(least: usize, n: usize, m: usize, out: &mut [i32]) -> 
     }
     loops::clear(out);
     false
+}
+
+// Figure k: its numerator over word k of the output, its denominator over word k of those kept for behind.
+pub(crate) fn put_figure(f: Fraction, k: usize, out: &mut [i32], dens: &mut [i32])
+    ensures { (out.new ≡ set out.old k f.num) × (dens.new ≡ set dens.old k (den_word f.den)) }
+{
+    loops::put(out, k, f.num);
+    loops::put(dens, k, f.den_word());
+}
+
+// The figures at the numbers 1 to n, from place k on.
+pub(crate) fn put_numbered<const N: usize>(
+    at: &[Fraction; N],
+    n: usize,
+    k: usize,
+    out: &mut [i32],
+    dens: &mut [i32],
+)
+    requires { (n < N) × (k ≤ network_figures) }
+    ensures { (out.new ≡ put_from (nums_at at.now) k n out.old) × (dens.new ≡ put_from (dens_at at.now) k n dens.old) }
+{
+    for i in 0..n {
+        put_figure(at[i + 1], k + i, out, dens);
+    }
+}
+
+// The denominators of figures, and zeros behind them: the rest of an output slice, behind the numerators.
+pub(crate) fn write_denominators(dens: &[i32], rest: &mut [i32])
+    requires { length dens.now ≤ length rest.old }
+    ensures { rest.new ≡ dens.now ++ zeros (length rest.old - length dens.now) }
+{
+    let t = dens.len();
+    for k in 0..t {
+        loops::put(rest, k, dens[k]);
+    }
+    loops::clear(&mut rest[t..]);
 }

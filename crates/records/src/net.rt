@@ -1,17 +1,18 @@
 // A network's record: the questions 2 to 5 before work, the network that it holds, and the record of a network.
 ghost use Rattle.std.specs.Prelude.{◌≡◌, true, false, MatchOption, List, ◌+◌, ◌*◌, ◌≤◌, ◌<◌, length};
-ghost use Rattle.loops.specs.Loops.{all, upto};
+ghost use Rattle.loops.specs.Loops.{all, upto, build};
 ghost use Rattle.network.specs.declared.Arc.{Arc};
 ghost use Rattle.network.specs.declared.Nodes.{Nodes};
 ghost use Rattle.network.specs.Limits.{max_nodes, max_arcs, arc_places};
 ghost use Rattle.network.specs.Network.{empty_net};
 ghost use Rattle.network.specs.ArcList.{no_arcs, nodes_of, joined};
-ghost use Rattle.records.specs.Arrays.{figure_at};
+ghost use Rattle.records.specs.Arrays.{figure_at, arrays_of};
+ghost use Rattle.records.specs.Limits.{network_figures};
 ghost use Rattle.records.specs.Questions.{first_no};
+ghost use Rattle.records.specs.internal.Put.{num_of, den_of, nums_in, dens_in, put_from, arcs_put};
 ghost use Rattle.records.specs.Network.{n_of, m_of, figures, sizes_right, role_of, is_permitted, is_in_form, is_end, has_ends, arc_in, is_weighted, is_weighted_at, questions, node_turn, arc_turn, read_of, load_turn, loaded, role_figure, figure_of, network_of};
 
 use crate::refusal::Refusal;
-use crate::writing::Figures;
 use fraction::Fraction;
 use network::{ARC_PLACES, Arc, MAX_ARCS, MAX_NODES, NODE_PLACES, Net, Nodes};
 
@@ -248,38 +249,52 @@ pub fn load(arcs: &mut [Arc], network: &[i32])
 // ---- writing
 
 // An arc's seven figures, in their order.
-#[tactic(auto, unfolding(crate::specs::Network::role_figure))]
-fn role_figure(t: &Arc, r: usize) -> Fraction
-    ensures { result ≡ role_figure t.now r }
+fn figures_of(t: Arc) -> [Fraction; 7]
+    ensures { result ≡ build 7 (role_figure t) }
 {
-    match r {
-        0 => fraction::words::whole(t.from),
-        1 => fraction::words::whole(t.to),
-        2 => t.cost,
-        3 => t.lower,
-        4 => t.upper,
-        5 => t.a,
-        _ => t.b,
+    let from = fraction::words::whole(t.from);
+    let to = fraction::words::whole(t.to);
+    let cost = t.cost;
+    let lower = t.lower;
+    let upper = t.upper;
+    let a = t.a;
+    let b = t.b;
+    [from, to, cost, lower, upper, a, b]
+}
+
+// Seven figures, from place k on.
+fn put_seven(at: [Fraction; 7], k: usize, out: &mut [i32], dens: &mut [i32])
+    requires { k ≤ network_figures }
+    ensures { (out.new ≡ put_from (nums_in at) k 7 out.old) × (dens.new ≡ put_from (dens_in at) k 7 dens.old) }
+{
+    for r in 0..7 {
+        crate::put_figure(at[r], k + r, out, dens);
     }
 }
 
-impl Figures for Net {
-    ghost figures = { figure_of };
-
-    #[tactic(auto, unfolding(crate::specs::Network::figure_of))]
-    fn figure(&self, k: usize) -> Fraction {
-        if k == 0 {
-            return self.constant;
-        }
-        if k <= self.n {
-            return self.supply.get(k).copied().unwrap_or(network::no_figure());
-        }
-        let at = k - self.n - 1;
-        match self.arcs.get(at / 7 + 1) {
-            Some(t) => role_figure(t, at % 7),
-            None => role_figure(&network::no_arc(), at % 7),
-        }
+// The figures of the arcs 1 to m, behind the constant and n supplies.
+fn put_arcs(arcs: [Arc; ARC_PLACES], n: usize, m: usize, out: &mut [i32], dens: &mut [i32])
+    requires { (n ≤ max_nodes) × (m ≤ max_arcs) }
+    ensures { (out.new ≡ arcs_put num_of arcs n m out.old) × (dens.new ≡ arcs_put den_of arcs n m dens.old) }
+{
+    for j in 0..m {
+        put_seven(figures_of(arcs[j + 1]), 1 + n + 7 * j, out, dens);
     }
+}
+
+// The figures' numerators, as many denominators, and zeros behind them.
+fn write_figures(net: Net, out: &mut [i32])
+    requires { (net.n ≤ max_nodes) × (net.m ≤ max_arcs) × (2 * network_figures ≤ length out.old) }
+    ensures { out.new ≡ arrays_of (figure_of net) (figures net.n net.m) (length out.old) }
+{
+    let mut dens = [0i32; crate::NETWORK_FIGURES];
+    let constant = net.constant;
+    crate::put_figure(constant, 0, out, &mut dens);
+    crate::put_numbered(&net.supply, net.n, 1, out, &mut dens);
+    let arcs = net.arcs;
+    put_arcs(arcs, net.n, net.m, out, &mut dens);
+    let t = 1 + net.n + 7 * net.m;
+    crate::write_denominators(&dens[..t], &mut out[t..]);
 }
 
 // A network's record, and zeros behind it; zeros alone where it has no room.
@@ -287,6 +302,6 @@ pub fn write_network(net: Net, out: &mut [i32])
     ensures { out.new ≡ network_of net (length out.old) }
 {
     if crate::write_sizes(crate::NETWORK_WORDS, net.n, net.m, out) {
-        crate::writing::write(&net, 1 + net.n + 7 * net.m, &mut out[2..]);
+        write_figures(net, &mut out[2..]);
     }
 }

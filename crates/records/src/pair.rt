@@ -4,11 +4,11 @@ ghost use Rattle.integer.specs.Whole.{eq_z};
 ghost use Rattle.loops.specs.Loops.{all, upto};
 ghost use Rattle.fraction.specs.Words.{word};
 ghost use Rattle.fraction.specs.Exact.{no_figure};
-ghost use Rattle.records.specs.Arrays.{figure_at};
+ghost use Rattle.network.specs.Limits.{max_nodes, max_arcs};
+ghost use Rattle.records.specs.Arrays.{figure_at, arrays_of};
 ghost use Rattle.records.specs.Limits.{pair_figures};
 ghost use Rattle.records.specs.Pair.{is_fraction, is_pair, pair_of, pair_figure, pair_words};
 
-use crate::writing::Figures;
 use fraction::Fraction;
 use network::pair::Pair;
 use network::{MAX_ARCS, MAX_NODES};
@@ -90,32 +90,16 @@ pub fn read_pair(words: &[i32], n: usize, m: usize) -> Pair
 
 // ---- writing
 
-// A pair with the number of its nodes.
-#[derive(Clone, Copy)]
-struct Numbered {
-    n: usize,
-    pair: Pair,
-}
-
-impl Figures for Numbered {
-    ghost figures = { λ p. pair_figure p.n p.pair };
-
-    #[tactic(auto, unfolding(crate::specs::Pair::pair_figure))]
-    fn figure(&self, k: usize) -> Fraction {
-        if k < self.n {
-            return self
-                .pair
-                .price
-                .get(k + 1)
-                .copied()
-                .unwrap_or(network::no_figure());
-        }
-        self.pair
-            .flow
-            .get(k - self.n + 1)
-            .copied()
-            .unwrap_or(network::no_figure())
-    }
+// The figures' numerators, as many denominators, and zeros behind them.
+fn write_figures(n: usize, m: usize, pair: Pair, out: &mut [i32])
+    requires { (n ≤ max_nodes) × (m ≤ max_arcs) × (2 * pair_figures ≤ length out.old) }
+    ensures { out.new ≡ arrays_of (pair_figure n pair) (n + m) (length out.old) }
+{
+    let mut dens = [0i32; crate::PAIR_FIGURES];
+    crate::put_numbered(&pair.price, n, 0, out, &mut dens);
+    crate::put_numbered(&pair.flow, m, n, out, &mut dens);
+    let t = n + m;
+    crate::write_denominators(&dens[..t], &mut out[t..]);
 }
 
 // A pair's record, and zeros behind it; zeros alone where it has no room.
@@ -123,6 +107,6 @@ pub fn write_pair(n: usize, m: usize, pair: Pair, out: &mut [i32])
     ensures { out.new ≡ pair_words n m pair (length out.old) }
 {
     if crate::write_sizes(crate::PAIR_WORDS, n, m, out) {
-        crate::writing::write(&Numbered { n, pair }, n + m, &mut out[2..]);
+        write_figures(n, m, pair, &mut out[2..]);
     }
 }

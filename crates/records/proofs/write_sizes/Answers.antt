@@ -1,7 +1,7 @@
 -- `records::write_sizes` meets its contract.
 use mathlib.Core.Path.{◌∙◌, sym}
 use Rattle.integer.specs.Machine.{back32}
-use Rattle.records.specs.internal.Sized.{sized}
+use Rattle.records.specs.internal.Put.{sized}
 use borrow.Author.Rules.{rules}
 use Rattle.records.proofs.write_sizes.Goals as goal
 

@@ -5,34 +5,25 @@ use Rattle.loops.proofs.Laws.{part-long, part-sized}
 use Rattle.fraction.specs.Words.{word_of}
 use Rattle.records.specs.Arrays.{record_of}
 use Rattle.records.specs.Network.{network_of}
-use Rattle.records.specs.internal.Sized.{sized}
+use Rattle.records.specs.internal.Put.{sized}
 use Rattle.records.proofs.Arrays.{room-is, sized-room}
 use Rattle.records.proofs.net.write_network.Goals as goal
 
-pub overflow_add-net : goal.overflow_add-net
-overflow_add-net c = let r = room-is _ _ _ _ (sym c.write_sizes.ensures.0 ∙ c.if-write_sizes.true) in record { fits = omega (arith, r.0) }
-
-pub overflow_mul-net : goal.overflow_mul-net
-overflow_mul-net c = let r = room-is _ _ _ _ (sym c.write_sizes.ensures.0 ∙ c.if-write_sizes.true) in record { fits = omega (arith, r.1) }
-
-pub overflow_add-net-then-write_sizes : goal.overflow_add-net-then-write_sizes
-overflow_add-net-then-write_sizes c = let r = room-is _ _ _ _ (sym c.write_sizes.ensures.0 ∙ c.if-write_sizes.true) in record { fits = omega (arith, r.0, r.1) }
-
-pub slice_bounds-write-count : goal.slice_bounds-write-count
-slice_bounds-write-count c =
+pub slice_bounds-write_figures-count : goal.slice_bounds-write_figures-count
+slice_bounds-write_figures-count c =
     let s = c.write_sizes in
     omega (arith, (room-is _ _ _ _ (sym s.ensures.0 ∙ c.if-write_sizes.true)).2, s.auto.out)
 
-pub slice_bounds-write-start : goal.slice_bounds-write-start
-slice_bounds-write-start c =
+pub slice_bounds-write_figures-start : goal.slice_bounds-write_figures-start
+slice_bounds-write_figures-start c =
     let s = c.write_sizes in
     omega (arith, (room-is _ _ _ _ (sym s.ensures.0 ∙ c.if-write_sizes.true)).2, s.auto.out)
 
-pub write-requires : goal.write-requires
-write-requires c =
+pub write_figures-requires : goal.write_figures-requires
+write_figures-requires c =
     let s = c.write_sizes in
     let r = room-is _ _ _ _ (sym s.ensures.0 ∙ c.if-write_sizes.true) in
-    (omega (arith, r.0, r.1), rw part-long (omega (arith, r.0, r.1, r.2, s.auto.out)))
+    (r.0, r.1, rw part-long (omega (arith, r.2, s.auto.out)))
 
 pub returns-then-write_sizes : goal.returns-then-write_sizes
 unfolding record_of network_of
@@ -40,7 +31,7 @@ returns-then-write_sizes c =
     let a = c.args in
     let s = c.write_sizes in
     let h = sym s.ensures.0 ∙ c.if-write_sizes.true in
-    rw h (part-sized (word_of a.net.n) (word_of a.net.m) a.out.now (s.ensures.1 ∙ sized-room _ _ _ _ h) (rw (part-long, s.auto.out) at c.write.ensures) (omega (arith, (room-is _ _ _ _ h).2)))
+    rw h (part-sized (word_of a.net.n) (word_of a.net.m) a.out.now (s.ensures.1 ∙ sized-room _ _ _ _ h) (rw (part-long, s.auto.out) at c.write_figures.ensures) (omega (arith, (room-is _ _ _ _ h).2)))
 
 pub returns-else-write_sizes : goal.returns-else-write_sizes
 unfolding record_of network_of sized

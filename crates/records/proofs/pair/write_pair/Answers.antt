@@ -5,28 +5,25 @@ use Rattle.loops.proofs.Laws.{part-long, part-sized}
 use Rattle.fraction.specs.Words.{word_of}
 use Rattle.records.specs.Arrays.{record_of}
 use Rattle.records.specs.Pair.{pair_words}
-use Rattle.records.specs.internal.Sized.{sized}
+use Rattle.records.specs.internal.Put.{sized}
 use Rattle.records.proofs.Arrays.{room-is, sized-room}
 use Rattle.records.proofs.pair.write_pair.Goals as goal
 
-pub overflow_add-n : goal.overflow_add-n
-overflow_add-n c = let r = room-is _ _ _ _ (sym c.write_sizes.ensures.0 ∙ c.if-write_sizes.true) in record { fits = omega (arith, r.0, r.1) }
-
-pub slice_bounds-write-count : goal.slice_bounds-write-count
-slice_bounds-write-count c =
+pub slice_bounds-write_figures-count : goal.slice_bounds-write_figures-count
+slice_bounds-write_figures-count c =
     let s = c.write_sizes in
     omega (arith, (room-is _ _ _ _ (sym s.ensures.0 ∙ c.if-write_sizes.true)).2, s.auto.out)
 
-pub slice_bounds-write-start : goal.slice_bounds-write-start
-slice_bounds-write-start c =
+pub slice_bounds-write_figures-start : goal.slice_bounds-write_figures-start
+slice_bounds-write_figures-start c =
     let s = c.write_sizes in
     omega (arith, (room-is _ _ _ _ (sym s.ensures.0 ∙ c.if-write_sizes.true)).2, s.auto.out)
 
-pub write-requires : goal.write-requires
-write-requires c =
+pub write_figures-requires : goal.write_figures-requires
+write_figures-requires c =
     let s = c.write_sizes in
     let r = room-is _ _ _ _ (sym s.ensures.0 ∙ c.if-write_sizes.true) in
-    (omega (arith, r.0, r.1), rw part-long (omega (arith, r.0, r.1, r.2, s.auto.out)))
+    (r.0, r.1, rw part-long (omega (arith, r.2, s.auto.out)))
 
 pub returns-then-write_sizes : goal.returns-then-write_sizes
 unfolding record_of pair_words
@@ -34,7 +31,7 @@ returns-then-write_sizes c =
     let a = c.args in
     let s = c.write_sizes in
     let h = sym s.ensures.0 ∙ c.if-write_sizes.true in
-    rw h (part-sized (word_of a.n) (word_of a.m) a.out.now (s.ensures.1 ∙ sized-room _ _ _ _ h) (rw (part-long, s.auto.out) at c.write.ensures) (omega (arith, (room-is _ _ _ _ h).2)))
+    rw h (part-sized (word_of a.n) (word_of a.m) a.out.now (s.ensures.1 ∙ sized-room _ _ _ _ h) (rw (part-long, s.auto.out) at c.write_figures.ensures) (omega (arith, (room-is _ _ _ _ h).2)))
 
 pub returns-else-write_sizes : goal.returns-else-write_sizes
 unfolding record_of pair_words sized
