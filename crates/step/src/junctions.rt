@@ -32,7 +32,7 @@ pub fn has_sign(t: Arc, i: usize, below: bool) -> bool
 pub fn is_free(t: Arc) -> bool
     ensures { result ≡ is_free t }
 {
-    !network::is_root(t) && (t.lower.is_zero() && t.upper.is_no_upper())
+    !network::is_root(t) && t.lower.is_zero() && t.upper.is_no_upper()
 }
 
 // Whether the other ends of two arcs at node i differ.

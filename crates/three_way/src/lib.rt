@@ -10,7 +10,7 @@ ghost use Rattle.three_way.specs.ThreeWay.{turned as turned_of, is_rising, alter
 use fraction::{Fraction, Misfit, Worked};
 use network::pair::Pair;
 use network::{Arc, ArcUpdate, NODE_PLACES, Side, SupplyUpdate};
-use step::{Change, Halt, Numbers, Old, Outcome, PriceUpdate, Restored, Undone};
+use step::{Change, Halt, Old, Outcome, PriceUpdate, Restored, Undone};
 
 // w for positive supply, its negation for negative.
 fn turned(below: bool, w: Worked) -> Worked
@@ -33,15 +33,7 @@ fn signs_suit(t1: Arc, t2: Arc, t3: Arc, i: usize, below: bool) -> bool
 fn is_rising(t: Arc) -> bool
     ensures { result ≡ is_rising t }
 {
-    let l = t.lower;
-    let u = t.upper;
-    if network::is_root(t) {
-        return false;
-    }
-    if l.den == 0 {
-        return false;
-    }
-    u.is_no_upper()
+    !network::is_root(t) && t.lower.den != 0 && t.upper.is_no_upper()
 }
 
 fn bounds_suit(t1: Arc, t2: Arc, t3: Arc) -> bool
@@ -60,26 +52,14 @@ fn ends_suit(t1: Arc, t2: Arc, t3: Arc, i: usize) -> bool
 
 // ---- the new arcs
 
-fn altered_multiplier(w: Side, v: Side) -> Worked
-    ensures { result ≡ ⊝ (Ok v.o ⊗ Ok w.e ⊘ Ok v.e) }
-{
-    v.o.product(w.e)?.quotient(v.e)?.negation()
-}
-
-fn altered_cost(c: Fraction, d: Fraction, w: Side, v: Side) -> Worked
-    ensures { result ≡ (Ok c ⊖ Ok d ⊗ Ok w.e ⊘ Ok v.e) }
-{
-    c.difference(d.product(w.e)?.quotient(v.e)?)
-}
-
 // Arc t, of 1 and 2, from the third one's other end.
 fn altered(i: usize, t: Arc, third: Arc) -> Result<Arc, Misfit>
     ensures { result ≡ altered_of i t third }
 {
     let w = network::side_at(t, i);
     let v = network::side_at(third, i);
-    let a = altered_multiplier(w, v)?;
-    let c = altered_cost(t.cost, third.cost, w, v)?;
+    let a = step::share_against(v.o, w.e, v.e)?;
+    let c = step::less_share(t.cost, third.cost, w.e, v.e)?;
     let b = w.o;
     Ok(Arc {
         from: v.other,
@@ -147,13 +127,6 @@ fn added(i: usize, below: bool, t1: Arc, t2: Arc, l: Fraction, u: Fraction) -> R
 
 // ---- the step
 
-// The supply at arc 1's other end, s before the step.
-fn far_supply(s: Fraction, r: Fraction, w: Side) -> Worked
-    ensures { result ≡ (Ok s ⊖ Ok r ⊗ Ok w.o ⊘ Ok w.e) }
-{
-    s.difference(r.product(w.o)?.quotient(w.e)?)
-}
-
 // a, b and c take the numbers of arcs 1, 2 and the third, s is the supply at `end`, and the node is dropped.
 fn joining(
     i: usize,
@@ -186,18 +159,8 @@ fn joining(
         constant,
     };
     let old = Old {
-        node: i,
-        supply: r,
-        one,
-        two,
         three,
-        four: none,
-        new: Numbers {
-            first: 0,
-            second: 0,
-            third: 0,
-            fourth: 0,
-        },
+        ..step::old_two(i, r, one, two)
     };
     Change { edit, old }
 }
@@ -222,7 +185,7 @@ fn join(
         return Err(Halt::Passes);
     }
     let c = added(i, below, one.arc, two.arc, l, u)?;
-    let g = far_supply(s, r, w)?;
+    let g = step::less_share(s, r, w.o, w.e)?;
     let a = altered(i, one.arc, three.arc)?;
     let b = altered(i, two.arc, three.arc)?;
     let z = step::gained(constant, one.arc, w, r)?;
@@ -315,9 +278,10 @@ fn node_price(below: bool, p: Fraction, q: Fraction) -> Fraction
     ensures { result ≡ cond below (larger p q) (smaller p q) }
 {
     if below {
-        return step::larger(p, q);
+        step::larger(p, q)
+    } else {
+        step::smaller(p, q)
     }
-    step::smaller(p, q)
 }
 
 // Three flows and a price.
