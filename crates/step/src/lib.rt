@@ -1,7 +1,7 @@
 // One step of a reduction: what a rule answers at a place (01, "The six reductions"), and what its way back answers.
 #![tactic(auto, using(fraction::proofs::Laws::misfit_is), unfolding(fraction::specs::Formula::added, fraction::specs::Formula::subtracted, fraction::specs::Formula::multiplied, fraction::specs::Formula::divided, fraction::specs::Formula::negated, crate::specs::Outcome::fits, crate::specs::Dropped::supply_less, crate::specs::Dropped::cost_added, crate::specs::Dropped::gained, crate::specs::Dropped::dropped, crate::specs::Dropped::lower_back, crate::specs::Back::restored, crate::specs::Back::quote_at))]
 
-ghost use Rattle.std.specs.Prelude.{◌≡◌, true, ◌≤◌, Ok};
+ghost use Rattle.std.specs.Prelude.{◌≡◌, true, cond, ◌≤◌, Ok};
 ghost use Rattle.fraction.specs.Formula.{◌⊖◌, ◌⊗◌, ◌⊘◌, ⊝◌};
 ghost use Rattle.network.specs.Network.{is_number};
 ghost use Rattle.network.specs.Pair.{with_price};
@@ -159,22 +159,6 @@ pub fn gained(constant: Fraction, t: Arc, w: Side, r: Fraction) -> Worked
     constant.sum(t.cost.product(r)?.quotient(w.e)?)
 }
 
-// ---- an arc's figures taken over by another: what rules 5 and 8 share
-
-// x less its share: x - y × e ÷ f.
-pub fn less_share(x: Fraction, y: Fraction, e: Fraction, f: Fraction) -> Worked
-    ensures { result ≡ (Ok x ⊖ Ok y ⊗ Ok e ⊘ Ok f) }
-{
-    x.difference(y.product(e)?.quotient(f)?)
-}
-
-// -(y × e ÷ f).
-pub fn share_against(y: Fraction, e: Fraction, f: Fraction) -> Worked
-    ensures { result ≡ ⊝ (Ok y ⊗ Ok e ⊘ Ok f) }
-{
-    y.product(e)?.quotient(f)?.negation()
-}
-
 // Arc j dropped, with supplies for two nodes, a node dropped, and the constant.
 pub fn dropping(
     j: usize,
@@ -247,6 +231,22 @@ pub fn lower_back(old: Old) -> Undone
     ensures { (pair : Pair) → result ≡ lower_back old pair }
 {
     Ok(flow_only(old.one.number, old.one.arc.lower))
+}
+
+// ---- an arc's figures taken over by another: what rules 5 and 8 share
+
+// x less its share: x - y × e ÷ f.
+pub fn less_share(x: Fraction, y: Fraction, e: Fraction, f: Fraction) -> Worked
+    ensures { result ≡ (Ok x ⊖ Ok y ⊗ Ok e ⊘ Ok f) }
+{
+    x.difference(y.product(e)?.quotient(f)?)
+}
+
+// -(y × e ÷ f).
+pub fn share_against(y: Fraction, e: Fraction, f: Fraction) -> Worked
+    ensures { result ≡ ⊝ (Ok y ⊗ Ok e ⊘ Ok f) }
+{
+    y.product(e)?.quotient(f)?.negation()
 }
 
 // ---- the way back
@@ -369,7 +369,14 @@ pub fn quote(t: Arc, i: usize, p: Fraction) -> Worked
     t.cost.difference(w.o.product(p)?)?.quotient(w.e)
 }
 
-// ---- figures
+// ---- what the rules choose
+
+// x where b, and otherwise y.
+pub fn either<T: Copy>(b: bool, x: T, y: T) -> T
+    ensures { result ≡ cond b x y }
+{
+    if b { x } else { y }
+}
 
 pub fn larger(x: Fraction, y: Fraction) -> Fraction
     ensures { result ≡ larger_of x y }

@@ -10,7 +10,7 @@ ghost use Rattle.three_way.specs.ThreeWay.{turned as turned_of, is_rising, alter
 use fraction::{Fraction, Misfit, Worked};
 use network::pair::Pair;
 use network::{Arc, ArcUpdate, NODE_PLACES, Side, SupplyUpdate};
-use step::{Change, Halt, Old, Outcome, PriceUpdate, Restored, Undone};
+use step::{Change, Halt, Old, Outcome, PriceUpdate, Restored, Undone, either, junctions};
 
 // w for positive supply, its negation for negative.
 fn turned(below: bool, w: Worked) -> Worked
@@ -25,8 +25,9 @@ fn turned(below: bool, w: Worked) -> Worked
 fn signs_suit(t1: Arc, t2: Arc, t3: Arc, i: usize, below: bool) -> bool
     ensures { result ≡ (has_sign_at t1 i below && (has_sign_at t2 i below && has_sign_at t3 i (not below))) }
 {
-    step::junctions::has_sign(t1, i, below)
-        && (step::junctions::has_sign(t2, i, below) && step::junctions::has_sign(t3, i, !below))
+    junctions::has_sign(t1, i, below)
+        && junctions::has_sign(t2, i, below)
+        && junctions::has_sign(t3, i, !below)
 }
 
 // Whether an arc is no root arc, with a lower bound and no upper one.
@@ -39,15 +40,16 @@ fn is_rising(t: Arc) -> bool
 fn bounds_suit(t1: Arc, t2: Arc, t3: Arc) -> bool
     ensures { result ≡ (is_rising t1 && (is_rising t2 && is_free t3)) }
 {
-    is_rising(t1) && (is_rising(t2) && step::junctions::is_free(t3))
+    is_rising(t1) && is_rising(t2) && junctions::is_free(t3)
 }
 
 // The other ends are three different nodes.
 fn ends_suit(t1: Arc, t2: Arc, t3: Arc, i: usize) -> bool
     ensures { result ≡ (is_apart t1 t2 i && (is_apart t1 t3 i && is_apart t2 t3 i)) }
 {
-    step::junctions::is_apart(t1, t2, i)
-        && (step::junctions::is_apart(t1, t3, i) && step::junctions::is_apart(t2, t3, i))
+    junctions::is_apart(t1, t2, i)
+        && junctions::is_apart(t1, t3, i)
+        && junctions::is_apart(t2, t3, i)
 }
 
 // ---- the new arcs
@@ -109,13 +111,6 @@ fn high(below: bool, r: Fraction, t1: Arc, w1: Side, w2: Side) -> Worked
     ensures { result ≡ high_of below r t1 w1 w2 }
 {
     turned(below, wide::share(r, w1.e, t1.lower, w2.e))
-}
-
-// The arc x where b, and otherwise y.
-fn either(b: bool, x: Arc, y: Arc) -> Arc
-    ensures { result ≡ cond b x y }
-{
-    if b { x } else { y }
 }
 
 // The added arc, with these bounds.
@@ -238,10 +233,10 @@ pub fn three_way(
         return Err(Halt::Passes);
     }
     let below = r.less(Fraction::ZERO);
-    if !step::junctions::has_sign(x.arc, i, below) {
+    if !junctions::has_sign(x.arc, i, below) {
         return sort(constant, supply, i, y, z, x);
     }
-    if !step::junctions::has_sign(y.arc, i, below) {
+    if !junctions::has_sign(y.arc, i, below) {
         return sort(constant, supply, i, x, z, y);
     }
     sort(constant, supply, i, x, y, z)
@@ -298,9 +293,9 @@ fn restored_three(
     ensures { result ≡ restored_three one x two y three z i p }
 {
     Restored {
-        one: step::junctions::flow(three, z),
-        two: step::junctions::flow(two, y),
-        three: step::junctions::flow(one, x),
+        one: junctions::flow(three, z),
+        two: junctions::flow(two, y),
+        three: junctions::flow(one, x),
         four: step::no_flow(),
         price: PriceUpdate { node: i, price: p },
     }
@@ -325,8 +320,8 @@ pub fn three_back(old: Old, pair: Pair) -> Undone
     let x = first_flow(r, w1.e, y1, turned(below, w2.e.product(y3)))?;
     let y = second_flow(y2, turned(below, w1.e.product(y3)))?;
     let z = third_flow(w1.e, y1, w2.e, y2, w3.e)?;
-    let p = step::junctions::quote(one.arc, i, pair)?;
-    let q = step::junctions::quote(two.arc, i, pair)?;
+    let p = junctions::quote(one.arc, i, pair)?;
+    let q = junctions::quote(two.arc, i, pair)?;
     let price = node_price(below, p, q);
     Ok(restored_three(one, x, two, y, three, z, i, price))
 }

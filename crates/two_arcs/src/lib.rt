@@ -12,7 +12,7 @@ ghost use Rattle.two_arcs.specs.TwoArcs.{same_sign, tighter, image_of, new_arc, 
 use fraction::{Fraction, Worked};
 use network::pair::Pair;
 use network::{Arc, ArcUpdate, NODE_PLACES, Side, SupplyUpdate};
-use step::{Change, Halt, Old, Outcome, Undone};
+use step::{Change, Halt, Old, Outcome, Undone, either};
 
 fn same_sign(x: Fraction, y: Fraction) -> bool
     ensures { result ≡ same_sign x y }
@@ -21,13 +21,6 @@ fn same_sign(x: Fraction, y: Fraction) -> bool
         return Fraction::ZERO.less(y);
     }
     !Fraction::ZERO.less(y)
-}
-
-// x where b, and otherwise y.
-fn either(b: bool, x: Fraction, y: Fraction) -> Fraction
-    ensures { result ≡ cond b x y }
-{
-    if b { x } else { y }
 }
 
 // The bound of j that a bound z of k gives.
