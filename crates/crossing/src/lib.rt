@@ -10,10 +10,7 @@ ghost use Rattle.step.specs.Junction.{is_free, is_apart};
 use fraction::{Fraction, Misfit, Worked};
 use network::pair::Pair;
 use network::{Arc, ArcUpdate, Side};
-use step::{
-    Around, Change, FlowUpdate, Halt, Numbers, Old, Outcome, PriceUpdate, Restored, Undone,
-    junctions,
-};
+use step::{Around, Change, Halt, Numbers, Old, Outcome, PriceUpdate, Restored, Undone, junctions};
 
 // Of the arcs at a node, the first two of a sign; number 0 where there is none.
 #[derive(Clone, Copy)]
@@ -28,7 +25,9 @@ fn all_free(n1: Arc, n2: Arc, p1: Arc, p2: Arc) -> bool
     ensures { result ≡ (is_free n1 && (is_free n2 && (is_free p1 && is_free p2))) }
 {
     junctions::is_free(n1)
-        && (junctions::is_free(n2) && (junctions::is_free(p1) && junctions::is_free(p2)))
+        && junctions::is_free(n2)
+        && junctions::is_free(p1)
+        && junctions::is_free(p2)
 }
 
 // Whether no N shares its other end with a P.
@@ -36,8 +35,9 @@ fn all_apart(n1: Arc, n2: Arc, p1: Arc, p2: Arc, i: usize) -> bool
     ensures { result ≡ (is_apart n1 p1 i && (is_apart n1 p2 i && (is_apart n2 p1 i && is_apart n2 p2 i))) }
 {
     junctions::is_apart(n1, p1, i)
-        && (junctions::is_apart(n1, p2, i)
-            && (junctions::is_apart(n2, p1, i) && junctions::is_apart(n2, p2, i)))
+        && junctions::is_apart(n1, p2, i)
+        && junctions::is_apart(n2, p1, i)
+        && junctions::is_apart(n2, p2, i)
 }
 
 // ---- the step

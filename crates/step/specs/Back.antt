@@ -53,6 +53,9 @@ no_flow_update = record { arc = 0; flow = no_figure }
 abbrev pub no_price_update : PriceUpdate
 no_price_update = record { node = 0; price = no_figure }
 
+abbrev pub nothing : Restored
+nothing = record { one = no_flow_update; two = no_flow_update; three = no_flow_update; four = no_flow_update; price = no_price_update }
+
 -- a flow for an old arc
 abbrev pub flow_of : ArcUpdate → Fraction → FlowUpdate
 flow_of old x = record { arc = old.number; flow = x }

@@ -1,10 +1,12 @@
 // One step of a reduction: what a rule answers at a place (01, "The six reductions"), and what its way back answers.
-#![tactic(auto, using(fraction::proofs::Laws::misfit_is), unfolding(fraction::specs::Formula::added, fraction::specs::Formula::subtracted, fraction::specs::Formula::multiplied, fraction::specs::Formula::divided, fraction::specs::Formula::negated, crate::specs::Outcome::fits, crate::specs::Dropped::supply_less, crate::specs::Dropped::cost_added, crate::specs::Dropped::gained, crate::specs::Dropped::dropped, crate::specs::Dropped::lower_back, crate::specs::Back::quote_at))]
+#![tactic(auto, using(fraction::proofs::Laws::misfit_is), unfolding(fraction::specs::Formula::added, fraction::specs::Formula::subtracted, fraction::specs::Formula::multiplied, fraction::specs::Formula::divided, fraction::specs::Formula::negated, crate::specs::Outcome::fits, crate::specs::Dropped::supply_less, crate::specs::Dropped::cost_added, crate::specs::Dropped::gained, crate::specs::Dropped::dropped, crate::specs::Dropped::lower_back, crate::specs::Back::restored, crate::specs::Back::quote_at))]
 
-ghost use Rattle.std.specs.Prelude.{◌≡◌, true, ◌≤◌};
+ghost use Rattle.std.specs.Prelude.{◌≡◌, true, cond, ◌≤◌, Ok};
+ghost use Rattle.fraction.specs.Formula.{◌⊖◌, ◌⊗◌, ◌⊘◌, ⊝◌};
 ghost use Rattle.network.specs.Network.{is_number};
+ghost use Rattle.network.specs.Pair.{with_price};
 ghost use Rattle.network.specs.declared.pair.Pair.{Pair};
-ghost use Rattle.step.specs.Back.{old_one, old_two, no_flow_update, two_flows, flow_only, price_only, flow_and_price, restored, quote_at};
+ghost use Rattle.step.specs.Back.{old_one, old_two, no_flow_update, nothing, two_flows, flow_only, price_only, flow_and_price, with_flow_of, restored, quote_at};
 ghost use Rattle.step.specs.declared.Halt.TheVariants.{Passes};
 ghost use Rattle.step.specs.Run.{is_found};
 ghost use Rattle.step.specs.Figure.{larger as larger_of, smaller as smaller_of};
@@ -232,43 +234,54 @@ pub fn lower_back(old: Old) -> Undone
     Ok(flow_only(old.one.number, old.one.arc.lower))
 }
 
+// ---- an arc's figures taken over by another: what rules 5 and 8 share
+
+// x less its share: x - y × e ÷ f.
+pub fn less_share(x: Fraction, y: Fraction, e: Fraction, f: Fraction) -> Worked
+    ensures { result ≡ (Ok x ⊖ Ok y ⊗ Ok e ⊘ Ok f) }
+{
+    x.difference(y.product(e)?.quotient(f)?)
+}
+
+// -(y × e ÷ f).
+pub fn share_against(y: Fraction, e: Fraction, f: Fraction) -> Worked
+    ensures { result ≡ ⊝ (Ok y ⊗ Ok e ⊘ Ok f) }
+{
+    y.product(e)?.quotient(f)?.negation()
+}
+
 // ---- the way back
 
 // The pair with what is restored.
 pub fn restore(mut pair: Pair, r: Restored) -> Pair
     ensures { result ≡ restored pair r }
 {
-    let one = r.one;
-    let i = one.arc;
-    let x = one.flow;
-    if is_number(i, MAX_ARCS) {
-        pair.flow[i] = x;
-    }
-    let two = r.two;
-    let i = two.arc;
-    let x = two.flow;
-    if is_number(i, MAX_ARCS) {
-        pair.flow[i] = x;
-    }
-    let three = r.three;
-    let i = three.arc;
-    let x = three.flow;
-    if is_number(i, MAX_ARCS) {
-        pair.flow[i] = x;
-    }
-    let four = r.four;
-    let i = four.arc;
-    let x = four.flow;
-    if is_number(i, MAX_ARCS) {
-        pair.flow[i] = x;
-    }
-    let price = r.price;
-    let i = price.node;
-    let x = price.price;
-    if is_number(i, MAX_NODES) {
-        pair.price[i] = x;
-    }
+    put_flow(&mut pair, r.one);
+    put_flow(&mut pair, r.two);
+    put_flow(&mut pair, r.three);
+    put_flow(&mut pair, r.four);
+    put_price(&mut pair, r.price);
     pair
+}
+
+// A flow in the pair, where it is one for an arc.
+#[tactic(auto, unfolding(network::specs::Pair::with_flow))]
+fn put_flow(pair: &mut Pair, u: FlowUpdate)
+    ensures { pair.new ≡ with_flow_of pair.old u }
+{
+    if is_number(u.arc, MAX_ARCS) {
+        pair.flow[u.arc] = u.flow;
+    }
+}
+
+// A price in the pair, where it is one for a node.
+#[tactic(auto, unfolding(network::specs::Pair::with_price))]
+fn put_price(pair: &mut Pair, u: PriceUpdate)
+    ensures { pair.new ≡ with_price pair.old u.node u.price }
+{
+    if is_number(u.node, MAX_NODES) {
+        pair.price[u.node] = u.price;
+    }
 }
 
 // Whether it is a number from 1 to a limit.
@@ -288,43 +301,9 @@ pub fn no_flow() -> FlowUpdate
     }
 }
 
-// Two flows.
-pub fn two_flows(k: usize, y: Fraction, j: usize, x: Fraction) -> Restored
-    ensures { result ≡ two_flows k y j x }
-{
-    let none = no_flow();
-    Restored {
-        one: FlowUpdate { arc: k, flow: y },
-        two: FlowUpdate { arc: j, flow: x },
-        three: none,
-        four: none,
-        price: PriceUpdate {
-            node: 0,
-            price: network::no_figure(),
-        },
-    }
-}
-
-// A flow alone.
-pub fn flow_only(j: usize, x: Fraction) -> Restored
-    ensures { result ≡ flow_only j x }
-{
-    let none = no_flow();
-    Restored {
-        one: FlowUpdate { arc: j, flow: x },
-        two: none,
-        three: none,
-        four: none,
-        price: PriceUpdate {
-            node: 0,
-            price: network::no_figure(),
-        },
-    }
-}
-
-// A price alone.
-pub fn price_only(i: usize, p: Fraction) -> Restored
-    ensures { result ≡ price_only i p }
+// Nothing is restored.
+fn nothing() -> Restored
+    ensures { result ≡ nothing }
 {
     let none = no_flow();
     Restored {
@@ -332,7 +311,41 @@ pub fn price_only(i: usize, p: Fraction) -> Restored
         two: none,
         three: none,
         four: none,
+        price: PriceUpdate {
+            node: 0,
+            price: network::no_figure(),
+        },
+    }
+}
+
+// Two flows.
+pub fn two_flows(k: usize, y: Fraction, j: usize, x: Fraction) -> Restored
+    ensures { result ≡ two_flows k y j x }
+{
+    Restored {
+        one: FlowUpdate { arc: k, flow: y },
+        two: FlowUpdate { arc: j, flow: x },
+        ..nothing()
+    }
+}
+
+// A flow alone.
+pub fn flow_only(j: usize, x: Fraction) -> Restored
+    ensures { result ≡ flow_only j x }
+{
+    Restored {
+        one: FlowUpdate { arc: j, flow: x },
+        ..nothing()
+    }
+}
+
+// A price alone.
+pub fn price_only(i: usize, p: Fraction) -> Restored
+    ensures { result ≡ price_only i p }
+{
+    Restored {
         price: PriceUpdate { node: i, price: p },
+        ..nothing()
     }
 }
 
@@ -340,13 +353,9 @@ pub fn price_only(i: usize, p: Fraction) -> Restored
 pub fn flow_and_price(j: usize, x: Fraction, i: usize, p: Fraction) -> Restored
     ensures { result ≡ flow_and_price j x i p }
 {
-    let none = no_flow();
     Restored {
-        one: FlowUpdate { arc: j, flow: x },
-        two: none,
-        three: none,
-        four: none,
         price: PriceUpdate { node: i, price: p },
+        ..flow_only(j, x)
     }
 }
 
@@ -361,7 +370,14 @@ pub fn quote(t: Arc, i: usize, p: Fraction) -> Worked
     t.cost.difference(w.o.product(p)?)?.quotient(w.e)
 }
 
-// ---- figures
+// ---- what the rules choose
+
+// x where b, and otherwise y.
+pub fn either<T: Copy>(b: bool, x: T, y: T) -> T
+    ensures { result ≡ cond b x y }
+{
+    if b { x } else { y }
+}
 
 pub fn larger(x: Fraction, y: Fraction) -> Fraction
     ensures { result ≡ larger_of x y }

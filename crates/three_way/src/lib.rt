@@ -10,7 +10,7 @@ ghost use Rattle.three_way.specs.ThreeWay.{turned as turned_of, is_rising, alter
 use fraction::{Fraction, Misfit, Worked};
 use network::pair::Pair;
 use network::{Arc, ArcUpdate, NODE_PLACES, Side, SupplyUpdate};
-use step::{Change, Halt, Numbers, Old, Outcome, PriceUpdate, Restored, Undone};
+use step::{Change, Halt, Old, Outcome, PriceUpdate, Restored, Undone, either, junctions};
 
 // w for positive supply, its negation for negative.
 fn turned(below: bool, w: Worked) -> Worked
@@ -25,52 +25,34 @@ fn turned(below: bool, w: Worked) -> Worked
 fn signs_suit(t1: Arc, t2: Arc, t3: Arc, i: usize, below: bool) -> bool
     ensures { result ≡ (has_sign_at t1 i below && (has_sign_at t2 i below && has_sign_at t3 i (not below))) }
 {
-    step::junctions::has_sign(t1, i, below)
-        && (step::junctions::has_sign(t2, i, below) && step::junctions::has_sign(t3, i, !below))
+    junctions::has_sign(t1, i, below)
+        && junctions::has_sign(t2, i, below)
+        && junctions::has_sign(t3, i, !below)
 }
 
 // Whether an arc is no root arc, with a lower bound and no upper one.
 fn is_rising(t: Arc) -> bool
     ensures { result ≡ is_rising t }
 {
-    let l = t.lower;
-    let u = t.upper;
-    if network::is_root(t) {
-        return false;
-    }
-    if l.den == 0 {
-        return false;
-    }
-    u.is_no_upper()
+    !network::is_root(t) && t.lower.den != 0 && t.upper.is_no_upper()
 }
 
 fn bounds_suit(t1: Arc, t2: Arc, t3: Arc) -> bool
     ensures { result ≡ (is_rising t1 && (is_rising t2 && is_free t3)) }
 {
-    is_rising(t1) && (is_rising(t2) && step::junctions::is_free(t3))
+    is_rising(t1) && is_rising(t2) && junctions::is_free(t3)
 }
 
 // The other ends are three different nodes.
 fn ends_suit(t1: Arc, t2: Arc, t3: Arc, i: usize) -> bool
     ensures { result ≡ (is_apart t1 t2 i && (is_apart t1 t3 i && is_apart t2 t3 i)) }
 {
-    step::junctions::is_apart(t1, t2, i)
-        && (step::junctions::is_apart(t1, t3, i) && step::junctions::is_apart(t2, t3, i))
+    junctions::is_apart(t1, t2, i)
+        && junctions::is_apart(t1, t3, i)
+        && junctions::is_apart(t2, t3, i)
 }
 
 // ---- the new arcs
-
-fn altered_multiplier(w: Side, v: Side) -> Worked
-    ensures { result ≡ ⊝ (Ok v.o ⊗ Ok w.e ⊘ Ok v.e) }
-{
-    v.o.product(w.e)?.quotient(v.e)?.negation()
-}
-
-fn altered_cost(c: Fraction, d: Fraction, w: Side, v: Side) -> Worked
-    ensures { result ≡ (Ok c ⊖ Ok d ⊗ Ok w.e ⊘ Ok v.e) }
-{
-    c.difference(d.product(w.e)?.quotient(v.e)?)
-}
 
 // Arc t, of 1 and 2, from the third one's other end.
 fn altered(i: usize, t: Arc, third: Arc) -> Result<Arc, Misfit>
@@ -78,8 +60,8 @@ fn altered(i: usize, t: Arc, third: Arc) -> Result<Arc, Misfit>
 {
     let w = network::side_at(t, i);
     let v = network::side_at(third, i);
-    let a = altered_multiplier(w, v)?;
-    let c = altered_cost(t.cost, third.cost, w, v)?;
+    let a = step::share_against(v.o, w.e, v.e)?;
+    let c = step::less_share(t.cost, third.cost, w.e, v.e)?;
     let b = w.o;
     Ok(Arc {
         from: v.other,
@@ -131,13 +113,6 @@ fn high(below: bool, r: Fraction, t1: Arc, w1: Side, w2: Side) -> Worked
     turned(below, wide::share(r, w1.e, t1.lower, w2.e))
 }
 
-// The arc x where b, and otherwise y.
-fn either(b: bool, x: Arc, y: Arc) -> Arc
-    ensures { result ≡ cond b x y }
-{
-    if b { x } else { y }
-}
-
 // The added arc, with these bounds.
 fn added(i: usize, below: bool, t1: Arc, t2: Arc, l: Fraction, u: Fraction) -> Result<Arc, Misfit>
     ensures { result ≡ added_of i below t1 t2 l u }
@@ -146,13 +121,6 @@ fn added(i: usize, below: bool, t1: Arc, t2: Arc, l: Fraction, u: Fraction) -> R
 }
 
 // ---- the step
-
-// The supply at arc 1's other end, s before the step.
-fn far_supply(s: Fraction, r: Fraction, w: Side) -> Worked
-    ensures { result ≡ (Ok s ⊖ Ok r ⊗ Ok w.o ⊘ Ok w.e) }
-{
-    s.difference(r.product(w.o)?.quotient(w.e)?)
-}
 
 // a, b and c take the numbers of arcs 1, 2 and the third, s is the supply at `end`, and the node is dropped.
 fn joining(
@@ -186,18 +154,8 @@ fn joining(
         constant,
     };
     let old = Old {
-        node: i,
-        supply: r,
-        one,
-        two,
         three,
-        four: none,
-        new: Numbers {
-            first: 0,
-            second: 0,
-            third: 0,
-            fourth: 0,
-        },
+        ..step::old_two(i, r, one, two)
     };
     Change { edit, old }
 }
@@ -222,7 +180,7 @@ fn join(
         return Err(Halt::Passes);
     }
     let c = added(i, below, one.arc, two.arc, l, u)?;
-    let g = far_supply(s, r, w)?;
+    let g = step::less_share(s, r, w.o, w.e)?;
     let a = altered(i, one.arc, three.arc)?;
     let b = altered(i, two.arc, three.arc)?;
     let z = step::gained(constant, one.arc, w, r)?;
@@ -275,10 +233,10 @@ pub fn three_way(
         return Err(Halt::Passes);
     }
     let below = r.less(Fraction::ZERO);
-    if !step::junctions::has_sign(x.arc, i, below) {
+    if !junctions::has_sign(x.arc, i, below) {
         return sort(constant, supply, i, y, z, x);
     }
-    if !step::junctions::has_sign(y.arc, i, below) {
+    if !junctions::has_sign(y.arc, i, below) {
         return sort(constant, supply, i, x, z, y);
     }
     sort(constant, supply, i, x, y, z)
@@ -315,9 +273,10 @@ fn node_price(below: bool, p: Fraction, q: Fraction) -> Fraction
     ensures { result ≡ cond below (larger p q) (smaller p q) }
 {
     if below {
-        return step::larger(p, q);
+        step::larger(p, q)
+    } else {
+        step::smaller(p, q)
     }
-    step::smaller(p, q)
 }
 
 // Three flows and a price.
@@ -334,9 +293,9 @@ fn restored_three(
     ensures { result ≡ restored_three one x two y three z i p }
 {
     Restored {
-        one: step::junctions::flow(three, z),
-        two: step::junctions::flow(two, y),
-        three: step::junctions::flow(one, x),
+        one: junctions::flow(three, z),
+        two: junctions::flow(two, y),
+        three: junctions::flow(one, x),
         four: step::no_flow(),
         price: PriceUpdate { node: i, price: p },
     }
@@ -361,8 +320,8 @@ pub fn three_back(old: Old, pair: Pair) -> Undone
     let x = first_flow(r, w1.e, y1, turned(below, w2.e.product(y3)))?;
     let y = second_flow(y2, turned(below, w1.e.product(y3)))?;
     let z = third_flow(w1.e, y1, w2.e, y2, w3.e)?;
-    let p = step::junctions::quote(one.arc, i, pair)?;
-    let q = step::junctions::quote(two.arc, i, pair)?;
+    let p = junctions::quote(one.arc, i, pair)?;
+    let q = junctions::quote(two.arc, i, pair)?;
     let price = node_price(below, p, q);
     Ok(restored_three(one, x, two, y, three, z, i, price))
 }

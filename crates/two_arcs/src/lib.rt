@@ -6,13 +6,13 @@ ghost use Rattle.fraction.specs.Exact.{zero_fraction, no_figure};
 ghost use Rattle.fraction.specs.Formula.{◌⊖◌, ◌⊗◌, ◌⊘◌, ⊝◌};
 ghost use Rattle.slackness.specs.Slackness.{keeps_rule};
 ghost use Rattle.step.specs.Back.{quote_at};
-ghost use Rattle.step.specs.Figure.{larger, smaller};
+ghost use Rattle.fraction.specs.declared.Fraction.{Fraction};
 ghost use Rattle.two_arcs.specs.TwoArcs.{same_sign, tighter, image_of, new_arc, merging as merging_of, merged, kept, two, two_back};
 
 use fraction::{Fraction, Worked};
 use network::pair::Pair;
 use network::{Arc, ArcUpdate, NODE_PLACES, Side, SupplyUpdate};
-use step::{Change, Halt, Old, Outcome, Undone};
+use step::{Change, Halt, Old, Outcome, Undone, either};
 
 fn same_sign(x: Fraction, y: Fraction) -> bool
     ensures { result ≡ same_sign x y }
@@ -23,13 +23,6 @@ fn same_sign(x: Fraction, y: Fraction) -> bool
     !Fraction::ZERO.less(y)
 }
 
-// x where b, and otherwise y.
-fn either(b: bool, x: Fraction, y: Fraction) -> Fraction
-    ensures { result ≡ cond b x y }
-{
-    if b { x } else { y }
-}
-
 // The bound of j that a bound z of k gives.
 fn image(r: Fraction, wj: Side, wk: Side, z: Fraction) -> Worked
     ensures { result ≡ image_of r wj wk z }
@@ -37,28 +30,20 @@ fn image(r: Fraction, wj: Side, wk: Side, z: Fraction) -> Worked
     r.difference(wk.e.product(z)?)?.quotient(wj.e)
 }
 
-fn tighter_lower(own: Fraction, z: Fraction, image: Worked) -> Worked
-    ensures { result ≡ tighter larger own z image }
+// The bound of j on a side where k's is z: its own, or the chosen one of it and the image of a finite z.
+fn tighter<F: FnOnce(Fraction, Fraction) -> Fraction>(
+    choose: F,
+    own: Fraction,
+    z: Fraction,
+    image: Worked,
+) -> Worked
+    requires { F.IsAlwaysCallable choose }
+    ensures { (f : Fraction → Fraction → Fraction) → ((x y r : Fraction) → F.post choose x y r → r ≡ f x y) → result ≡ tighter f own z image }
 {
     if z.den == 0 {
         return Ok(own);
     }
-    Ok(step::larger(own, image?))
-}
-
-fn tighter_upper(own: Fraction, z: Fraction, image: Worked) -> Worked
-    ensures { result ≡ tighter smaller own z image }
-{
-    if z.den == 0 {
-        return Ok(own);
-    }
-    Ok(step::smaller(own, image?))
-}
-
-fn kept_cost(tj: Arc, tk: Arc, wj: Side, wk: Side) -> Worked
-    ensures { result ≡ (Ok tj.cost ⊖ Ok tk.cost ⊗ Ok wj.e ⊘ Ok wk.e) }
-{
-    tj.cost.difference(tk.cost.product(wj.e)?.quotient(wk.e)?)
+    Ok(choose(own, image?))
 }
 
 // The multiplier of j at k's other end; zero where k is a root arc.
@@ -68,7 +53,7 @@ fn far_multiplier(wj: Side, wk: Side) -> Worked
     if wk.other == 0 {
         return Ok(Fraction::ZERO);
     }
-    wk.o.product(wj.e)?.quotient(wk.e)?.negation()
+    step::share_against(wk.o, wj.e, wk.e)
 }
 
 // The supply at k's other end, s before the step; none where k is a root arc.
@@ -78,7 +63,7 @@ fn far_supply(wk: Side, s: Fraction, r: Fraction) -> Worked
     if wk.other == 0 {
         return Ok(network::no_figure());
     }
-    s.difference(wk.o.product(r)?.quotient(wk.e)?)
+    step::less_share(s, wk.o, r, wk.e)
 }
 
 // Arc j as it is kept: it runs on to k's other end, and becomes a root arc where k is one.
@@ -133,9 +118,9 @@ fn merge(
     let exchanged = same_sign(wj.e, wk.e);
     let lz = either(exchanged, tk.upper, tk.lower);
     let uz = either(exchanged, tk.lower, tk.upper);
-    let c = kept_cost(tj, tk, wj, wk)?;
-    let l = tighter_lower(tj.lower, lz, image(r, wj, wk, lz))?;
-    let u = tighter_upper(tj.upper, uz, image(r, wj, wk, uz))?;
+    let c = step::less_share(tj.cost, tk.cost, wj.e, wk.e)?;
+    let l = tighter(step::larger, tj.lower, lz, image(r, wj, wk, lz))?;
+    let u = tighter(step::smaller, tj.upper, uz, image(r, wj, wk, uz))?;
     let b = far_multiplier(wj, wk)?;
     let g = far_supply(wk, s, r)?;
     let z = step::gained(constant, tk, wk, r)?;
