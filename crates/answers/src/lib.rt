@@ -12,6 +12,7 @@ use records::refusal::Refusal;
 use reduction::End;
 use text::Page;
 
+pub mod program;
 pub mod restoring;
 
 // The line of count words from a place on.

@@ -4,8 +4,6 @@
 // 62 words go out: the answer, and zeros behind it; zeros alone where the first word is another.
 #![tactic(auto)]
 
-ghost use Rattle.std.specs.Prelude.{◌≤◌, ◌<◌};
-
 use std::io;
 use std::io::Write;
 
@@ -16,63 +14,54 @@ mod test;
 mod trial;
 mod words;
 
-fn answer(asked: &[i32; 204], told: &mut [i32; 62]) {
-    let which = asked[0];
-    match which {
-        0 => operation::answer(asked, told),
-        1 => rule::answer(asked, told),
-        2 => test::answer(asked, told),
-        3 => back::answer(asked, told),
+const ASKED_WORDS: usize = 204;
+
+const TOLD_WORDS: usize = 62;
+
+const ASKED_BYTES: usize = 4 * ASKED_WORDS;
+
+const TOLD_BYTES: usize = 4 * TOLD_WORDS;
+
+// How many records are read at once.
+const RECORDS: usize = 32;
+
+// How often records are read, at most.
+const TURNS: usize = 1000000;
+
+fn answer(asked: &[i32; ASKED_WORDS]) -> [i32; TOLD_WORDS] {
+    let mut told = [0i32; TOLD_WORDS];
+    match asked[0] {
+        0 => operation::answer(asked, &mut told),
+        1 => rule::answer(asked, &mut told),
+        2 => test::answer(asked, &mut told),
+        3 => back::answer(asked, &mut told),
         _ => {},
     }
+    told
 }
 
-// The answer to record n.
-fn answer_one(input: &[u8; 26112], out: &mut [u8; 7936], n: usize)
-    requires { n < 32 }
-{
-    let mut asked = [0i32; 204];
-    words::read(input, n, &mut asked);
-    let mut told = [0i32; 62];
-    answer(&asked, &mut told);
-    words::write(&told, out, n);
-}
-
-fn answer_all(input: &[u8; 26112], out: &mut [u8; 7936], count: usize)
-    requires { count ≤ 32 }
-{
-    for n in 0..count {
-        answer_one(input, out, n);
+fn answer_all(input: &[u8], out: &mut [u8]) {
+    let questions = input.chunks_exact(ASKED_BYTES);
+    let answers = out.chunks_exact_mut(TOLD_BYTES);
+    for (question, told) in questions.zip(answers) {
+        words::write(answer(&words::read(question)), told);
     }
-}
-
-// Writes the first answers.
-fn write_all(rt: &HostRuntime, out: &[u8; 7936], count: usize) -> io::Result<()>
-    requires { count ≤ 32 }
-{
-    let all = &out[..];
-    let end = 248 * count;
-    rt.stdout().write_all(&all[0..end])
 }
 
 // Reads some records, answers them, and says whether more may come.
 fn answer_some(rt: &HostRuntime) -> io::Result<bool> {
-    let mut input = [0u8; 26112];
+    let mut input = [0u8; RECORDS * ASKED_BYTES];
     let n = input::read_full(&mut rt.stdin(), &mut input)?;
-    let mut out = [0u8; 7936];
-    let count = n / 816;
-    answer_all(&input, &mut out, count);
-    write_all(rt, &out, count)?;
-    Ok(n == 26112)
+    let mut out = [0u8; RECORDS * TOLD_BYTES];
+    answer_all(&input[..n], &mut out);
+    rt.stdout().write_all(&out[..n / ASKED_BYTES * TOLD_BYTES])?;
+    Ok(n == RECORDS * ASKED_BYTES)
 }
 
 fn main(rt: HostRuntime) -> io::Result<()> {
-    let mut turns: u64 = 1000000;
-    while 0 < turns {
-        if answer_some(&rt)? {
-            turns -= 1;
-        } else {
-            turns = 0;
+    for _ in 0..TURNS {
+        if !answer_some(&rt)? {
+            break;
         }
     }
     Ok(())

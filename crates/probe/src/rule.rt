@@ -2,70 +2,58 @@
 // the record is refused; then comes what a step changes. That is four arcs (a number and seven figures, the ends as one
 // word each), two supplies (a node and a figure), the node dropped, and the constant. All of an arc or a supply is 0 where
 // nothing is put, and the figures of an arc dropped are 0.
-ghost use Rattle.std.specs.Prelude.{◌<◌};
-
-use fraction::Fraction;
+use crate::{ASKED_WORDS, TOLD_WORDS};
+use fraction::words::word_of;
 use network::{ArcUpdate, Edit, SupplyUpdate};
-use step::{Halt, Outcome};
+use step::Halt;
 
-fn put_figure(told: &mut [i32; 62], at: usize, f: Fraction)
-    requires { at < 61 }
-{
-    let num = f.num;
-    told[at] = num;
-    told[at + 1] = f.den_word();
-}
-
-fn put_arc(told: &mut [i32; 62], at: usize, p: ArcUpdate)
-    requires { at < 48 }
-{
+fn arc_words(p: ArcUpdate) -> [i32; 13] {
     if p.number == 0 {
-        return;
+        return [0; 13];
     }
     let t = p.arc;
-    told[at] = fraction::words::word_of(p.number);
-    told[at + 1] = fraction::words::word_of(t.from);
-    told[at + 2] = fraction::words::word_of(t.to);
-    put_figure(told, at + 3, t.cost);
-    put_figure(told, at + 5, t.lower);
-    put_figure(told, at + 7, t.upper);
-    put_figure(told, at + 9, t.a);
-    put_figure(told, at + 11, t.b);
+    [
+        word_of(p.number),
+        word_of(t.from),
+        word_of(t.to),
+        t.cost.num,
+        t.cost.den_word(),
+        t.lower.num,
+        t.lower.den_word(),
+        t.upper.num,
+        t.upper.den_word(),
+        t.a.num,
+        t.a.den_word(),
+        t.b.num,
+        t.b.den_word(),
+    ]
 }
 
-fn put_supply(told: &mut [i32; 62], at: usize, s: SupplyUpdate)
-    requires { at < 58 }
-{
+fn supply_words(s: SupplyUpdate) -> [i32; 3] {
     if s.node == 0 {
-        return;
+        return [0; 3];
     }
-    told[at] = fraction::words::word_of(s.node);
-    put_figure(told, at + 1, s.supply);
+    [word_of(s.node), s.supply.num, s.supply.den_word()]
 }
 
-fn put_edit(told: &mut [i32; 62], c: Edit) {
+fn put_edit(told: &mut [i32; TOLD_WORDS], c: Edit) {
     told[0] = 2;
-    put_arc(told, 1, c.one);
-    put_arc(told, 14, c.two);
-    put_arc(told, 27, c.three);
-    put_arc(told, 40, c.four);
-    put_supply(told, 53, c.left);
-    put_supply(told, 56, c.right);
-    told[59] = fraction::words::word_of(c.gone);
-    put_figure(told, 60, c.constant);
+    told[1..14].copy_from_slice(&arc_words(c.one));
+    told[14..27].copy_from_slice(&arc_words(c.two));
+    told[27..40].copy_from_slice(&arc_words(c.three));
+    told[40..53].copy_from_slice(&arc_words(c.four));
+    told[53..56].copy_from_slice(&supply_words(c.left));
+    told[56..59].copy_from_slice(&supply_words(c.right));
+    told[59] = word_of(c.gone);
+    told[60] = c.constant.num;
+    told[61] = c.constant.den_word();
 }
 
-fn put_outcome(told: &mut [i32; 62], x: Outcome) {
-    match x {
-        Err(Halt::Passes) => told[0] = 0,
-        Err(Halt::NoFlow) => told[0] = 1,
-        Ok(change) => put_edit(told, change.edit),
-    }
-}
-
-pub(crate) fn answer(asked: &[i32; 204], told: &mut [i32; 62]) {
+pub(crate) fn answer(asked: &[i32; ASKED_WORDS], told: &mut [i32; TOLD_WORDS]) {
     match crate::trial::try_rule(asked) {
-        Ok(x) => put_outcome(told, x),
+        Ok(Ok(change)) => put_edit(told, change.edit),
+        Ok(Err(Halt::Passes)) => told[0] = 0,
+        Ok(Err(Halt::NoFlow)) => told[0] = 1,
         Err(_) => told[0] = 3,
     }
 }

@@ -1,76 +1,35 @@
 // Words in bytes, the lowest byte first.
-ghost use Rattle.std.specs.Prelude.{◌<◌};
+use crate::{ASKED_WORDS, TOLD_WORDS};
 
-fn wide(x: u8) -> u64
-    ensures { result < 256 }
-{
-    x as u64
-}
-
-// The word whose bits are u.
-fn signed(u: u64) -> i32
-    requires { u < 4294967296 }
-{
-    if u < 2147483648 {
-        return u as i32;
+// The words of a question.
+pub(crate) fn read(record: &[u8]) -> [i32; ASKED_WORDS] {
+    let mut asked = [0i32; ASKED_WORDS];
+    let (words, _) = record.as_chunks::<4>();
+    for (word, bytes) in asked.iter_mut().zip(words) {
+        *word = i32::from_le_bytes(*bytes);
     }
-    -1 - ((4294967295 - u) as i32)
+    asked
 }
 
-// The bits of a word.
-fn bits(v: i32) -> u64 {
-    let size = integer::size(v as i64);
-    if v < 0 {
-        if size <= 4294967296 {
-            return 4294967296 - size;
-        }
-        return 0;
-    }
-    size
-}
-
-// The word from a place on.
-fn word(input: &[u8; 26112], at: usize) -> i32
-    requires { at < 26109 }
-{
-    let low = wide(input[at]) + 256 * wide(input[at + 1]);
-    let high = wide(input[at + 2]) + 256 * wide(input[at + 3]);
-    signed(low + 65536 * high)
-}
-
-// The words of record n.
-pub(crate) fn read(input: &[u8; 26112], n: usize, asked: &mut [i32; 204])
-    requires { n < 32 }
-{
-    for i in 0..204 {
-        asked[i] = word(input, 816 * n + 4 * i);
-    }
-}
-
-// The word v from a place on.
-fn put(out: &mut [u8; 7936], at: usize, v: i32)
-    requires { at < 7933 }
-{
-    let u = bits(v);
-    out[at] = (u % 256) as u8;
-    out[at + 1] = (u / 256 % 256) as u8;
-    out[at + 2] = (u / 65536 % 256) as u8;
-    out[at + 3] = (u / 16777216 % 256) as u8;
-}
-
-// The words of answer n.
-pub(crate) fn write(told: &[i32; 62], out: &mut [u8; 7936], n: usize)
-    requires { n < 32 }
-{
-    for i in 0..62 {
-        put(out, 248 * n + 4 * i, told[i]);
+// The bytes of an answer.
+pub(crate) fn write(told: [i32; TOLD_WORDS], record: &mut [u8]) {
+    let (words, _) = record.as_chunks_mut::<4>();
+    for (bytes, word) in words.iter_mut().zip(told) {
+        *bytes = word.to_le_bytes();
     }
 }
 
 // A word as a number; 0 below zero.
 pub(crate) fn number(v: i32) -> usize {
-    if v < 0 {
-        return 0;
-    }
-    v as usize
+    usize::try_from(v).unwrap_or(0)
+}
+
+// The 160 words that begin with a network's record.
+pub(crate) fn network(asked: &[i32; ASKED_WORDS]) -> &[i32] {
+    &asked[4..164]
+}
+
+// The 40 words that begin with a pair's record.
+pub(crate) fn pair(asked: &[i32; ASKED_WORDS]) -> &[i32] {
+    &asked[164..]
 }

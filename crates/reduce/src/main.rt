@@ -1,14 +1,8 @@
-// The reducing program: a network's text comes in, the answer's lines go out. One byte more than a text may have is read, so
-// that a longer one is seen.
+// The reducing program: a network's text comes in, the answer's lines go out.
 #![tactic(auto)]
 
 use std::io;
-use std::io::Write;
 
 fn main(rt: HostRuntime) -> io::Result<()> {
-    let mut input = [0u8; text::MAX_BYTES + 1];
-    let n = input::read_full(&mut rt.stdin(), &mut input)?;
-    let mut out = [0u8; 65536];
-    let end = answers::reduce_text(&input[..n], &mut out);
-    rt.stdout().write_all(&out[..end])
+    answers::program::run(&rt, answers::reduce_text)
 }

@@ -1,5 +1,0 @@
--- The turns that are left.
-use Rattle.probe.proofs.main.Given as goal
-
-abbrev pub decreases-loop-turns : goal.decreases-loop-turns
-decreases-loop-turns l = l.turns
