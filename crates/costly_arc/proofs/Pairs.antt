@@ -1,20 +1,22 @@
 -- Trying what is due alone tells whether there is a pair.
 use mathlib.Core.Path.{◌≡◌, refl, sym, ◌∙◌}
-use mathlib.Core.List.{List}
+use mathlib.Core.List.{List, append_assoc}
 use mathlib.Core.Bool.{Bool, true, false, cond, ◌&&◌, not, and-false, and_assoc}
 use mathlib.Core.Logic.{⊎_elim}
-use Prim.Native.Nat.{ℕ, zero, suc, ◌<◌}
+use Prim.Native.Nat.{ℕ, zero, suc, ◌+◌, ◌<◌}
 use native.Mathlib.Nat.{not-suc-le-zero, eq-or-lt_of_le, le_of_suc-le-suc}
 use native.Mathlib.Numerals.{add-one}
 use native.Mathlib.Omega.{arith}
-use borrow.Author.Tests.{le-ltb, lt-ltb, leb-false, not-true, ltb-true, ltb-false, eq-eqb, ne_eqb}
+use borrow.Author.Tests.{le-ltb, lt-ltb, leb-false, not-true, ltb-true, ltb-false, eq-eqb}
 use lib.Dec.{ltb, leb, eqb}
-use lib.ListN.{get_or}
-use Rattle.loops.specs.Loops.{any}
-use Rattle.loops.proofs.Laws.{any_some, get_or-build}
+use lib.ListN.{get_or, replicate, length-replicate, get_or-replicate}
+use lib.Seq.{drop-cons}
+use Rattle.loops.specs.Loops.{any, build, written}
+use Rattle.loops.proofs.Laws.{any_some, get_or-build, Filled}
 use Rattle.fraction.specs.declared.Fraction.{Fraction}
 use Rattle.fraction.specs.Exact.{Worked}
 use Rattle.std.specs.Prelude.{Ok, Err}
+use Rattle.costly_arc.specs.declared.due.Both.{Both}
 use Rattle.fraction.specs.Exact.{no_figure, is_operand, sum_of, is_same, no_upper}
 use Rattle.fraction.specs.Formula.{figure_of, ◌⊕◌, ◌⊘◌, added}
 use Rattle.fraction.proofs.Laws.{and_both}
@@ -26,7 +28,7 @@ use Rattle.network.specs.Network.{arc_at, is_root}
 use Rattle.costly_arc.specs.declared.Seen.{Seen}
 use Rattle.costly_arc.specs.CostlyArc.{is_under, is_positive, is_open_root, is_costlier, has_pair}
 use Rattle.costly_arc.specs.Seen.{is_candidate, is_pair, is_old, Searched}
-use Rattle.costly_arc.specs.internal.Due.{Covers, is_fresh, is_due, way_of, ways_of, is_due_under, bar_of, is_due_from}
+use Rattle.costly_arc.specs.internal.Due.{Covers, is_fresh, is_due, way_of, both_of, ways_of, neither, is_due_under, bar_of, is_due_from}
 
 -- ---- tests that agree
 
@@ -75,11 +77,11 @@ none_right : (q y c : Fraction) → y.den ≡ 0 → is_under (sum_of q y) c ≡ 
 unfolding sum_of is_operand
 none_right q y c e = rw (e, and-false, and-false)
 
-pub none-due : (seen : Seen) (w : ℕ) (q : Fraction) (to : List Fraction) (c : Fraction) (k : ℕ) → (get_or to k no_figure).den ≡ 0 → is_due_under seen w q to c k ≡ false
-none-due seen w q to c k e = rw (none_right q (get_or to k no_figure) c e, and-false)
+pub none-due : (seen : Seen) (w : ℕ) (q : Fraction) (ways : List Both) (c : Fraction) (k : ℕ) → (get_or ways k neither).to.den ≡ 0 → is_due_under seen w q ways c k ≡ false
+none-due seen w q ways c k e = rw (none_right q (get_or ways k neither).to c e, and-false)
 
-pub none_from : (seen : Seen) (w : ℕ) (q : Fraction) (to : List Fraction) (c : Fraction) → q.den ≡ 0 → any (is_due_under seen w q to c) 97 ≡ false
-none_from seen w q to c e = any_none _ 97 (λ k l. rw (none_left q (get_or to k no_figure) c e, and-false))
+pub none_from : (seen : Seen) (w : ℕ) (q : Fraction) (ways : List Both) (c : Fraction) → q.den ≡ 0 → any (is_due_under seen w q ways c) 97 ≡ false
+none_from seen w q ways c e = any_none _ 97 (λ k l. rw (none_left q (get_or ways k neither).to c e, and-false))
 
 -- the sum of two figures is that of the formulas, where none stands for a misfit
 sum-way : (a b : Bool) (u v : Worked) (c : Fraction) → is_under (sum_of (cond a (figure_of u) no_figure) (cond b (figure_of v) no_figure)) c ≡ (a && (b && is_under (u ⊕ v) c))
@@ -91,7 +93,7 @@ sum-way true true (Ok x) (Err m) c = rw (and-false (is_operand x))
 sum-way true true (Err m) v c = refl
 
 -- by an arc that is no root arc without upper bound there is no way
-pub no_way : (x : Arc) → is_open_root x x.from ≡ false → (old : Bool) (i : ℕ) (e : Fraction) → way_of old x i e ≡ no_figure
+no_way : (x : Arc) → is_open_root x x.from ≡ false → (old : Bool) (i : ℕ) (e : Fraction) → way_of old x i e ≡ no_figure
 unfolding way_of is_open_root
 no_way x h old i e = by old (is_root x) (eqb x.from i) (is_same x.upper no_upper) _ _ (rw (eq-eqb x.from x.from refl) at h)
   where
@@ -102,9 +104,17 @@ no_way x h old i e = by old (is_root x) (eqb x.from i) (is_same x.upper no_upper
     by false true true false p y h = refl
     by false true false false p y h = refl
 
-pub other_way : (x : Arc) (i : ℕ) → (x.from ≡ i → ⊥) → (old : Bool) (e : Fraction) → way_of old x i e ≡ no_figure
-unfolding way_of is_open_root
-other_way x i n old e = rw (ne_eqb x.from i n, and-false (is_root x), and-false (not old))
+pub no-ways : (net : Net) (seen : Seen) (p q : ℕ) (t : Arc) (k : ℕ) → is_open_root (arc_at net k) (arc_at net k).from ≡ false → neither ≡ both_of net seen p q t k
+no-ways net seen p q t k h = let none = no_way (arc_at net k) h in rw (none _ _ _, none _ _ _) refl
+
+-- where nothing is stored, what stood there stays
+pub filled-left : {b : Both} {f : ℕ → Both} {s : List Both} {k : ℕ} → Filled f 97 (replicate 97 b) s k → k < 97 → b ≡ f k → Filled f 97 (replicate 97 b) s (k + 1)
+unfolding written build
+filled-left {b} {f} {s} {k} h l e =
+    let d = replicate 97 b in
+    let n = length-replicate {A = Both} 97 b in
+    let g = get_or-replicate 97 k b b l ∙ e in
+    record { upto = omega arith; long = h.long; is = h.is ∙ rw (add-one k, drop-cons d k b (omega arith), g, append_assoc) refl }
 
 pair-way : (t x y : Arc) (o u : Bool) → is_under (sum_of (way_of o x t.from t.a) (way_of u y t.to t.b)) t.cost ≡ (not o && (not u && is_pair t x y))
 unfolding way_of is_pair is_costlier
@@ -146,23 +156,22 @@ module _ (net : Net) (seen : Seen) (w : ℕ) (t : Arc) (h : Searched net seen w 
   unfolding is_pair
   paired x y l m p = let a = and_both (is_open_root (arc_at net x) t.from) _ p in (a.0, (and_both (is_open_root (arc_at net y) t.to) _ a.1).0, λ e f. unlike (sym (h x y l m e f) ∙ p))
 
-  -- the ways at node j whose partners are at node i
-  abbrev ways : ℕ → ℕ → Fraction → List Fraction
-  ways i j e = ways_of net seen (bar_of (not (is_fresh times w i)) w) j e
+  abbrev ways : List Both
+  ways = ways_of net seen (bar_of (not (is_fresh times w t.to)) w) (bar_of (not (is_fresh times w t.from)) w) t
 
-  way_at : (i j : ℕ) (e : Fraction) (k : ℕ) → k < 97 → get_or (ways i j e) k no_figure ≡ way_of (is_old seen (bar_of (not (is_fresh times w i)) w) k) (arc_at net k) j e
+  ways_at : (k : ℕ) → k < 97 → get_or ways k neither ≡ both_of net seen (bar_of (not (is_fresh times w t.to)) w) (bar_of (not (is_fresh times w t.from)) w) t k
   unfolding ways_of
-  way_at i j e k l = get_or-build 97 _ no_figure k l
+  ways_at k l = get_or-build 97 _ neither k l
 
-  due-under : (x y : ℕ) → x < 97 → y < 97 → is_due_under seen (bar_of (is_old seen w x) w) (get_or (ways t.to t.from t.a) x no_figure) (ways t.from t.to t.b) t.cost y ≡ pair_at net t x y
+  due-under : (x y : ℕ) → x < 97 → y < 97 → is_due_under seen (bar_of (is_old seen w x) w) (get_or ways x neither).from ways t.cost y ≡ pair_at net t x y
   due-under x y l m =
-      rw (way_at t.to t.from t.a x l, way_at t.from t.to t.b y m, pair-way t (arc_at net x) (arc_at net y))
+      rw (ways_at x l, ways_at y m, pair-way t (arc_at net x) (arc_at net y))
       (split (pair_at net t x y)
       (λ p. let e = paired x y l m p in
       rw (kept (not (is_fresh times w t.to)) x (λ b f. e.2 f (stale w t.to y m (not-true _ b) e.1)), kept (not (is_fresh times w t.from)) y (λ b f. e.2 (stale w t.from x l (not-true _ b) e.0) f), kept (is_old seen w x) y e.2))
       (λ p. rw (p, and-false, and-false, and-false)))
 
-  pub due-is : any (is_due_from seen w (ways t.to t.from t.a) (ways t.from t.to t.b) t.cost) 97 ≡ has_pair net t
+  pub due-is : any (is_due_from seen w ways t.cost) 97 ≡ has_pair net t
   due-is = any_same _ _ 97 (λ x l. any_same _ _ 97 (λ y m. due-under x y l m)) ∙ sym (pair_is net t)
 
   -- where none is due there is no pair

@@ -1,6 +1,7 @@
 // What is due: the root arcs that were put since a pair was last sought, and the cost by way of each.
-ghost use Rattle.std.specs.Prelude.{◌≡◌, ◌+◌, ltb, Ok};
-ghost use Rattle.fraction.specs.Formula.{◌⊗◌, ◌⊘◌};
+ghost use Rattle.std.specs.Prelude.{◌≡◌, ◌+◌, cond, ltb, Ok};
+ghost use Rattle.fraction.specs.Exact.{no_figure};
+ghost use Rattle.fraction.specs.Formula.{figure_of, ◌⊗◌, ◌⊘◌};
 ghost use Rattle.loops.specs.Loops.{any};
 ghost use Rattle.network.specs.Limits.{arc_places};
 ghost use Rattle.costly_arc.specs.CostlyArc.{is_positive, is_under, has_pair};
@@ -85,28 +86,27 @@ fn cost_by(x: Arc, a: Fraction) -> Worked
     x.cost.product(a)?.quotient(x.a)
 }
 
-// The cost by way of the root arc x at node i, where the multiplier is e; none where x is old, or doesn't serve.
-#[tactic(auto, unfolding(crate::specs::internal::Due::way_of, fraction::specs::Formula::divided))]
-fn way(old: bool, x: Arc, i: usize, e: Fraction) -> Fraction
-    ensures { result ≡ way_of old x i e }
+// No way is a figure over 0: an Option is tried, and misses the speed bar (3.6 % more instructions at `pairs 2/96`, 1.6 % with its memset left out).
+// The cost by way of the root arc x, where the multiplier is e; none where x doesn't serve.
+#[tactic(auto, using(fraction::proofs::Laws::misfit_is), unfolding(fraction::specs::Formula::divided))]
+fn way(x: Arc, e: Fraction) -> Fraction
+    ensures { result ≡ cond (is_positive (Ok e ⊘ Ok x.a)) (figure_of (Ok x.cost ⊗ Ok e ⊘ Ok x.a)) no_figure }
 {
-    if old {
-        return network::no_figure();
-    }
-    if is_open_root(x, i) && is_positive(e.quotient(x.a)) {
+    if is_positive(e.quotient(x.a)) {
         return cost_by(x, e).unwrap_or(network::no_figure());
     }
     network::no_figure()
 }
 
-// It; an arc at another node is passed over at once.
+// It at node i; none where x is old, or no root arc there.
+#[tactic(auto, unfolding(crate::specs::internal::Due::way_of))]
 fn way_at(old: bool, x: Arc, i: usize, e: Fraction) -> Fraction
     ensures { result ≡ way_of old x i e }
 {
-    if x.from != i {
-        return network::no_figure();
+    if is_open_root(x, i) && !old {
+        return way(x, e);
     }
-    way(old, x, i, e)
+    network::no_figure()
 }
 
 // The costs by way of a root arc, at the from node and at the to node of an arc.
@@ -120,45 +120,37 @@ struct Both {
 fn both_ways(t: Arc, x: Arc, put: u8, p: u8, q: u8) -> Both
     ensures { result ≡ record { from = way_of (ltb put p) x t.from t.a; to = way_of (ltb put q) x t.to t.b } }
 {
-    let none = network::no_figure();
-    if !is_open_root(x, x.from) {
-        return Both {
-            from: none,
-            to: none,
-        };
-    }
     Both {
         from: way_at(put < p, x, t.from, t.a),
         to: way_at(put < q, x, t.to, t.b),
     }
 }
 
-// The costs by way of each root arc, at both ends of an arc.
-#[derive(Clone, Copy)]
-struct Ways {
-    from: [Fraction; ARC_PLACES],
-    to: [Fraction; ARC_PLACES],
-}
-
-fn all_ways(net: Net, seen: Seen, p: u8, q: u8, t: Arc) -> Ways
-    ensures { (result.from ≡ ways_of net seen p t.from t.a) × (result.to ≡ ways_of net seen q t.to t.b) }
+// The costs by way of each root arc, at both ends of t.
+fn all_ways(net: Net, seen: Seen, p: u8, q: u8, t: Arc) -> [Both; ARC_PLACES]
+    ensures { result ≡ ways_of net seen p q t }
 {
-    let mut from = [network::no_figure(); ARC_PLACES];
-    let mut to = [network::no_figure(); ARC_PLACES];
+    let none = network::no_figure();
+    let neither = Both {
+        from: none,
+        to: none,
+    };
+    let mut ways = [neither; ARC_PLACES];
     for (k, x) in net.arcs.iter().enumerate() {
-        let both = both_ways(t, *x, seen.put[k], p, q);
-        from[k] = both.from;
-        to[k] = both.to;
+        if is_open_root(*x, x.from) {
+            ways[k] = both_ways(t, *x, seen.put[k], p, q);
+        }
     }
-    Ways { from, to }
+    ways
 }
 
 // Whether a way put at the time w or later makes with q a sum below c.
-fn any_due_under(seen: Seen, w: u8, q: Fraction, to: [Fraction; ARC_PLACES], c: Fraction) -> bool
-    ensures { result ≡ any (is_due_under seen w q to c) arc_places }
+fn any_due_under(seen: Seen, w: u8, q: Fraction, ways: &[Both; ARC_PLACES], c: Fraction) -> bool
+    ensures { result ≡ any (is_due_under seen w q ways.now c) arc_places }
 {
-    for (k, y) in to.iter().enumerate() {
-        if y.den != 0 && seen.put[k] >= w && is_under(q.sum(*y), c) {
+    for (k, both) in ways.iter().enumerate() {
+        let y = both.to;
+        if y.den != 0 && seen.put[k] >= w && is_under(q.sum(y), c) {
             return true;
         }
     }
@@ -173,12 +165,12 @@ fn bar(old: bool, w: u8) -> u8
 }
 
 // Whether two ways, one of them put at the time w or later, make a sum below c.
-fn any_due_pair(seen: Seen, w: u8, ways: Ways, c: Fraction) -> bool
-    ensures { result ≡ any (is_due_from seen w ways.from ways.to c) arc_places }
+fn any_due_pair(seen: Seen, w: u8, ways: &[Both; ARC_PLACES], c: Fraction) -> bool
+    ensures { result ≡ any (is_due_from seen w ways.now c) arc_places }
 {
-    let to = ways.to;
-    for (k, q) in ways.from.iter().enumerate() {
-        if q.den != 0 && any_due_under(seen, bar(seen.put[k] < w, w), *q, to, c) {
+    for (k, both) in ways.iter().enumerate() {
+        let q = both.from;
+        if q.den != 0 && any_due_under(seen, bar(seen.put[k] < w, w), q, ways, c) {
             return true;
         }
     }
@@ -192,5 +184,5 @@ pub(crate) fn has_pair(net: Net, seen: Seen, at: &[usize; NODE_PLACES], w: u8, t
     let p = bar(!is_fresh(at, w, t.to), w);
     let q = bar(!is_fresh(at, w, t.from), w);
     let ways = all_ways(net, seen, p, q, t);
-    any_due_pair(seen, w, ways, t.cost)
+    any_due_pair(seen, w, &ways, t.cost)
 }

@@ -12,6 +12,7 @@ use Rattle.network.specs.Network.{arc_at}
 use Rattle.costly_arc.specs.CostlyArc.{is_positive, is_under, is_open_root}
 use Rattle.costly_arc.specs.Seen.{is_candidate, is_old}
 use Rattle.costly_arc.specs.declared.Seen.{Seen}
+use Rattle.costly_arc.specs.declared.due.Both.{Both}
 
 -- ---- the times of nodes
 
@@ -37,18 +38,26 @@ is_due times w t = is_candidate t && (is_fresh times 0 t.from && (is_fresh times
 unfoldable pub way_of : Bool → Arc → ℕ → Fraction → Fraction
 way_of old x i e = cond (not old && (is_open_root x i && is_positive (Ok e ⊘ Ok x.a))) (figure_of (Ok x.cost ⊗ Ok e ⊘ Ok x.a)) no_figure
 
--- the ways by each arc's number; those put before the time w are old
-unfoldable pub ways_of : Net → Seen → ℕ → ℕ → Fraction → List Fraction
-ways_of net seen w i e = build arc_places (λ k. way_of (is_old seen w k) (arc_at net k) i e)
+-- the ways by arc k at both ends of t; at the from node it is old before the time p, at the to node before the time q
+abbrev pub both_of : Net → Seen → ℕ → ℕ → Arc → ℕ → Both
+both_of net seen p q t k = record { from = way_of (is_old seen p k) (arc_at net k) t.from t.a; to = way_of (is_old seen q k) (arc_at net k) t.to t.b }
 
--- of the ways `to`, the due one of arc k makes with q a sum that fits and is below c
-abbrev pub is_due_under : Seen → ℕ → Fraction → List Fraction → Fraction → ℕ → Bool
-is_due_under seen w q to c k = not (is_old seen w k) && is_under (sum_of q (get_or to k no_figure)) c
+-- the ways by each arc's number
+unfoldable pub ways_of : Net → Seen → ℕ → ℕ → Arc → List Both
+ways_of net seen p q t = build arc_places (both_of net seen p q t)
+
+-- no way at either end
+abbrev pub neither : Both
+neither = record { from = no_figure; to = no_figure }
+
+-- the way of arc k at the to node is due, and makes with q a sum that fits and is below c
+abbrev pub is_due_under : Seen → ℕ → Fraction → List Both → Fraction → ℕ → Bool
+is_due_under seen w q ways c k = not (is_old seen w k) && is_under (sum_of q (get_or ways k neither).to) c
 
 -- the time from which a partner is due: of two, not both are old
 abbrev pub bar_of : Bool → ℕ → ℕ
 bar_of old w = cond old w 0
 
--- the way of arc k, of the ways `from`, is in a due pair
-abbrev pub is_due_from : Seen → ℕ → List Fraction → List Fraction → Fraction → ℕ → Bool
-is_due_from seen w from to c k = any (is_due_under seen (bar_of (is_old seen w k) w) (get_or from k no_figure) to c) arc_places
+-- the way of arc k at the from node is in a due pair
+abbrev pub is_due_from : Seen → ℕ → List Both → Fraction → ℕ → Bool
+is_due_from seen w ways c k = any (is_due_under seen (bar_of (is_old seen w k) w) (get_or ways k neither).from ways c) arc_places

@@ -15,7 +15,7 @@ loop-k-preserved c =
     missed_more c.loop-k.invariant (omega arith)
     (elim c.else-q-ne0.branch [
       | else-q-ne0-via-then-q-ne0+else-any_due_under w ↦ rw (← w.bar.ensures, ← w.any_due_under.ensures, w.if-any_due_under.false)
-      | else-q-ne0-via-else-q-ne0 w ↦ none_from c.args.seen _ _ c.args.ways.to c.args.c w.if-q-ne0.false
+      | else-q-ne0-via-else-q-ne0 w ↦ none_from c.args.seen _ _ c.args.ways.now c.args.c w.if-q-ne0.false
     ])
 
 pub returns : goal.returns

@@ -20,5 +20,5 @@ loop-k-preserved c =
     (elim c.else-y-ne0.branch [
       | else-y-ne0-via-then-y-ne0+then-seen-k+else-is_under w ↦ rw (le-ltb _ _ w.if-seen-k.true, ← w.sum.ensures, ← w.is_under.ensures, w.if-is_under.false)
       | else-y-ne0-via-then-y-ne0+else-seen-k w ↦ rw (lt-ltb _ _ w.if-seen-k.false)
-      | else-y-ne0-via-else-y-ne0 w ↦ none-due c.args.seen c.args.w c.args.q c.args.to c.args.c _ w.if-y-ne0.false
+      | else-y-ne0-via-else-y-ne0 w ↦ none-due c.args.seen c.args.w c.args.q c.args.ways.now c.args.c _ w.if-y-ne0.false
     ])

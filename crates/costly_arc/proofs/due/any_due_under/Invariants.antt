@@ -3,4 +3,4 @@ use Rattle.loops.proofs.Laws.{Missed}
 use Rattle.costly_arc.proofs.due.any_due_under.Given as goal
 
 abbrev pub invariant-loop-k : goal.invariant-loop-k
-invariant-loop-k l = Missed (is_due_under l.seen l.w l.q l.fn.to l.c) 97 l.k
+invariant-loop-k l = Missed (is_due_under l.seen l.w l.q l.fn.ways l.c) 97 l.k
