@@ -30,7 +30,7 @@ use Rattle.records.specs.Network.{figures, arc_figure, sizes_right, role_of, is_
 use Rattle.records.specs.Cut.{cut_network}
 use Rattle.records.proofs.Questions.{asked}
 use Rattle.records.proofs.Arrays.{with-room}
-use Rattle.records.proofs.Places.{constant-figure, supply-figure, role-figure}
+use Rattle.records.proofs.Put.{constant-figure, supply-figure, role-figure}
 use Rattle.records.proofs.Legal.{Permitted, permitted-is, net_is, read_is}
 use Rattle.records.proofs.Written.{figure-written}
 
