@@ -5,13 +5,14 @@ ghost use Rattle.std.specs.Prelude.{◌≡◌};
 ghost use Rattle.closed_arc.specs.ClosedArc.{closed};
 
 use fraction::Fraction;
-use network::Arc;
+use network::ArcUpdate;
 use step::{Halt, Outcome};
 
-// Rule 1 at arc j, t; left and right are the supplies of its ends.
-pub fn closed_arc(constant: Fraction, j: usize, t: Arc, left: Fraction, right: Fraction) -> Outcome
-    ensures { result ≡ closed constant j t left right }
+// Rule 1 at an arc; left and right are the supplies of its ends.
+pub fn closed_arc(constant: Fraction, at: ArcUpdate, left: Fraction, right: Fraction) -> Outcome
+    ensures { result ≡ closed constant at.number at.arc left right }
 {
+    let t = at.arc;
     if t.from == 0 {
         return Err(Halt::Passes);
     }
@@ -21,5 +22,5 @@ pub fn closed_arc(constant: Fraction, j: usize, t: Arc, left: Fraction, right: F
     if t.lower != t.upper {
         return Err(Halt::Passes);
     }
-    step::drop_arc(constant, j, t, t.lower, left, right)
+    step::drop_arc(constant, at, t.lower, left, right)
 }

@@ -84,7 +84,7 @@ fn at_lower(constant: Fraction, supply: [Fraction; NODE_PLACES], j: usize, t: Ar
 {
     let left = network::figure_at(&supply, t.from);
     let right = network::figure_at(&supply, t.to);
-    step::drop_arc(constant, j, t, t.lower, left, right)
+    step::drop_arc(constant, step::numbered(j, t), t.lower, left, right)
 }
 
 // The rule at arc j.

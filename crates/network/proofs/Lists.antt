@@ -8,15 +8,18 @@
 use mathlib.Core.Bool.{Bool, true, false}
 use mathlib.Core.List.{List, ◌∷◌, [], ◌++◌}
 use mathlib.Core.Path.{◌≡◌, refl, sym, ap, ◌∙◌}
-use Prim.Native.Nat.{ℕ, zero, suc, ◌+◌, ◌<◌, ◌≤◌}
+use Prim.Native.Nat.{ℕ, zero, suc, ◌+◌, ◌-◌, ◌<◌, ◌≤◌, min}
+use mathlib.Core.Logic.{⊎_elim}
+use Rattle.std.proofs.lemmas.Bool.{cases_lt}
+use Rattle.std.proofs.lemmas.List.{ext_get_or, length-take-le, length-drop, get_or-take, get_or-drop, get_or-replicate, get_or_past, get_or-append_right}
 use native.Mathlib.Numerals.{add-one}
 use native.Mathlib.Omega.{arith}
 use lib.Dec.{leb}
-use lib.ListN.{length, get_or, set, take, replicate, length-set}
+use lib.ListN.{length, get_or, set, take, drop, replicate, length-set, length-append, length-replicate, get_or-append}
 use lib.Seq.{take-suc, take-set-lt, take-set-le}
 use borrow.Author.Tests.{le-leb, leb-true, leb-false}
 use Rattle.loops.specs.Loops.{build}
-use Rattle.loops.proofs.Laws.{Filled, filled_more, get_or-build, build-const, build-same}
+use Rattle.loops.proofs.Laws.{Filled, filled_more, length-build, get_or-build, build-const, build-same}
 use Rattle.network.specs.declared.Arc.{Arc}
 use Rattle.network.specs.declared.Net.{Net}
 use Rattle.network.specs.declared.Nodes.{Nodes}
@@ -50,6 +53,30 @@ build-taken ys (suc n) l = ap (λ (h : List Arc). h ++ (get_or ys n no_arc ∷ [
 pub arcs_are : (xs : List Arc) → 96 ≤ length xs → arcs_in xs ≡ no_arc ∷ take 96 xs
 unfolding arcs_in record_at
 arcs_are xs l = build-taken (no_arc ∷ xs) 97 (omega (arith, l))
+
+-- the first n records, 96 of them or all, over the places of the arcs
+module _ (xs ys : List Arc) (n : ℕ) (e : n ≡ min (length xs) 96) (y : ys ≡ take n xs) where
+  many : length ys ≡ n
+  many = rw y (length-take-le n xs (omega (arith, e)))
+
+  abbrev copied : List Arc
+  copied = no_arc ∷ (ys ++ drop (n + 1 - 1) (replicate 96 no_arc))
+
+  all-copied : length copied ≡ 97
+  all-copied = rw (length-append, many, length-drop, length-replicate) (omega (arith, e))
+
+  copied-at : (i : ℕ) → i < 97 → get_or copied i no_arc ≡ record_at xs i
+  unfolding record_at
+  copied-at zero l = refl
+  copied-at (suc i) l =
+      ⊎_elim
+      (λ (before : i < n). get_or-append ys _ no_arc i (rw many before) ∙ rw y (get_or-take n xs i no_arc before))
+      (λ (behind : n ≤ i). get_or-append_right ys _ n i no_arc many behind ∙ get_or-drop (n + 1 - 1) (replicate 96 no_arc) (i - n) no_arc ∙ get_or-replicate 96 (n + 1 - 1 + (i - n)) no_arc no_arc (omega (arith, l)) ∙ sym (get_or_past xs i no_arc (omega (arith, e, l))))
+      (cases_lt i n)
+
+  pub arcs-copied : no_arc ∷ (ys ++ drop (n + 1 - 1) (replicate 96 no_arc)) ≡ arcs_in xs
+  unfolding arcs_in
+  arcs-copied = ext_get_or no_arc copied _ (rw (all-copied, length-build 97 (record_at xs)) refl) (λ i l. copied-at i (rw (← all-copied) l) ∙ sym (get_or-build 97 (record_at xs) no_arc i (rw (← all-copied) l)))
 
 -- the arc of number j
 pub arc-is : (nodes : Nodes) (xs : List Arc) (j : ℕ) → j < 97 → record_at xs j ≡ arc_at (net_in nodes xs) j

@@ -44,7 +44,8 @@ pub struct Arc {
 }
 
 // n nodes and m arcs were given, and the constant of the value. Each node and arc stands at its number, from 1: whether the
-// node is in use, its supply r, and the arc.
+// node is in use, its supply r, and the arc. The supplies are an array of figures of their own, as prices and flows are (`pair`):
+// `figure_at` and the writer of records serve all three, and a dropped node's supply can still be read.
 #[derive(Clone, Copy)]
 pub struct Net {
     pub n: usize,
@@ -291,7 +292,7 @@ pub fn is_root(t: Arc) -> bool
     t.from == t.to
 }
 
-// The end of an arc that is not its from node; 0 for a root arc.
+// The end of an arc that is not its from node; 0 for a root arc (as in `ArcUpdate`).
 #[tactic(auto, unfolding(crate::specs::Network::far_end))]
 pub fn far_end(t: Arc) -> usize
     ensures { result ≡ far_end t }

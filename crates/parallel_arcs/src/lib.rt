@@ -60,39 +60,27 @@ fn upper_sum(u: Fraction, v: Fraction) -> Worked
     u.sum(v)
 }
 
-// Arc j, t, gets other bounds, and arc k is dropped.
-fn joining(
-    constant: Fraction,
-    j: usize,
-    t: Arc,
-    l: Fraction,
-    u: Fraction,
-    k: usize,
-) -> network::Edit
-    ensures { result ≡ joining_by constant j t l u k }
+// An arc gets other bounds, and arc k is dropped.
+fn joining(constant: Fraction, at: ArcUpdate, l: Fraction, u: Fraction, k: usize) -> network::Edit
+    ensures { result ≡ joining_by constant at.number at.arc l u k }
 {
-    let c = t.cost;
-    let a = t.a;
-    let b = t.b;
     let arc = Arc {
-        from: t.from,
-        to: t.to,
-        cost: c,
         lower: l,
         upper: u,
-        a,
-        b,
+        ..at.arc
     };
-    let one = ArcUpdate { number: j, arc };
+    let one = ArcUpdate { arc, ..at };
     let two = step::numbered(k, network::no_arc());
     let none = network::no_supply_update();
     network::edit_two(one, two, none, none, 0, constant)
 }
 
-// Arc k, tk, is g times arc j, tj: j gets the sums of bounds, and k is dropped.
-fn join(constant: Fraction, j: usize, tj: Arc, k: usize, tk: Arc, g: Fraction) -> Outcome
-    ensures { result ≡ joined constant j tj k tk g }
+// Arc k is g times arc j: j gets the sums of bounds, and k is dropped.
+fn join(constant: Fraction, j: ArcUpdate, k: ArcUpdate, g: Fraction) -> Outcome
+    ensures { result ≡ joined constant j.number j.arc k.number k.arc g }
 {
+    let tj = j.arc;
+    let tk = k.arc;
     let (lz, hz) = image_bounds(tk, g);
     if tj.lower.den == 0 {
         return Err(Halt::Passes);
@@ -104,20 +92,17 @@ fn join(constant: Fraction, j: usize, tj: Arc, k: usize, tk: Arc, g: Fraction) -
     let high = high_end(g, hz)?;
     let l = tj.lower.sum(low)?;
     let u = upper_sum(tj.upper, high)?;
-    let edit = joining(constant, j, tj, l, u, k);
-    let old = step::old_two(
-        0,
-        network::no_figure(),
-        ArcUpdate { number: j, arc: tj },
-        ArcUpdate { number: k, arc: tk },
-    );
+    let edit = joining(constant, j, l, u, k.number);
+    let old = step::old_two(0, network::no_figure(), j, k);
     Ok(Change { edit, old })
 }
 
-// The rule at arcs j, tj, and k, tk.
-pub fn alike(constant: Fraction, j: usize, tj: Arc, k: usize, tk: Arc) -> Outcome
-    ensures { result ≡ alike_of constant j tj k tk }
+// The rule at arcs j and k.
+pub fn alike(constant: Fraction, j: ArcUpdate, k: ArcUpdate) -> Outcome
+    ensures { result ≡ alike_of constant j.number j.arc k.number k.arc }
 {
+    let tj = j.arc;
+    let tk = k.arc;
     if tk.from != tj.from {
         return Err(Halt::Passes);
     }
@@ -131,7 +116,7 @@ pub fn alike(constant: Fraction, j: usize, tj: Arc, k: usize, tk: Arc) -> Outcom
     if !is_times(g, tk.cost, tj.cost) {
         return Err(Halt::Passes);
     }
-    join(constant, j, tj, k, tk, g)
+    join(constant, j, k, g)
 }
 
 fn passes(o: Outcome) -> bool
@@ -152,7 +137,9 @@ pub fn parallel_arc(net: Net, j: usize) -> Outcome
         return Err(Halt::Passes);
     }
     for k in j + 1..ARC_PLACES {
-        let o = alike(net.constant, j, t, k, network::arc_at(net, k));
+        let one = ArcUpdate { number: j, arc: t };
+        let arc = network::arc_at(net, k);
+        let o = alike(net.constant, one, ArcUpdate { number: k, arc });
         if !passes(o) {
             return o;
         }

@@ -17,8 +17,8 @@ ghost use Rattle.rules.specs.Tried.{is_closed, asks_of, may_apply};
 
 use costly_arc::{Found, Seen};
 use fraction::Fraction;
-use network::{ARC_PLACES, Arc, MAX_ARCS, MAX_NODES, NODE_PLACES, Nodes};
-use step::{Around, Halt, Next, Outcome, Step};
+use network::{Arc, ArcUpdate, MAX_ARCS, MAX_NODES, Net, Nodes};
+use step::{Halt, Next, Outcome, Site, Step};
 
 // The answer of rule k at place i.
 fn answer(k: usize, i: usize, x: Outcome) -> Next
@@ -44,13 +44,13 @@ pub fn is_closed(t: Arc) -> bool
     t.from != 0 && (t.upper.less(t.lower) || t.lower == t.upper)
 }
 
-// Rule 1 at arc j, t.
-pub fn at_arc(constant: Fraction, supply: [Fraction; NODE_PLACES], j: usize, t: Arc) -> Next
-    ensures { result ≡ or_else 1 j (closed constant j t (get_or supply t.from no_figure) (get_or supply t.to no_figure)) Stops }
+// Rule 1 at an arc.
+pub fn at_arc(nodes: &Nodes, at: ArcUpdate) -> Next
+    ensures { result ≡ or_else 1 at.number (closed nodes.now.constant at.number at.arc (get_or nodes.now.supply at.arc.from no_figure) (get_or nodes.now.supply at.arc.to no_figure)) Stops }
 {
-    let left = network::supply_of(supply, t.from);
-    let right = network::supply_of(supply, t.to);
-    answer(1, j, closed_arc::closed_arc(constant, j, t, left, right))
+    let left = network::figure_at(&nodes.supply, at.arc.from);
+    let right = network::figure_at(&nodes.supply, at.arc.to);
+    answer(1, at.number, closed_arc::closed_arc(nodes.constant, at, left, right))
 }
 
 // ---- the rules of nodes
@@ -99,38 +99,26 @@ pub fn may_apply(asks: Asks, r: Fraction) -> bool
     !asks.balanced || r.is_zero()
 }
 
-// Rule k at node i, by its degree and the arcs there: the one place that chooses a step by the rule's number (a match, as in `undo`).
-pub fn try_node(
-    constant: Fraction,
-    supply: [Fraction; NODE_PLACES],
-    k: usize,
-    i: usize,
-    degree: usize,
-    near: Around,
-) -> Outcome
-    ensures { result ≡ (rule_of rules k).trial.by constant supply i degree near }
+// Rule k at a node: the one place that chooses a step by the rule's number (a match, as in `undo`). Rules 2 and 6 read of the
+// supplies the node's own alone, and take it in their place.
+pub fn try_node(k: usize, at: Site) -> Outcome
+    ensures { result ≡ (rule_of rules k).trial.by at.entry.nodes.now.constant at.entry.nodes.now.supply at.entry.number at.entry.degree at.entry.near }
 {
-    let r = network::supply_of(supply, i);
+    let constant = at.nodes.constant;
+    let r = at.supply_of(at.number);
     match k {
-        2 => bare_node::bare_node(constant, i, degree, r),
-        3 => single_arc::single_arc(constant, supply, i, degree, near.one),
-        5 => two_arcs::two_arcs(constant, supply, i, degree, near.one, near.two),
-        6 => crossing::crossing(constant, i, degree, r, near),
+        2 => bare_node::bare_node(constant, at.number, at.degree, r),
+        3 => single_arc::single_arc(at),
+        5 => two_arcs::two_arcs(at),
+        6 => crossing::crossing(constant, at.number, at.degree, r, at.near),
         _ => Err(Halt::Passes),
     }
 }
 
-pub fn at_node(
-    constant: Fraction,
-    supply: [Fraction; NODE_PLACES],
-    k: usize,
-    i: usize,
-    degree: usize,
-    near: Around,
-) -> Next
-    ensures { result ≡ or_else k i ((rule_of rules k).trial.by constant supply i degree near) Stops }
+pub fn at_node(k: usize, at: Site) -> Next
+    ensures { result ≡ or_else k at.entry.number ((rule_of rules k).trial.by at.entry.nodes.now.constant at.entry.nodes.now.supply at.entry.number at.entry.degree at.entry.near) Stops }
 {
-    answer(k, i, try_node(constant, supply, k, i, degree, near))
+    answer(k, at.number, try_node(k, at))
 }
 
 // ---- rule 4
@@ -142,17 +130,17 @@ pub fn is_root(t: Arc) -> bool
 }
 
 // Rule 4 at the arcs upward, by what is known.
-pub fn at_costly(nodes: Nodes, view: [Arc; ARC_PLACES], seen: Seen, time: u8) -> Found
-    ensures { Known (joined nodes view) time seen → (result.next ≡ upward (costly_arc (joined nodes view)) 4 max_arcs 1 Stops) × Known (joined nodes view) time result.seen }
+pub fn at_costly(net: Net, seen: Seen, time: u8) -> Found
+    ensures { Known net time seen → (result.next ≡ upward (costly_arc net) 4 max_arcs 1 Stops) × Known net time result.seen }
 {
-    costly_arc::scan(network::join(nodes, view), seen, time)
+    costly_arc::scan(net, seen, time)
 }
 
 // ---- rule 7
 
-// Rule 7 at arcs j, t, and k, u.
-pub fn at_pair(constant: Fraction, j: usize, t: Arc, k: usize, u: Arc) -> Next
-    ensures { result ≡ or_else 7 j (alike constant j t k u) Stops }
+// Rule 7 at arcs j and k.
+pub fn at_pair(constant: Fraction, j: ArcUpdate, k: ArcUpdate) -> Next
+    ensures { result ≡ or_else 7 j.number (alike constant j.number j.arc k.number k.arc) Stops }
 {
-    answer(7, j, parallel_arcs::alike(constant, j, t, k, u))
+    answer(7, j.number, parallel_arcs::alike(constant, j, k))
 }

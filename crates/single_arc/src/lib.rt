@@ -7,8 +7,8 @@ ghost use Rattle.single_arc.specs.SingleArc.{forced_out, single, single_back};
 
 use fraction::{Fraction, Worked};
 use network::pair::Pair;
-use network::{Arc, ArcUpdate, NODE_PLACES, Side};
-use step::{Change, Halt, Old, Outcome, Undone};
+use network::{ArcUpdate, Side};
+use step::{Change, Halt, Old, Outcome, Site, Undone};
 
 // The flow r ÷ e.
 fn forced(r: Fraction, w: Side) -> Worked
@@ -17,18 +17,18 @@ fn forced(r: Fraction, w: Side) -> Worked
     r.quotient(w.e)
 }
 
-// Arc j, t, alone touches node i of supply r, with w its side there; s is the supply at its other end.
+// An arc alone touches node i of supply r, with w its side there; s is the supply at its other end.
 fn force(
     constant: Fraction,
     i: usize,
-    j: usize,
-    t: Arc,
+    at: ArcUpdate,
     w: Side,
     r: Fraction,
     s: Fraction,
 ) -> Outcome
-    ensures { result ≡ forced_out constant i j t w r s }
+    ensures { result ≡ forced_out constant i at.number at.arc w r s }
 {
+    let t = at.arc;
     let v = forced(r, w)?;
     if v.less(t.lower) {
         return Err(Halt::NoFlow);
@@ -38,28 +38,24 @@ fn force(
     }
     let x = step::supply_less(w.other, s, w.o, v)?;
     let k = step::cost_added(constant, t.cost, v)?;
-    let edit = step::dropping(j, w.other, x, 0, network::no_figure(), i, k);
-    let old = step::old_one(i, r, ArcUpdate { number: j, arc: t });
+    let edit = step::dropping(at.number, w.other, x, 0, network::no_figure(), i, k);
+    let old = step::old_one(i, r, at);
     Ok(Change { edit, old })
 }
 
-// Rule 3 at node i of this degree, where u is the first arc.
-pub fn single_arc(
-    constant: Fraction,
-    supply: [Fraction; NODE_PLACES],
-    i: usize,
-    degree: usize,
-    u: ArcUpdate,
-) -> Outcome
-    ensures { result ≡ single constant supply i degree u }
+// Rule 3 at a node.
+pub fn single_arc(at: Site) -> Outcome
+    ensures { result ≡ single at.entry.nodes.now.constant at.entry.nodes.now.supply at.entry.number at.entry.degree at.entry.near.one }
 {
-    if degree != 1 {
+    if at.degree != 1 {
         return Err(Halt::Passes);
     }
+    let i = at.number;
+    let u = at.near.one;
     let w = network::side_at(u.arc, i);
-    let r = network::supply_of(supply, i);
-    let s = network::supply_of(supply, w.other);
-    force(constant, i, u.number, u.arc, w, r, s)
+    let r = at.supply_of(i);
+    let s = at.supply_of(w.other);
+    force(at.nodes.constant, i, u, w, r, s)
 }
 
 // Its way back.

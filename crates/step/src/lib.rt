@@ -1,7 +1,8 @@
 // One step of a reduction: what a rule answers at a place (01, "The six reductions"), and what its way back answers.
 #![tactic(auto, using(fraction::proofs::Laws::misfit_is), unfolding(fraction::specs::Formula::added, fraction::specs::Formula::subtracted, fraction::specs::Formula::multiplied, fraction::specs::Formula::divided, fraction::specs::Formula::negated, crate::specs::Outcome::fits, crate::specs::Dropped::supply_less, crate::specs::Dropped::cost_added, crate::specs::Dropped::gained, crate::specs::Dropped::dropped, crate::specs::Dropped::lower_back, crate::specs::Back::restored, crate::specs::Back::quote_at))]
 
-ghost use Rattle.std.specs.Prelude.{◌≡◌, true, cond, ◌≤◌, Ok};
+ghost use Rattle.std.specs.Prelude.{◌≡◌, true, cond, ◌≤◌, get_or, Ok};
+ghost use Rattle.fraction.specs.Exact.{no_figure};
 ghost use Rattle.fraction.specs.Formula.{◌⊖◌, ◌⊗◌, ◌⊘◌, ⊝◌};
 ghost use Rattle.network.specs.Network.{is_number};
 ghost use Rattle.network.specs.Pair.{with_price};
@@ -14,7 +15,7 @@ ghost use Rattle.step.specs.Dropped.{supply_less, cost_added, gained as gained_b
 
 use fraction::{Fraction, Misfit, Worked};
 use network::pair::Pair;
-use network::{Arc, ArcUpdate, MAX_ARCS, MAX_NODES, Side, SupplyUpdate};
+use network::{Arc, ArcUpdate, MAX_ARCS, MAX_NODES, Nodes, Side, SupplyUpdate};
 
 pub mod junctions;
 
@@ -54,6 +55,24 @@ pub struct Around {
     pub two: ArcUpdate,
     pub three: ArcUpdate,
     pub four: ArcUpdate,
+}
+
+// Where a rule of nodes is tried: a node among those of the network, by its number, with its degree and the arcs there.
+#[derive(Clone, Copy)]
+pub struct Site<'a> {
+    pub nodes: &'a Nodes,
+    pub number: usize,
+    pub degree: usize,
+    pub near: Around,
+}
+
+impl Site<'_> {
+    // The supply of node i, this one or another.
+    pub fn supply_of(self, i: usize) -> Fraction
+        ensures { result ≡ get_or self.entry.nodes.now.supply i no_figure }
+    {
+        network::figure_at(&self.nodes.supply, i)
+    }
 }
 
 // Why a rule gives no change: it doesn't apply, or it shows no flow.
@@ -207,23 +226,23 @@ pub fn old_one(i: usize, r: Fraction, one: ArcUpdate) -> Old
     old_two(i, r, one, network::no_update())
 }
 
-// Arc j, t, dropped at the flow v; left and right are the supplies of its ends.
+// An arc dropped at the flow v; left and right are the supplies of its ends.
 pub fn drop_arc(
     constant: Fraction,
-    j: usize,
-    t: Arc,
+    at: ArcUpdate,
     v: Fraction,
     left: Fraction,
     right: Fraction,
 ) -> Outcome
-    ensures { result ≡ dropped constant j t v left right }
+    ensures { result ≡ dropped constant at.number at.arc v left right }
 {
+    let t = at.arc;
     let far = network::far_end(t);
     let r = supply_less(t.from, left, t.a, v)?;
     let s = supply_less(far, right, t.b, v)?;
     let k = cost_added(constant, t.cost, v)?;
-    let edit = dropping(j, t.from, r, far, s, 0, k);
-    let old = old_one(0, network::no_figure(), ArcUpdate { number: j, arc: t });
+    let edit = dropping(at.number, t.from, r, far, s, 0, k);
+    let old = old_one(0, network::no_figure(), at);
     Ok(Change { edit, old })
 }
 

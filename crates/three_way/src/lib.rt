@@ -9,8 +9,8 @@ ghost use Rattle.three_way.specs.ThreeWay.{turned as turned_of, is_rising, alter
 
 use fraction::{Fraction, Misfit, Worked};
 use network::pair::Pair;
-use network::{Arc, ArcUpdate, NODE_PLACES, Side, SupplyUpdate};
-use step::{Change, Halt, Old, Outcome, PriceUpdate, Restored, Undone, either, junctions};
+use network::{Arc, ArcUpdate, Side, SupplyUpdate};
+use step::{Change, Halt, Old, Outcome, PriceUpdate, Restored, Site, Undone, either, junctions};
 
 // w for positive supply, its negation for negative.
 fn turned(below: bool, w: Worked) -> Worked
@@ -187,18 +187,12 @@ fn join(
     Ok(joining(i, r, one, two, three, a, b, c, w.other, g, z))
 }
 
-// The rule at node i, where one and two are to be arcs 1 and 2, and three the third.
-fn sort(
-    constant: Fraction,
-    supply: [Fraction; NODE_PLACES],
-    i: usize,
-    one: ArcUpdate,
-    two: ArcUpdate,
-    three: ArcUpdate,
-) -> Outcome
-    ensures { result ≡ sorted constant supply i one two three }
+// The rule at a node, where one and two are to be arcs 1 and 2, and three the third.
+fn sort(at: Site, one: ArcUpdate, two: ArcUpdate, three: ArcUpdate) -> Outcome
+    ensures { result ≡ sorted at.entry.nodes.now.constant at.entry.nodes.now.supply at.entry.number one two three }
 {
-    let r = network::supply_of(supply, i);
+    let i = at.number;
+    let r = at.supply_of(i);
     if !signs_suit(one.arc, two.arc, three.arc, i, r.less(Fraction::ZERO)) {
         return Err(Halt::Passes);
     }
@@ -209,37 +203,33 @@ fn sort(
         return Err(Halt::Passes);
     }
     let w = network::side_at(one.arc, i);
-    let s = network::supply_of(supply, w.other);
-    join(constant, i, r, s, one, two, three)
+    let s = at.supply_of(w.other);
+    join(at.nodes.constant, i, r, s, one, two, three)
 }
 
-// Rule 8 at node i of this degree, where x, y and z are the first three arcs: the third is the one without the supply's sign.
-pub fn three_way(
-    constant: Fraction,
-    supply: [Fraction; NODE_PLACES],
-    i: usize,
-    degree: usize,
-    x: ArcUpdate,
-    y: ArcUpdate,
-    z: ArcUpdate,
-) -> Outcome
-    ensures { result ≡ three_of constant supply i degree x y z }
+// Rule 8 at a node: of its three arcs the third is the one without the supply's sign.
+pub fn three_way(at: Site) -> Outcome
+    ensures { result ≡ three_of at.entry.nodes.now.constant at.entry.nodes.now.supply at.entry.number at.entry.degree at.entry.near.one at.entry.near.two at.entry.near.three }
 {
-    if degree != 3 {
+    if at.degree != 3 {
         return Err(Halt::Passes);
     }
-    let r = network::supply_of(supply, i);
+    let i = at.number;
+    let x = at.near.one;
+    let y = at.near.two;
+    let z = at.near.three;
+    let r = at.supply_of(i);
     if r.is_zero() {
         return Err(Halt::Passes);
     }
     let below = r.less(Fraction::ZERO);
     if !junctions::has_sign(x.arc, i, below) {
-        return sort(constant, supply, i, y, z, x);
+        return sort(at, y, z, x);
     }
     if !junctions::has_sign(y.arc, i, below) {
-        return sort(constant, supply, i, x, z, y);
+        return sort(at, x, z, y);
     }
-    sort(constant, supply, i, x, y, z)
+    sort(at, x, y, z)
 }
 
 // ---- the way back

@@ -11,8 +11,8 @@ ghost use Rattle.two_arcs.specs.TwoArcs.{same_sign, tighter, image_of, new_arc, 
 
 use fraction::{Fraction, Worked};
 use network::pair::Pair;
-use network::{Arc, ArcUpdate, NODE_PLACES, Side, SupplyUpdate};
-use step::{Change, Halt, Old, Outcome, Undone, either};
+use network::{Arc, ArcUpdate, Side, SupplyUpdate};
+use step::{Change, Halt, Old, Outcome, Site, Undone, either};
 
 fn same_sign(x: Fraction, y: Fraction) -> bool
     ensures { result ≡ same_sign x y }
@@ -82,39 +82,35 @@ fn new_arc(wj: Side, wk: Side, c: Fraction, l: Fraction, u: Fraction, b: Fractio
     }
 }
 
-// Two arcs are put, a supply is set, a node is dropped, and the constant is set.
+// One arc is put and arc k dropped, a supply is set, a node is dropped, and the constant is set.
 fn merging(
-    j: usize,
-    t: Arc,
+    one: ArcUpdate,
     k: usize,
-    node: usize,
-    s: Fraction,
+    left: SupplyUpdate,
     gone: usize,
     constant: Fraction,
 ) -> network::Edit
-    ensures { result ≡ merging_of j t k node s gone constant }
+    ensures { result ≡ merging_of one.number one.arc k left.node left.supply gone constant }
 {
-    let one = ArcUpdate { number: j, arc: t };
     let two = step::numbered(k, network::no_arc());
-    let left = SupplyUpdate { node, supply: s };
     network::edit_two(one, two, left, network::no_supply_update(), gone, constant)
 }
 
-// Arc j, tj, is kept and arc k, tk, goes, at node i of supply r; s is the supply at k's other end.
+// Arc j is kept and arc k goes, at node i of supply r; s is the supply at k's other end.
 fn merge(
     constant: Fraction,
     i: usize,
-    j: usize,
-    tj: Arc,
+    j: ArcUpdate,
     wj: Side,
-    k: usize,
-    tk: Arc,
+    k: ArcUpdate,
     wk: Side,
     r: Fraction,
     s: Fraction,
 ) -> Outcome
-    ensures { result ≡ merged constant i j tj wj k tk wk r s }
+    ensures { result ≡ merged constant i j.number j.arc wj k.number k.arc wk r s }
 {
+    let tj = j.arc;
+    let tk = k.arc;
     let exchanged = same_sign(wj.e, wk.e);
     let lz = either(exchanged, tk.upper, tk.lower);
     let uz = either(exchanged, tk.lower, tk.upper);
@@ -124,55 +120,44 @@ fn merge(
     let b = far_multiplier(wj, wk)?;
     let g = far_supply(wk, s, r)?;
     let z = step::gained(constant, tk, wk, r)?;
-    let new = new_arc(wj, wk, c, l, u, b);
-    let edit = merging(j, new, k, wk.other, g, i, z);
-    let old = step::old_two(
-        i,
-        r,
-        ArcUpdate { number: j, arc: tj },
-        ArcUpdate { number: k, arc: tk },
-    );
+    let new = step::numbered(j.number, new_arc(wj, wk, c, l, u, b));
+    let left = SupplyUpdate {
+        node: wk.other,
+        supply: g,
+    };
+    let edit = merging(new, k.number, left, i, z);
+    let old = step::old_two(i, r, j, k);
     Ok(Change { edit, old })
 }
 
 // Arc j is kept and arc k goes, where their other ends differ.
-fn keep(
-    constant: Fraction,
-    supply: [Fraction; NODE_PLACES],
-    i: usize,
-    j: ArcUpdate,
-    k: ArcUpdate,
-) -> Outcome
-    ensures { result ≡ kept constant supply i j k }
+fn keep(at: Site, j: ArcUpdate, k: ArcUpdate) -> Outcome
+    ensures { result ≡ kept at.entry.nodes.now.constant at.entry.nodes.now.supply at.entry.number j k }
 {
+    let i = at.number;
     let wj = network::side_at(j.arc, i);
     let wk = network::side_at(k.arc, i);
     if wj.other == wk.other {
         return Err(Halt::Passes);
     }
-    let r = network::supply_of(supply, i);
-    let s = network::supply_of(supply, wk.other);
-    merge(constant, i, j.number, j.arc, wj, k.number, k.arc, wk, r, s)
+    let r = at.supply_of(i);
+    let s = at.supply_of(wk.other);
+    merge(at.nodes.constant, i, j, wj, k, wk, r, s)
 }
 
-// Rule 5 at node i of this degree, where t and u are the first two arcs: the lower number is kept unless it is a root arc.
-pub fn two_arcs(
-    constant: Fraction,
-    supply: [Fraction; NODE_PLACES],
-    i: usize,
-    degree: usize,
-    t: ArcUpdate,
-    u: ArcUpdate,
-) -> Outcome
-    ensures { result ≡ two constant supply i degree t u }
+// Rule 5 at a node: of its two arcs the lower number is kept unless it is a root arc.
+pub fn two_arcs(at: Site) -> Outcome
+    ensures { result ≡ two at.entry.nodes.now.constant at.entry.nodes.now.supply at.entry.number at.entry.degree at.entry.near.one at.entry.near.two }
 {
-    if degree != 2 {
+    if at.degree != 2 {
         return Err(Halt::Passes);
     }
+    let t = at.near.one;
+    let u = at.near.two;
     if network::is_root(t.arc) {
-        return keep(constant, supply, i, u, t);
+        return keep(at, u, t);
     }
-    keep(constant, supply, i, t, u)
+    keep(at, t, u)
 }
 
 // Its way back.

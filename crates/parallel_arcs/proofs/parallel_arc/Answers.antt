@@ -21,11 +21,11 @@ loop-k-init c = scanned-none _ _ _ _ _
 
 pub returns-then-not-passes : goal.returns-then-not-passes
 unfolding parallel_arc only_where
-returns-then-not-passes c = rw (← c.arc_at-t.ensures, ne_eqb _ _ c.if-t-eq0.false) (found c.loop-k.invariant c.if-j-ge-MAX_ARCS.false c.loop-k-test.true (rw (← c.arc_at.ensures) c.alike-o.ensures) (sym c.passes.ensures ∙ c.if-not-passes.true))
+returns-then-not-passes c = rw (← c.arc_at-t.ensures, ne_eqb _ _ c.if-t-eq0.false) (found c.loop-k.invariant c.if-j-ge-MAX_ARCS.false c.loop-k-test.true (rw (← c.arc_at-arc.ensures) c.alike-o.ensures) (sym c.passes.ensures ∙ c.if-not-passes.true))
 
 pub loop-k-preserved : goal.loop-k-preserved
 unfolding parallel_arc only_where
-loop-k-preserved c = goes_on_lem {o = c.alike-o.result} c.loop-k.invariant c.if-j-ge-MAX_ARCS.false c.loop-k-test.true (rw (← c.arc_at.ensures) c.alike-o.ensures) (sym c.passes.ensures ∙ c.if-not-passes.false)
+loop-k-preserved c = goes_on_lem {o = c.alike-o.result} c.loop-k.invariant c.if-j-ge-MAX_ARCS.false c.loop-k-test.true (rw (← c.arc_at-arc.ensures) c.alike-o.ensures) (sym c.passes.ensures ∙ c.if-not-passes.false)
 
 pub returns : goal.returns
 unfolding parallel_arc only_where
