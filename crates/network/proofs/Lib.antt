@@ -1,6 +1,7 @@
 pub mod Laws
 pub mod Tally
 pub mod Numbers
+pub mod Legal
 pub mod Kept
 pub mod Sane
 pub mod Bounds

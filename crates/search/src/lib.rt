@@ -14,6 +14,7 @@ ghost use Rattle.costly_arc.specs.Seen.{nothing_seen};
 use costly_arc::Seen;
 use network::{Arc, Edit, Nodes};
 use records::refusal::Refusal;
+use scan::Working;
 use step::{Next, Step};
 
 mod scan;
@@ -95,7 +96,11 @@ fn run_on(nodes: Nodes, log: &mut [i32], arcs: &mut [Arc]) -> Ran
 {
     let mut at = start(nodes);
     loop {
-        let x = crate::scan::next(at.nodes, arcs, at.seen, time(at));
+        let net = Working {
+            nodes: &at.nodes,
+            arcs,
+        };
+        let x = net.next(at.seen, time(at));
         match x.next {
             Next::Takes(step) => at = take(at, x.seen, step, log, arcs),
             Next::Refuted(rule, place) => {
