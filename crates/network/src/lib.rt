@@ -197,13 +197,6 @@ pub fn arc_at(net: Net, j: usize) -> Arc
     net.arcs.get(j).copied().unwrap_or(no_arc())
 }
 
-// The supply of node i, by the supplies of all nodes.
-pub fn supply_of(supply: [Fraction; NODE_PLACES], i: usize) -> Fraction
-    ensures { result ≡ get_or supply i no_figure }
-{
-    figure_at(&supply, i)
-}
-
 // The supply of node i replaced.
 #[tactic(auto, unfolding(crate::specs::Network::with_supply))]
 fn put_supply(mut nodes: Nodes, i: usize, f: Fraction) -> Nodes

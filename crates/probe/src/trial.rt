@@ -4,7 +4,7 @@ use crate::ASKED_WORDS;
 use crate::words::number;
 use network::{ARC_PLACES, ArcUpdate, NODE_PLACES, Net};
 use records::refusal::Refusal;
-use step::{Around, Halt, Outcome};
+use step::{Around, Halt, Outcome, Site};
 
 // Arc j with its number, which is 0 where there is no arc.
 fn numbered(net: Net, j: Option<usize>) -> ArcUpdate {
@@ -23,15 +23,21 @@ fn at_node(net: Net, k: usize, i: usize) -> Outcome {
         three: numbered(net, touching.next()),
         four: numbered(net, touching.next()),
     };
-    rules::tried::try_node(net.constant, net.supply, k, i, degree, near)
+    let at = Site {
+        nodes: &network::nodes_of(net),
+        number: i,
+        degree,
+        near,
+    };
+    rules::tried::try_node(k, at)
 }
 
 // Rule 1 at arc j.
 fn closed(net: Net, j: usize) -> Outcome {
     let t = network::arc_at(net, j);
-    let left = network::supply_of(net.supply, t.from);
-    let right = network::supply_of(net.supply, t.to);
-    closed_arc::closed_arc(net.constant, j, t, left, right)
+    let left = network::figure_at(&net.supply, t.from);
+    let right = network::figure_at(&net.supply, t.to);
+    closed_arc::closed_arc(net.constant, step::numbered(j, t), left, right)
 }
 
 // Rule k at place i; it passes where there is no such rule or place.
