@@ -122,21 +122,20 @@ impl Working<'_> {
     // ---- rule 4
 
     // Rule 4 at the arcs upward; where no arc is a root arc without upper bound, it applies nowhere.
-    fn costly(self, seen: Seen, time: u8) -> Found
-        requires { Known (net_in self.nodes.now self.arcs.now) time seen }
-        ensures { (result.next ≡ upward (costly_arc (net_in self.entry.nodes.now self.entry.arcs.now)) 4 max_arcs 1 Stops) × Known (net_in self.entry.nodes.now self.entry.arcs.now) time result.seen }
+    fn costly(self, seen: &mut Seen, time: u8) -> Next
+        requires { Known (net_in self.nodes.now self.arcs.now) time seen.old }
+        ensures { (result ≡ upward (costly_arc (net_in self.entry.nodes.now self.entry.arcs.now)) 4 max_arcs 1 Stops) × Known (net_in self.entry.nodes.now self.entry.arcs.now) time seen.new }
     {
         for j in 1..self.nodes.m + 1 {
             let t = network::list::read(self.arcs, j);
             if rules::tried::is_root(t) {
                 let net = network::join(*self.nodes, network::list::view(self.arcs));
-                return rules::tried::at_costly(net, seen, time);
+                let found = rules::tried::at_costly(net, *seen, time);
+                *seen = found.seen;
+                return found.next;
             }
         }
-        Found {
-            next: Next::Stops,
-            seen,
-        }
+        Next::Stops
     }
 
     // ---- rule 7
@@ -180,22 +179,16 @@ impl Working<'_> {
     // ---- all rules
 
     // Rule k, from 2 on, at its places upward (a match on the rule's number, as in `rules::undo`).
-    fn at_places(self, k: usize, degrees: &[usize; NODE_PLACES], seen: Seen, time: u8) -> Found
+    fn at_places(self, k: usize, degrees: &[usize; NODE_PLACES], seen: &mut Seen, time: u8) -> Next
         requires of_table { (2 ≤ k) × (k ≤ last_rule) }
         requires counted { AreDegreesTo (net_in self.nodes.now self.arcs.now) self.nodes.now.m degrees.now }
-        requires known { Known (net_in self.nodes.now self.arcs.now) time seen }
-        ensures { (result.next ≡ upward ((rule_of rules k).at (net_in self.entry.nodes.now self.entry.arcs.now)) k (rule_of rules k).last 1 Stops) × Known (net_in self.entry.nodes.now self.entry.arcs.now) time result.seen }
+        requires known { Known (net_in self.nodes.now self.arcs.now) time seen.old }
+        ensures { (result ≡ upward ((rule_of rules k).at (net_in self.entry.nodes.now self.entry.arcs.now)) k (rule_of rules k).last 1 Stops) × Known (net_in self.entry.nodes.now self.entry.arcs.now) time seen.new }
     {
         match k {
             4 => self.costly(seen, time),
-            7 => Found {
-                next: self.parallel(),
-                seen,
-            },
-            _ => Found {
-                next: self.at_nodes(degrees, k),
-                seen,
-            },
+            7 => self.parallel(),
+            _ => self.at_nodes(degrees, k),
         }
     }
 
@@ -210,11 +203,10 @@ impl Working<'_> {
         }
         let degrees = network::list::degrees(self.arcs, self.nodes.m);
         for k in 2..rules::tried::LAST_RULE + 1 {
-            let x = self.at_places(k, &degrees, seen, time);
-            if x.next.is_found() {
-                return x;
+            let x = self.at_places(k, &degrees, &mut seen, time);
+            if x.is_found() {
+                return Found { next: x, seen };
             }
-            seen = x.seen;
         }
         Found {
             next: Next::Stops,
