@@ -1,12 +1,12 @@
 -- What is known of earlier searches, and that a run keeps it.
-use mathlib.Core.Path.{◌≡◌, ◌∙◌}
-use mathlib.Core.List.{List, [], ◌∷◌}
+use mathlib.Core.Path.{◌≡◌, refl, ap, ◌∙◌}
+use mathlib.Core.List.{[], ◌∷◌}
 use mathlib.Core.Bool.{true, false, and-false}
 use Prim.Native.Nat.{ℕ, zero, suc, ◌≤◌, ◌<◌}
 use native.Mathlib.Omega.{arith}
 use borrow.Author.Tests.{lt-leb, ltb-true, ltb-false, eqb-true, eqb-false}
 use lib.Dec.{ltb, eqb}
-use lib.ListN.{get_or, set, replicate, length-set, length-replicate}
+use lib.ListN.{set, replicate, length-set, length-replicate}
 use lib.Seq.{get_or-set_same, get_or-set_other}
 use Rattle.network.specs.declared.Arc.{Arc}
 use Rattle.network.specs.declared.Net.{Net}
@@ -14,24 +14,25 @@ use Rattle.network.specs.declared.Edit.{Edit}
 use Rattle.network.specs.Network.{arc_at, with_arc, with_supply, without, applied}
 use Rattle.step.proofs.Frame.{arc-left}
 use Rattle.step.proofs.Lines.{split}
-use Rattle.costly_arc.specs.declared.Seen.{Seen}
+use Rattle.costly_arc.specs.declared.Times.{Times}
 use Rattle.costly_arc.specs.CostlyArc.{has_pair}
-use Rattle.costly_arc.specs.Seen.{is_old, Searched, Known, nothing_seen, put_now, marked, marked_all}
+use Rattle.costly_arc.specs.Seen.{Seen, never, put_at, sought_at, is_old, Searched, Known, nothing_seen, put_now, marked, marked_all}
 use Rattle.costly_arc.proofs.Pairs.{each-pair}
 
-set-le : (s : List ℕ) (j i v n : ℕ) → get_or s i 0 ≤ n → v ≤ n → get_or (set s j v) i 0 ≤ n
-set-le [] j i v n h k = h
-set-le (x ∷ s) zero zero v n h k = k
-set-le (x ∷ s) zero (suc i) v n h k = h
-set-le (x ∷ s) (suc j) zero v n h k = h
-set-le (x ∷ s) (suc j) (suc i) v n h k = set-le s j i v n h k
+-- where the times v are written at j
+sought-set : (s : Seen) (j i : ℕ) (v : Times) (n : ℕ) → sought_at s i ≤ n → v.sought ≤ n → sought_at (set s j v) i ≤ n
+sought-set [] j i v n h k = h
+sought-set (x ∷ s) zero zero v n h k = k
+sought-set (x ∷ s) zero (suc i) v n h k = h
+sought-set (x ∷ s) (suc j) zero v n h k = h
+sought-set (x ∷ s) (suc j) (suc i) v n h k = sought-set s j i v n h k
 
-set-zero : (s : List ℕ) (k : ℕ) → get_or (set s k 0) k 0 ≤ 0
-set-zero [] k = omega arith
-set-zero (x ∷ s) zero = omega arith
-set-zero (x ∷ s) (suc k) = set-zero s k
+sought-zero : (s : Seen) (k now : ℕ) → sought_at (put_now s k now) k ≤ 0
+sought-zero [] k now = omega arith
+sought-zero (x ∷ s) zero now = omega arith
+sought-zero (x ∷ s) (suc k) now = sought-zero s k now
 
-zeros : (n j : ℕ) → get_or (replicate n 0) j 0 ≤ 0
+zeros : (n j : ℕ) → sought_at (replicate n never) j ≤ 0
 zeros zero j = omega arith
 zeros (suc n) zero = omega arith
 zeros (suc n) (suc j) = zeros n j
@@ -39,29 +40,37 @@ zeros (suc n) (suc j) = zeros n j
 -- ---- before the first search, and as time goes on
 
 pub searched-never : (net : Net) (seen : Seen) (t : Arc) → Searched net seen 0 t
-searched-never net seen t x y l m e f = absurd (omega (arith, ltb-true (get_or seen.put x 0) 0 e))
+searched-never net seen t x y l m e f = absurd (omega (arith, ltb-true (put_at seen x) 0 e))
 
 pub known-nothing : (net : Net) → Known net 0 nothing_seen
 known-nothing net =
     record {
       past = λ j. zeros 97 j;
-      long = length-replicate {A = ℕ} 97 0;
-      vain = λ j x y l m e f. absurd (omega (arith, ltb-true (get_or (replicate 97 0) x 0) (get_or (replicate 97 0) j 0) e, zeros 97 j));
+      long = length-replicate 97 never;
+      vain = λ j x y l m e f. absurd (omega (arith, ltb-true (put_at nothing_seen x) (sought_at nothing_seen j) e, zeros 97 j));
     }
 
 -- ---- a pair was sought, in vain
 
 abbrev pub sought_now : Seen → ℕ → ℕ → Seen
-sought_now seen j now = record { put = seen.put; sought = set seen.sought j now }
+sought_now seen j now = set seen j (record { put = put_at seen j; sought = now })
+
+-- no arc is put
+pub put-sought : (seen : Seen) (j now i : ℕ) → put_at (sought_now seen j now) i ≡ put_at seen i
+put-sought [] j now i = refl
+put-sought (x ∷ s) zero now zero = refl
+put-sought (x ∷ s) zero now (suc i) = refl
+put-sought (x ∷ s) (suc j) now zero = refl
+put-sought (x ∷ s) (suc j) now (suc i) = put-sought s j now i
 
 pub known-sought : {net : Net} {now : ℕ} {seen : Seen} → Known net now seen → (j : ℕ) → has_pair net (arc_at net j) ≡ false → Known net now (sought_now seen j now)
-known-sought {net} {now} {seen} k j e = record { past = λ i. set-le seen.sought j i now now (k.past i) (omega arith); long = k.long; vain = vain }
+known-sought {net} {now} {seen} k j e = record { past = λ i. sought-set seen j i _ now (k.past i) (omega arith); long = length-set seen j _ ∙ k.long; vain = vain }
   where
-    vain : (i : ℕ) → Searched net (sought_now seen j now) (get_or (set seen.sought j now) i 0) (arc_at net i)
+    vain : (i : ℕ) → Searched net (sought_now seen j now) (sought_at (sought_now seen j now) i) (arc_at net i)
     vain i x y l m p q =
         split (eqb i j) (λ f. rw (eqb-true i j f) (each-pair net (arc_at net j) e x y l m))
-        (λ f. let o : get_or (set seen.sought j now) i 0 ≡ get_or seen.sought i 0 = get_or-set_other seen.sought j i now 0 (eqb-false i j f) in
-        k.vain i x y l m (rw o at p) (rw o at q))
+        (λ f. let o : sought_at (sought_now seen j now) i ≡ sought_at seen i = ap (λ (t : Times). t.sought) (get_or-set_other seen j i _ never (eqb-false i j f)) in
+        k.vain i x y l m (rw (o, put-sought seen j now x) at p) (rw (o, put-sought seen j now y) at q))
 
 -- ---- arcs are put
 
@@ -74,7 +83,7 @@ known-put : {net : Net} {now : ℕ} {seen : Seen} → Known net now seen → (k 
 unfolding marked
 known-put {net} {now} {seen} h k a =
     split (ltb k 97)
-    (λ e. rw e (record { past = λ j. set-le seen.sought k j _ now (h.past j) (omega arith); long = length-set seen.put k now ∙ h.long; vain = vain (ltb-true k 97 e) }))
+    (λ e. rw e (record { past = λ j. sought-set seen k j _ now (h.past j) (omega arith); long = length-set seen k _ ∙ h.long; vain = vain (ltb-true k 97 e) }))
     (λ e. rw (e, put-out net k a (ltb-false k 97 e)) h)
   where
     after : Seen
@@ -83,15 +92,16 @@ known-put {net} {now} {seen} h k a =
     -- what is old still is no arc that was put, and was old
     old : k < 97 → (w x : ℕ) → w ≤ now → is_old after w x ≡ true → (x ≡ k → ⊥) × (is_old seen w x ≡ true)
     old l w x p e =
-        let ne : x ≡ k → ⊥ = λ q. let s : get_or (set seen.put k now) x 0 ≡ now = rw q (get_or-set_same seen.put k now 0 (omega (arith, h.long))) in omega (arith, ltb-true (get_or (set seen.put k now) x 0) w e, s) in
-        (ne, rw (get_or-set_other seen.put k x now 0 ne) at e)
+        let ne : x ≡ k → ⊥ = λ q. let s : put_at after x ≡ now = rw q (ap (λ (t : Times). t.put) (get_or-set_same seen k _ never (omega (arith, h.long)))) in omega (arith, ltb-true (put_at after x) w e, s) in
+        let o : put_at after x ≡ put_at seen x = ap (λ (t : Times). t.put) (get_or-set_other seen k x _ never ne) in
+        (ne, rw o at e)
 
-    vain : k < 97 → (j : ℕ) → Searched (with_arc net k a) after (get_or after.sought j 0) (arc_at (with_arc net k a) j)
+    vain : k < 97 → (j : ℕ) → Searched (with_arc net k a) after (sought_at after j) (arc_at (with_arc net k a) j)
     vain l j x y lx ly p q =
         split (eqb j k)
-        (λ f. let p' : is_old after (get_or after.sought k 0) x ≡ true = rw (eqb-true j k f) at p in absurd (omega (arith, ltb-true (get_or after.put x 0) (get_or after.sought k 0) p', set-zero seen.sought k)))
+        (λ f. let p' : is_old after (sought_at after k) x ≡ true = rw (eqb-true j k f) at p in absurd (omega (arith, ltb-true (put_at after x) (sought_at after k) p', sought-zero seen k now)))
         (λ f. let ne = eqb-false j k f in
-        let o : get_or after.sought j 0 ≡ get_or seen.sought j 0 = get_or-set_other seen.sought k j _ 0 ne in
+        let o : sought_at after j ≡ sought_at seen j = ap (λ (t : Times). t.sought) (get_or-set_other seen k j _ never ne) in
         let u = old l _ x (h.past j) (rw o at p) in
         let v = old l _ y (h.past j) (rw o at q) in
         rw (arc-left net k a j (λ _. ne), arc-left net k a x (λ _. u.0), arc-left net k a y (λ _. v.0)) (h.vain j x y lx ly u.1 v.1))

@@ -1,6 +1,6 @@
 pub mod Laws
 pub mod Pairs
-pub mod Times
+pub mod NodeTimes
 pub mod Known
 pub mod Upward
 pub mod Passing

@@ -25,9 +25,8 @@ use Rattle.step.proofs.Touch.{unlike}
 use Rattle.network.specs.declared.Arc.{Arc}
 use Rattle.network.specs.declared.Net.{Net}
 use Rattle.network.specs.Network.{arc_at, is_root}
-use Rattle.costly_arc.specs.declared.Seen.{Seen}
 use Rattle.costly_arc.specs.CostlyArc.{is_under, is_positive, is_open_root, is_costlier, has_pair}
-use Rattle.costly_arc.specs.Seen.{is_candidate, is_pair, is_old, Searched}
+use Rattle.costly_arc.specs.Seen.{Seen, put_at, is_candidate, is_pair, is_old, Searched}
 use Rattle.costly_arc.specs.internal.Due.{Covers, is_fresh, is_due, way_of, both_of, ways_of, neither, is_due_under, bar_of, is_due_from}
 
 -- ---- tests that agree
@@ -134,22 +133,22 @@ pair-way t x y o u =
 
 -- ---- what is due is enough
 
-module _ (net : Net) (seen : Seen) (w : ℕ) (t : Arc) (h : Searched net seen w t) (times : List ℕ) (covers : Covers net seen.put times) where
+module _ (net : Net) (seen : Seen) (w : ℕ) (t : Arc) (h : Searched net seen w t) (times : List ℕ) (covers : Covers net seen times) where
   -- where a node's time is not after v, its root arcs were put before v
   stale : (v i k : ℕ) → k < 97 → is_fresh times v i ≡ false → is_open_root (arc_at net k) i ≡ true → is_old seen v k ≡ true
   unfolding is_fresh
   stale v i k l e f =
       let n = or-neither (leb 33 i) (ltb v (get_or times i 0)) e in
-      lt-ltb (get_or seen.put k 0) v (omega (arith, covers i k (leb-false 33 i n.0) l f, ltb-false v (get_or times i 0) n.1))
+      lt-ltb (put_at seen k) v (omega (arith, covers i k (leb-false 33 i n.0) l f, ltb-false v (get_or times i 0) n.1))
 
   -- nothing was put before every search
   fresh : (i k : ℕ) → k < 97 → is_open_root (arc_at net k) i ≡ true → is_fresh times 0 i ≡ true
-  fresh i k l o = split (is_fresh times 0 i) (λ e. e) (λ e. absurd (omega (arith, ltb-true (get_or seen.put k 0) 0 (stale 0 i k l e o))))
+  fresh i k l o = split (is_fresh times 0 i) (λ e. e) (λ e. absurd (omega (arith, ltb-true (put_at seen k) 0 (stale 0 i k l e o))))
 
   -- an arc is left out only by a bar, where it is old
   kept : (b : Bool) (k : ℕ) → (b ≡ true → is_old seen w k ≡ true → ⊥) → is_old seen (bar_of b w) k ≡ false
   kept true k f = split (is_old seen w k) (λ e. absurd (f refl e)) (λ e. e)
-  kept false k f = le-ltb (get_or seen.put k 0) 0 (omega arith)
+  kept false k f = le-ltb (put_at seen k) 0 (omega arith)
 
   -- a pair: root arcs at both ends, not both of them old
   paired : (x y : ℕ) → x < 97 → y < 97 → pair_at net t x y ≡ true → (is_open_root (arc_at net x) t.from ≡ true) × (is_open_root (arc_at net y) t.to ≡ true) × (is_old seen w x ≡ true → is_old seen w y ≡ true → ⊥)

@@ -20,7 +20,7 @@ use Rattle.costly_arc.specs.CostlyArc.{is_open_root, has_pair, costly_arc}
 use Rattle.costly_arc.specs.Seen.{is_candidate, is_pair}
 use Rattle.costly_arc.proofs.Upward.{upward-none}
 use Rattle.costly_arc.proofs.Pairs.{no-pair}
-use Rattle.costly_arc.proofs.Times.{root-at}
+use Rattle.costly_arc.proofs.NodeTimes.{root-at}
 
 module _ (net : Net) (j : ℕ) where
   pub costly-is : costly_arc net j ≡ cond (is_candidate (arc_at net j) && has_pair net (arc_at net j)) (dropped_at net j (arc_at net j).lower) (Err Passes)

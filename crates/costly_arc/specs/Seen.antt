@@ -8,7 +8,22 @@ use Rattle.network.specs.declared.Edit.{Edit}
 use Rattle.network.specs.Limits.{arc_places}
 use Rattle.network.specs.Network.{arc_at, is_root}
 use Rattle.costly_arc.specs.CostlyArc.{is_open_root, is_costlier}
-use Rattle.costly_arc.specs.declared.Seen.{Seen}
+use Rattle.costly_arc.specs.declared.Times.{Times}
+
+-- the times of each arc, by its number
+abbrev pub Seen : Type 0
+Seen = List Times
+
+-- the times of an arc before every search
+abbrev pub never : Times
+never = record { put = 0; sought = 0 }
+
+-- when arc k was put; when a pair was last sought for it, in vain
+abbrev pub put_at : Seen → ℕ → ℕ
+put_at seen k = (get_or seen k never).put
+
+abbrev pub sought_at : Seen → ℕ → ℕ
+sought_at seen k = (get_or seen k never).sought
 
 -- "Not a root arc, l finite"
 unfoldable pub is_candidate : Arc → Bool
@@ -20,7 +35,7 @@ is_pair t x y = is_open_root x t.from && (is_open_root y t.to && is_costlier t x
 
 -- arc k was put before the time w
 abbrev pub is_old : Seen → ℕ → ℕ → Bool
-is_old seen w k = ltb (get_or seen.put k 0) w
+is_old seen w k = ltb (put_at seen k) w
 
 -- no two root arcs put before the time w make t costly
 abbrev pub Searched : Net → Seen → ℕ → Arc → Type 0
@@ -28,17 +43,17 @@ Searched net seen w t = (x y : ℕ) → x < arc_places → y < arc_places → is
 
 -- no search is later than now, and for each arc its last search was in vain
 pub record Known (net : Net) (now : ℕ) (seen : Seen) : Type 0 where
-  pub past : (j : ℕ) → get_or seen.sought j 0 ≤ now
-  pub long : length seen.put ≡ arc_places
-  pub vain : (j : ℕ) → Searched net seen (get_or seen.sought j 0) (arc_at net j)
+  pub past : (j : ℕ) → sought_at seen j ≤ now
+  pub long : length seen ≡ arc_places
+  pub vain : (j : ℕ) → Searched net seen (sought_at seen j) (arc_at net j)
 
 -- nothing is known
 abbrev pub nothing_seen : Seen
-nothing_seen = record { put = replicate arc_places 0; sought = replicate arc_places 0 }
+nothing_seen = replicate arc_places never
 
 -- arc k is put now, and no pair was sought for it; the same, where there is such a number; so for the arcs of an edit
 abbrev pub put_now : Seen → ℕ → ℕ → Seen
-put_now seen k now = record { put = set seen.put k now; sought = set seen.sought k 0 }
+put_now seen k now = set seen k (record { put = now; sought = 0 })
 
 unfoldable pub marked : Seen → ℕ → ℕ → Seen
 marked seen k now = cond (ltb k arc_places) (put_now seen k now) seen

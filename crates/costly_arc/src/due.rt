@@ -30,12 +30,12 @@ fn after(p: u8) -> usize
 
 // For each node, a time after those at which its root arcs without upper bound were put; 0 where it has none.
 pub(crate) fn all_times(net: Net, seen: Seen) -> [usize; NODE_PLACES]
-    ensures { Covers net seen.put result }
+    ensures { Covers net seen result }
 {
     let mut at = [0; NODE_PLACES];
     for (k, x) in net.arcs.iter().enumerate() {
         if is_open_root(*x, x.from) {
-            put_time(&mut at, x.from, after(seen.put[k]));
+            put_time(&mut at, x.from, after(seen[k].put));
         }
     }
     at
@@ -138,7 +138,7 @@ fn all_ways(net: Net, seen: Seen, p: u8, q: u8, t: Arc) -> [Both; ARC_PLACES]
     let mut ways = [neither; ARC_PLACES];
     for (k, x) in net.arcs.iter().enumerate() {
         if is_open_root(*x, x.from) {
-            ways[k] = both_ways(t, *x, seen.put[k], p, q);
+            ways[k] = both_ways(t, *x, seen[k].put, p, q);
         }
     }
     ways
@@ -150,7 +150,7 @@ fn any_due_under(seen: Seen, w: u8, q: Fraction, ways: &[Both; ARC_PLACES], c: F
 {
     for (k, both) in ways.iter().enumerate() {
         let y = both.to;
-        if y.den != 0 && seen.put[k] >= w && is_under(q.sum(y), c) {
+        if y.den != 0 && seen[k].put >= w && is_under(q.sum(y), c) {
             return true;
         }
     }
@@ -170,7 +170,7 @@ fn any_due_pair(seen: Seen, w: u8, ways: &[Both; ARC_PLACES], c: Fraction) -> bo
 {
     for (k, both) in ways.iter().enumerate() {
         let q = both.from;
-        if q.den != 0 && any_due_under(seen, bar(seen.put[k] < w, w), q, ways, c) {
+        if q.den != 0 && any_due_under(seen, bar(seen[k].put < w, w), q, ways, c) {
             return true;
         }
     }
@@ -179,7 +179,7 @@ fn any_due_pair(seen: Seen, w: u8, ways: &[Both; ARC_PLACES], c: Fraction) -> bo
 
 // Whether some pair of root arcs, at the from node and at the to node, makes t costly, where none is known from before the time w.
 pub(crate) fn has_pair(net: Net, seen: Seen, at: &[usize; NODE_PLACES], w: u8, t: Arc) -> bool
-    ensures { Searched net seen w t → Covers net seen.put at.now → result ≡ has_pair net t }
+    ensures { Searched net seen w t → Covers net seen at.now → result ≡ has_pair net t }
 {
     let p = bar(!is_fresh(at, w, t.to), w);
     let q = bar(!is_fresh(at, w, t.from), w);

@@ -11,17 +11,20 @@ ghost use Rattle.costly_arc.specs.CostlyArc.{is_open_root, costly_arc};
 ghost use Rattle.costly_arc.specs.Seen.{is_candidate, nothing_seen, marked, marked_all, Known};
 
 use fraction::Fraction;
-use network::{ARC_PLACES, Arc, Edit, NODE_PLACES, Net};
+use network::{ARC_PLACES, Arc, ArcUpdate, Edit, NODE_PLACES, Net};
 use step::{Halt, Next, Outcome, Step};
 
 mod due;
 
-// When each arc was put, and when a pair was last sought for it, in vain; 0 is before every search.
+// When an arc was put, and when a pair was last sought for it, in vain; 0 is before every search.
 #[derive(Clone, Copy)]
-pub struct Seen {
-    pub put: [u8; ARC_PLACES],
-    pub sought: [u8; ARC_PLACES],
+pub struct Times {
+    pub put: u8,
+    pub sought: u8,
 }
+
+// The times of each arc, by its number.
+pub type Seen = [Times; ARC_PLACES];
 
 // What the search finds, and what is known then.
 #[derive(Clone, Copy)]
@@ -34,10 +37,7 @@ pub struct Found {
 pub fn unseen() -> Seen
     ensures { result ≡ nothing_seen }
 {
-    Seen {
-        put: [0; ARC_PLACES],
-        sought: [0; ARC_PLACES],
-    }
+    [Times { put: 0, sought: 0 }; ARC_PLACES]
 }
 
 // Arc k is put now.
@@ -46,8 +46,10 @@ fn mark(mut seen: Seen, k: usize, now: u8) -> Seen
     ensures { result ≡ marked seen k now }
 {
     if k < ARC_PLACES {
-        seen.put[k] = now;
-        seen.sought[k] = 0;
+        seen[k] = Times {
+            put: now,
+            sought: 0,
+        };
     }
     seen
 }
@@ -78,13 +80,13 @@ pub fn is_candidate(t: Arc) -> bool
     !network::is_root(t) && t.lower.den != 0
 }
 
-// Arc j, t, dropped at its lower bound.
-fn at_lower(constant: Fraction, supply: [Fraction; NODE_PLACES], j: usize, t: Arc) -> Outcome
-    ensures { result ≡ dropped constant j t t.lower (get_or supply t.from no_figure) (get_or supply t.to no_figure) }
+// An arc dropped at its lower bound.
+fn at_lower(constant: Fraction, supply: &[Fraction; NODE_PLACES], at: ArcUpdate) -> Outcome
+    ensures { result ≡ dropped constant at.number at.arc at.arc.lower (get_or supply.now at.arc.from no_figure) (get_or supply.now at.arc.to no_figure) }
 {
-    let left = network::figure_at(&supply, t.from);
-    let right = network::figure_at(&supply, t.to);
-    step::drop_arc(constant, step::numbered(j, t), t.lower, left, right)
+    let left = network::figure_at(supply, at.arc.from);
+    let right = network::figure_at(supply, at.arc.to);
+    step::drop_arc(constant, at, at.arc.lower, left, right)
 }
 
 // The rule at arc j.
@@ -100,8 +102,7 @@ pub fn costly_arc(net: Net, j: usize) -> Outcome
     if !due::has_pair(net, seen, &at, 0, t) {
         return Err(Halt::Passes);
     }
-    let supply = net.supply;
-    at_lower(net.constant, supply, j, t)
+    at_lower(net.constant, &net.supply, ArcUpdate { number: j, arc: t })
 }
 
 // The rule at its places upward, by what is known.
@@ -109,13 +110,13 @@ pub fn scan(net: Net, seen: Seen, now: u8) -> Found
     ensures { Known net now seen → (result.next ≡ upward (costly_arc net) 4 max_arcs 1 Stops) × Known net now result.seen }
 {
     let at = due::all_times(net, seen);
-    let supply = net.supply;
     let mut known = seen;
     for j in 1..ARC_PLACES {
         let t = net.arcs[j];
-        let w = known.sought[j];
+        let w = known[j].sought;
         if due::is_due(&at, w, t) {
-            if let Ok(change) = at_lower(net.constant, supply, j, t) {
+            let u = ArcUpdate { number: j, arc: t };
+            if let Ok(change) = at_lower(net.constant, &net.supply, u) {
                 if due::has_pair(net, known, &at, w, t) {
                     let s = Step {
                         rule: 4,
@@ -127,7 +128,7 @@ pub fn scan(net: Net, seen: Seen, now: u8) -> Found
                         seen: known,
                     };
                 }
-                known.sought[j] = now;
+                known[j].sought = now;
             }
         }
     }

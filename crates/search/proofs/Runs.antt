@@ -22,8 +22,7 @@ use Rattle.step.specs.declared.Next.TheVariants.{Takes}
 use Rattle.step.specs.Run.{Run, after, run_by, run_of, back_of}
 use Rattle.step.proofs.RunLaws.{run-done}
 use Rattle.step.proofs.Fewer.{legal-left}
-use Rattle.costly_arc.specs.declared.Seen.{Seen}
-use Rattle.costly_arc.specs.Seen.{Known, nothing_seen, marked_all}
+use Rattle.costly_arc.specs.Seen.{Seen, Known, nothing_seen, marked_all}
 use Rattle.costly_arc.proofs.Known.{known-nothing, known-after}
 use Rattle.rules.specs.Table.{rules, next_of, reduced}
 use Rattle.rules.proofs.Whole.{next-right}

@@ -131,7 +131,8 @@ impl Working<'_> {
             if rules::tried::is_root(t) {
                 let net = network::join(*self.nodes, network::list::view(self.arcs));
                 let found = rules::tried::at_costly(net, *seen, time);
-                *seen = found.seen;
+                let known = found.seen;
+                *seen = known;
                 return found.next;
             }
         }

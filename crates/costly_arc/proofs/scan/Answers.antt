@@ -16,7 +16,7 @@ pub returns : goal.returns
 returns c = λ k. let h = c.loop-j.invariant k in (reached-all _ _ _ _ h.reached (omega (arith, c.loop-j-test.false)), h.known)
 
 pub loop-j-init : goal.loop-j-init
-loop-j-init c = λ k. record { reached = reached-none _ _ _ _; known = k; put = refl }
+loop-j-init c = λ k. record { reached = reached-none _ _ _ _; known = k; put = λ k. refl }
 
 pub loop-j-preserved : goal.loop-j-preserved
 loop-j-preserved c = λ k.

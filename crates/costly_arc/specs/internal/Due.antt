@@ -10,15 +10,14 @@ use Rattle.network.specs.declared.Net.{Net}
 use Rattle.network.specs.Limits.{node_places, arc_places}
 use Rattle.network.specs.Network.{arc_at}
 use Rattle.costly_arc.specs.CostlyArc.{is_positive, is_under, is_open_root}
-use Rattle.costly_arc.specs.Seen.{is_candidate, is_old}
-use Rattle.costly_arc.specs.declared.Seen.{Seen}
+use Rattle.costly_arc.specs.Seen.{Seen, put_at, is_candidate, is_old}
 use Rattle.costly_arc.specs.declared.due.Both.{Both}
 
 -- ---- the times of nodes
 
 -- each root arc without upper bound at a node was put before the node's time
-abbrev pub Covers : Net → List ℕ → List ℕ → Type 0
-Covers net put times = (i k : ℕ) → i < node_places → k < arc_places → is_open_root (arc_at net k) i ≡ true → get_or put k 0 < get_or times i 0
+abbrev pub Covers : Net → Seen → List ℕ → Type 0
+Covers net seen times = (i k : ℕ) → i < node_places → k < arc_places → is_open_root (arc_at net k) i ≡ true → put_at seen k < get_or times i 0
 
 -- the time p at node i, if it is later
 abbrev pub later : List ℕ → ℕ → ℕ → List ℕ

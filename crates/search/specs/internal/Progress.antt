@@ -11,8 +11,7 @@ use Rattle.step.specs.declared.Step.{Step}
 use Rattle.step.specs.declared.Next.{Next}
 use Rattle.step.specs.declared.Next.TheVariants.{Takes}
 use Rattle.step.specs.Run.{Run, run_of}
-use Rattle.costly_arc.specs.declared.Seen.{Seen}
-use Rattle.costly_arc.specs.Seen.{Known, nothing_seen, marked_all}
+use Rattle.costly_arc.specs.Seen.{Seen, Known, nothing_seen, marked_all}
 use Rattle.rules.specs.Table.{next_of}
 use Rattle.step_log.specs.Log.{logged}
 use Rattle.search.specs.declared.Contradiction.{Contradiction}

@@ -1,4 +1,4 @@
-use Rattle.costly_arc.proofs.Times.{timed-all, timed-more, timed-none, timed-skip}
+use Rattle.costly_arc.proofs.NodeTimes.{timed-all, timed-more, timed-none, timed-skip}
 use mathlib.Core.Path.{◌∙◌, sym}
 use native.Mathlib.Omega.{arith}
 use Rattle.costly_arc.proofs.due.all_times.Goals as goal

@@ -16,16 +16,17 @@ use Rattle.network.specs.Network.{arc_at, is_root}
 use Rattle.step.proofs.Lines.{split}
 use Rattle.step.proofs.Touch.{unlike}
 use Rattle.costly_arc.specs.CostlyArc.{is_open_root}
+use Rattle.costly_arc.specs.Seen.{Seen, put_at}
 use Rattle.costly_arc.specs.internal.Due.{Covers, later}
 
 -- at its head, with the times by the arcs below k
-pub record Timed (net : Net) (put times : List ℕ) (k : ℕ) : Type 0 where
+pub record Timed (net : Net) (seen : Seen) (times : List ℕ) (k : ℕ) : Type 0 where
   pub upto : k ≤ 97
   pub long : length times ≡ 33
-  pub covers : (i x : ℕ) → i < 33 → x < k → is_open_root (arc_at net x) i ≡ true → get_or put x 0 < get_or times i 0
+  pub covers : (i x : ℕ) → i < 33 → x < k → is_open_root (arc_at net x) i ≡ true → put_at seen x < get_or times i 0
 
-pub timed-none : (net : Net) (put : List ℕ) → Timed net put (replicate 33 0) 0
-timed-none net put = record { upto = omega arith; long = length-replicate {A = ℕ} 33 0; covers = λ i x l m e. absurd (not-suc-le-zero m) }
+pub timed-none : (net : Net) (seen : Seen) → Timed net seen (replicate 33 0) 0
+timed-none net seen = record { upto = omega arith; long = length-replicate {A = ℕ} 33 0; covers = λ i x l m e. absurd (not-suc-le-zero m) }
 
 -- a root arc's node is its from node
 pub root-at : (t : Arc) (i : ℕ) → is_open_root t i ≡ true → (t.from ≡ i) × (is_open_root t t.from ≡ true)
@@ -46,8 +47,8 @@ later-grows ts j p i long =
 later-own : (ts : List ℕ) (i p : ℕ) → length ts ≡ 33 → i < 33 → p ≤ get_or (later ts i p) i 0
 later-own ts i p long l = rw (lt-ltb i 33 l) (split (ltb (get_or ts i 0) p) (λ e. rw (e, get_or-set_same ts i p 0 (omega arith)) (omega arith)) (λ e. rw e (ltb-false (get_or ts i 0) p e)))
 
-module _ {net : Net} {put times : List ℕ} {k : ℕ} (h : Timed net put times k) (l : k < 97) {to : List ℕ} where
-  timed-next : length to ≡ 33 → ((i : ℕ) → get_or times i 0 ≤ get_or to i 0) → ((i : ℕ) → i < 33 → is_open_root (arc_at net k) i ≡ true → get_or put k 0 < get_or to i 0) → Timed net put to (k + 1)
+module _ {net : Net} {seen : Seen} {times : List ℕ} {k : ℕ} (h : Timed net seen times k) (l : k < 97) {to : List ℕ} where
+  timed-next : length to ≡ 33 → ((i : ℕ) → get_or times i 0 ≤ get_or to i 0) → ((i : ℕ) → i < 33 → is_open_root (arc_at net k) i ≡ true → put_at seen k < get_or to i 0) → Timed net seen to (k + 1)
   timed-next long grows own =
       record {
         upto = omega arith;
@@ -55,14 +56,14 @@ module _ {net : Net} {put times : List ℕ} {k : ℕ} (h : Timed net put times k
         covers = λ i x m n o. split (eqb x k) (λ f. let z = eqb-true x k f in rw z (own i m (rw z at o))) (λ f. let d = eqb-false x k f in omega (arith, h.covers i x m (omega arith) o, grows i));
       }
 
-  pub timed-skip : is_open_root (arc_at net k) (arc_at net k).from ≡ false → to ≡ times → Timed net put to (k + 1)
+  pub timed-skip : is_open_root (arc_at net k) (arc_at net k).from ≡ false → to ≡ times → Timed net seen to (k + 1)
   timed-skip e q = timed-next (rw q h.long) (λ i. rw q (omega arith)) (λ i m o. unlike (sym e ∙ (root-at (arc_at net k) i o).1))
 
-  pub timed-more : {a : ℕ} → a ≡ get_or put k 0 + 1 → to ≡ later times (arc_at net k).from a → Timed net put to (k + 1)
+  pub timed-more : {a : ℕ} → a ≡ put_at seen k + 1 → to ≡ later times (arc_at net k).from a → Timed net seen to (k + 1)
   timed-more {a} d q =
       let f = (arc_at net k).from in
       timed-next (rw q (split (ltb f 33 && ltb (get_or times f 0) a) (λ e. rw (e, length-set times f a) h.long) (λ e. rw e h.long))) (λ i. rw q (later-grows times f a i h.long))
       (λ i m o. let z : f ≡ i = (root-at (arc_at net k) i o).0 in rw (q, ← z) (omega (arith, later-own times f a h.long (rw (← z) at m))))
 
-pub timed-all : {net : Net} {put times : List ℕ} {k : ℕ} → Timed net put times k → 97 ≤ k → Covers net put times
+pub timed-all : {net : Net} {seen : Seen} {times : List ℕ} {k : ℕ} → Timed net seen times k → 97 ≤ k → Covers net seen times
 timed-all {k = k} h l i x m n = let e : k ≡ 97 = omega (arith, h.upto) in h.covers i x m (omega arith)
