@@ -1,6 +1,5 @@
 pub mod Laws
 pub mod Pairs
-pub mod Ways
 pub mod Times
 pub mod Known
 pub mod Upward
