@@ -112,3 +112,7 @@ unfolding applied without with_supply
 known-after h edit =
     let k = known-put (known-put (known-put (known-put h edit.one.number edit.one.arc) edit.two.number edit.two.arc) edit.three.number edit.three.arc) edit.four.number edit.four.arc in
     record { past = k.past; long = k.long; vain = k.vain }
+
+-- what is known stays known as time goes on
+pub known-later : {net : Net} {now later : ℕ} {seen : Seen} → Known net now seen → now ≤ later → Known net later seen
+known-later k h = record { past = λ j. omega (arith, k.past j); long = k.long; vain = k.vain }

@@ -28,6 +28,7 @@ use Rattle.network.specs.Network.{arc_at, is_root}
 use Rattle.costly_arc.specs.CostlyArc.{is_under, is_positive, is_open_root, is_costlier, has_pair}
 use Rattle.costly_arc.specs.Seen.{Seen, put_at, is_candidate, is_pair, is_old, Searched}
 use Rattle.costly_arc.specs.internal.Due.{Covers, is_fresh, is_due, way_of, both_of, ways_of, neither, is_due_under, bar_of, is_due_from}
+use borrow.Author.Tests.{ne_eqb}
 
 -- ---- tests that agree
 
@@ -92,7 +93,7 @@ sum-way true true (Ok x) (Err m) c = rw (and-false (is_operand x))
 sum-way true true (Err m) v c = refl
 
 -- by an arc that is no root arc without upper bound there is no way
-no_way : (x : Arc) → is_open_root x x.from ≡ false → (old : Bool) (i : ℕ) (e : Fraction) → way_of old x i e ≡ no_figure
+pub no_way : (x : Arc) → is_open_root x x.from ≡ false → (old : Bool) (i : ℕ) (e : Fraction) → way_of old x i e ≡ no_figure
 unfolding way_of is_open_root
 no_way x h old i e = by old (is_root x) (eqb x.from i) (is_same x.upper no_upper) _ _ (rw (eq-eqb x.from x.from refl) at h)
   where
@@ -186,3 +187,8 @@ module _ (net : Net) (seen : Seen) (w : ℕ) (t : Arc) (h : Searched net seen w 
 pub due-candidate : (times : List ℕ) (w : ℕ) (t : Arc) → is_due times w t ≡ true → is_candidate t ≡ true
 unfolding is_due
 due-candidate times w t e = (and_both (is_candidate t) _ e).0
+
+-- by an arc at another node there is no way
+pub other_way : (x : Arc) (i : ℕ) → (x.from ≡ i → ⊥) → (old : Bool) (e : Fraction) → way_of old x i e ≡ no_figure
+unfolding way_of is_open_root
+other_way x i n old e = rw (ne_eqb x.from i n, and-false (is_root x), and-false (not old))

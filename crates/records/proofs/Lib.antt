@@ -1,4 +1,5 @@
 pub mod Questions
+pub mod Pairs
 pub mod Every
 pub mod Tables
 pub mod Arrays

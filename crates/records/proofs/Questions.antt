@@ -69,7 +69,7 @@ module _ (xs : List ℤ) where
   unfolding sizes_right
   no-arcs n e f = rw ((size_is (word xs 0) 32 n e).0, size-off (word xs 1) 96 f)
 
-  by_length : (n m : ℕ) → size_of (word xs 0) 32 ≡ Some n → size_of (word xs 1) 96 ≡ Some m → eqb (length xs) (2 + 2 * figures n m) ≡ sizes_right xs
+  pub by_length : (n m : ℕ) → size_of (word xs 0) 32 ≡ Some n → size_of (word xs 1) 96 ≡ Some m → eqb (length xs) (2 + 2 * figures n m) ≡ sizes_right xs
   unfolding sizes_right
   by_length n m e f = let a = size_is (word xs 0) 32 n e in let b = size_is (word xs 1) 96 m f in rw (a.0, b.0, a.1, b.1)
 
@@ -120,3 +120,7 @@ asked xs ws n m h x y z = rw (x, y, z, h.0, h.1, h.2, h.3) refl
 pub not-asked : (xs : List ℤ) → sizes_right xs ≡ false → Err Refusal.Sizes ≡ first_no (questions xs)
 unfolding questions
 not-asked xs s = rw s
+
+-- question 2 answered by yes, of the sizes that were read
+pub sized_by : {xs : List ℤ} {n m : ℕ} → sizes_right xs ≡ true → n ≡ n_of xs → m ≡ m_of xs → Sized xs n m
+sized_by {xs} s e f = rw (e, f) (sizes-are xs s)

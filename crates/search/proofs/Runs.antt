@@ -1,6 +1,6 @@
 -- The run whose arcs stand in the lent list, turn by turn, is the run of its network.
 --     underway-none .. underway-more     the loop's invariant
---     begins, run_is     from the record to the end
+--     begins, run_is, refused_is     from the record to the end
 use mathlib.Core.Path.{◌≡◌, refl, sym, ap, subst, subst⁻¹, ◌∙◌}
 use mathlib.Core.List.{List, [], ◌∷◌}
 use Prim.Native.Nat.{ℕ, zero, suc, ◌+◌, ◌-◌, ◌≤◌, ◌<◌}
@@ -31,10 +31,11 @@ use Rattle.step_log.proofs.Logged.{logged-long}
 use Rattle.search.proofs.Questions.{AllYes, all_yes, legal-read}
 use Rattle.search.proofs.Behind.{within, replaced-behind, loaded-behind, drop-none, list-of}
 use Rattle.search.specs.declared.Progress.{Progress}
-use Rattle.std.specs.Prelude.{Option, Some, None, Ok}
+use Rattle.std.specs.Prelude.{Option, Some, None, Result, Ok, Err}
+use Rattle.records.specs.declared.refusal.Refusal.{Refusal}
 use Rattle.search.specs.declared.Contradiction.{Contradiction}
 use Rattle.search.specs.declared.Ran.{Ran}
-use Rattle.search.specs.Search.{refusal_of, ends_of, list_of, Reached}
+use Rattle.search.specs.Search.{refusal_of, ends_of, list_of, Reached, Searched}
 use Rattle.search.specs.internal.Progress.{moved, begun, ended, Ready, Told, told_of, Finished}
 
 -- ---- at the loop's head
@@ -148,3 +149,7 @@ module _ (network : List ℤ) (log : ℕ) (arcs : ℕ) (q : refusal_of network l
           log_is = sym (ap (λ (x : Told). x.log) h.told);
           list_is = list-of (h.long ∙ long) a.wide (sym (ap (λ (x : Told). x.net) h.told)) (h.behind ∙ zeros-behind) ∙ ap (list_of (reduced (read_of network)).net) (sym v);
         }
+
+-- a refusal leaves all as it is
+pub refused_is : (network zs : List ℤ) (ks : List Arc) {r : Result Ran Refusal} {q : Refusal} → r ≡ Err q → refusal_of network (length zs) (length ks) ≡ Err q → Searched network zs ks r zs ks
+refused_is network zs ks e f = rw e (record { asked = f; log_is = refl; list_is = refl })

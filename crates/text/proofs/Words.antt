@@ -279,3 +279,14 @@ read_found {text} {room = room} {n = n} g h z l e =
     let k : length o.0 ≤ room = rw o.1.1 at l in
     let m = le-leb (length o.0) room k in
     record { result = rw (q, o.1.0, m) (ap Some o.1.1); words_are = rw (q, o.1.0, m) (g.words_are o.0 o.1.0 ∙ rw e (placed-zeros room (pos 0) o.0 k)) }
+
+-- a value so far, within its limit and beyond it
+pub value_in : (minus : Bool) (v : ℕ) → v ≤ limit minus → Digits minus v ≡ after_value minus v
+value_in minus v h = rw (le-leb v (limit minus) h) refl
+
+pub value_out : (minus : Bool) (v : ℕ) → limit minus < v → Bad ≡ after_value minus v
+value_out minus v h = rw (lt-leb v (limit minus) h) refl
+
+pub at_most : (minus : Bool) (v : ℕ) → v ≤ limit minus → v ≤ 2147483648
+at_most true v h = h
+at_most false v h = omega arith

@@ -6,7 +6,7 @@ use mathlib.Core.Bool.{Bool, true, false, cond}
 use Prim.Native.Nat.{ℕ, zero, suc, ◌+◌, ◌-◌, ◌≤◌, ◌<◌}
 use native.Mathlib.Numerals.{add-one}
 use native.Mathlib.Omega.{arith}
-use lib.ListN.{length, take, drop, set, replicate, length-set, length-append, length-replicate}
+use lib.ListN.{length, take, drop, set, replicate, length-set, length-append, length-replicate, replicate-append-replicate}
 use lib.Seq.{set_out, sets, sets-eq}
 use lib.Dec.{ltb}
 use borrow.Author.Tests.{lt-ltb, le-ltb, ltb-true, ltb-false}
@@ -132,3 +132,29 @@ pub put-zeros : {n : ℕ} {xs : List ℕ} {r : ℕ} {e : List ℕ} → Put (repl
 put-zeros {n} {xs} p h =
     let l = length-replicate {A = ℕ} n 0 in
     (p.result ∙ behind-within _ 0 (length xs) (omega arith) ∙ omega arith, p.bytes_are ∙ placed-zeros n 0 xs h)
+
+-- a loop that puts one item a turn, where f i is what the first i are: at its head
+pub record Written (f : ℕ → List ℕ) (n : ℕ) (d : List ℕ) (at i r : ℕ) (e : List ℕ) : Type 0 where
+  pub upto : i ≤ n
+  pub put : Put d at (f i) r e
+
+pub written_none : (f : ℕ → List ℕ) (n : ℕ) (d : List ℕ) (at : ℕ) → f 0 ≡ [] → Written f n d at 0 at d
+written_none f n d at e = record { upto = omega arith; put = rw e (put-none d at) }
+
+pub written-more : {f : ℕ → List ℕ} {n : ℕ} {d : List ℕ} {at i r s : ℕ} {e x w : List ℕ} → Written f n d at i r e → i < n → Put e r x s w → f i ++ x ≡ f (i + 1) → Written f n d at (i + 1) s w
+written-more h l p q = record { upto = omega arith; put = rw (← q) (put-append h.put p) }
+
+pub written_all : {f : ℕ → List ℕ} {n : ℕ} {d : List ℕ} {at i r : ℕ} {e : List ℕ} → Written f n d at i r e → n ≤ i → Put d at (f n) r e
+written_all {f} {n} {i = i} h l = let q : i ≡ n = omega arith in rw q at h.put
+
+-- a loop that puts one element at every place: at its head, with i of them
+module _ {A : Type 0} (a : A) where
+  pub record Cleared (d w : List A) (i : ℕ) : Type 0 where
+    pub upto : i ≤ length d
+    pub is : w ≡ placed d 0 (replicate i a)
+
+  pub cleared_more : {d w : List A} {i : ℕ} → Cleared d w i → i < length d → Cleared d (set w i a) (i + 1)
+  unfolding placed
+  cleared_more {d} {w} {i} h l =
+      let e : 0 + length (replicate i a) ≡ i = omega (arith, length-replicate i a) in
+      record { upto = omega arith; is = rw h.is (rw (e, replicate-append-replicate i 1 a) at (placed-append d 0 (replicate i a) (a ∷ []))) }

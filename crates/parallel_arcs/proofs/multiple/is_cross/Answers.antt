@@ -2,7 +2,7 @@
 use Rattle.std.proofs.Common.{◌≡◌, pos, ◌*ℤ◌, rules}
 use mir.Syntax.{w128}
 use mir.Val.{SFits}
-use Rattle.integer.specs.Machine.{eqb-bits}
+use Rattle.integer.proofs.Bits.{eqb-bits}
 use Rattle.parallel_arcs.specs.internal.Multiple.{is_cross}
 use Rattle.parallel_arcs.proofs.multiple.is_cross.Goals as goal
 
