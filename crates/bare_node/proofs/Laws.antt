@@ -72,7 +72,7 @@ module _ (net : Net) (g : Legal net) (i : ℕ) {x : Outcome} (m : Bare net i x) 
   no_flow : is_zero (supply_at net i) ≡ false → LP.NoFlow (program_of net)
   no_flow nonzero = bare-no-flow i untouched (once-mem (listed-node net g i m.here)) (λ z. nonzero-value (g.supply_proper i m.here) nonzero (sym (rhs_is net i m.here) ∙ z))
 
-unused : (net : Net) (i : ℕ) → is_here net i ≡ false → bare_node net i ≡ (Err Passes)
+unused : (net : Net) (i : ℕ) → is_here net i ≡ false → bare_node net i ≡ Err Passes
 unfolding bare_node only_where
 unused net i e = rw e
 

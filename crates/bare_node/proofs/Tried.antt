@@ -17,7 +17,7 @@ use Rattle.step.specs.Around.{Given}
 use Rattle.step.proofs.Lines.{split}
 use Rattle.bare_node.specs.BareNode.{bare, bare_node}
 
-pub passes : (net : Net) (i : ℕ) → eqb (degree_of net i) 0 ≡ false → bare_node net i ≡ (Err Passes)
+pub passes : (net : Net) (i : ℕ) → eqb (degree_of net i) 0 ≡ false → bare_node net i ≡ Err Passes
 unfolding bare_node bare only_where
 passes net i e = split (is_here net i) (λ h. rw (h, e)) (λ h. rw h)
 

@@ -63,7 +63,7 @@ module _ (net : Net) (g : Legal net) (j : ℕ) (used : 1 ≤ (arc_at net j).from
       let c = crossing (g.used j used).lower_bound (g.used j used).upper_bound crossed in
       closed-no-flow _ _ (once-mem (listed-arc net g j used)) (ap (λ k. k.lower) (column-is net j used) ∙ c.0) (ap (λ k. k.upper) (column-is net j used) ∙ c.1) c.2
 
-unused : (net : Net) (j : ℕ) → is_used net j ≡ false → closed_arc net j ≡ (Err Passes)
+unused : (net : Net) (j : ℕ) → is_used net j ≡ false → closed_arc net j ≡ Err Passes
 unfolding closed only_where
 unused net j e = rw e
 

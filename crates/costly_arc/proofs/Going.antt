@@ -34,7 +34,7 @@ module _ {net : Net} {now : ℕ} {seen₀ seen : Seen} {j : ℕ} (h : Going net 
   pub going-found : {x : Outcome} {c : Change} → (times : List ℕ) (w : ℕ) → is_due times w (arc_at net j) ≡ true → has_pair net (arc_at net j) ≡ true → x ≡ dropped_at net j (arc_at net j).lower → x ≡ Ok c → (Takes (record { rule = 4; place = j; change = c }) ≡ upward (costly_arc net) 4 96 1 Stops) × Known net now seen
   going-found times w e f p q = (reached-found _ _ _ _ h.reached l (costly-is net j ∙ rw (due-candidate times w _ e, f) (sym p ∙ q)), h.known)
 
-  pub going-past : {to : Seen} → costly_arc net j ≡ (Err Passes) → to ≡ seen → Going net now seen₀ to (j + 1)
+  pub going-past : {to : Seen} → costly_arc net j ≡ Err Passes → to ≡ seen → Going net now seen₀ to (j + 1)
   going-past e q = rw q (record { reached = reached-more _ _ _ _ h.reached l e; known = h.known; put = h.put })
 
   pub going-vain : {to : Seen} → has_pair net (arc_at net j) ≡ false → to ≡ sought_now seen j now → Going net now seen₀ to (j + 1)

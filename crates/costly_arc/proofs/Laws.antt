@@ -145,7 +145,7 @@ module _ (net : Net) (g : Legal net) where
       let used = rootless-used j h.no_root in
       lower-right net g j used (finite-proper (g.used j used).lower_bound h.finite) h.dropped (λ e r. costly-sound (pair-arc h room e r))
 
-unused : (net : Net) → Legal net → (j : ℕ) → is_used net j ≡ false → costly_arc net j ≡ (Err Passes)
+unused : (net : Net) → Legal net → (j : ℕ) → is_used net j ≡ false → costly_arc net j ≡ Err Passes
 unfolding costly_arc is_root only_where
 unused net g j e = rw (g.unused j (eqb-true _ _ (not-false _ e)))
 

@@ -32,11 +32,11 @@ module _ (net : Net) (j : ℕ) where
       by false false p x = refl
       by false true p x = refl
 
-  pub passes-vain : (is_candidate (arc_at net j) ≡ true → has_pair net (arc_at net j) ≡ false) → costly_arc net j ≡ (Err Passes)
+  pub passes-vain : (is_candidate (arc_at net j) ≡ true → has_pair net (arc_at net j) ≡ false) → costly_arc net j ≡ Err Passes
   passes-vain h = split (is_candidate (arc_at net j)) (λ e. costly-is ∙ rw (e, h e)) (λ e. costly-is ∙ rw e)
 
   -- the arc stays for a figure that doesn't fit: a drop shows no flow nowhere
-  pub passes_kept : (x : Outcome) → x ≡ dropped_at net j (arc_at net j).lower → ((d : Change) → x ≡ Ok d → ⊥) → costly_arc net j ≡ (Err Passes)
+  pub passes_kept : (x : Outcome) → x ≡ dropped_at net j (arc_at net j).lower → ((d : Change) → x ≡ Ok d → ⊥) → costly_arc net j ≡ Err Passes
   passes_kept (Err Passes) e w = costly-is ∙ rw (← e) (split (is_candidate (arc_at net j) && has_pair net (arc_at net j)) (λ f. rw f refl) (λ f. rw f refl))
   passes_kept (Err NoFlow) e w = dropped-shows net j _ (sym e)
   passes_kept (Ok c) e w = absurd (w c refl)

@@ -27,7 +27,7 @@ module _ (rule : ℕ → Outcome) (k last : ℕ) (rest : Next) where
   pub reached-none : Reached 1
   reached-none = let e : last + 1 - 1 ≡ last = omega arith in record { upto = omega arith; is = rw e refl }
 
-  pub reached-more : {i : ℕ} → Reached i → i ≤ last → rule i ≡ (Err Passes) → Reached (i + 1)
+  pub reached-more : {i : ℕ} → Reached i → i ≤ last → rule i ≡ Err Passes → Reached (i + 1)
   reached-more {i} h l e = record { upto = omega arith; is = h.is ∙ upward-at i l ∙ rw e refl }
 
   pub reached-found : {i : ℕ} {c : Change} → Reached i → i ≤ last → rule i ≡ Ok c → Takes (record { rule = k; place = i; change = c }) ≡ upward rule k last 1 rest
@@ -38,7 +38,7 @@ module _ (rule : ℕ → Outcome) (k last : ℕ) (rest : Next) where
   reached-all {i} h l = let e : last + 1 - i ≡ 0 = omega arith in sym (h.is ∙ rw e refl)
 
 -- where a rule passes everywhere, nothing is found
-pub upward-none : (rule : ℕ → Outcome) (k : ℕ) (rest : Next) → (many i : ℕ) → ((j : ℕ) → i ≤ j → j < i + many → rule j ≡ (Err Passes)) → upward rule k many i rest ≡ rest
+pub upward-none : (rule : ℕ → Outcome) (k : ℕ) (rest : Next) → (many i : ℕ) → ((j : ℕ) → i ≤ j → j < i + many → rule j ≡ Err Passes) → upward rule k many i rest ≡ rest
 unfolding upward
 upward-none rule k rest zero i h = refl
 upward-none rule k rest (suc many) i h = rw (h i (omega arith) (omega (arith, add-one many))) (upward-none rule k rest many (suc i) (λ j l m. h j (omega (arith, add-one i)) (omega (arith, add-one i, add-one many))))

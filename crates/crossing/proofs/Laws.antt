@@ -335,7 +335,7 @@ module _ (net : Net) (g : Legal net) (i n1 n2 p1 p2 k1 k2 k3 k4 : ℕ) {chg : Ch
         new = (up.0.number.1, (up.1.0.number.1, (up.1.1.0.number.1, (up.1.1.1.0.number.1, tt))));
       }) back sound agrees
 
-unused : (net : Net) (i : ℕ) → is_here net i ≡ false → crossing net i ≡ (Err Passes)
+unused : (net : Net) (i : ℕ) → is_here net i ≡ false → crossing net i ≡ Err Passes
 unfolding crossing only_where
 unused net i e = rw e
 

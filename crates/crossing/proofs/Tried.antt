@@ -32,11 +32,11 @@ use Rattle.crossing.specs.Crossing.{signed_after, crossing}
 use Rattle.crossing.specs.Tried.{no_signed, signed_in, signed_of, crossing_by}
 use Rattle.crossing.proofs.Signs.{positive, signs, signed-first, sign-touches}
 
-pub passes : (net : Net) (i : ℕ) → (is_zero (supply_at net i) && eqb (degree_of net i) 4) ≡ false → crossing net i ≡ (Err Passes)
+pub passes : (net : Net) (i : ℕ) → (is_zero (supply_at net i) && eqb (degree_of net i) 4) ≡ false → crossing net i ≡ Err Passes
 unfolding crossing only_where
 passes net i = by (is_here net i) (eqb (degree_of net i) 4) (is_zero (supply_at net i)) _
   where
-    by : (h d z : Bool) (x : Outcome) → (z && d) ≡ false → only_where h (only_where d (only_where z x)) ≡ (Err Passes)
+    by : (h d z : Bool) (x : Outcome) → (z && d) ≡ false → only_where h (only_where d (only_where z x)) ≡ Err Passes
     by true true true x e = unlike (sym e)
     by true true false x e = refl
     by true false z x e = refl

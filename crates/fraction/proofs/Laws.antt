@@ -56,15 +56,15 @@ pub misfit_is : (w : Worked) → IsErr w → w ≡ Err misfit
 misfit_is (Ok x) e = never cc
 misfit_is (Err m) e = refl
 
-pub fitted-no-num : (n : ℤ) (d : ℕ) → most < nat_abs n → fitted n d ≡ (Err misfit)
+pub fitted-no-num : (n : ℤ) (d : ℕ) → most < nat_abs n → fitted n d ≡ Err misfit
 unfolding fitted
 fitted-no-num n d h = rw (lt-leb _ _ h)
 
-pub fitted-no-den : (n : ℤ) (d : ℕ) → most < d → fitted n d ≡ (Err misfit)
+pub fitted-no-den : (n : ℤ) (d : ℕ) → most < d → fitted n d ≡ Err misfit
 unfolding fitted
 fitted-no-den n d h = rw (lt-leb d most h) (no (leb (nat_abs n) most))
   where
-    no : (t : Bool) → cond (t && false) (Ok (over n d)) (Err misfit) ≡ (Err misfit)
+    no : (t : Bool) → cond (t && false) (Ok (over n d)) (Err misfit) ≡ Err misfit
     no true = refl
     no false = refl
 
@@ -78,7 +78,7 @@ fitted-is n d w e = by (leb (nat_abs n) most) (leb d most) (leb-true _ _) (leb-t
     by true false f g e = absurd (let b : ◌≡◌ {A = ℕ} 0 1 = cc in omega arith)
     by false t f g e = absurd (let b : ◌≡◌ {A = ℕ} 0 1 = cc in omega arith)
 
-pub reduce-zero : (z : ℤ) (d : ℕ) → d ≡ 0 → reduce_of z d ≡ (Err misfit)
+pub reduce-zero : (z : ℤ) (d : ℕ) → d ≡ 0 → reduce_of z d ≡ Err misfit
 unfolding reduce_of
 reduce-zero z d h = rw (eq-eqb d 0 h)
 

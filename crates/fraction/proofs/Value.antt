@@ -91,11 +91,11 @@ quotient-works x y p q n =
     (eq-zero-or-pos (nat_abs y.num))
 
 -- there is no quotient by 0
-pub quotient-by-zero : (x y : Fraction) → nat_abs y.num ≡ 0 → quotient_of x y ≡ (Err misfit)
+pub quotient-by-zero : (x y : Fraction) → nat_abs y.num ≡ 0 → quotient_of x y ≡ Err misfit
 unfolding quotient_of reciprocal_of
 quotient-by-zero x y h = rw (eq-eqb _ _ h) (either (is_operand y))
   where
-    either : (t : Bool) → and_then (cond t (Err misfit) (Err misfit)) (product_of x) ≡ (Err misfit)
+    either : (t : Bool) → and_then (cond t (Err misfit) (Err misfit)) (product_of x) ≡ Err misfit
     either true = refl
     either false = refl
 

@@ -36,18 +36,18 @@ cross-is g x a y b t u =
 -- ---- what holds wherever the rule answers: where it doesn't, the rule passes
 
 module _ (constant : Fraction) (j : ℕ) (tj : Arc) (k : ℕ) (tk : Arc) where
-  passes-unless : (b : Bool) → ((x : Outcome) → Met constant j tj k tk x → b ≡ true) → b ≡ false → alike constant j tj k tk ≡ (Err Passes)
+  passes-unless : (b : Bool) → ((x : Outcome) → Met constant j tj k tk x → b ≡ true) → b ≡ false → alike constant j tj k tk ≡ Err Passes
   passes-unless b h e = by (alike constant j tj k tk) refl
     where
-      by : (o : Outcome) → alike constant j tj k tk ≡ o → o ≡ (Err Passes)
+      by : (o : Outcome) → alike constant j tj k tk ≡ o → o ≡ Err Passes
       by (Err Passes) q = refl
       by (Err NoFlow) q = never (let z = sym e ∙ h _ (alike-met constant j tj k tk tt q) in cc)
       by (Ok c) q = never (let z = sym e ∙ h _ (alike-met constant j tj k tk tt q) in cc)
 
   -- THE CHEAP TEST
-  pub not-multiple : is_multiple tj tk ≡ false → alike constant j tj k tk ≡ (Err Passes)
+  pub not-multiple : is_multiple tj tk ≡ false → alike constant j tj k tk ≡ Err Passes
   unfolding is_multiple
   not-multiple = passes-unless _ (λ x m. let a = ratio-is tj tk m.ratio in rw (cross-is _ _ _ _ _ (times-is _ _ _ m.cost_times) a, cross-is _ _ _ _ _ (times-is _ _ _ m.b_times) a))
 
-  pub ends-differ : (eqb tk.from tj.from && eqb tk.to tj.to) ≡ false → alike constant j tj k tk ≡ (Err Passes)
+  pub ends-differ : (eqb tk.from tj.from && eqb tk.to tj.to) ≡ false → alike constant j tj k tk ≡ Err Passes
   ends-differ = passes-unless _ (λ x m. rw (eq-eqb _ _ m.from_same, eq-eqb _ _ m.to_same))

@@ -245,7 +245,7 @@ module _ (net : Net) (g : Legal net) (j : ℕ) {c : Change} (h : Found net j (Ok
       right_of g parallel_back m.is framed (inr (record { number = k; used = used-k; dropped = stands-k }))
       (record { arcs = ((number-j.1, refl), ((number-k.1, refl), (no_old g).1.1)); named = λ x u. u; node = omega arith; supply = lit≤ tt; new = omega arith }) back (sound open-j open-k) agrees
 
-unused : (net : Net) (j : ℕ) → is_used net j ≡ false → parallel_arc net j ≡ (Err Passes)
+unused : (net : Net) (j : ℕ) → is_used net j ≡ false → parallel_arc net j ≡ Err Passes
 unfolding parallel_arc only_where
 unused net j e = rw e
 

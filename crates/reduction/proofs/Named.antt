@@ -18,22 +18,22 @@ use Rattle.step.specs.Applies.{Shown}
 use Rattle.step.specs.Run.{Rule, rule_from, or_else, upward, next_from, next_by}
 
 -- at one of the places, or what comes after them
-upward-shown : (rule : ℕ → Outcome) (k many from : ℕ) (rest : Next) (r i : ℕ) → upward rule k many from rest ≡ Refuted r i → ((r ≡ k) × (from ≤ i) × (i < from + many) × (rule i ≡ (Err NoFlow))) ⊎ (rest ≡ Refuted r i)
+upward-shown : (rule : ℕ → Outcome) (k many from : ℕ) (rest : Next) (r i : ℕ) → upward rule k many from rest ≡ Refuted r i → ((r ≡ k) × (from ≤ i) × (i < from + many) × (rule i ≡ Err NoFlow)) ⊎ (rest ≡ Refuted r i)
 unfolding upward
 upward-shown rule k zero from rest r i e = inr e
 upward-shown rule k (suc many) from rest r i e = by (rule from) refl e (upward-shown rule k many (suc from) rest r i)
   where
-    by : (o : Outcome) → rule from ≡ o → or_else k from o (upward rule k many (suc from) rest) ≡ Refuted r i → (upward rule k many (suc from) rest ≡ Refuted r i → ((r ≡ k) × (suc from ≤ i) × (i < suc from + many) × (rule i ≡ (Err NoFlow))) ⊎ (rest ≡ Refuted r i)) → ((r ≡ k) × (from ≤ i) × (i < from + suc many) × (rule i ≡ (Err NoFlow))) ⊎ (rest ≡ Refuted r i)
+    by : (o : Outcome) → rule from ≡ o → or_else k from o (upward rule k many (suc from) rest) ≡ Refuted r i → (upward rule k many (suc from) rest ≡ Refuted r i → ((r ≡ k) × (suc from ≤ i) × (i < suc from + many) × (rule i ≡ Err NoFlow)) ⊎ (rest ≡ Refuted r i)) → ((r ≡ k) × (from ≤ i) × (i < from + suc many) × (rule i ≡ Err NoFlow)) ⊎ (rest ≡ Refuted r i)
     by (Err Passes) f e on = later (on e)
       where
-        later : ((r ≡ k) × (suc from ≤ i) × (i < suc from + many) × (rule i ≡ (Err NoFlow))) ⊎ (rest ≡ Refuted r i) → ((r ≡ k) × (from ≤ i) × (i < from + suc many) × (rule i ≡ (Err NoFlow))) ⊎ (rest ≡ Refuted r i)
+        later : ((r ≡ k) × (suc from ≤ i) × (i < suc from + many) × (rule i ≡ Err NoFlow)) ⊎ (rest ≡ Refuted r i) → ((r ≡ k) × (from ≤ i) × (i < from + suc many) × (rule i ≡ Err NoFlow)) ⊎ (rest ≡ Refuted r i)
         later (inl h) = inl (h.0, omega (arith, h.1, add-one from), omega (arith, h.2, add-one from, add-one many), h.3)
         later (inr h) = inr h
     by (Err NoFlow) f e on = let p : from ≡ i = cc in inl (cc, omega arith, omega (arith, add-one many), rw (← p) f)
     by (Ok c) f e on = never cc
 
 -- by one of the rules, of numbers k upward
-from-shown : (h k : ℕ) (rules : List Rule) (net : Net) (r i : ℕ) → next_from h k rules net ≡ Refuted r i → (k ≤ r) × (r < k + length rules) × (1 ≤ i) × (i ≤ (rule_from k rules r).last) × ((rule_from k rules r).at net i ≡ (Err NoFlow))
+from-shown : (h k : ℕ) (rules : List Rule) (net : Net) (r i : ℕ) → next_from h k rules net ≡ Refuted r i → (k ≤ r) × (r < k + length rules) × (1 ≤ i) × (i ≤ (rule_from k rules r).last) × ((rule_from k rules r).at net i ≡ Err NoFlow)
 unfolding next_from rule_from
 from-shown zero k [] net r i e = never cc
 from-shown zero k (R ∷ rules) net r i e = never cc

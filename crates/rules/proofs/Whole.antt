@@ -41,14 +41,14 @@ pub few_places : (r : ℕ) → (rule_of rules r).last ≤ 96
 few_places = rule-places (λ net. Unit {0}) 1 rules lawful
 
 -- a rule passes at a number not in use: rules of nodes, and rule 1
-pub node-unused : {net : Net} → Legal net → (k i : ℕ) → is_of_nodes k ≡ true → is_here net i ≡ false → (rule_of rules k).at net i ≡ (Err Passes)
+pub node-unused : {net : Net} → Legal net → (k i : ℕ) → is_of_nodes k ≡ true → is_here net i ≡ false → (rule_of rules k).at net i ≡ Err Passes
 node-unused {net} g k i n h = rule-unused (λ net. Unit {0}) 1 rules lawful net g k i (rw (n, h))
 
 -- how a rule of nodes is tried
 pub at_nodes : (k : ℕ) → is_of_nodes k ≡ true → AtNodes (rule_of rules k)
 at_nodes = rule-at-nodes (λ net. Unit {0}) 1 rules lawful
 
-pub closed-beyond : {net : Net} → Legal net → (j : ℕ) → net.m < j → closed_arc net j ≡ (Err Passes)
+pub closed-beyond : {net : Net} → Legal net → (j : ℕ) → net.m < j → closed_arc net j ≡ Err Passes
 closed-beyond {net} g j l = lawful.0.unused net g j (rw (eq-eqb _ _ (g.arcs_beyond j l)))
 
 -- what the search finds

@@ -57,19 +57,19 @@ module _ {net : Net} (g : Legal net) where
   -- rule k of nodes, which asks for `asks`, at node i
   module _ (ds : List ℕ) (are : AreDegreesTo net net.m ds) (i : ℕ) (m : i < 33) (k : ℕ) (n : is_of_nodes k ≡ true) {asks : Asks} (q : asks ≡ asks_of k) where
     -- it answers by what it is given
-    pub answered : (eqb (get_or ds i 0) asks.degree && is_here net i) ≡ true → {near : Around} → Near net i asks.degree near → {x : Next} → x ≡ (or_else k i ((rule_of rules k).trial.by net.constant net.supply i asks.degree near) Stops) → x ≡ (or_else k i ((rule_of rules k).at net i) Stops)
+    pub answered : (eqb (get_or ds i 0) asks.degree && is_here net i) ≡ true → {near : Around} → Near net i asks.degree near → {x : Next} → x ≡ or_else k i ((rule_of rules k).trial.by net.constant net.supply i asks.degree near) Stops → x ≡ or_else k i ((rule_of rules k).at net i) Stops
     answered e {near} a x =
         let b = and_both (eqb (get_or ds i 0) asks.degree) _ e in
         let given : Given net net.constant net.supply i asks.degree near = record { legal = g; here = b.1; constant_is = refl; supplies = refl; degree = sym (degrees-are ds are i (here-number g i b.1).0 m) ∙ eqb-true _ _ b.0; arcs = a } in
-        x ∙ ap (λ o. (or_else k i o Stops)) ((at_nodes k n).given given)
+        x ∙ ap (λ o. or_else k i o Stops) ((at_nodes k n).given given)
 
     -- where it is not in use or not of that degree, or not of that supply, the rule passes
-    pub elsewhere : 1 ≤ i → (eqb (get_or ds i 0) asks.degree && is_here net i) ≡ false → (rule_of rules k).at net i ≡ (Err Passes)
+    pub elsewhere : 1 ≤ i → (eqb (get_or ds i 0) asks.degree && is_here net i) ≡ false → (rule_of rules k).at net i ≡ Err Passes
     elsewhere l e =
         split (eqb (get_or ds i 0) asks.degree) (λ f. node-unused g k i n (rw f at e))
         (λ f. (at_nodes k n).elsewhere net i (rw (ne_eqb (degree_of net i) (asks_of k).degree (λ z. eqb-false _ _ f (degrees-are ds are i l m ∙ z ∙ sym (ap (λ (a : Asks). a.degree) q))), and-false)))
 
-    pub not-supplied : may_apply asks (supply_at net i) ≡ false → (rule_of rules k).at net i ≡ (Err Passes)
+    pub not-supplied : may_apply asks (supply_at net i) ≡ false → (rule_of rules k).at net i ≡ Err Passes
     not-supplied e = (at_nodes k n).elsewhere net i (rw (rw q at e))
 
 -- the arcs at a node, as the list has them

@@ -33,12 +33,12 @@ use Rattle.parallel_arcs.proofs.Search.{found}
 
 -- ---- an answer at two arcs, as the code has it
 
-not_found : (j : ℕ) {x : Next} (o : Outcome) → x ≡ (or_else 7 j o Stops) → is_found x ≡ false → o ≡ (Err Passes)
+not_found : (j : ℕ) {x : Next} (o : Outcome) → x ≡ or_else 7 j o Stops → is_found x ≡ false → o ≡ Err Passes
 not_found j (Err Passes) e f = refl
 not_found j (Err NoFlow) e f = unlike (sym (rw e at f))
 not_found j (Ok c) e f = unlike (sym (rw e at f))
 
-found-yes : (j : ℕ) {x : Next} (o : Outcome) → x ≡ (or_else 7 j o Stops) → is_found x ≡ true → is_passing o ≡ false
+found-yes : (j : ℕ) {x : Next} (o : Outcome) → x ≡ or_else 7 j o Stops → is_found x ≡ true → is_passing o ≡ false
 found-yes j (Err Passes) e f = unlike (rw e at f)
 found-yes j (Err NoFlow) e f = refl
 found-yes j (Ok c) e f = refl
@@ -61,15 +61,15 @@ module _ (net : Net) (j : ℕ) where
     pub within : k ≤ 96
     pub above : 1 ≤ k → j < k
     pub joins : 1 ≤ k → parallel k ≡ true
-    pub pass : (i : ℕ) → j < i → i ≤ 96 → (1 ≤ k → i < k) → with i ≡ (Err Passes)
+    pub pass : (i : ℕ) → j < i → i ≤ 96 → (1 ≤ k → i < k) → with i ≡ Err Passes
 
   -- an arc that is not parallel
-  apart : (i : ℕ) → parallel i ≡ false → with i ≡ (Err Passes)
+  apart : (i : ℕ) → parallel i ≡ false → with i ≡ Err Passes
   unfolding is_parallel
   apart i e = ends-differ net.constant j (arc_at net j) i (arc_at net i) e
 
   -- k is the next one after number m
-  next-after : {m k : ℕ} → j ≤ m → First parallel m k → ((i : ℕ) → j < i → i ≤ m → with i ≡ (Err Passes)) → Chain k
+  next-after : {m k : ℕ} → j ≤ m → First parallel m k → ((i : ℕ) → j < i → i ≤ m → with i ≡ Err Passes) → Chain k
   next-after {m} {k} l f before =
       record {
         within = f.within;
@@ -95,11 +95,11 @@ module _ (net : Net) (j : ℕ) where
         let f = scan-first (λ i. is_parallel (arc_at net k) (arc_at net i)) k in
         rw (are k, from, to, used) (rw (from, to) at f)
 
-    chain_more : {k : ℕ} → Chain k → 1 ≤ k → with k ≡ (Err Passes) → Chain (get_or next k 0)
+    chain_more : {k : ℕ} → Chain k → 1 ≤ k → with k ≡ Err Passes → Chain (get_or next k 0)
     chain_more {k} h l e = next-after {m = k} (omega (arith, h.above l)) (chain-after h l) (λ i a b. ⊎_elim (λ z. rw z e) (λ m. h.pass i a (omega (arith, h.within)) (λ _. m)) (eq-or-lt_of_le b))
 
     -- the rule passes at k, by its answer or by the cheap test
-    pub chain-past : {k : ℕ} → Chain k → 1 ≤ k → {x : Next} → x ≡ (or_else 7 j (with k) Stops) → is_found x ≡ false → Chain (get_or next k 0)
+    pub chain-past : {k : ℕ} → Chain k → 1 ≤ k → {x : Next} → x ≡ or_else 7 j (with k) Stops → is_found x ≡ false → Chain (get_or next k 0)
     chain-past {k} h l e f = chain_more h l (not_found j (with k) e f)
 
     pub chain-skip : {k : ℕ} → Chain k → 1 ≤ k → is_multiple (arc_at net j) (arc_at net k) ≡ false → Chain (get_or next k 0)
@@ -113,14 +113,14 @@ module _ (net : Net) (j : ℕ) where
         by n a = split (eqb n 0) (λ e. rw (e, ne_eqb k 0 (λ z. omega arith)) (omega (arith, h.within))) (λ e. let b = eqb-false n 0 e in rw (e, ne_eqb k 0 (λ z. omega arith)) (omega (arith, h.within, a (omega arith))))
 
     -- the d numbers after j are looked at
-    reach : (d : ℕ) → d ≤ 96 - j → ((x : ℕ) → j < x → x < j + 1 + d → with x ≡ (Err Passes)) → Scanned or_next (Err Passes) with (96 - j) (j + 1) (j + 1 + d)
+    reach : (d : ℕ) → d ≤ 96 - j → ((x : ℕ) → j < x → x < j + 1 + d → with x ≡ Err Passes) → Scanned or_next (Err Passes) with (96 - j) (j + 1) (j + 1 + d)
     reach zero l h = let z : j + 1 + 0 ≡ j + 1 = omega arith in rw z (scanned-none or_next (Err Passes) with (96 - j) (j + 1))
     reach (suc d) l h =
         let z : j + 1 + suc d ≡ j + 1 + d + 1 = omega (arith, add-one d) in
         rw z (scanned-more or_next (Err Passes) (reach d (omega (arith, add-one d)) (λ x a b. h x a (omega (arith, add-one d)))) (omega (arith, add-one d)) (sym (h (j + 1 + d) (omega arith) (omega (arith, add-one d)))) (λ g i. refl))
 
     -- the answer at k is that of the rule
-    pub chain-found : {k : ℕ} → Chain k → 1 ≤ k → {x : Next} → x ≡ (or_else 7 j (with k) Stops) → is_found x ≡ true → x ≡ (or_else 7 j (parallel_arc net j) Stops)
+    pub chain-found : {k : ℕ} → Chain k → 1 ≤ k → {x : Next} → x ≡ or_else 7 j (with k) Stops → is_found x ≡ true → x ≡ or_else 7 j (parallel_arc net j) Stops
     unfolding parallel_arc only_where
     chain-found {k} h l e f =
         let a = h.above l in
@@ -128,19 +128,19 @@ module _ (net : Net) (j : ℕ) where
         let z : j + 1 + (k - (j + 1)) ≡ k = omega arith in
         let s = rw z at (reach (k - (j + 1)) (omega arith) (λ x m n. h.pass x m (omega arith) (λ _. omega arith))) in
         let q : with k ≡ parallel_arc net j = rw used (found s (omega arith) (omega arith) refl (found-yes j (with k) e f)) in
-        e ∙ ap (λ o. (or_else 7 j o Stops)) q
+        e ∙ ap (λ o. or_else 7 j o Stops) q
 
     -- there are no more
-    pub chain-none : {k : ℕ} → Chain k → k < 1 → parallel_arc net j ≡ (Err Passes)
+    pub chain-none : {k : ℕ} → Chain k → k < 1 → parallel_arc net j ≡ Err Passes
     unfolding parallel_arc only_where
     chain-none h l = rw used (sym (scanned-all or_next (Err Passes) (reach (96 - j) (omega arith) (λ x m n. h.pass x m (omega arith) (λ y. absurd (omega arith)))) (omega arith)))
 
   -- an arc that is not in use, or has no parallel arc after it
-  pub no_pairs : Legal net → (next : List ℕ) → AreParallel net next → get_or next j 0 ≡ 0 → parallel_arc net j ≡ (Err Passes)
+  pub no_pairs : Legal net → (next : List ℕ) → AreParallel net next → get_or next j 0 ≡ 0 → parallel_arc net j ≡ Err Passes
   unfolding parallel_arc only_where
   no_pairs g next are e = split (is_used net j) (λ u. chain-none u next are (chain_first u next are) (omega (arith, e))) off
     where
-      off : is_used net j ≡ false → parallel_arc net j ≡ (Err Passes)
+      off : is_used net j ≡ false → parallel_arc net j ≡ Err Passes
       off u = rw u
 
   pub pairs-used : Legal net → (next : List ℕ) → AreParallel net next → (get_or next j 0 ≡ 0 → ⊥) → is_used net j ≡ true
@@ -150,6 +150,6 @@ module _ (net : Net) (j : ℕ) where
   used-in g u = let n = eqb-false (arc_at net j).from 0 (not-true _ u) in omega (arith, (used-number g j (omega arith)).1)
 
   -- no arc above m
-  pub pairs-beyond : Legal net → net.m < j → parallel_arc net j ≡ (Err Passes)
+  pub pairs-beyond : Legal net → net.m < j → parallel_arc net j ≡ Err Passes
   unfolding parallel_arc only_where
   pairs-beyond g l = rw (eq-eqb _ _ (g.arcs_beyond j l))

@@ -46,7 +46,7 @@ past (Takes s) rest f = unlike (sym f)
 -- ---- one rule; x is the answer at place i, as the code has it
 
 module _ {rule : ℕ → Outcome} {k last i : ℕ} (h : Reached rule k last Stops i) where
-  module _ (l : i ≤ last) {x : Next} (e : x ≡ (or_else k i (rule i) Stops)) where
+  module _ (l : i ≤ last) {x : Next} (e : x ≡ or_else k i (rule i) Stops) where
     abbrev here : Next
     here = or_else k i (rule i) Stops
 
@@ -56,11 +56,11 @@ module _ {rule : ℕ → Outcome} {k last i : ℕ} (h : Reached rule k last Stop
     pub reached-on : is_found x ≡ false → Reached rule k last Stops (i + 1)
     reached-on f = record { upto = omega arith; is = step_is ∙ sym (past here _ (rw e at f)) }
 
-    pub reached-answer : is_found x ≡ true → x ≡ (upward rule k last 1 Stops)
+    pub reached-answer : is_found x ≡ true → x ≡ upward rule k last 1 Stops
     reached-answer f = e ∙ (stays here _ (rw e at f) ∙ sym step_is)
 
   -- the rule passes at all places from i on
-  pub reached-end : {x : Next} → x ≡ Stops → ((j : ℕ) → i ≤ j → rule j ≡ (Err Passes)) → x ≡ (upward rule k last 1 Stops)
+  pub reached-end : {x : Next} → x ≡ Stops → ((j : ℕ) → i ≤ j → rule j ≡ Err Passes) → x ≡ upward rule k last 1 Stops
   reached-end e f = e ∙ (sym (h.is ∙ upward-none rule k Stops (last + 1 - i) i (λ j l m. f j l)))
 
 -- ---- rule 4: no arc up to number m is a root arc without upper bound
@@ -72,14 +72,14 @@ pub unused-none : {net : Net} → Legal net → (k : ℕ) → (arc_at net k).fro
 unfolding is_open_root is_root is_same
 unused-none g k e = rw (g.unused k e)
 
-pub no_root : {net : Net} {x : Next} → Legal net → false ≡ any (root_at net) (net.m + 1) → x ≡ Stops → x ≡ (upward (costly_arc net) 4 96 1 Stops)
+pub no_root : {net : Net} {x : Next} → Legal net → false ≡ any (root_at net) (net.m + 1) → x ≡ Stops → x ≡ upward (costly_arc net) 4 96 1 Stops
 no_root {net} g h e =
     e ∙ (sym (no-open-root net Stops (λ k m. split (ltb k (net.m + 1)) (λ f. none_any _ _ (sym h) k (ltb-true _ _ f)) (λ f. unused-none g k (g.arcs_beyond k (omega (arith, ltb-false k (net.m + 1) f)))))))
 
 -- ---- what this rule finds, and what comes after it: a is what this one finds
 
-module _ (rule : ℕ → Outcome) (k last : ℕ) (rest : Next) {a : Next} (e : a ≡ (upward rule k last 1 Stops)) where
-  found_here : is_found a ≡ true → a ≡ (upward rule k last 1 rest)
+module _ (rule : ℕ → Outcome) (k last : ℕ) (rest : Next) {a : Next} (e : a ≡ upward rule k last 1 Stops) where
+  found_here : is_found a ≡ true → a ≡ upward rule k last 1 rest
   found_here f = e ∙ (stays (upward rule k last 1 Stops) rest (rw e at f) ∙ sym (upward-rest rule k rest last 1))
 
   found-later : is_found a ≡ false → rest ≡ upward rule k last 1 rest
@@ -113,14 +113,14 @@ none_left k l e =
 
 -- what the scans find, by the rule's number
 module _ (net : Net) (k : ℕ) {a : Next} where
-  pub by-nodes : is_of_nodes k ≡ true → a ≡ (upward ((rule_of rules k).at net) k 32 1 Stops) → a ≡ (upward ((rule_of rules k).at net) k (rule_of rules k).last 1 Stops)
+  pub by-nodes : is_of_nodes k ≡ true → a ≡ upward ((rule_of rules k).at net) k 32 1 Stops → a ≡ upward ((rule_of rules k).at net) k (rule_of rules k).last 1 Stops
   by-nodes n e = rw (eqb-true (rule_of rules k).last 32 n) e
 
-  pub by-costly : k ≡ 4 → a ≡ (upward (costly_arc net) 4 96 1 Stops) → a ≡ (upward ((rule_of rules k).at net) k (rule_of rules k).last 1 Stops)
+  pub by-costly : k ≡ 4 → a ≡ upward (costly_arc net) 4 96 1 Stops → a ≡ upward ((rule_of rules k).at net) k (rule_of rules k).last 1 Stops
   unfolding rule_from
   by-costly q e = rw q e
 
-  pub by-parallel : k ≡ 7 → a ≡ (upward (parallel_arc net) 7 96 1 Stops) → a ≡ (upward ((rule_of rules k).at net) k (rule_of rules k).last 1 Stops)
+  pub by-parallel : k ≡ 7 → a ≡ upward (parallel_arc net) 7 96 1 Stops → a ≡ upward ((rule_of rules k).at net) k (rule_of rules k).last 1 Stops
   unfolding rule_from
   by-parallel q e = rw q e
 
@@ -136,16 +136,16 @@ pub from_first : (net : Net) → From net 1
 from_first net = record { later = rules; many = refl; is = refl; rule = λ r l. refl }
 
 -- a is what rule k finds: rule k is the first of those that are left
-module _ {net : Net} {k : ℕ} (h : From net k) (l : k ≤ last_rule) {a : Next} (e : a ≡ (upward ((rule_of rules k).at net) k (rule_of rules k).last 1 Stops)) where
-  found-by : (R : Rule) (rs : List Rule) → rule_from k (R ∷ rs) k ≡ rule_of rules k → a ≡ (upward (R.at net) k R.last 1 Stops)
+module _ {net : Net} {k : ℕ} (h : From net k) (l : k ≤ last_rule) {a : Next} (e : a ≡ upward ((rule_of rules k).at net) k (rule_of rules k).last 1 Stops) where
+  found-by : (R : Rule) (rs : List Rule) → rule_from k (R ∷ rs) k ≡ rule_of rules k → a ≡ upward (R.at net) k R.last 1 Stops
   unfolding rule_from
-  found-by R rs q = subst (λ (R : Rule). a ≡ (upward (R.at net) k R.last 1 Stops)) (sym (rw (eq-eqb k k refl) at q)) e
+  found-by R rs q = subst (λ (R : Rule). a ≡ upward (R.at net) k R.last 1 Stops) (sym (rw (eq-eqb k k refl) at q)) e
 
-  pub from_here : is_found a ≡ true → a ≡ (next_of net)
+  pub from_here : is_found a ≡ true → a ≡ next_of net
   unfolding next_from
   from_here f = by h.later h.many h.is (h.rule k (omega arith))
     where
-      by : (rs : List Rule) → length rs + k ≡ last_rule + 1 → next_of net ≡ next_from (length rs) k rs net → rule_from k rs k ≡ rule_of rules k → a ≡ (next_of net)
+      by : (rs : List Rule) → length rs + k ≡ last_rule + 1 → next_of net ≡ next_from (length rs) k rs net → rule_from k rs k ≡ rule_of rules k → a ≡ next_of net
       by [] m i q = absurd (omega (arith, m))
       by (R ∷ rs) m i q = found_here (R.at net) k R.last (next_from (length rs) (suc k) rs net) (found-by R rs q) f ∙ (sym i)
 
@@ -164,8 +164,8 @@ module _ {net : Net} {k : ℕ} (h : From net k) (l : k ≤ last_rule) {a : Next}
           }
 
 -- rule 1 is the first
-module _ (net : Net) {a : Next} (e : a ≡ (upward (closed_arc net) 1 96 1 Stops)) where
-  pub closed-here : is_found a ≡ true → a ≡ (next_of net)
+module _ (net : Net) {a : Next} (e : a ≡ upward (closed_arc net) 1 96 1 Stops) where
+  pub closed-here : is_found a ≡ true → a ≡ next_of net
   unfolding rule_from
   closed-here = from_here (from_first net) (lit≤ tt) e
 
@@ -173,10 +173,10 @@ module _ (net : Net) {a : Next} (e : a ≡ (upward (closed_arc net) 1 96 1 Stops
   unfolding rule_from
   closed-later = from_more (from_first net) (lit≤ tt) e
 
-pub from-done : {net : Net} {k : ℕ} → From net k → last_rule < k → {a : Next} → a ≡ Stops → a ≡ (next_of net)
+pub from-done : {net : Net} {k : ℕ} → From net k → last_rule < k → {a : Next} → a ≡ Stops → a ≡ next_of net
 unfolding next_from
 from-done {net} {k} h l {a} e = e ∙ by h.later h.many h.is
   where
-    by : (rs : List Rule) → length rs + k ≡ last_rule + 1 → next_of net ≡ next_from (length rs) k rs net → Stops ≡ (next_of net)
+    by : (rs : List Rule) → length rs + k ≡ last_rule + 1 → next_of net ≡ next_from (length rs) k rs net → Stops ≡ next_of net
     by [] m i = (sym i)
     by (R ∷ rs) m i = absurd (omega (arith, m, add-one (length rs)))

@@ -34,7 +34,9 @@ pub struct Ran {
     pub contradiction: Option<Contradiction>,
 }
 
-// A run under way, beside its arcs and its log.
+// A run under way, beside its arcs and its log. Log and list stay two parameters, lent by the entries' callers (01): the search reads
+// the list alone, a step writes both, and the way back (`postsolve`) reads the log and writes the list, so that a struct of both
+// would be taken apart at each use.
 #[derive(Clone, Copy)]
 struct Progress {
     nodes: Nodes,

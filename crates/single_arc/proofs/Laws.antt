@@ -171,7 +171,7 @@ module _ (net : Net) (g : Legal net) (i : ℕ) {x : Outcome} (m : Single net i x
       (single-sound (record { place = single-at; within = within f.not_below f.not_above; removed = subst (Removed N (program_of (applied net (dropping j w.other f.s 0 no_figure i f.k))) j) flow-is (removed f.supply f.cost) }))
       undone
 
-unused : (net : Net) (i : ℕ) → is_here net i ≡ false → single_arc net i ≡ (Err Passes)
+unused : (net : Net) (i : ℕ) → is_here net i ≡ false → single_arc net i ≡ Err Passes
 unfolding single_arc only_where
 unused net i e = rw e
 

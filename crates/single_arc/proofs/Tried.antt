@@ -17,7 +17,7 @@ use Rattle.step.specs.Around.{Given}
 use Rattle.step.proofs.Lines.{split}
 use Rattle.single_arc.specs.SingleArc.{single, single_arc}
 
-pub passes : (net : Net) (i : ℕ) → eqb (degree_of net i) 1 ≡ false → single_arc net i ≡ (Err Passes)
+pub passes : (net : Net) (i : ℕ) → eqb (degree_of net i) 1 ≡ false → single_arc net i ≡ Err Passes
 unfolding single_arc single only_where
 passes net i e = split (is_here net i) (λ h. rw (h, e)) (λ h. rw h)
 

@@ -129,16 +129,16 @@ in_use R net i = cond (eqb R.last max_nodes) (is_here net i) (is_used net i)
 
 -- a rule of nodes passes where degree or supply is not what it asks for, and answers by what it is given
 pub record AtNodes (R : Rule) : Type 0 where
-  pub elsewhere : (net : Net) (i : ℕ) → ((not R.trial.balanced || is_zero (supply_at net i)) && eqb (degree_of net i) R.trial.degree) ≡ false → R.at net i ≡ (Err Passes)
+  pub elsewhere : (net : Net) (i : ℕ) → ((not R.trial.balanced || is_zero (supply_at net i)) && eqb (degree_of net i) R.trial.degree) ≡ false → R.at net i ≡ Err Passes
   pub given : {net : Net} {constant : Fraction} {supply : List Fraction} {i d : ℕ} {near : Around} → Given net constant supply i d near → R.trial.by constant supply i d near ≡ R.at net i
 
 -- a rule that is tried on legal networks of which P is known
 pub record RuleLaws (P : Net → Type 0) (R : Rule) : Type 0 where
   pub few_places : R.last ≤ 96
   -- it passes at a number not in use
-  pub unused : (net : Net) → Legal net → (i : ℕ) → in_use R net i ≡ false → R.at net i ≡ (Err Passes)
+  pub unused : (net : Net) → Legal net → (i : ℕ) → in_use R net i ≡ false → R.at net i ≡ Err Passes
   pub at_nodes : eqb R.last max_nodes ≡ true → AtNodes R
-  pub no_flow : (net : Net) → Legal net → P net → (i : ℕ) → R.at net i ≡ (Err NoFlow) → LP.NoFlow (program_of net)
+  pub no_flow : (net : Net) → Legal net → P net → (i : ℕ) → R.at net i ≡ Err NoFlow → LP.NoFlow (program_of net)
   pub right : (net : Net) → Legal net → P net → (i : ℕ) {c : Change} → R.at net i ≡ Ok c → Right net c (R.back c.old)
 
 -- a change whose parts are legal: that network, and those counts

@@ -37,7 +37,7 @@ flow-met false rest e = inr (refl, e)
 pub change-is : {c d : Change} → ◌≡◌ {A = Outcome} (Ok d) (Ok c) → c ≡ d
 change-is e = cc
 
-pub not-shown : {X : Type 0} {c : Change} → Ok c ≡ (Err NoFlow) → X
+pub not-shown : {X : Type 0} {c : Change} → Ok c ≡ Err NoFlow → X
 not-shown e = never cc
 
 pub not-changed : {X : Type 0} {c : Change} → (Err NoFlow) ≡ Ok c → X

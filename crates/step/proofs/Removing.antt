@@ -190,5 +190,5 @@ lower-right net g j {c} used proper e sound =
     (λ pair z r q. rw (made-is q) (flow-put (itself z) j t.lower (used-number g j used) (proper, refl)))
 
 -- a drop shows nothing
-pub dropped-shows : {X : Type 0} (net : Net) (j : ℕ) (v : Fraction) → dropped_at net j v ≡ (Err NoFlow) → X
+pub dropped-shows : {X : Type 0} (net : Net) (j : ℕ) (v : Fraction) → dropped_at net j v ≡ Err NoFlow → X
 dropped-shows net j v e = not-shown (dropped-met net j v tt e).is

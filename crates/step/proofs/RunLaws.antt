@@ -51,7 +51,7 @@ unfolding rule_from
 rule-places P k [] laws r = omega arith
 rule-places P k (R ∷ rules) laws r = split (eqb r k) (λ e. rw e laws.0.few_places) (λ e. rw e (rule-places _ (suc k) rules laws.1 r))
 
-pub rule-unused : (P : Net → Type 0) (k : ℕ) (rules : List Rule) → Lawful P rules → (net : Net) → Legal net → (r i : ℕ) → in_use (rule_from k rules r) net i ≡ false → (rule_from k rules r).at net i ≡ (Err Passes)
+pub rule-unused : (P : Net → Type 0) (k : ℕ) (rules : List Rule) → Lawful P rules → (net : Net) → Legal net → (r i : ℕ) → in_use (rule_from k rules r) net i ≡ false → (rule_from k rules r).at net i ≡ Err Passes
 unfolding rule_from
 rule-unused P k [] laws net g r i = λ h. refl
 rule-unused P k (R ∷ rules) laws net g r i = split (eqb r k) (λ e. rw e (laws.0.unused net g i)) (λ e. rw e (rule-unused _ (suc k) rules laws.1 net g r i))
@@ -70,18 +70,18 @@ rule-within k (R ∷ rules) r = split (eqb r k) (λ e h. omega (arith, eqb-true 
 -- ---- one rule at its places
 
 -- what holds of no flow and of a change at any of them, and of the rest where all pass
-upward-each : (P : Next → Type 0) (rule : ℕ → Outcome) (k many i : ℕ) (rest : Next) → ((j : ℕ) → rule j ≡ (Err NoFlow) → P (Refuted k j)) → ((j : ℕ) (c : Change) → j < i + many → rule j ≡ Ok c → P (Takes (record { rule = k; place = j; change = c })))
-    → (((j : ℕ) → i ≤ j → j < i + many → rule j ≡ (Err Passes)) → P rest) → P (upward rule k many i rest)
+upward-each : (P : Next → Type 0) (rule : ℕ → Outcome) (k many i : ℕ) (rest : Next) → ((j : ℕ) → rule j ≡ Err NoFlow → P (Refuted k j)) → ((j : ℕ) (c : Change) → j < i + many → rule j ≡ Ok c → P (Takes (record { rule = k; place = j; change = c })))
+    → (((j : ℕ) → i ≤ j → j < i + many → rule j ≡ Err Passes) → P rest) → P (upward rule k many i rest)
 unfolding upward
 upward-each P rule k zero i rest r t p = p (λ j l h. absurd (omega arith))
 upward-each P rule k (suc many) i rest r t p =
     by (rule i) refl (λ e. upward-each P rule k many (suc i) rest r (λ j c l. t j c (omega (arith, l, add-one i, add-one many))) (λ f. p (λ j l h. each e f j l h (ℕ_discrete j i))))
   where
-    each : rule i ≡ (Err Passes) → ((j : ℕ) → suc i ≤ j → j < suc i + many → rule j ≡ (Err Passes)) → (j : ℕ) → i ≤ j → j < i + suc many → Dec (j ≡ i) → rule j ≡ (Err Passes)
+    each : rule i ≡ Err Passes → ((j : ℕ) → suc i ≤ j → j < suc i + many → rule j ≡ Err Passes) → (j : ℕ) → i ≤ j → j < i + suc many → Dec (j ≡ i) → rule j ≡ Err Passes
     each e f j l h (yes z) = ap rule z ∙ e
     each e f j l h (no n) = f j (omega (arith, add-one i)) (omega (arith, add-one i, add-one many))
 
-    by : (o : Outcome) → rule i ≡ o → (rule i ≡ (Err Passes) → P (upward rule k many (suc i) rest)) → P (or_else k i o (upward rule k many (suc i) rest))
+    by : (o : Outcome) → rule i ≡ o → (rule i ≡ Err Passes → P (upward rule k many (suc i) rest)) → P (or_else k i o (upward rule k many (suc i) rest))
     by (Err NoFlow) e on = r i e
     by (Ok c) e on = t i c (omega (arith, add-one many)) e
     by (Err Passes) e on = on e

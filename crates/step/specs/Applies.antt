@@ -7,7 +7,7 @@ use Rattle.step.specs.Run.{Rule, rule_of}
 
 -- a rule passes at all its places
 abbrev pub Passing : Rule → Net → Type 0
-Passing R net = (i : ℕ) → 1 ≤ i → i ≤ R.last → R.at net i ≡ (Err Passes)
+Passing R net = (i : ℕ) → 1 ≤ i → i ≤ R.last → R.at net i ≡ Err Passes
 
 -- so do rules 1 to h of a table
 abbrev pub NoneApplies : ℕ → List Rule → Net → Type 0
@@ -17,4 +17,4 @@ NoneApplies h rules net = (r : ℕ) → 1 ≤ r → r ≤ h → Passing (rule_of
 pub record Shown (rules : List Rule) (net : Net) (r i : ℕ) : Type 0 where
   pub rule : (1 ≤ r) × (r ≤ length rules)
   pub place : (1 ≤ i) × (i ≤ (rule_of rules r).last)
-  pub shows : (rule_of rules r).at net i ≡ (Err NoFlow)
+  pub shows : (rule_of rules r).at net i ≡ Err NoFlow

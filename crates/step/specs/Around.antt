@@ -34,7 +34,7 @@ pub record Trial : Type 0 where
 
 -- of a rule of arcs
 abbrev pub no_trial : Trial
-no_trial = record { degree = 0; balanced = false; by = λ constant supply i d near. (Err Passes) }
+no_trial = record { degree = 0; balanced = false; by = λ constant supply i d near. Err Passes }
 
 -- of the arcs that touch node i, as many as d asks for
 pub record Near (net : Net) (i d : ℕ) (near : Around) : Type 0 where

@@ -1,4 +1,4 @@
--- Arcs that meet at a node: what rule 8 asks of them, as rule 6 (`crossing`) asks it in words of its own.
+-- Arcs that meet at a node: what rules 6 and 8 ask of them.
 use Rattle.std.specs.Prelude.{Bool, cond, ◌&&◌, not, ℕ, eqb}
 use Rattle.fraction.specs.declared.Fraction.{Fraction}
 use Rattle.fraction.specs.Exact.{zero_fraction, no_upper, is_zero, is_less, is_same}

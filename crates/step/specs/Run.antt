@@ -26,7 +26,7 @@ pub record Rule : Type 0 where
 
 -- rule r of a table whose first is number k; where there is none, one that passes everywhere
 unfoldable pub rule_from : ℕ → List Rule → ℕ → Rule
-rule_from k [] r = record { last = 0; at = λ net i. (Err Passes); back = λ old pair. (Err misfit); trial = no_trial }
+rule_from k [] r = record { last = 0; at = λ net i. Err Passes; back = λ old pair. Err misfit; trial = no_trial }
 rule_from k (R ∷ rules) r = cond (eqb r k) R (rule_from (suc k) rules r)
 
 abbrev pub rule_of : List Rule → ℕ → Rule

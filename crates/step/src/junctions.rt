@@ -1,4 +1,4 @@
-// Arcs that meet at a node: what rule 8 asks of them, as rule 6 (`crossing`) asks it in words of its own.
+// Arcs that meet at a node: what rules 6 and 8 ask of them.
 ghost use Rattle.std.specs.Prelude.{◌≡◌, true};
 ghost use Rattle.step.specs.Back.{flow_of, quote_of};
 ghost use Rattle.step.specs.Junction.{sign_by, has_sign_at, is_free, is_apart};

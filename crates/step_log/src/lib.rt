@@ -16,7 +16,7 @@ pub const STEP_WORDS: usize = 80;
 // The words of the steps of the longest run.
 pub const LOG_WORDS: usize = STEP_WORDS * MAX_STEPS;
 
-// ---- written
+// ---- written: each figure at its place, as `Log` has it. A slice behind every figure would hide the places by which steps are read.
 
 #[tactic(auto, unfolding(crate::specs::Log::with_figure))]
 fn put_figure(words: &mut [i32], at: usize, f: Fraction)
@@ -155,7 +155,7 @@ fn start(k: usize) -> usize
     }
 }
 
-// The rule of step k.
+// The rule of step k, a number as in `step::Step`.
 #[tactic(auto, unfolding(crate::specs::Log::rule_in))]
 pub fn rule_at(words: &[i32], k: usize) -> usize
     ensures { result ≡ rule_in words.now k }

@@ -468,7 +468,7 @@ module _ (net : Net) (g : Legal net) (i n1 n2 n3 : ℕ) {chg : Change} (m : Met 
       right_of g three_back m.is framed (inl here)
       (record { arcs = ((m.one.at.number.1, refl), ((m.two.at.number.1, refl), ((m.third.at.number.1, refl), (no_old g).1.1.1))); named = λ x u. u; node = (here-number g i here).1; supply = supply-small g i here; new = omega arith }) back sound (λ pair. agrees pair)
 
-unused : (net : Net) (i : ℕ) → is_here net i ≡ false → three_way net i ≡ (Err Passes)
+unused : (net : Net) (i : ℕ) → is_here net i ≡ false → three_way net i ≡ Err Passes
 unfolding three_way only_where
 unused net i e = rw e
 

@@ -20,18 +20,18 @@ use Rattle.step.proofs.Lines.{split}
 use Rattle.step.proofs.Touch.{unlike}
 use Rattle.three_way.specs.ThreeWay.{three, three_way}
 
-pub passes : (net : Net) (i : ℕ) → ((not (is_zero (supply_at net i)) && true) && eqb (degree_of net i) 3) ≡ false → three_way net i ≡ (Err Passes)
+pub passes : (net : Net) (i : ℕ) → ((not (is_zero (supply_at net i)) && true) && eqb (degree_of net i) 3) ≡ false → three_way net i ≡ Err Passes
 unfolding three_way three only_where
 passes net i = by (is_here net i) (eqb (degree_of net i) 3) (is_zero (supply_at net i)) _
   where
-    by : (h d z : Bool) (x : Outcome) → ((not z && true) && d) ≡ false → only_where h (only_where d (only_where (not z) x)) ≡ (Err Passes)
+    by : (h d z : Bool) (x : Outcome) → ((not z && true) && d) ≡ false → only_where h (only_where d (only_where (not z) x)) ≡ Err Passes
     by true true true x e = refl
     by true true false x e = unlike (sym e)
     by true false z x e = refl
     by false d z x e = refl
 
 -- the part of it that a row's trial has fields for: the trial doesn't say that the rule asks for a supply that is not 0
-pub elsewhere : (net : Net) (i : ℕ) → eqb (degree_of net i) 3 ≡ false → three_way net i ≡ (Err Passes)
+pub elsewhere : (net : Net) (i : ℕ) → eqb (degree_of net i) 3 ≡ false → three_way net i ≡ Err Passes
 elsewhere net i e = passes net i (by (not (is_zero (supply_at net i)) && true) _ e)
   where
     by : (a d : Bool) → d ≡ false → (a && d) ≡ false

@@ -356,7 +356,7 @@ module _ (net : Net) (g : Legal net) (i j k : ℕ) {c : Change} (m : Met net i j
       right_of g two_back m.made.is framed (inl m.here)
       (record { arcs = ((m.arcs.at_j.number.1, refl), ((m.arcs.at_k.number.1, refl), (no_old g).1.1)); named = λ x u. u; node = (here-number g i m.here).1; supply = supply-small g i m.here; new = omega arith }) back sound agrees
 
-unused : (net : Net) (i : ℕ) → is_here net i ≡ false → two_arcs net i ≡ (Err Passes)
+unused : (net : Net) (i : ℕ) → is_here net i ≡ false → two_arcs net i ≡ Err Passes
 unfolding two_arcs only_where
 unused net i e = rw e
 

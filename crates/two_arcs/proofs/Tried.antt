@@ -17,7 +17,7 @@ use Rattle.step.specs.Around.{Given}
 use Rattle.step.proofs.Lines.{split}
 use Rattle.two_arcs.specs.TwoArcs.{two, two_arcs}
 
-pub passes : (net : Net) (i : ℕ) → eqb (degree_of net i) 2 ≡ false → two_arcs net i ≡ (Err Passes)
+pub passes : (net : Net) (i : ℕ) → eqb (degree_of net i) 2 ≡ false → two_arcs net i ≡ Err Passes
 unfolding two_arcs two only_where
 passes net i e = split (is_here net i) (λ h. rw (h, e)) (λ h. rw h)
 

@@ -94,7 +94,7 @@ module _ (r a l b : Fraction) (pr : Operand r) (pa : Operand a) (pl : Operand l)
 
 module _ (r a l b : Fraction) where
   -- there is none over 0
-  over_zero : nat_abs (a.num *ℤ b.num) ≡ 0 → share_of r a l b ≡ (Err misfit)
+  over_zero : nat_abs (a.num *ℤ b.num) ≡ 0 → share_of r a l b ≡ Err misfit
   unfolding share_of ratio_of
   over_zero e = rw (reduce-zero _ (nat_abs (under_of r a l b)) (under-size r a l b ∙ rw (e, zero-times r.den) (zero-times l.den))) (either ((is_operand r && is_operand a) && (is_operand l && is_operand b)))
     where

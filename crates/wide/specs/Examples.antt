@@ -15,11 +15,11 @@ greatest : share_of (over (pos 2147483647) 1) (over (pos 1) 1) (over (pos 0) 1) 
 unfolding share_of ratio_of reduce_of fitted is_operand gcd gcd_by
 greatest = refl
 
-beyond : share_of (over (pos 2147483647) 1) (over (pos 1) 1) (over (negsuc 0) 1) (over (pos 1) 1) ≡ (Err misfit)
+beyond : share_of (over (pos 2147483647) 1) (over (pos 1) 1) (over (negsuc 0) 1) (over (pos 1) 1) ≡ Err misfit
 unfolding share_of ratio_of reduce_of fitted is_operand gcd gcd_by
 beyond = refl
 
 -- there is none over 0
-over_zero : share_of (over (pos 1) 1) (over (pos 1) 1) (over (pos 0) 1) (over (pos 0) 1) ≡ (Err misfit)
+over_zero : share_of (over (pos 1) 1) (over (pos 1) 1) (over (pos 0) 1) (over (pos 0) 1) ≡ Err misfit
 unfolding share_of ratio_of reduce_of fitted is_operand gcd gcd_by
 over_zero = refl

@@ -14,7 +14,7 @@ pub loop-k-init : goal.loop-k-init
 loop-k-init c = chain_first _ _ c.requires.1 c.args.next.now c.requires.0
 
 pub returns : goal.returns
-returns c = ap (λ o. (or_else 7 c.args.j o Stops)) (sym (chain-none _ _ c.requires.1 c.args.next.now c.requires.0 c.loop-k.invariant (omega (arith, c.loop-k-test.false))))
+returns c = ap (λ o. or_else 7 c.args.j o Stops) (sym (chain-none _ _ c.requires.1 c.args.next.now c.requires.0 c.loop-k.invariant (omega (arith, c.loop-k-test.false))))
 
 pub returns-then-is_found : goal.returns-then-is_found
 returns-then-is_found c =
