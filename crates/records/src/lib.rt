@@ -8,7 +8,7 @@ ghost use Rattle.fraction.specs.Words.{word, natural_of};
 ghost use Rattle.records.specs.Limits.{network_figures};
 ghost use Rattle.records.specs.Arrays.{figure_at, has_room};
 ghost use Rattle.records.specs.Network.{size_of};
-ghost use Rattle.records.specs.internal.Put.{sized, nums_at, dens_at, put_from};
+ghost use Rattle.records.specs.internal.Put.{sized, nums_in, dens_in, put_from};
 
 use fraction::Fraction;
 use network::{MAX_ARCS, MAX_NODES};
@@ -91,13 +91,11 @@ pub fn number_at(xs: &[i32], at: usize) -> usize
 // its place, made reducing a third slower.
 
 // Whether the sizes are within the limits, and there are at least so many words of room.
+#[tactic(auto, unfolding(crate::specs::Arrays::has_room))]
 fn has_room(least: usize, n: usize, m: usize, room: usize) -> bool
     ensures { result ≡ has_room least n m room }
 {
-    if n <= MAX_NODES {
-        return m <= MAX_ARCS && least <= room;
-    }
-    false
+    n <= MAX_NODES && m <= MAX_ARCS && least <= room
 }
 
 // The sizes, over the first two words, where there is room; zeros alone where there is none.
@@ -121,19 +119,13 @@ pub(crate) fn put_figure(f: Fraction, k: usize, out: &mut [i32], dens: &mut [i32
     loops::put(dens, k, f.den_word());
 }
 
-// The figures at the numbers 1 to n, from place k on.
-pub(crate) fn put_numbered<const N: usize>(
-    at: &[Fraction; N],
-    n: usize,
-    k: usize,
-    out: &mut [i32],
-    dens: &mut [i32],
-)
-    requires { (n < N) × (k ≤ network_figures) }
-    ensures { (out.new ≡ put_from (nums_at at.now) k n out.old) × (dens.new ≡ put_from (dens_at at.now) k n dens.old) }
+// Figures, from place k on.
+pub(crate) fn put_figures(figures: &[Fraction], k: usize, out: &mut [i32], dens: &mut [i32])
+    requires { k ≤ network_figures }
+    ensures { (out.new ≡ put_from (nums_in figures.now) k (length figures.now) out.old) × (dens.new ≡ put_from (dens_in figures.now) k (length figures.now) dens.old) }
 {
-    for i in 0..n {
-        put_figure(at[i + 1], k + i, out, dens);
+    for (i, f) in figures.iter().enumerate() {
+        put_figure(*f, k + i, out, dens);
     }
 }
 
@@ -143,8 +135,6 @@ pub(crate) fn write_denominators(dens: &[i32], rest: &mut [i32])
     ensures { rest.new ≡ dens.now ++ zeros (length rest.old - length dens.now) }
 {
     let t = dens.len();
-    for k in 0..t {
-        loops::put(rest, k, dens[k]);
-    }
+    rest[..t].copy_from_slice(dens);
     loops::clear(&mut rest[t..]);
 }

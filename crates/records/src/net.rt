@@ -9,7 +9,7 @@ ghost use Rattle.network.specs.ArcList.{no_arcs, nodes_of, joined};
 ghost use Rattle.records.specs.Arrays.{figure_at, arrays_of};
 ghost use Rattle.records.specs.Limits.{network_figures};
 ghost use Rattle.records.specs.Questions.{first_no};
-ghost use Rattle.records.specs.internal.Put.{num_of, den_of, nums_in, dens_in, put_from, arcs_put};
+ghost use Rattle.records.specs.internal.Put.{num_of, den_of, arcs_put};
 ghost use Rattle.records.specs.Network.{n_of, m_of, figures, sizes_right, role_of, is_permitted, is_in_form, is_end, has_ends, arc_in, is_weighted, is_weighted_at, questions, node_turn, arc_turn, read_of, load_turn, loaded, role_figure, figure_of, network_of};
 
 use crate::refusal::Refusal;
@@ -262,23 +262,13 @@ fn figures_of(t: Arc) -> [Fraction; 7]
     [from, to, cost, lower, upper, a, b]
 }
 
-// Seven figures, from place k on.
-fn put_seven(at: [Fraction; 7], k: usize, out: &mut [i32], dens: &mut [i32])
-    requires { k ≤ network_figures }
-    ensures { (out.new ≡ put_from (nums_in at) k 7 out.old) × (dens.new ≡ put_from (dens_in at) k 7 dens.old) }
+// The figures of arcs, behind the constant and n supplies.
+fn put_arcs(arcs: &[Arc], n: usize, out: &mut [i32], dens: &mut [i32])
+    requires { (n ≤ max_nodes) × (length arcs.now ≤ max_arcs) }
+    ensures { (out.new ≡ arcs_put num_of arcs.now n out.old) × (dens.new ≡ arcs_put den_of arcs.now n dens.old) }
 {
-    for r in 0..7 {
-        crate::put_figure(at[r], k + r, out, dens);
-    }
-}
-
-// The figures of the arcs 1 to m, behind the constant and n supplies.
-fn put_arcs(arcs: [Arc; ARC_PLACES], n: usize, m: usize, out: &mut [i32], dens: &mut [i32])
-    requires { (n ≤ max_nodes) × (m ≤ max_arcs) }
-    ensures { (out.new ≡ arcs_put num_of arcs n m out.old) × (dens.new ≡ arcs_put den_of arcs n m dens.old) }
-{
-    for j in 0..m {
-        put_seven(figures_of(arcs[j + 1]), 1 + n + 7 * j, out, dens);
+    for (j, t) in arcs.iter().enumerate() {
+        crate::put_figures(&figures_of(*t), 1 + n + 7 * j, out, dens);
     }
 }
 
@@ -288,11 +278,9 @@ fn write_figures(net: Net, out: &mut [i32])
     ensures { out.new ≡ arrays_of (figure_of net) (figures net.n net.m) (length out.old) }
 {
     let mut dens = [0i32; crate::NETWORK_FIGURES];
-    let constant = net.constant;
-    crate::put_figure(constant, 0, out, &mut dens);
-    crate::put_numbered(&net.supply, net.n, 1, out, &mut dens);
-    let arcs = net.arcs;
-    put_arcs(arcs, net.n, net.m, out, &mut dens);
+    crate::put_figure(net.constant, 0, out, &mut dens);
+    crate::put_figures(&net.supply[1..net.n + 1], 1, out, &mut dens);
+    put_arcs(&net.arcs[1..net.m + 1], net.n, out, &mut dens);
     let t = 1 + net.n + 7 * net.m;
     crate::write_denominators(&dens[..t], &mut out[t..]);
 }

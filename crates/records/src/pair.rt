@@ -96,8 +96,8 @@ fn write_figures(n: usize, m: usize, pair: Pair, out: &mut [i32])
     ensures { out.new ≡ arrays_of (pair_figure n pair) (n + m) (length out.old) }
 {
     let mut dens = [0i32; crate::PAIR_FIGURES];
-    crate::put_numbered(&pair.price, n, 0, out, &mut dens);
-    crate::put_numbered(&pair.flow, m, n, out, &mut dens);
+    crate::put_figures(&pair.price[1..n + 1], 0, out, &mut dens);
+    crate::put_figures(&pair.flow[1..m + 1], n, out, &mut dens);
     let t = n + m;
     crate::write_denominators(&dens[..t], &mut out[t..]);
 }

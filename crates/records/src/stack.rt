@@ -22,12 +22,9 @@ pub fn word_at(log: &[i32], s: usize, k: usize) -> i32
 pub fn write(log: &[i32], s: usize, out: &mut [i32])
     ensures { out.new ≡ with_stack log.now s out.old }
 {
-    if s <= MAX_STEPS {
-        if crate::STACK_WORDS <= out.len() {
-            let end = 1 + 2 * s;
-            for k in 0..end {
-                loops::put(out, k, word_at(log, s, k));
-            }
+    if s <= MAX_STEPS && crate::STACK_WORDS <= out.len() {
+        for (k, word) in out[..1 + 2 * s].iter_mut().enumerate() {
+            *word = word_at(log, s, k);
         }
     }
 }
