@@ -5,7 +5,7 @@ use mathlib.Core.List.{List, [], ◌∷◌, ◌++◌}
 use Prim.Native.Nat.{ℕ, ◌+◌, ◌-◌, ◌≤◌, ◌<◌}
 use lib.Dec.{leb}
 use lib.IntN.{ℤ, pos}
-use lib.ListN.{get_or-append, length, take, drop, set}
+use lib.ListN.{get_or-append, length, take, drop}
 use lib.Seq.{ext_get_or, get_or-append-add}
 use borrow.Author.Tests.{le-leb, leb-true}
 use Rattle.loops.specs.Loops.{build, written, zeros}
@@ -15,7 +15,6 @@ use Rattle.fraction.specs.Exact.{den_word}
 use Rattle.fraction.proofs.Laws.{and_both}
 use Rattle.fraction.specs.Words.{word, word_of}
 use Rattle.records.specs.Arrays.{numerators, denominators, arrays_of, has_room, record_of}
-use Rattle.records.specs.internal.Put.{sized}
 
 -- the first of what was written over a longer list
 take-front : {A : Type 0} (xs ys : List A) → take (length xs) (xs ++ ys) ≡ xs
@@ -54,10 +53,6 @@ room-is least n m room e =
     let a = and_both (leb n 32) _ e in
     let b = and_both (leb m 96) _ a.1 in
     (leb-true _ _ a.0, leb-true _ _ b.0, leb-true _ _ b.1)
-
-pub sized-room : (least n m : ℕ) (s : List ℤ) → has_room least n m (length s) ≡ true → sized least n m s ≡ set (set s 0 (word_of n)) 1 (word_of m)
-unfolding sized
-sized-room least n m s h = rw h refl
 
 pub with-room : (least n m : ℕ) (f : ℕ → Fraction) (t room : ℕ) → n ≤ 32 → m ≤ 96 → least ≤ room → record_of least n m f t room ≡ word_of n ∷ word_of m ∷ arrays_of f t (room - 2)
 unfolding has_room record_of

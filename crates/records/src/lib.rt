@@ -44,16 +44,7 @@ pub const SCRATCH_WORDS: usize = step_log::LOG_WORDS;
 fn word_behind(xs: &[i32], t: usize, k: usize) -> i32
     ensures { result ≡ word xs.now (2 + t + k) }
 {
-    if xs.len() < 2 {
-        return 0;
-    }
-    if xs.len() - 2 < t {
-        return 0;
-    }
-    if k < xs.len() - 2 - t {
-        return xs[2 + t + k];
-    }
-    0
+    word_at(xs, t.saturating_add(k).saturating_add(2))
 }
 
 // Figure k of the t figures of a record that begins with two sizes.
@@ -92,23 +83,18 @@ pub fn number_at(xs: &[i32], at: usize) -> usize
 
 // Whether the sizes are within the limits, and there are at least so many words of room.
 #[tactic(auto, unfolding(crate::specs::Arrays::has_room))]
-fn has_room(least: usize, n: usize, m: usize, room: usize) -> bool
+pub(crate) fn has_room(least: usize, n: usize, m: usize, room: usize) -> bool
     ensures { result ≡ has_room least n m room }
 {
     n <= MAX_NODES && m <= MAX_ARCS && least <= room
 }
 
-// The sizes, over the first two words, where there is room; zeros alone where there is none.
-pub(crate) fn write_sizes(least: usize, n: usize, m: usize, out: &mut [i32]) -> bool
-    ensures { (result ≡ has_room least n m (length out.old)) × (out.new ≡ sized least n m out.old) }
+// The sizes, over the first two words.
+pub(crate) fn write_sizes(n: usize, m: usize, out: &mut [i32])
+    ensures { out.new ≡ sized n m out.old }
 {
-    if has_room(least, n, m, out.len()) {
-        loops::put(out, 0, fraction::words::word_of(n));
-        loops::put(out, 1, fraction::words::word_of(m));
-        return true;
-    }
-    loops::clear(out);
-    false
+    loops::put(out, 0, fraction::words::word_of(n));
+    loops::put(out, 1, fraction::words::word_of(m));
 }
 
 // Figure k: its numerator over word k of the output, its denominator over word k of those kept for behind.

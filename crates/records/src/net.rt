@@ -289,7 +289,10 @@ fn write_figures(net: Net, out: &mut [i32])
 pub fn write_network(net: Net, out: &mut [i32])
     ensures { out.new ≡ network_of net (length out.old) }
 {
-    if crate::write_sizes(crate::NETWORK_WORDS, net.n, net.m, out) {
+    if crate::has_room(crate::NETWORK_WORDS, net.n, net.m, out.len()) {
+        crate::write_sizes(net.n, net.m, out);
         write_figures(net, &mut out[2..]);
+    } else {
+        loops::clear(out);
     }
 }

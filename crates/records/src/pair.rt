@@ -24,17 +24,7 @@ pub fn is_size(pair: &[i32], at: usize, n: usize) -> bool
 fn is_long(len: usize, n: usize, m: usize) -> bool
     ensures { result ≡ eqb len (2 + 2 * (n + m)) }
 {
-    if len < 2 {
-        return false;
-    }
-    let half = (len - 2) / 2;
-    if half < n {
-        return false;
-    }
-    if half - n == m {
-        return len == 2 + 2 * half;
-    }
-    false
+    len as u128 == 2 + 2 * (n as u128 + m as u128)
 }
 
 // Whether all t figures are fractions in form.
@@ -106,7 +96,10 @@ fn write_figures(n: usize, m: usize, pair: Pair, out: &mut [i32])
 pub fn write_pair(n: usize, m: usize, pair: Pair, out: &mut [i32])
     ensures { out.new ≡ pair_words n m pair (length out.old) }
 {
-    if crate::write_sizes(crate::PAIR_WORDS, n, m, out) {
+    if crate::has_room(crate::PAIR_WORDS, n, m, out.len()) {
+        crate::write_sizes(n, m, out);
         write_figures(n, m, pair, &mut out[2..]);
+    } else {
+        loops::clear(out);
     }
 }

@@ -8,9 +8,11 @@ ghost use Rattle.network.specs.Network.{empty_net, is_used};
 ghost use Rattle.survivors.specs.Survivors.{rank_of, between, pack_node, pack_arc, packed_of, spread_of};
 ghost use Rattle.survivors.specs.internal.Ranks.{placed, spread_figure};
 
+use std::array;
+
 use fraction::Fraction;
 use network::pair::Pair;
-use network::{ARC_PLACES, Arc, MAX_ARCS, MAX_NODES, NODE_PLACES, Net};
+use network::{ARC_PLACES, Arc, MAX_NODES, NODE_PLACES, Net};
 
 // The new number of each node: how many nodes up to it are left.
 fn node_ranks(net: Net, at: &mut [usize])
@@ -111,7 +113,7 @@ fn spread_figures<const N: usize>(used: &[bool; N], figures: &[Fraction; N]) -> 
 fn arcs_used(net: Net) -> [bool; ARC_PLACES]
     ensures { result ≡ build arc_places (is_used net) }
 {
-    net.arcs.map(|t| t.from != 0)
+    array::from_fn(|j| net.arcs[j].from != 0)
 }
 
 // A pair of the reduced network at the original numbers.

@@ -1,17 +1,16 @@
 -- The words of figures put over those of a slice: numerators over one, denominators over another.
-use Rattle.std.specs.Prelude.{cond, List, ℕ, ◌+◌, ℤ, length, get_or, set}
-use Rattle.loops.specs.Loops.{upto, zeros}
+use Rattle.std.specs.Prelude.{List, ℕ, ◌+◌, ℤ, length, get_or, set}
+use Rattle.loops.specs.Loops.{upto}
 use Rattle.fraction.specs.declared.Fraction.{Fraction}
 use Rattle.fraction.specs.Exact.{no_figure, den_word}
 use Rattle.fraction.specs.Words.{word_of}
 use Rattle.network.specs.declared.Arc.{Arc}
 use Rattle.network.specs.Network.{no_arc}
-use Rattle.records.specs.Arrays.{has_room}
 use Rattle.records.specs.Network.{arc_figure, role_figure}
 
--- the sizes over the first two words, where there is room; zeros where there is none
-unfoldable pub sized : ℕ → ℕ → ℕ → List ℤ → List ℤ
-sized least n m s = cond (has_room least n m (length s)) (set (set s 0 (word_of n)) 1 (word_of m)) (zeros (length s))
+-- the sizes over the first two words
+abbrev pub sized : ℕ → ℕ → List ℤ → List ℤ
+sized n m s = set (set s 0 (word_of n)) 1 (word_of m)
 
 -- the two words of a figure
 abbrev pub num_of : Fraction → ℤ
