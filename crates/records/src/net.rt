@@ -34,43 +34,30 @@ pub(crate) struct Record<'a> {
 fn permitted(n: usize, k: usize, f: Fraction) -> bool
     ensures { result ≡ is_permitted (role_of n k) f }
 {
-    if f.is_proper() {
-        return true;
-    }
-    if k <= n {
-        return false;
-    }
-    let role = (k - n - 1) % 7;
-    match role {
-        3 => f == Fraction::NO_LOWER,
-        4 => f == Fraction::NO_UPPER,
-        _ => false,
-    }
+    f.is_proper()
+        || n < k
+            && match (k - n - 1) % 7 {
+                3 => f == Fraction::NO_LOWER,
+                4 => f == Fraction::NO_UPPER,
+                _ => false,
+            }
 }
 
 // Whether a figure is whole and from 1 to n.
+#[tactic(auto, unfolding(crate::specs::Network::is_end))]
 fn is_end(n: usize, f: Fraction) -> bool
     ensures { result ≡ is_end n f }
 {
-    if f.den == 1 {
-        let i = fraction::words::natural_of(f);
-        return 1 <= i && i <= n;
-    }
-    false
+    let i = fraction::words::natural_of(f);
+    f.den == 1 && 1 <= i && i <= n
 }
 
 // Whether of an arc a is nonzero, and b zero exactly where from = to.
+#[tactic(auto, unfolding(crate::specs::Network::is_weighted, network::specs::Network::is_root))]
 fn is_weighted(t: Arc) -> bool
     ensures { result ≡ is_weighted t }
 {
-    if t.a.is_zero() {
-        return false;
-    }
-    let z = t.b.is_zero();
-    if t.from == t.to {
-        return z;
-    }
-    !z
+    !t.a.is_zero() && t.b.is_zero() == (t.from == t.to)
 }
 
 // No node in use yet, of n nodes and m arcs, with a constant.

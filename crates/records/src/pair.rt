@@ -66,10 +66,7 @@ fn read_numbered<const N: usize>(
 pub fn read_pair(words: &[i32], n: usize, m: usize) -> Pair
     ensures { result ≡ pair_of words.now n m }
 {
-    if MAX_NODES < n {
-        return network::pair::no_pair();
-    }
-    if MAX_ARCS < m {
+    if MAX_NODES < n || MAX_ARCS < m {
         return network::pair::no_pair();
     }
     Pair {

@@ -40,12 +40,10 @@ fn is_word(log: &[i32], s: usize, k: usize, v: i32) -> bool
 pub fn is_stack(log: &[i32], s: usize, stack: &[i32]) -> bool
     ensures { result ≡ is_stack_of log.now s stack.now }
 {
-    if MAX_STEPS < s {
-        return false;
-    }
-    let end = 1 + 2 * s;
-    if stack.len() != end {
-        return false;
-    }
-    (0..end).all(|k| is_word(log, s, k, stack[k]))
+    s <= MAX_STEPS
+        && stack.len() == 1 + 2 * s
+        && stack
+            .iter()
+            .enumerate()
+            .all(|(k, v)| is_word(log, s, k, *v))
 }
