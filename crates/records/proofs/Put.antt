@@ -5,13 +5,11 @@ use Prim.Native.Nat.{ℕ, zero, suc, ◌+◌, ◌-◌, ◌*◌, ◌/◌, ◌%◌
 use native.Mathlib.Numerals.{add-one}
 use native.Mathlib.Omega.{arith}
 use lib.IntN.{ℤ}
-use lib.ListN.{length, get_or, set, take, drop, length-drop}
+use lib.ListN.{length, get_or, set, take}
 use lib.Seq.{length-take-le}
 use borrow.Rule.Slice.PartMut.{mid_of, put_mid}
 use borrow.Author.Tests.{le-leb, lt-leb, ne_eqb}
 use Rattle.loops.specs.Loops.{build, upto, zeros}
-use Rattle.std.proofs.lemmas.List.{get_or-take}
-use Rattle.std.proofs.lemmas.Grind.{get_or_after_one}
 use Rattle.loops.proofs.Laws.{get_or-build, length-build, Filled, filled_none, filled_more, Folded, folded-none, folded_more, folded-all, part-back, part-long}
 use Rattle.fraction.specs.declared.Fraction.{Fraction}
 use Rattle.fraction.specs.Exact.{no_figure, den_word}
@@ -25,6 +23,7 @@ use Rattle.records.specs.Pair.{pair_figure}
 use Rattle.records.specs.internal.Put.{num_of, den_of, nums_in, dens_in, put_from, arc_put, arcs_put}
 use Rattle.records.specs.Arrays.{arrays_of}
 use Rattle.records.proofs.Arrays.{both-filled}
+use Rattle.records.proofs.Part.{Numbered}
 
 -- ---- the figures of a network's record, and of a pair's, by their places
 
@@ -98,20 +97,6 @@ put_same f g k (suc t) s e = ap₂ (λ (l : List ℤ) v. set l (k + t) v) (put_s
 
 pub put-built : (w : Fraction → ℤ) (g : ℕ → Fraction) (k t : ℕ) (s : List ℤ) → put_from (λ r. w (get_or (build t g) r no_figure)) k (length (build t g)) s ≡ put_from (λ r. w (g r)) k t s
 put-built w g k t s = rw length-build (put_same _ _ k t s (λ r l. ap w (get_or-build t g no_figure r l)))
-
--- the part of an array at the numbers 1 to n
-pub record Numbered {A : Type 0} (d : A) (l : List A) (n : ℕ) (part : List A) : Type 0 where
-  pub long : length part ≡ n
-  pub at : (k : ℕ) → k < n → get_or part k d ≡ get_or l (k + 1) d
-
-pub numbered : {A : Type 0} {d : A} (l : List A) (n : ℕ) → n < length l → Numbered d l n (mid_of 1 (n + 1 - 1) l)
-numbered {d = d} l n h =
-    let e : n + 1 - 1 ≡ n = omega arith in
-    rw e
-    record {
-      long = length-take-le n (drop 1 l) (rw length-drop (omega arith));
-      at = λ k i. let q : 1 + k ≡ k + 1 = omega arith in get_or-take n (drop 1 l) k d i ∙ get_or_after_one l k d ∙ rw q refl;
-    }
 
 -- one word of each figure of a network's record, and of a pair's, over the first words of a slice
 net-filled : (w : Fraction → ℤ) (net : Net) {d o s u : List ℤ} (supplies : List Fraction) (arcs : List Arc) → Numbered no_figure net.supply net.n supplies → Numbered no_arc net.arcs net.m arcs → o ≡ set d 0 (w net.constant) → s ≡ put_from (λ k. w (get_or supplies k no_figure)) 1 (length supplies) o → u ≡ arcs_put w arcs net.n s → figures net.n net.m ≤ length d → Filled (λ k. w (figure_of net k)) (figures net.n net.m) d u (figures net.n net.m)

@@ -164,10 +164,9 @@ impl<'a> Record<'a> {
         ensures { (arcs : List Arc) → joined result arcs ≡ upto (node_turn self.entry.words.now (figures self.entry.n self.entry.m)) self.entry.n (joined (nodes_of (empty_net self.entry.n self.entry.m (figure_at self.entry.words.now (figures self.entry.n self.entry.m) 0))) arcs) }
     {
         let mut at = no_nodes(self.n, self.m, self.figure(0));
-        for i in 0..self.n {
-            let f = self.figure(i + 1);
-            at.supply[i + 1] = f;
-            at.here[i + 1] = true;
+        at.here[1..self.n + 1].fill(true);
+        for (i, supply) in at.supply[1..self.n + 1].iter_mut().enumerate() {
+            *supply = self.figure(i + 1);
         }
         at
     }
@@ -178,8 +177,8 @@ impl<'a> Record<'a> {
     {
         let z = network::no_arc();
         let mut at = [z; ARC_PLACES];
-        for j in 0..self.m {
-            at[j + 1] = self.arc(j);
+        for (j, t) in at[1..self.m + 1].iter_mut().enumerate() {
+            *t = self.arc(j);
         }
         at
     }

@@ -1,7 +1,7 @@
 // A pair's record: question 8, the pair that it holds, and the record of a pair.
 ghost use Rattle.std.specs.Prelude.{◌≡◌, ◌+◌, ◌*◌, ◌≤◌, ◌<◌, eqb, pos, length, set, replicate};
 ghost use Rattle.integer.specs.Whole.{eq_z};
-ghost use Rattle.loops.specs.Loops.{all, upto};
+ghost use Rattle.loops.specs.Loops.{all, build};
 ghost use Rattle.fraction.specs.Words.{word};
 ghost use Rattle.fraction.specs.Exact.{no_figure};
 ghost use Rattle.network.specs.Limits.{max_nodes, max_arcs};
@@ -45,34 +45,26 @@ pub fn is_pair(pair: &[i32], n: usize, m: usize) -> bool
         && all_fractions(pair, n + m)
 }
 
-// The figures of a record of t from one on, at the numbers 1 to `count`.
-fn read_numbered<const N: usize>(
-    words: &[i32],
-    t: usize,
-    from: usize,
-    count: usize,
-) -> [Fraction; N]
-    requires { (count < N) × (from + count ≤ pair_figures) }
-    ensures { result ≡ upto (λ k at. set at (k + 1) (figure_at words.now t (from + k))) count (replicate N no_figure) }
+// The figures of a record of t, from one on.
+fn read_figures(words: &[i32], t: usize, from: usize, figures: &mut [Fraction])
+    requires { from ≤ max_nodes }
+    ensures { figures.new ≡ build (length figures.old) (λ k. figure_at words.now t (from + k)) }
 {
-    let mut at = [network::no_figure(); N];
-    for k in 0..count {
-        at[k + 1] = crate::figure_at(words, t, from + k);
+    for (k, f) in figures.iter_mut().enumerate() {
+        *f = crate::figure_at(words, t, from + k);
     }
-    at
 }
 
 // The pair of a record with these sizes; none where they are beyond the limits.
 pub fn read_pair(words: &[i32], n: usize, m: usize) -> Pair
     ensures { result ≡ pair_of words.now n m }
 {
-    if MAX_NODES < n || MAX_ARCS < m {
-        return network::pair::no_pair();
+    let mut pair = network::pair::no_pair();
+    if n <= MAX_NODES && m <= MAX_ARCS {
+        read_figures(words, n + m, 0, &mut pair.price[1..n + 1]);
+        read_figures(words, n + m, n, &mut pair.flow[1..m + 1]);
     }
-    Pair {
-        price: read_numbered(words, n + m, 0, n),
-        flow: read_numbered(words, n + m, n, m),
-    }
+    pair
 }
 
 // ---- writing

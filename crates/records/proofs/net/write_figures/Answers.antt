@@ -2,7 +2,8 @@
 use mathlib.Core.Path.{refl}
 use native.Mathlib.Omega.{arith}
 use Rattle.loops.specs.Loops.{zeros}
-use Rattle.records.proofs.Put.{net-arrays, numbered}
+use Rattle.records.proofs.Part.{numbered}
+use Rattle.records.proofs.Put.{net-arrays}
 use Rattle.records.proofs.net.write_figures.Goals as goal
 
 pub returns : goal.returns

@@ -1,7 +1,8 @@
 -- `records::pair::write_figures` meets its contract.
 use mathlib.Core.Path.{refl}
 use native.Mathlib.Omega.{arith}
-use Rattle.records.proofs.Put.{numbered, pair-arrays}
+use Rattle.records.proofs.Part.{numbered}
+use Rattle.records.proofs.Put.{pair-arrays}
 use Rattle.records.proofs.pair.write_figures.Goals as goal
 
 pub returns : goal.returns
