@@ -44,7 +44,11 @@ pub const SCRATCH_WORDS: usize = step_log::LOG_WORDS;
 fn word_behind(xs: &[i32], t: usize, k: usize) -> i32
     ensures { result ≡ word xs.now (2 + t + k) }
 {
-    word_at(xs, t.saturating_add(k).saturating_add(2))
+    if 2 <= xs.len() && t <= xs.len() - 2 && k < xs.len() - 2 - t {
+        xs[2 + t + k]
+    } else {
+        0
+    }
 }
 
 // Figure k of the t figures of a record that begins with two sizes.
