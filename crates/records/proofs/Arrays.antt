@@ -6,7 +6,7 @@ use Prim.Native.Nat.{ℕ, ◌+◌, ◌-◌, ◌≤◌, ◌<◌}
 use lib.Dec.{leb}
 use lib.IntN.{ℤ, pos}
 use lib.ListN.{get_or-append, length, take, drop}
-use lib.Seq.{ext_get_or, get_or-append-add}
+use lib.Seq.{get_or-append-add}
 use borrow.Author.Tests.{le-leb, leb-true}
 use Rattle.loops.specs.Loops.{build, written, zeros}
 use Rattle.loops.proofs.Laws.{length-build, get_or-build, Filled, filled-all}
@@ -24,18 +24,6 @@ take-front (x ∷ xs) ys = ap (λ l. x ∷ l) (take-front xs ys)
 pub take-written : {A : Type 0} (t : ℕ) (f : ℕ → A) (d : List A) → take t (written t f d) ≡ build t f
 unfolding written
 take-written t f d = ap (λ n. take n (build t f ++ drop t d)) (sym (length-build t f)) ∙ take-front (build t f) (drop t d)
-
--- a list is built from its words
-pub build-self : (l : List ℤ) → build (length l) (word l) ≡ l
-build-self l = ext_get_or (pos 0) _ _ (length-build (length l) (word l)) (λ k m. get_or-build (length l) (word l) (pos 0) k (rw (length-build (length l) (word l)) at m))
-
--- a slice of words filled up to t, and zeros behind them
-pub filled-zeros : {t i : ℕ} {f : ℕ → ℤ} {d s : List ℤ} → Filled f t d s i → t ≤ i → take t s ++ zeros (length s - t) ≡ build t f ++ zeros (length d - t)
-filled-zeros {t} {f = f} {d} h l = ap₂ ◌++◌ (ap (take t) (filled-all h l) ∙ take-written t f d) (ap (λ n. zeros (n - t)) h.long)
-
--- by the words of another list
-pub filled-self : (e : List ℤ) {i : ℕ} {d s : List ℤ} → Filled (word e) (length e) d s i → length e ≤ i → take (length e) s ++ zeros (length s - length e) ≡ e ++ zeros (length d - length e)
-filled-self e {d = d} h l = filled-zeros h l ∙ ap (λ x. x ++ zeros (length d - length e)) (build-self e)
 
 -- numerators and denominators filled, and what the writer of denominators makes of the rest
 pub both-filled : (f : ℕ → Fraction) {t i : ℕ} {d s e v : List ℤ} → Filled (λ k. (f k).num) t d s i → Filled (λ k. den_word (f k).den) t e v i → t ≤ i → take t s ++ (take t v ++ zeros (length s - t - length (take t v))) ≡ arrays_of f t (length d)

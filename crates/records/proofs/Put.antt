@@ -6,7 +6,6 @@ use native.Mathlib.Numerals.{add-one}
 use native.Mathlib.Omega.{arith}
 use lib.IntN.{ℤ}
 use lib.ListN.{length, get_or, set, take}
-use lib.Seq.{length-take-le}
 use borrow.Rule.Slice.PartMut.{mid_of, put_mid}
 use borrow.Author.Tests.{le-leb, lt-leb, ne_eqb}
 use Rattle.loops.specs.Loops.{build, upto, zeros}
@@ -116,27 +115,6 @@ pair-filled w n m pair prices flows h l p q b =
     (filled-from n m (filled-front n (omega arith) b (λ r i. rw (h.at r i) (sym (ap w (price-figure n pair r i))))) (omega arith) b (λ r i. rw (l.at r i) (sym (ap w (flow-figure n pair r)))))
 
 -- ---- both words of each figure, and the rest of the slice lent for the denominators
-
--- the figures are no more than the most
-pub net-most : (net : Net) → net.n ≤ 32 → net.m ≤ 96 → figures net.n net.m ≤ 705
-net-most net h k = omega arith
-
-pub pair-most : (n m : ℕ) → n ≤ 32 → m ≤ 96 → n + m ≤ 128
-pair-most n m h k = omega arith
-
--- t figures, and the most, b: the lengths of the output and of a slice of b words after two writers that keep them
-module _ {t b : ℕ} (l : t ≤ b) where
-  pub figures-long : {e v x : ℕ} → e ≡ b → v ≡ e → x ≡ v → t ≤ x
-  figures-long p q r = omega arith
-
-  pub figures-sized : {e v : ℕ} (x : List ℤ) → e ≡ b → v ≡ e → length x ≡ v → t ≡ length (take t x)
-  figures-sized x p q r = sym (length-take-le t x (figures-long p q r))
-
-  pub figures-within : {d s u : ℕ} → 2 * b ≤ d → s ≡ d → u ≡ s → t ≤ u
-  figures-within h p q = omega arith
-
-  pub figures-fit : {d s e v : ℕ} (u x : List ℤ) → 2 * b ≤ d → s ≡ d → length u ≡ s → e ≡ b → v ≡ e → length x ≡ v → length (take t x) ≤ length (mid_of t (length u - t) u)
-  figures-fit u x h p q e v r = rw (part-long t u, length-take-le t x (figures-long e v r)) (omega arith)
 
 arrays-of : (f : ℕ → Fraction) {t : ℕ} {d u e x r : List ℤ} → Filled (λ k. (f k).num) t d u t → Filled (λ k. den_word (f k).den) t e x t → r ≡ take t x ++ zeros (length (mid_of t (length u - t) u) - length (take t x)) → put_mid t (length u - t) u r ≡ arrays_of f t (length d)
 arrays-of f {t} {u = u} h k q = rw (part-back t u, q, part-long t u) (both-filled f h k (omega arith))
