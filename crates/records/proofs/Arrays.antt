@@ -5,8 +5,8 @@ use mathlib.Core.List.{List, [], ◌∷◌, ◌++◌}
 use Prim.Native.Nat.{ℕ, ◌+◌, ◌-◌, ◌≤◌, ◌<◌}
 use lib.Dec.{leb}
 use lib.IntN.{ℤ, pos}
-use lib.ListN.{get_or-append, length, take, drop, set}
-use lib.Seq.{ext_get_or, get_or-append-add}
+use lib.ListN.{get_or-append, length, take, drop}
+use lib.Seq.{get_or-append-add}
 use borrow.Author.Tests.{le-leb, leb-true}
 use Rattle.loops.specs.Loops.{build, written, zeros}
 use Rattle.loops.proofs.Laws.{length-build, get_or-build, Filled, filled-all}
@@ -15,7 +15,6 @@ use Rattle.fraction.specs.Exact.{den_word}
 use Rattle.fraction.proofs.Laws.{and_both}
 use Rattle.fraction.specs.Words.{word, word_of}
 use Rattle.records.specs.Arrays.{numerators, denominators, arrays_of, has_room, record_of}
-use Rattle.records.specs.internal.Put.{sized}
 
 -- the first of what was written over a longer list
 take-front : {A : Type 0} (xs ys : List A) → take (length xs) (xs ++ ys) ≡ xs
@@ -25,18 +24,6 @@ take-front (x ∷ xs) ys = ap (λ l. x ∷ l) (take-front xs ys)
 pub take-written : {A : Type 0} (t : ℕ) (f : ℕ → A) (d : List A) → take t (written t f d) ≡ build t f
 unfolding written
 take-written t f d = ap (λ n. take n (build t f ++ drop t d)) (sym (length-build t f)) ∙ take-front (build t f) (drop t d)
-
--- a list is built from its words
-pub build-self : (l : List ℤ) → build (length l) (word l) ≡ l
-build-self l = ext_get_or (pos 0) _ _ (length-build (length l) (word l)) (λ k m. get_or-build (length l) (word l) (pos 0) k (rw (length-build (length l) (word l)) at m))
-
--- a slice of words filled up to t, and zeros behind them
-pub filled-zeros : {t i : ℕ} {f : ℕ → ℤ} {d s : List ℤ} → Filled f t d s i → t ≤ i → take t s ++ zeros (length s - t) ≡ build t f ++ zeros (length d - t)
-filled-zeros {t} {f = f} {d} h l = ap₂ ◌++◌ (ap (take t) (filled-all h l) ∙ take-written t f d) (ap (λ n. zeros (n - t)) h.long)
-
--- by the words of another list
-pub filled-self : (e : List ℤ) {i : ℕ} {d s : List ℤ} → Filled (word e) (length e) d s i → length e ≤ i → take (length e) s ++ zeros (length s - length e) ≡ e ++ zeros (length d - length e)
-filled-self e {d = d} h l = filled-zeros h l ∙ ap (λ x. x ++ zeros (length d - length e)) (build-self e)
 
 -- numerators and denominators filled, and what the writer of denominators makes of the rest
 pub both-filled : (f : ℕ → Fraction) {t i : ℕ} {d s e v : List ℤ} → Filled (λ k. (f k).num) t d s i → Filled (λ k. den_word (f k).den) t e v i → t ≤ i → take t s ++ (take t v ++ zeros (length s - t - length (take t v))) ≡ arrays_of f t (length d)
@@ -54,10 +41,6 @@ room-is least n m room e =
     let a = and_both (leb n 32) _ e in
     let b = and_both (leb m 96) _ a.1 in
     (leb-true _ _ a.0, leb-true _ _ b.0, leb-true _ _ b.1)
-
-pub sized-room : (least n m : ℕ) (s : List ℤ) → has_room least n m (length s) ≡ true → sized least n m s ≡ set (set s 0 (word_of n)) 1 (word_of m)
-unfolding sized
-sized-room least n m s h = rw h refl
 
 pub with-room : (least n m : ℕ) (f : ℕ → Fraction) (t room : ℕ) → n ≤ 32 → m ≤ 96 → least ≤ room → record_of least n m f t room ≡ word_of n ∷ word_of m ∷ arrays_of f t (room - 2)
 unfolding has_room record_of

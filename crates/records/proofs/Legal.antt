@@ -31,12 +31,12 @@ use Rattle.records.proofs.Questions.{Sized, Formed, sizes-are, all_yes}
 
 -- ---- the network read, list by list
 
-nodes-are : (xs : List ℤ) (t n : ℕ) (net : Net) → n ≤ 32 → upto (node_turn xs t) n net ≡ record { n = net.n; m = net.m; constant = net.constant; here = puts (λ _. true) net.here n; supply = puts (λ i. figure_at xs t (i + 1)) net.supply n; arcs = net.arcs }
+pub nodes-are : (xs : List ℤ) (t n : ℕ) (net : Net) → n ≤ 32 → upto (node_turn xs t) n net ≡ record { n = net.n; m = net.m; constant = net.constant; here = puts (λ _. true) net.here n; supply = puts (λ i. figure_at xs t (i + 1)) net.supply n; arcs = net.arcs }
 unfolding puts upto with_node with_supply
 nodes-are xs t zero net h = refl
 nodes-are xs t (suc n) net h = rw (nodes-are xs t n net (omega (arith, add-one n)), number 32 n (omega (arith, add-one n)))
 
-arcs_are : (xs : List ℤ) (p t m : ℕ) (net : Net) → m ≤ 96 → upto (arc_turn xs p t) m net ≡ record { n = net.n; m = net.m; constant = net.constant; here = net.here; supply = net.supply; arcs = puts (arc_in xs p t) net.arcs m }
+pub arcs_are : (xs : List ℤ) (p t m : ℕ) (net : Net) → m ≤ 96 → upto (arc_turn xs p t) m net ≡ record { n = net.n; m = net.m; constant = net.constant; here = net.here; supply = net.supply; arcs = puts (arc_in xs p t) net.arcs m }
 unfolding puts upto with_arc
 arcs_are xs p t zero net h = refl
 arcs_are xs p t (suc m) net h = rw (arcs_are xs p t m net (omega (arith, add-one m)), number 96 m (omega (arith, add-one m)))

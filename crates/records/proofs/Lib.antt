@@ -9,3 +9,4 @@ pub mod Written
 pub mod Logged
 pub mod Loaded
 pub mod Put
+pub mod Part

@@ -1,6 +1,6 @@
 -- The stack's record, read from a log that holds the steps.
 use mathlib.Core.Path.{◌≡◌, refl, sym, ap, ap₂, ◌∙◌}
-use mathlib.Core.Bool.{Bool, true, false, ◌&&◌, and-false}
+use mathlib.Core.Bool.{false, ◌&&◌, and-false}
 use mathlib.Core.List.{List, [], ◌∷◌, ◌++◌, map}
 use Prim.Native.Nat.{ℕ, zero, suc, ◌+◌, ◌-◌, ◌*◌, ◌≤◌, ◌<◌}
 use native.Mathlib.Nat.{zero-add, suc-add, add-zero, add-suc}
@@ -9,10 +9,10 @@ use native.Mathlib.Omega.{arith}
 use lib.IntN.{ℤ}
 use lib.ListN.{length, drop}
 use borrow.Author.Tests.{ne_eqb, le-leb, lt-leb}
+use Rattle.std.specs.List.{enumerate_from, list_all}
 use Rattle.integer.specs.Whole.{eq_z}
-use Rattle.loops.specs.Loops.{build, written, zeros, all}
+use Rattle.loops.specs.Loops.{build, written, zeros}
 use Rattle.loops.proofs.Laws.{length-build, build-same}
-use Rattle.fraction.specs.Words.{word}
 use Rattle.fraction.specs.Words.{word_of}
 use Rattle.step.specs.declared.Step.{Step}
 use Rattle.step_log.specs.Log.{rule_in, place_in, Holds}
@@ -93,28 +93,16 @@ few-enough log n zs h = rw (le-leb _ _ h)
 
 -- ---- the same words as those of a list that is built
 
-all_head : (p : ℕ → Bool) (n : ℕ) → all p (suc n) ≡ (p 0 && all (λ k. p (suc k)) n)
-unfolding all
-all_head p zero = by (p 0)
-  where
-    by : (b : Bool) → (true && b) ≡ (b && true)
-    by true = refl
-    by false = refl
-all_head p (suc n) = ap (λ b. b && p (suc n)) (all_head p n) ∙ by (p 0)
-  where
-    by : (b : Bool) → ((b && all (λ k. p (suc k)) n) && p (suc n)) ≡ (b && (all (λ k. p (suc k)) n && p (suc n)))
-    by true = refl
-    by false = refl
-
-pub same-built : (zs : List ℤ) (n : ℕ) (f : ℕ → ℤ) → length zs ≡ n → all (λ k. eq_z (word zs k) (f k)) n ≡ same_words zs (build n f)
-unfolding same_words build all
-same-built [] zero f e = refl
-same-built [] (suc n) f e = absurd (omega (arith, add-one n))
-same-built (z ∷ zs) zero f e = absurd (omega (arith, add-one (length zs)))
-same-built (z ∷ zs) (suc n) f e =
-    all_head (λ k. eq_z (word (z ∷ zs) k) (f k)) n
-    ∙ ap (λ b. eq_z z (f 0) && b) (same-built zs n (λ k. f (suc k)) (omega (arith, add-one n, add-one (length zs))))
-    ∙ sym (ap (same_words (z ∷ zs)) (build-head n f))
+pub same-built : (zs : List ℤ) (a n : ℕ) (f g : ℕ → ℤ) → ((k : ℕ) → f (a + k) ≡ g k) → length zs ≡ n → list_all (λ (p : ℕ × ℤ). eq_z p.1 (f p.0)) (enumerate_from a zs) ≡ same_words zs (build n g)
+unfolding same_words build
+same-built [] a zero f g h e = refl
+same-built [] a (suc n) f g h e = absurd (omega (arith, add-one n))
+same-built (z ∷ zs) a zero f g h e = absurd (omega (arith, add-one (length zs)))
+same-built (z ∷ zs) a (suc n) f g h e =
+    let first : a + 0 ≡ a = omega arith in
+    let next : (k : ℕ) → f (a + 1 + k) ≡ g (suc k) = λ k. let q : a + 1 + k ≡ a + suc k = omega (arith, add-one k) in rw q (h (suc k)) in
+    ap₂ (λ v b. eq_z z v && b) (rw first at (h 0)) (same-built zs (a + 1) n f (λ k. g (suc k)) next (omega (arith, add-one n, add-one (length zs))))
+    ∙ sym (ap (same_words (z ∷ zs)) (build-head n g))
 
 pub same-long : (zs ys : List ℤ) → (length zs ≡ length ys → ⊥) → same_words zs ys ≡ false
 unfolding same_words

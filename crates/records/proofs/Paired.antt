@@ -7,10 +7,12 @@ use Prim.Native.Nat.{ℕ, zero, suc, ◌+◌, ◌-◌, ◌≤◌, ◌<◌}
 use native.Mathlib.Numerals.{add-one}
 use native.Mathlib.Omega.{arith}
 use lib.IntN.{ℤ}
-use lib.ListN.{set, replicate}
+use lib.ListN.{length, replicate}
+use borrow.Rule.Slice.PartMut.{mid_of, put_mid}
 use Rattle.fraction.specs.declared.Fraction.{Fraction}
 use borrow.Author.Tests.{le-leb}
-use Rattle.loops.specs.Loops.{upto}
+use Rattle.loops.specs.Loops.{build, upto}
+use Rattle.records.proofs.Part.{part-read}
 use Rattle.loops.proofs.Laws.{all-each}
 use Rattle.fraction.specs.Exact.{Proper, no_figure}
 use Rattle.fraction.proofs.Laws.{and_both, proper-is}
@@ -39,9 +41,9 @@ module _ (ys : List ℤ) (n m : ℕ) (h : n ≤ 32) (k : m ≤ 96) where
   pair_is = rw (le-leb n 32 h, le-leb m 96 k, prices-are ys (n + m) n no_pair h, flows-are ys n (n + m) m _ k)
 
   -- the pair whose prices and flows are read so
-  pub pair-read : {price flow : List Fraction} → price ≡ upto (λ k at. set at (k + 1) (figure_at ys (n + m) (0 + k))) n (replicate 33 no_figure) → flow ≡ upto (λ k at. set at (k + 1) (figure_at ys (n + m) (n + k))) m (replicate 97 no_figure) → record { price = price; flow = flow } ≡ pair_of ys n m
-  unfolding puts
-  pair-read p q = rw (simp from_0 at p, q) (sym pair_is)
+  pub pair-read : (pair : Pair) {price flow : List Fraction} → pair ≡ no_pair → price ≡ build (length (mid_of 1 (n + 1 - 1) pair.price)) (λ k. figure_at ys (n + m) (0 + k)) → flow ≡ build (length (mid_of 1 (m + 1 - 1) pair.flow)) (λ k. figure_at ys (n + m) (n + k)) → record { price = put_mid 1 (n + 1 - 1) pair.price price; flow = put_mid 1 (m + 1 - 1) pair.flow flow } ≡ pair_of ys n m
+  pair-read pair e p q =
+      rw (part-read _ pair.price n p (rw e (omega arith)), part-read _ pair.flow m q (rw e (omega arith)), e) (simp from_0 (sym pair_is))
 
   -- what stands at each number
   pub price-read : (i : ℕ) → i < n → price_at (pair_of ys n m) (i + 1) ≡ figure_at ys (n + m) i

@@ -6,11 +6,10 @@ use native.Mathlib.Numerals.{add-one}
 use native.Mathlib.Omega.{arith}
 use lib.IntN.{ℤ}
 use lib.ListN.{length, get_or, set, take}
-use lib.Seq.{length-take-le}
 use borrow.Rule.Slice.PartMut.{mid_of, put_mid}
 use borrow.Author.Tests.{le-leb, lt-leb, ne_eqb}
 use Rattle.loops.specs.Loops.{build, upto, zeros}
-use Rattle.loops.proofs.Laws.{get_or-build, Filled, filled_none, filled_more, Folded, folded-none, folded_more, folded-all, part-back, part-long}
+use Rattle.loops.proofs.Laws.{get_or-build, length-build, Filled, filled_none, filled_more, Folded, folded-none, folded_more, folded-all, part-back, part-long}
 use Rattle.fraction.specs.declared.Fraction.{Fraction}
 use Rattle.fraction.specs.Exact.{no_figure, den_word}
 use Rattle.network.specs.declared.Arc.{Arc}
@@ -20,9 +19,10 @@ use Rattle.network.specs.Network.{no_arc, arc_at, supply_at}
 use Rattle.network.specs.Pair.{price_at, flow_at}
 use Rattle.records.specs.Network.{figures, arc_figure, role_figure, figure_of}
 use Rattle.records.specs.Pair.{pair_figure}
-use Rattle.records.specs.internal.Put.{num_of, den_of, put_from, arcs_put}
+use Rattle.records.specs.internal.Put.{num_of, den_of, nums_in, dens_in, put_from, arc_put, arcs_put}
 use Rattle.records.specs.Arrays.{arrays_of}
 use Rattle.records.proofs.Arrays.{both-filled}
+use Rattle.records.proofs.Part.{Numbered}
 
 -- ---- the figures of a network's record, and of a pair's, by their places
 
@@ -80,9 +80,9 @@ filled-front {f} {g} {d = d} t l b e =
     let z : 0 + t ≡ t = omega arith in
     rw z at (filled-from {f = f} {g = g} {d = d} 0 t (filled_none _ _ _) (omega arith) b (λ r m. let y : 0 + r ≡ r = omega arith in rw y (e r m)))
 
--- the seven figures of the arcs 1 to m, behind the constant and n supplies
-pub filled-arcs : {f : ℕ → ℤ} (w : Fraction → ℤ) (arcs : List Arc) {t : ℕ} {d s : List ℤ} (n m : ℕ) → Filled f t d s (1 + n) → figures n m ≤ t → t ≤ length d → ((j r : ℕ) → j < m → r < 7 → w (role_figure (get_or arcs (j + 1) no_arc) r) ≡ f (arc_figure n j + r)) → Filled f t d (arcs_put w arcs n m s) (figures n m)
-unfolding arcs_put upto
+-- the seven figures of the first m arcs, behind the constant and n supplies
+filled-arcs : {f : ℕ → ℤ} (w : Fraction → ℤ) (arcs : List Arc) {t : ℕ} {d s : List ℤ} (n m : ℕ) → Filled f t d s (1 + n) → figures n m ≤ t → t ≤ length d → ((j r : ℕ) → j < m → r < 7 → w (role_figure (get_or arcs j no_arc) r) ≡ f (arc_figure n j + r)) → Filled f t d (upto (arc_put w arcs n) m s) (figures n m)
+unfolding upto
 filled-arcs w arcs n zero h l b e = let z : figures n 0 ≡ 1 + n = omega arith in rw z h
 filled-arcs w arcs n (suc m) h l b e =
     let q : figures n (suc m) ≡ figures n m + 7 = omega (arith, add-one m) in
@@ -94,51 +94,33 @@ unfolding put_from upto
 put_same f g k zero s e = refl
 put_same f g k (suc t) s e = ap₂ (λ (l : List ℤ) v. set l (k + t) v) (put_same f g k t s (λ r m. e r (omega (arith, add-one t)))) (e t (omega (arith, add-one t)))
 
-pub put-built : (w : Fraction → ℤ) (g : ℕ → Fraction) (k t : ℕ) (s : List ℤ) → put_from (λ r. w (get_or (build t g) r no_figure)) k t s ≡ put_from (λ r. w (g r)) k t s
-put-built w g k t s = put_same _ _ k t s (λ r l. ap w (get_or-build t g no_figure r l))
+pub put-built : (w : Fraction → ℤ) (g : ℕ → Fraction) (k t : ℕ) (s : List ℤ) → put_from (λ r. w (get_or (build t g) r no_figure)) k (length (build t g)) s ≡ put_from (λ r. w (g r)) k t s
+put-built w g k t s = rw length-build (put_same _ _ k t s (λ r l. ap w (get_or-build t g no_figure r l)))
 
 -- one word of each figure of a network's record, and of a pair's, over the first words of a slice
-net-filled : (w : Fraction → ℤ) (net : Net) {d o s u : List ℤ} → o ≡ set d 0 (w net.constant) → s ≡ put_from (λ k. w (supply_at net (k + 1))) 1 net.n o → u ≡ arcs_put w net.arcs net.n net.m s → figures net.n net.m ≤ length d → Filled (λ k. w (figure_of net k)) (figures net.n net.m) d u (figures net.n net.m)
-net-filled w net {d} z p q b =
-    rw (q, p, z)
-    (filled-arcs w net.arcs net.n net.m
-    (filled-from 1 net.n (filled_more (filled_none (λ k. w (figure_of net k)) (figures net.n net.m) d) (omega arith) b (sym (ap w (constant-figure net)))) (omega arith) b (λ r l. sym (supply-word r l)))
-    (omega arith) b (λ j r l k. sym (ap w (role-figure net j r k))))
+net-filled : (w : Fraction → ℤ) (net : Net) {d o s u : List ℤ} (supplies : List Fraction) (arcs : List Arc) → Numbered no_figure net.supply net.n supplies → Numbered no_arc net.arcs net.m arcs → o ≡ set d 0 (w net.constant) → s ≡ put_from (λ k. w (get_or supplies k no_figure)) 1 (length supplies) o → u ≡ arcs_put w arcs net.n s → figures net.n net.m ≤ length d → Filled (λ k. w (figure_of net k)) (figures net.n net.m) d u (figures net.n net.m)
+unfolding arcs_put
+net-filled w net {d} supplies arcs h l z p q b =
+    rw (q, p, z, h.long, l.long)
+    (filled-arcs w arcs net.n net.m
+    (filled-from 1 net.n (filled_more (filled_none (λ k. w (figure_of net k)) (figures net.n net.m) d) (omega arith) b (sym (ap w (constant-figure net)))) (omega arith) b (λ r i. sym (supply-word r i)))
+    (omega arith) b (λ j r i k. rw (l.at j i) (sym (ap w (role-figure net j r k)))))
   where
-    supply-word : (r : ℕ) → r < net.n → w (figure_of net (1 + r)) ≡ w (supply_at net (r + 1))
-    supply-word r l = let e : 1 + r ≡ r + 1 = omega arith in rw e (ap w (supply-figure net r l))
+    supply-word : (r : ℕ) → r < net.n → w (figure_of net (1 + r)) ≡ w (get_or supplies r no_figure)
+    supply-word r i = let e : 1 + r ≡ r + 1 = omega arith in rw (e, h.at r i) (ap w (supply-figure net r i))
 
-pair-filled : (w : Fraction → ℤ) (n m : ℕ) (pair : Pair) {d s u : List ℤ} → s ≡ put_from (λ k. w (price_at pair (k + 1))) 0 n d → u ≡ put_from (λ k. w (flow_at pair (k + 1))) n m s → n + m ≤ length d → Filled (λ k. w (pair_figure n pair k)) (n + m) d u (n + m)
-pair-filled w n m pair p q b = rw (q, p) (filled-from n m (filled-front n (omega arith) b (λ r l. sym (ap w (price-figure n pair r l)))) (omega arith) b (λ r l. sym (ap w (flow-figure n pair r))))
+pair-filled : (w : Fraction → ℤ) (n m : ℕ) (pair : Pair) {d s u : List ℤ} (prices flows : List Fraction) → Numbered no_figure pair.price n prices → Numbered no_figure pair.flow m flows → s ≡ put_from (λ k. w (get_or prices k no_figure)) 0 (length prices) d → u ≡ put_from (λ k. w (get_or flows k no_figure)) n (length flows) s → n + m ≤ length d → Filled (λ k. w (pair_figure n pair k)) (n + m) d u (n + m)
+pair-filled w n m pair prices flows h l p q b =
+    rw (q, p, h.long, l.long)
+    (filled-from n m (filled-front n (omega arith) b (λ r i. rw (h.at r i) (sym (ap w (price-figure n pair r i))))) (omega arith) b (λ r i. rw (l.at r i) (sym (ap w (flow-figure n pair r)))))
 
 -- ---- both words of each figure, and the rest of the slice lent for the denominators
-
--- the figures are no more than the most
-pub net-most : (net : Net) → net.n ≤ 32 → net.m ≤ 96 → figures net.n net.m ≤ 705
-net-most net h k = omega arith
-
-pub pair-most : (n m : ℕ) → n ≤ 32 → m ≤ 96 → n + m ≤ 128
-pair-most n m h k = omega arith
-
--- t figures, and the most, b: the lengths of the output and of a slice of b words after two writers that keep them
-module _ {t b : ℕ} (l : t ≤ b) where
-  pub figures-long : {e v x : ℕ} → e ≡ b → v ≡ e → x ≡ v → t ≤ x
-  figures-long p q r = omega arith
-
-  pub figures-sized : {e v : ℕ} (x : List ℤ) → e ≡ b → v ≡ e → length x ≡ v → t ≡ length (take t x)
-  figures-sized x p q r = sym (length-take-le t x (figures-long p q r))
-
-  pub figures-within : {d s u : ℕ} → 2 * b ≤ d → s ≡ d → u ≡ s → t ≤ u
-  figures-within h p q = omega arith
-
-  pub figures-fit : {d s e v : ℕ} (u x : List ℤ) → 2 * b ≤ d → s ≡ d → length u ≡ s → e ≡ b → v ≡ e → length x ≡ v → length (take t x) ≤ length (mid_of t (length u - t) u)
-  figures-fit u x h p q e v r = rw (part-long t u, length-take-le t x (figures-long e v r)) (omega arith)
 
 arrays-of : (f : ℕ → Fraction) {t : ℕ} {d u e x r : List ℤ} → Filled (λ k. (f k).num) t d u t → Filled (λ k. den_word (f k).den) t e x t → r ≡ take t x ++ zeros (length (mid_of t (length u - t) u) - length (take t x)) → put_mid t (length u - t) u r ≡ arrays_of f t (length d)
 arrays-of f {t} {u = u} h k q = rw (part-back t u, q, part-long t u) (both-filled f h k (omega arith))
 
-pub net-arrays : (net : Net) (d e : List ℤ) {o s u y v x r : List ℤ} → net.n ≤ 32 → net.m ≤ 96 → 1410 ≤ length d → length e ≡ 705 → o ≡ set d 0 (num_of net.constant) → s ≡ put_from (λ k. num_of (supply_at net (k + 1))) 1 net.n o → u ≡ arcs_put num_of net.arcs net.n net.m s → y ≡ set e 0 (den_of net.constant) → v ≡ put_from (λ k. den_of (supply_at net (k + 1))) 1 net.n y → x ≡ arcs_put den_of net.arcs net.n net.m v → r ≡ take (figures net.n net.m) x ++ zeros (length (mid_of (figures net.n net.m) (length u - (figures net.n net.m)) u) - length (take (figures net.n net.m) x)) → put_mid (figures net.n net.m) (length u - (figures net.n net.m)) u r ≡ arrays_of (figure_of net) (figures net.n net.m) (length d)
-net-arrays net d e h k l m o s u y v x r = arrays-of (figure_of net) (net-filled num_of net {d = d} o s u (omega arith)) (net-filled den_of net {d = e} y v x (omega arith)) r
+pub net-arrays : (net : Net) (d e : List ℤ) (supplies : List Fraction) (arcs : List Arc) {o s u y v x r : List ℤ} → Numbered no_figure net.supply net.n supplies → Numbered no_arc net.arcs net.m arcs → net.n ≤ 32 → net.m ≤ 96 → 1410 ≤ length d → length e ≡ 705 → o ≡ set d 0 (num_of net.constant) → s ≡ put_from (nums_in supplies) 1 (length supplies) o → u ≡ arcs_put num_of arcs net.n s → y ≡ set e 0 (den_of net.constant) → v ≡ put_from (dens_in supplies) 1 (length supplies) y → x ≡ arcs_put den_of arcs net.n v → r ≡ take (figures net.n net.m) x ++ zeros (length (mid_of (figures net.n net.m) (length u - (figures net.n net.m)) u) - length (take (figures net.n net.m) x)) → put_mid (figures net.n net.m) (length u - (figures net.n net.m)) u r ≡ arrays_of (figure_of net) (figures net.n net.m) (length d)
+net-arrays net d e supplies arcs i j h k l m o s u y v x r = arrays-of (figure_of net) (net-filled num_of net {d = d} supplies arcs i j o s u (omega arith)) (net-filled den_of net {d = e} supplies arcs i j y v x (omega arith)) r
 
-pub pair-arrays : (n m : ℕ) (pair : Pair) (d e : List ℤ) {s u v x r : List ℤ} → n ≤ 32 → m ≤ 96 → 256 ≤ length d → length e ≡ 128 → s ≡ put_from (λ k. num_of (price_at pair (k + 1))) 0 n d → u ≡ put_from (λ k. num_of (flow_at pair (k + 1))) n m s → v ≡ put_from (λ k. den_of (price_at pair (k + 1))) 0 n e → x ≡ put_from (λ k. den_of (flow_at pair (k + 1))) n m v → r ≡ take (n + m) x ++ zeros (length (mid_of (n + m) (length u - (n + m)) u) - length (take (n + m) x)) → put_mid (n + m) (length u - (n + m)) u r ≡ arrays_of (pair_figure n pair) (n + m) (length d)
-pair-arrays n m pair d e h k l z s u v x r = arrays-of (pair_figure n pair) (pair-filled num_of n m pair s u (omega arith)) (pair-filled den_of n m pair v x (omega arith)) r
+pub pair-arrays : (n m : ℕ) (pair : Pair) (d e : List ℤ) (prices flows : List Fraction) {s u v x r : List ℤ} → Numbered no_figure pair.price n prices → Numbered no_figure pair.flow m flows → n ≤ 32 → m ≤ 96 → 256 ≤ length d → length e ≡ 128 → s ≡ put_from (nums_in prices) 0 (length prices) d → u ≡ put_from (nums_in flows) n (length flows) s → v ≡ put_from (dens_in prices) 0 (length prices) e → x ≡ put_from (dens_in flows) n (length flows) v → r ≡ take (n + m) x ++ zeros (length (mid_of (n + m) (length u - (n + m)) u) - length (take (n + m) x)) → put_mid (n + m) (length u - (n + m)) u r ≡ arrays_of (pair_figure n pair) (n + m) (length d)
+pair-arrays n m pair d e prices flows i j h k l z s u v x r = arrays-of (pair_figure n pair) (pair-filled num_of n m pair prices flows i j s u (omega arith)) (pair-filled den_of n m pair prices flows i j v x (omega arith)) r

@@ -8,7 +8,7 @@ ghost use Rattle.fraction.specs.Words.{word, natural_of};
 ghost use Rattle.records.specs.Limits.{network_figures};
 ghost use Rattle.records.specs.Arrays.{figure_at, has_room};
 ghost use Rattle.records.specs.Network.{size_of};
-ghost use Rattle.records.specs.internal.Put.{sized, nums_at, dens_at, put_from};
+ghost use Rattle.records.specs.internal.Put.{sized, nums_in, dens_in, put_from};
 
 use fraction::Fraction;
 use network::{MAX_ARCS, MAX_NODES};
@@ -44,16 +44,11 @@ pub const SCRATCH_WORDS: usize = step_log::LOG_WORDS;
 fn word_behind(xs: &[i32], t: usize, k: usize) -> i32
     ensures { result ≡ word xs.now (2 + t + k) }
 {
-    if xs.len() < 2 {
-        return 0;
+    if 2 <= xs.len() && t <= xs.len() - 2 && k < xs.len() - 2 - t {
+        xs[2 + t + k]
+    } else {
+        0
     }
-    if xs.len() - 2 < t {
-        return 0;
-    }
-    if k < xs.len() - 2 - t {
-        return xs[2 + t + k];
-    }
-    0
 }
 
 // Figure k of the t figures of a record that begins with two sizes.
@@ -91,26 +86,19 @@ pub fn number_at(xs: &[i32], at: usize) -> usize
 // its place, made reducing a third slower.
 
 // Whether the sizes are within the limits, and there are at least so many words of room.
-fn has_room(least: usize, n: usize, m: usize, room: usize) -> bool
+#[tactic(auto, unfolding(crate::specs::Arrays::has_room))]
+pub(crate) fn has_room(least: usize, n: usize, m: usize, room: usize) -> bool
     ensures { result ≡ has_room least n m room }
 {
-    if n <= MAX_NODES {
-        return m <= MAX_ARCS && least <= room;
-    }
-    false
+    n <= MAX_NODES && m <= MAX_ARCS && least <= room
 }
 
-// The sizes, over the first two words, where there is room; zeros alone where there is none.
-pub(crate) fn write_sizes(least: usize, n: usize, m: usize, out: &mut [i32]) -> bool
-    ensures { (result ≡ has_room least n m (length out.old)) × (out.new ≡ sized least n m out.old) }
+// The sizes, over the first two words.
+pub(crate) fn write_sizes(n: usize, m: usize, out: &mut [i32])
+    ensures { out.new ≡ sized n m out.old }
 {
-    if has_room(least, n, m, out.len()) {
-        loops::put(out, 0, fraction::words::word_of(n));
-        loops::put(out, 1, fraction::words::word_of(m));
-        return true;
-    }
-    loops::clear(out);
-    false
+    loops::put(out, 0, fraction::words::word_of(n));
+    loops::put(out, 1, fraction::words::word_of(m));
 }
 
 // Figure k: its numerator over word k of the output, its denominator over word k of those kept for behind.
@@ -121,19 +109,13 @@ pub(crate) fn put_figure(f: Fraction, k: usize, out: &mut [i32], dens: &mut [i32
     loops::put(dens, k, f.den_word());
 }
 
-// The figures at the numbers 1 to n, from place k on.
-pub(crate) fn put_numbered<const N: usize>(
-    at: &[Fraction; N],
-    n: usize,
-    k: usize,
-    out: &mut [i32],
-    dens: &mut [i32],
-)
-    requires { (n < N) × (k ≤ network_figures) }
-    ensures { (out.new ≡ put_from (nums_at at.now) k n out.old) × (dens.new ≡ put_from (dens_at at.now) k n dens.old) }
+// Figures, from place k on.
+pub(crate) fn put_figures(figures: &[Fraction], k: usize, out: &mut [i32], dens: &mut [i32])
+    requires { k ≤ network_figures }
+    ensures { (out.new ≡ put_from (nums_in figures.now) k (length figures.now) out.old) × (dens.new ≡ put_from (dens_in figures.now) k (length figures.now) dens.old) }
 {
-    for i in 0..n {
-        put_figure(at[i + 1], k + i, out, dens);
+    for (i, f) in figures.iter().enumerate() {
+        put_figure(*f, k + i, out, dens);
     }
 }
 
@@ -143,8 +125,6 @@ pub(crate) fn write_denominators(dens: &[i32], rest: &mut [i32])
     ensures { rest.new ≡ dens.now ++ zeros (length rest.old - length dens.now) }
 {
     let t = dens.len();
-    for k in 0..t {
-        loops::put(rest, k, dens[k]);
-    }
+    rest[..t].copy_from_slice(dens);
     loops::clear(&mut rest[t..]);
 }

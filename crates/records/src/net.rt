@@ -9,7 +9,7 @@ ghost use Rattle.network.specs.ArcList.{no_arcs, nodes_of, joined};
 ghost use Rattle.records.specs.Arrays.{figure_at, arrays_of};
 ghost use Rattle.records.specs.Limits.{network_figures};
 ghost use Rattle.records.specs.Questions.{first_no};
-ghost use Rattle.records.specs.internal.Put.{num_of, den_of, nums_in, dens_in, put_from, arcs_put};
+ghost use Rattle.records.specs.internal.Put.{num_of, den_of, arcs_put};
 ghost use Rattle.records.specs.Network.{n_of, m_of, figures, sizes_right, role_of, is_permitted, is_in_form, is_end, has_ends, arc_in, is_weighted, is_weighted_at, questions, node_turn, arc_turn, read_of, load_turn, loaded, role_figure, figure_of, network_of};
 
 use crate::refusal::Refusal;
@@ -34,43 +34,30 @@ pub(crate) struct Record<'a> {
 fn permitted(n: usize, k: usize, f: Fraction) -> bool
     ensures { result ≡ is_permitted (role_of n k) f }
 {
-    if f.is_proper() {
-        return true;
-    }
-    if k <= n {
-        return false;
-    }
-    let role = (k - n - 1) % 7;
-    match role {
-        3 => f == Fraction::NO_LOWER,
-        4 => f == Fraction::NO_UPPER,
-        _ => false,
-    }
+    f.is_proper()
+        || n < k
+            && match (k - n - 1) % 7 {
+                3 => f == Fraction::NO_LOWER,
+                4 => f == Fraction::NO_UPPER,
+                _ => false,
+            }
 }
 
 // Whether a figure is whole and from 1 to n.
+#[tactic(auto, unfolding(crate::specs::Network::is_end))]
 fn is_end(n: usize, f: Fraction) -> bool
     ensures { result ≡ is_end n f }
 {
-    if f.den == 1 {
-        let i = fraction::words::natural_of(f);
-        return 1 <= i && i <= n;
-    }
-    false
+    let i = fraction::words::natural_of(f);
+    f.den == 1 && 1 <= i && i <= n
 }
 
 // Whether of an arc a is nonzero, and b zero exactly where from = to.
+#[tactic(auto, unfolding(crate::specs::Network::is_weighted, network::specs::Network::is_root))]
 fn is_weighted(t: Arc) -> bool
     ensures { result ≡ is_weighted t }
 {
-    if t.a.is_zero() {
-        return false;
-    }
-    let z = t.b.is_zero();
-    if t.from == t.to {
-        return z;
-    }
-    !z
+    !t.a.is_zero() && t.b.is_zero() == (t.from == t.to)
 }
 
 // No node in use yet, of n nodes and m arcs, with a constant.
@@ -177,10 +164,9 @@ impl<'a> Record<'a> {
         ensures { (arcs : List Arc) → joined result arcs ≡ upto (node_turn self.entry.words.now (figures self.entry.n self.entry.m)) self.entry.n (joined (nodes_of (empty_net self.entry.n self.entry.m (figure_at self.entry.words.now (figures self.entry.n self.entry.m) 0))) arcs) }
     {
         let mut at = no_nodes(self.n, self.m, self.figure(0));
-        for i in 0..self.n {
-            let f = self.figure(i + 1);
-            at.supply[i + 1] = f;
-            at.here[i + 1] = true;
+        at.here[1..self.n + 1].fill(true);
+        for (i, supply) in at.supply[1..self.n + 1].iter_mut().enumerate() {
+            *supply = self.figure(i + 1);
         }
         at
     }
@@ -191,8 +177,8 @@ impl<'a> Record<'a> {
     {
         let z = network::no_arc();
         let mut at = [z; ARC_PLACES];
-        for j in 0..self.m {
-            at[j + 1] = self.arc(j);
+        for (j, t) in at[1..self.m + 1].iter_mut().enumerate() {
+            *t = self.arc(j);
         }
         at
     }
@@ -201,6 +187,7 @@ impl<'a> Record<'a> {
     fn load(self, arcs: &mut [Arc])
         ensures { arcs.new ≡ upto (load_turn self.entry.words.now self.entry.n (figures self.entry.n self.entry.m)) self.entry.m arcs.old }
     {
+        // by number: the list may have fewer records than m, and `replace` passes over a number that it lacks
         for j in 0..self.m {
             network::list::replace(arcs, j + 1, self.arc(j));
         }
@@ -262,23 +249,13 @@ fn figures_of(t: Arc) -> [Fraction; 7]
     [from, to, cost, lower, upper, a, b]
 }
 
-// Seven figures, from place k on.
-fn put_seven(at: [Fraction; 7], k: usize, out: &mut [i32], dens: &mut [i32])
-    requires { k ≤ network_figures }
-    ensures { (out.new ≡ put_from (nums_in at) k 7 out.old) × (dens.new ≡ put_from (dens_in at) k 7 dens.old) }
+// The figures of arcs, behind the constant and n supplies.
+fn put_arcs(arcs: &[Arc], n: usize, out: &mut [i32], dens: &mut [i32])
+    requires { (n ≤ max_nodes) × (length arcs.now ≤ max_arcs) }
+    ensures { (out.new ≡ arcs_put num_of arcs.now n out.old) × (dens.new ≡ arcs_put den_of arcs.now n dens.old) }
 {
-    for r in 0..7 {
-        crate::put_figure(at[r], k + r, out, dens);
-    }
-}
-
-// The figures of the arcs 1 to m, behind the constant and n supplies.
-fn put_arcs(arcs: [Arc; ARC_PLACES], n: usize, m: usize, out: &mut [i32], dens: &mut [i32])
-    requires { (n ≤ max_nodes) × (m ≤ max_arcs) }
-    ensures { (out.new ≡ arcs_put num_of arcs n m out.old) × (dens.new ≡ arcs_put den_of arcs n m dens.old) }
-{
-    for j in 0..m {
-        put_seven(figures_of(arcs[j + 1]), 1 + n + 7 * j, out, dens);
+    for (j, t) in arcs.iter().enumerate() {
+        crate::put_figures(&figures_of(*t), 1 + n + 7 * j, out, dens);
     }
 }
 
@@ -288,11 +265,9 @@ fn write_figures(net: Net, out: &mut [i32])
     ensures { out.new ≡ arrays_of (figure_of net) (figures net.n net.m) (length out.old) }
 {
     let mut dens = [0i32; crate::NETWORK_FIGURES];
-    let constant = net.constant;
-    crate::put_figure(constant, 0, out, &mut dens);
-    crate::put_numbered(&net.supply, net.n, 1, out, &mut dens);
-    let arcs = net.arcs;
-    put_arcs(arcs, net.n, net.m, out, &mut dens);
+    crate::put_figure(net.constant, 0, out, &mut dens);
+    crate::put_figures(&net.supply[1..net.n + 1], 1, out, &mut dens);
+    put_arcs(&net.arcs[1..net.m + 1], net.n, out, &mut dens);
     let t = 1 + net.n + 7 * net.m;
     crate::write_denominators(&dens[..t], &mut out[t..]);
 }
@@ -301,7 +276,10 @@ fn write_figures(net: Net, out: &mut [i32])
 pub fn write_network(net: Net, out: &mut [i32])
     ensures { out.new ≡ network_of net (length out.old) }
 {
-    if crate::write_sizes(crate::NETWORK_WORDS, net.n, net.m, out) {
+    if crate::has_room(crate::NETWORK_WORDS, net.n, net.m, out.len()) {
+        crate::write_sizes(net.n, net.m, out);
         write_figures(net, &mut out[2..]);
+    } else {
+        loops::clear(out);
     }
 }

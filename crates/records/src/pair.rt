@@ -1,7 +1,7 @@
 // A pair's record: question 8, the pair that it holds, and the record of a pair.
 ghost use Rattle.std.specs.Prelude.{◌≡◌, ◌+◌, ◌*◌, ◌≤◌, ◌<◌, eqb, pos, length, set, replicate};
 ghost use Rattle.integer.specs.Whole.{eq_z};
-ghost use Rattle.loops.specs.Loops.{all, upto};
+ghost use Rattle.loops.specs.Loops.{all, build};
 ghost use Rattle.fraction.specs.Words.{word};
 ghost use Rattle.fraction.specs.Exact.{no_figure};
 ghost use Rattle.network.specs.Limits.{max_nodes, max_arcs};
@@ -24,17 +24,7 @@ pub fn is_size(pair: &[i32], at: usize, n: usize) -> bool
 fn is_long(len: usize, n: usize, m: usize) -> bool
     ensures { result ≡ eqb len (2 + 2 * (n + m)) }
 {
-    if len < 2 {
-        return false;
-    }
-    let half = (len - 2) / 2;
-    if half < n {
-        return false;
-    }
-    if half - n == m {
-        return len == 2 + 2 * half;
-    }
-    false
+    len as u128 == 2 + 2 * (n as u128 + m as u128)
 }
 
 // Whether all t figures are fractions in form.
@@ -55,37 +45,26 @@ pub fn is_pair(pair: &[i32], n: usize, m: usize) -> bool
         && all_fractions(pair, n + m)
 }
 
-// The figures of a record of t from one on, at the numbers 1 to `count`.
-fn read_numbered<const N: usize>(
-    words: &[i32],
-    t: usize,
-    from: usize,
-    count: usize,
-) -> [Fraction; N]
-    requires { (count < N) × (from + count ≤ pair_figures) }
-    ensures { result ≡ upto (λ k at. set at (k + 1) (figure_at words.now t (from + k))) count (replicate N no_figure) }
+// The figures of a record of t, from one on.
+fn read_figures(words: &[i32], t: usize, from: usize, figures: &mut [Fraction])
+    requires { from ≤ max_nodes }
+    ensures { figures.new ≡ build (length figures.old) (λ k. figure_at words.now t (from + k)) }
 {
-    let mut at = [network::no_figure(); N];
-    for k in 0..count {
-        at[k + 1] = crate::figure_at(words, t, from + k);
+    for (k, f) in figures.iter_mut().enumerate() {
+        *f = crate::figure_at(words, t, from + k);
     }
-    at
 }
 
 // The pair of a record with these sizes; none where they are beyond the limits.
 pub fn read_pair(words: &[i32], n: usize, m: usize) -> Pair
     ensures { result ≡ pair_of words.now n m }
 {
-    if MAX_NODES < n {
-        return network::pair::no_pair();
+    let mut pair = network::pair::no_pair();
+    if n <= MAX_NODES && m <= MAX_ARCS {
+        read_figures(words, n + m, 0, &mut pair.price[1..n + 1]);
+        read_figures(words, n + m, n, &mut pair.flow[1..m + 1]);
     }
-    if MAX_ARCS < m {
-        return network::pair::no_pair();
-    }
-    Pair {
-        price: read_numbered(words, n + m, 0, n),
-        flow: read_numbered(words, n + m, n, m),
-    }
+    pair
 }
 
 // ---- writing
@@ -96,8 +75,8 @@ fn write_figures(n: usize, m: usize, pair: Pair, out: &mut [i32])
     ensures { out.new ≡ arrays_of (pair_figure n pair) (n + m) (length out.old) }
 {
     let mut dens = [0i32; crate::PAIR_FIGURES];
-    crate::put_numbered(&pair.price, n, 0, out, &mut dens);
-    crate::put_numbered(&pair.flow, m, n, out, &mut dens);
+    crate::put_figures(&pair.price[1..n + 1], 0, out, &mut dens);
+    crate::put_figures(&pair.flow[1..m + 1], n, out, &mut dens);
     let t = n + m;
     crate::write_denominators(&dens[..t], &mut out[t..]);
 }
@@ -106,7 +85,10 @@ fn write_figures(n: usize, m: usize, pair: Pair, out: &mut [i32])
 pub fn write_pair(n: usize, m: usize, pair: Pair, out: &mut [i32])
     ensures { out.new ≡ pair_words n m pair (length out.old) }
 {
-    if crate::write_sizes(crate::PAIR_WORDS, n, m, out) {
+    if crate::has_room(crate::PAIR_WORDS, n, m, out.len()) {
+        crate::write_sizes(n, m, out);
         write_figures(n, m, pair, &mut out[2..]);
+    } else {
+        loops::clear(out);
     }
 }

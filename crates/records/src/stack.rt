@@ -22,12 +22,9 @@ pub fn word_at(log: &[i32], s: usize, k: usize) -> i32
 pub fn write(log: &[i32], s: usize, out: &mut [i32])
     ensures { out.new ≡ with_stack log.now s out.old }
 {
-    if s <= MAX_STEPS {
-        if crate::STACK_WORDS <= out.len() {
-            let end = 1 + 2 * s;
-            for k in 0..end {
-                loops::put(out, k, word_at(log, s, k));
-            }
+    if s <= MAX_STEPS && crate::STACK_WORDS <= out.len() {
+        for (k, word) in out[..1 + 2 * s].iter_mut().enumerate() {
+            *word = word_at(log, s, k);
         }
     }
 }
@@ -43,12 +40,10 @@ fn is_word(log: &[i32], s: usize, k: usize, v: i32) -> bool
 pub fn is_stack(log: &[i32], s: usize, stack: &[i32]) -> bool
     ensures { result ≡ is_stack_of log.now s stack.now }
 {
-    if MAX_STEPS < s {
-        return false;
-    }
-    let end = 1 + 2 * s;
-    if stack.len() != end {
-        return false;
-    }
-    (0..end).all(|k| is_word(log, s, k, stack[k]))
+    s <= MAX_STEPS
+        && stack.len() == 1 + 2 * s
+        && stack
+            .iter()
+            .enumerate()
+            .all(|(k, v)| is_word(log, s, k, *v))
 }

@@ -1,5 +1,4 @@
 // What is left of a network, numbered from 1, and a pair of it at the original numbers.
-// Loops that read one array and write another go by the index, of which their invariants speak: an iterator over both has none.
 #![tactic(auto)]
 
 ghost use Rattle.std.specs.Prelude.{◌≡◌, length};
@@ -9,9 +8,11 @@ ghost use Rattle.network.specs.Network.{empty_net, is_used};
 ghost use Rattle.survivors.specs.Survivors.{rank_of, between, pack_node, pack_arc, packed_of, spread_of};
 ghost use Rattle.survivors.specs.internal.Ranks.{placed, spread_figure};
 
+use std::array;
+
 use fraction::Fraction;
 use network::pair::Pair;
-use network::{ARC_PLACES, Arc, MAX_ARCS, MAX_NODES, NODE_PLACES, Net};
+use network::{ARC_PLACES, Arc, MAX_NODES, NODE_PLACES, Net};
 
 // The new number of each node: how many nodes up to it are left.
 fn node_ranks(net: Net, at: &mut [usize])
@@ -19,8 +20,8 @@ fn node_ranks(net: Net, at: &mut [usize])
     ensures { at.new ≡ build node_places (rank_of net) }
 {
     let mut d: usize = 0;
-    for i in 0..NODE_PLACES {
-        if net.here[i] {
+    for (i, here) in net.here.iter().enumerate() {
+        if *here {
             d += 1;
         }
         at[i] = d;
@@ -53,11 +54,11 @@ fn pack_nodes(net: Net) -> Net
     ensures { (result ≡ upto (pack_node net) max_nodes (empty_net 0 0 net.constant)) × (result.m ≡ 0) }
 {
     let mut p = network::empty_net(0, 0, net.constant);
-    for i in 0..MAX_NODES {
-        if net.here[i + 1] {
+    for (here, supply) in net.here.iter().zip(&net.supply).skip(1) {
+        if *here {
             let k = p.n + 1;
             p.n = k;
-            p.supply[k] = net.supply[i + 1];
+            p.supply[k] = *supply;
             p.here[k] = true;
         }
     }
@@ -72,12 +73,11 @@ fn pack_arcs(net: Net, p: Net) -> Net
     let mut ranks = [0usize; NODE_PLACES];
     node_ranks(net, &mut ranks);
     let mut q = p;
-    for j in 0..MAX_ARCS {
-        let t = net.arcs[j + 1];
-        if 1 <= t.from {
+    for t in &net.arcs[1..] {
+        if t.from != 0 {
             let k = q.m + 1;
             q.m = k;
-            q.arcs[k] = renumber(&ranks, t);
+            q.arcs[k] = renumber(&ranks, *t);
         }
     }
     q
@@ -98,8 +98,8 @@ fn spread_figures<const N: usize>(used: &[bool; N], figures: &[Fraction; N]) -> 
 {
     let mut at = [Fraction::ZERO; N];
     let mut d = 0;
-    for i in 0..N {
-        at[i] = if used[i] {
+    for (i, used) in used.iter().enumerate() {
+        at[i] = if *used {
             d += 1;
             network::figure_at(figures, d)
         } else {
@@ -113,11 +113,7 @@ fn spread_figures<const N: usize>(used: &[bool; N], figures: &[Fraction; N]) -> 
 fn arcs_used(net: Net) -> [bool; ARC_PLACES]
     ensures { result ≡ build arc_places (is_used net) }
 {
-    let mut used = [false; ARC_PLACES];
-    for j in 0..ARC_PLACES {
-        used[j] = net.arcs[j].from != 0;
-    }
-    used
+    array::from_fn(|j| net.arcs[j].from != 0)
 }
 
 // A pair of the reduced network at the original numbers.

@@ -7,7 +7,7 @@ use Rattle.survivors.specs.Survivors.{rank_of}
 use mathlib.Core.Path.{◌∙◌, sym}
 use native.Mathlib.Omega.{arith}
 use Rattle.survivors.proofs.node_ranks.Goals as goal
-use Rattle.survivors.proofs.node_ranks.Goals.{then-net-i, else-net-i}
+use Rattle.survivors.proofs.node_ranks.Goals.{then-here, else-here}
 
 pub loop-i-init : goal.loop-i-init
 loop-i-init c = (filled_none _ _ _, counted_none _ _)
@@ -15,10 +15,10 @@ loop-i-init c = (filled_none _ _ _, counted_none _ _)
 pub loop-i-preserved : goal.loop-i-preserved
 unfolding rank_of
 loop-i-preserved c =
-    let counted : Counted (λ k. is_here c.args.net k) 33 (c.loop-i.i + 1) c.if-net-i.d =
-    elim c.if-net-i.branch [
-      | then-net-i w ↦ counted-yes c.loop-i.invariant.1 (omega arith) w.if-net-i.true w.d-is
-      | else-net-i w ↦ counted-no c.loop-i.invariant.1 (omega arith) w.if-net-i.false w.d-is
+    let counted : Counted (λ k. is_here c.args.net k) 33 (c.loop-i.i + 1) c.if-here.d =
+    elim c.if-here.branch [
+      | then-here w ↦ counted-yes c.loop-i.invariant.1 (omega arith) w.if-here.true w.d-is
+      | else-here w ↦ counted-no c.loop-i.invariant.1 (omega arith) w.if-here.false w.d-is
     ] in
     (filled_more c.loop-i.invariant.0 (omega arith) (omega arith) (counted.is ∙ sym (rank_up (λ k. is_here c.args.net k) 33 c.loop-i.i (omega arith))), counted)
 

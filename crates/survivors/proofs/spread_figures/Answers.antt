@@ -7,7 +7,7 @@ use mathlib.Core.Path.{◌∙◌}
 use Rattle.std.proofs.lemmas.List.{length-replicate}
 use native.Mathlib.Omega.{arith}
 use Rattle.survivors.proofs.spread_figures.Goals as goal
-use Rattle.survivors.proofs.spread_figures.Goals.{then-used-i, else-used-i}
+use Rattle.survivors.proofs.spread_figures.Goals.{then-used, else-used}
 
 pub loop-i-init : goal.loop-i-init
 loop-i-init g c = (filled_none _ _ _, counted_none _ _)
@@ -18,10 +18,10 @@ loop-i-preserved g c =
     let i = c.loop-i.i in
     let p : ℕ → Bool = λ k. get_or c.args.used.now k false in
     let h = c.loop-i.invariant.1 in
-    let turn : (c.if-used-i.at ≡ spread_figure c.args.used.now c.args.figures.now n i) × Counted p n (i + 1) c.if-used-i.d =
-    elim c.if-used-i.branch [
-      | then-used-i w ↦ (w.at-is ∙ w.figure_at.ensures ∙ rw (w.if-used-i.true, rank_is p n i (omega arith) w.if-used-i.true, ← h.is), counted-yes h (omega arith) w.if-used-i.true w.d-is)
-      | else-used-i w ↦ (w.at-is ∙ rw w.if-used-i.false, counted-no h (omega arith) w.if-used-i.false w.d-is)
+    let turn : (c.if-used.at ≡ spread_figure c.args.used.now c.args.figures.now n i) × Counted p n (i + 1) c.if-used.d =
+    elim c.if-used.branch [
+      | then-used w ↦ (w.at-is ∙ w.figure_at.ensures ∙ rw (w.if-used.true, rank_is p n i (omega arith) w.if-used.true, ← h.is), counted-yes h (omega arith) w.if-used.true w.d-is)
+      | else-used w ↦ (w.at-is ∙ rw w.if-used.false, counted-no h (omega arith) w.if-used.false w.d-is)
     ] in
     (filled_more c.loop-i.invariant.0 (omega arith) (rw length-replicate (omega arith)) turn.0, turn.1)
 

@@ -11,7 +11,7 @@ pub loop-j-preserved : goal.loop-j-preserved
 loop-j-preserved c =
     let i = c.loop-j.invariant in
     let f = c.figures_of.ensures in
-    let p = c.put_seven in
+    let p = c.put_figures in
     (turned_more i.0 c.loop-j-test.true p.auto.out (p.ensures.0 ∙ rw f (put-built num_of _ _ 7 _)), turned_more i.1 c.loop-j-test.true p.auto.dens (p.ensures.1 ∙ rw f (put-built den_of _ _ 7 _)))
 
 pub returns : goal.returns
