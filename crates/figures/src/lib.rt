@@ -1,13 +1,14 @@
 // The figures of the test: balances, reduced costs and the value; and its questions 9 to 12. The loops go by number and read an arc
 // in place, so that no network is copied for one; a network may say more arcs than have a place, which no slice of its arcs can.
-#![tactic(auto, using(fraction::proofs::Laws::misfit_is), unfolding(fraction::specs::Formula::added, fraction::specs::Formula::subtracted, fraction::specs::Formula::multiplied, fraction::specs::Exact::is_same, crate::specs::Figures::reduced_cost, crate::specs::Figures::is_within))]
+#![tactic(auto, using(fraction::proofs::Laws::misfit_is), unfolding(fraction::specs::Formula::added, fraction::specs::Formula::subtracted, fraction::specs::Formula::multiplied, fraction::specs::Exact::is_same, crate::specs::Figures::reduced_cost, crate::specs::Figures::is_within, crate::specs::Figures::balance_of, crate::specs::Figures::value_of))]
 
 ghost use Rattle.std.specs.Prelude.{◌≡◌, cond, ◌&&◌, not, ℕ, ◌+◌, ◌<◌, eqb, get_or, Ok};
-ghost use Rattle.loops.specs.Loops.{all};
+ghost use Rattle.loops.specs.Loops.{all, upto};
 ghost use Rattle.fraction.specs.Exact.{no_figure, is_same};
 ghost use Rattle.fraction.specs.Formula.{is_fit, figure_of, ◌⊕◌, ◌⊖◌, ◌⊗◌};
 ghost use Rattle.network.specs.Limits.{node_places};
-ghost use Rattle.network.specs.Network.{no_arc, is_touching, is_root, side_of};
+ghost use Rattle.network.specs.Network.{no_arc, arc_at, is_touching, is_root, side_of};
+ghost use Rattle.network.specs.Pair.{flow_at};
 ghost use Rattle.records.specs.Questions.{answered};
 ghost use Rattle.figures.specs.Figures.{balance_of, value_of, balance_fits, cost_fits, is_balanced, is_within, is_within_at, keeps_rule_at, test_questions};
 ghost use Rattle.figures.specs.internal.Listed.{sum_at, cost_in};
@@ -53,6 +54,20 @@ fn with_term(w: Worked, e: Fraction, x: Fraction) -> Worked
     w?.sum(e.product(x)?)
 }
 
+// The arcs 1 to m with their flows, upward: each turn takes the state on.
+fn over_arcs<S, F: Fn(S, Arc, Fraction) -> S>(net: &Net, pair: &Pair, start: S, turn: F) -> S
+    requires { F.IsAlwaysCallable turn }
+    ensures { (f : ℕ → S → S) → ((j : ℕ) (s r : S) → F.post turn s (arc_at net.now (j + 1)) (flow_at pair.now (j + 1)) r → r ≡ f j s) → result ≡ upto f net.now.m start }
+{
+    let mut s = start;
+    for j in 0..net.m {
+        let t = arc_in(&net.arcs, j + 1);
+        let x = network::figure_at(&pair.flow, j + 1);
+        s = turn(s, t, x);
+    }
+    s
+}
+
 // A balance of node i, and the flow of one arc more where it touches the node.
 fn balance_turn(t: Arc, x: Fraction, i: usize, w: Worked) -> Worked
     ensures { result ≡ cond (is_touching t i) (w ⊕ Ok (side_of t i).e ⊗ Ok x) w }
@@ -67,13 +82,8 @@ fn balance_turn(t: Arc, x: Fraction, i: usize, w: Worked) -> Worked
 pub fn balance(net: Net, pair: Pair, i: usize) -> Worked
     ensures { result ≡ balance_of net pair i }
 {
-    let mut w = Ok(Fraction::ZERO);
-    for j in 0..net.m {
-        let t = arc_in(&net.arcs, j + 1);
-        let x = network::figure_at(&pair.flow, j + 1);
-        w = balance_turn(t, x, i, w);
-    }
-    w
+    let zero = Ok(Fraction::ZERO);
+    over_arcs(&net, &pair, zero, |w, t, x| balance_turn(t, x, i, w))
 }
 
 // A difference with one term more, e × x.
@@ -109,13 +119,8 @@ fn reduced_cost(t: Arc, price: [Fraction; NODE_PLACES]) -> Worked
 pub fn value(net: Net, pair: Pair) -> Worked
     ensures { result ≡ value_of net pair }
 {
-    let mut w = Ok(net.constant);
-    for j in 0..net.m {
-        let t = arc_in(&net.arcs, j + 1);
-        let x = network::figure_at(&pair.flow, j + 1);
-        w = with_term(w, t.cost, x);
-    }
-    w
+    let start = Ok(net.constant);
+    over_arcs(&net, &pair, start, |w, t, x| with_term(w, t.cost, x))
 }
 
 // The place of node k among the balances; the last where it has none.
