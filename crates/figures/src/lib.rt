@@ -11,7 +11,7 @@ ghost use Rattle.network.specs.Network.{no_arc, arc_at, is_touching, is_root, si
 ghost use Rattle.network.specs.Pair.{flow_at};
 ghost use Rattle.records.specs.Questions.{answered};
 ghost use Rattle.figures.specs.Figures.{balance_of, value_of, balance_fits, cost_fits, is_balanced, is_within, is_within_at, keeps_rule_at, test_questions};
-ghost use Rattle.figures.specs.internal.Listed.{sum_at, cost_in};
+ghost use Rattle.figures.specs.internal.Listed.{sum_at, cost_in, asked};
 ghost use Rattle.slackness.specs.Slackness.{keeps_rule};
 
 use fraction::{Fraction, Worked};
@@ -198,7 +198,7 @@ fn is_within(t: Arc, x: Fraction) -> bool
 
 // One arc more, with its flow and all prices.
 fn ask_arc(a: Arcs, t: Arc, x: Fraction, price: [Fraction; NODE_PLACES]) -> Arcs
-    ensures { (result.fit ≡ (a.fit && is_fit (cost_in price t))) × (result.within ≡ (a.within && is_within t x)) × (result.kept ≡ (a.kept && keeps_rule t.lower t.upper x (figure_of (cost_in price t)))) }
+    ensures { result ≡ asked a t x price }
 {
     let w = reduced_cost(t, price);
     let fit = a.fit && w.is_ok();
@@ -213,17 +213,12 @@ fn ask_arcs(net: Net, pair: Pair) -> Arcs
     ensures { (result.fit ≡ all (cost_fits net pair) net.m) × (result.within ≡ all (is_within_at net pair) net.m) × (result.kept ≡ all (keeps_rule_at net pair) net.m) }
 {
     let price = pair.price;
-    let mut a = Arcs {
+    let none = Arcs {
         fit: true,
         within: true,
         kept: true,
     };
-    for j in 0..net.m {
-        let t = arc_in(&net.arcs, j + 1);
-        let x = network::figure_at(&pair.flow, j + 1);
-        a = ask_arc(a, t, x, price);
-    }
-    a
+    over_arcs(&net, &pair, none, |a, t, x| ask_arc(a, t, x, price))
 }
 
 // The questions 9 to 12 of a pair, and its value.
