@@ -11,7 +11,7 @@ ghost use Rattle.network.specs.Network.{no_arc, arc_at, is_touching, is_root, si
 ghost use Rattle.network.specs.Pair.{flow_at};
 ghost use Rattle.records.specs.Questions.{answered};
 ghost use Rattle.figures.specs.Figures.{balance_of, value_of, balance_fits, cost_fits, is_balanced, is_within, is_within_at, keeps_rule_at, test_questions};
-ghost use Rattle.figures.specs.internal.Listed.{sum_at, cost_in, asked};
+ghost use Rattle.figures.specs.internal.Listed.{sum_at, place_of, to_place, with_arc, cost_in, asked};
 ghost use Rattle.slackness.specs.Slackness.{keeps_rule};
 
 use fraction::{Fraction, Worked};
@@ -125,7 +125,7 @@ pub fn value(net: Net, pair: Pair) -> Worked
 
 // The place of node k among the balances; the last where it has none.
 fn place_of(k: usize) -> usize
-    ensures { (result < node_places + 1) × ((i : ℕ) → i < node_places → eqb result i ≡ eqb k i) }
+    ensures { result ≡ place_of k }
 {
     if k < NODE_PLACES {
         return k;
@@ -135,7 +135,7 @@ fn place_of(k: usize) -> usize
 
 // The place of an arc's to node; the last for a root arc.
 fn to_place(t: Arc) -> usize
-    ensures { (result < node_places + 1) × ((i : ℕ) → i < node_places → eqb result i ≡ (not (is_root t) && eqb t.to i)) }
+    ensures { result ≡ to_place t }
 {
     if network::is_root(t) {
         return NODE_PLACES;
@@ -143,21 +143,24 @@ fn to_place(t: Arc) -> usize
     place_of(t.to)
 }
 
+// The balances of the nodes, and the flow of one arc more.
+fn with_arc(balances: [Worked; SUM_PLACES], t: Arc, x: Fraction) -> [Worked; SUM_PLACES]
+    ensures { result ≡ with_arc balances t x }
+{
+    let mut s = balances;
+    let from = place_of(t.from);
+    let to = to_place(t);
+    s[from] = with_term(s[from], t.a, x);
+    s[to] = with_term(s[to], t.b, x);
+    s
+}
+
 // The balances of the nodes, arcs upward.
 fn balances(net: Net, pair: Pair) -> [Worked; SUM_PLACES]
     ensures { (i : ℕ) → i < node_places → sum_at result i ≡ balance_of net pair i }
 {
     let zero: Worked = Ok(Fraction::ZERO);
-    let mut s = [zero; SUM_PLACES];
-    for j in 0..net.m {
-        let t = arc_in(&net.arcs, j + 1);
-        let x = network::figure_at(&pair.flow, j + 1);
-        let from = place_of(t.from);
-        let to = to_place(t);
-        s[from] = with_term(s[from], t.a, x);
-        s[to] = with_term(s[to], t.b, x);
-    }
-    s
+    over_arcs(&net, &pair, [zero; SUM_PLACES], with_arc)
 }
 
 // One node more, of balance w and supply r.
