@@ -3,6 +3,7 @@
 #![tactic(auto, using(fraction::proofs::Laws::misfit_is), unfolding(fraction::specs::Formula::added, fraction::specs::Formula::subtracted, fraction::specs::Formula::multiplied, fraction::specs::Exact::is_same, crate::specs::Figures::reduced_cost, crate::specs::Figures::is_within, crate::specs::Figures::balance_of, crate::specs::Figures::value_of))]
 
 ghost use Rattle.std.specs.Prelude.{◌≡◌, cond, ◌&&◌, not, ℕ, ◌+◌, ◌<◌, eqb, get_or, Ok};
+ghost use Rattle.std.specs.Borrow.{MutBor};
 ghost use Rattle.loops.specs.Loops.{all, upto};
 ghost use Rattle.fraction.specs.Exact.{no_figure, is_same};
 ghost use Rattle.fraction.specs.Formula.{is_fit, figure_of, ◌⊕◌, ◌⊖◌, ◌⊗◌};
@@ -55,15 +56,15 @@ fn with_term(w: Worked, e: Fraction, x: Fraction) -> Worked
 }
 
 // The arcs 1 to m with their flows, upward: each turn takes the state on.
-fn over_arcs<S, F: Fn(S, Arc, Fraction) -> S>(net: &Net, pair: &Pair, start: S, turn: F) -> S
+fn over_arcs<S, F: Fn(&mut S, Arc, Fraction)>(net: &Net, pair: &Pair, start: S, turn: F) -> S
     requires { F.IsAlwaysCallable turn }
-    ensures { (f : ℕ → S → S) → ((j : ℕ) (s r : S) → F.post turn s (arc_at net.now (j + 1)) (flow_at pair.now (j + 1)) r → r ≡ f j s) → result ≡ upto f net.now.m start }
+    ensures { (f : ℕ → S → S) → ((j : ℕ) (s r : MutBor S) → F.post turn s (arc_at net.now (j + 1)) (flow_at pair.now (j + 1)) tt r → r.now ≡ f j s.now) → result ≡ upto f net.now.m start }
 {
     let mut s = start;
     for j in 0..net.m {
         let t = arc_in(&net.arcs, j + 1);
         let x = network::figure_at(&pair.flow, j + 1);
-        s = turn(s, t, x);
+        turn(&mut s, t, x);
     }
     s
 }
@@ -83,7 +84,7 @@ pub fn balance(net: Net, pair: Pair, i: usize) -> Worked
     ensures { result ≡ balance_of net pair i }
 {
     let zero = Ok(Fraction::ZERO);
-    over_arcs(&net, &pair, zero, |w, t, x| balance_turn(t, x, i, w))
+    over_arcs(&net, &pair, zero, |w, t, x| *w = balance_turn(t, x, i, *w))
 }
 
 // A difference with one term more, e × x.
@@ -120,7 +121,7 @@ pub fn value(net: Net, pair: Pair) -> Worked
     ensures { result ≡ value_of net pair }
 {
     let start = Ok(net.constant);
-    over_arcs(&net, &pair, start, |w, t, x| with_term(w, t.cost, x))
+    over_arcs(&net, &pair, start, |w, t, x| *w = with_term(*w, t.cost, x))
 }
 
 // The place of node k among the balances; the last where it has none.
@@ -144,15 +145,13 @@ fn to_place(t: Arc) -> usize
 }
 
 // The balances of the nodes, and the flow of one arc more.
-fn with_arc(balances: [Worked; SUM_PLACES], t: Arc, x: Fraction) -> [Worked; SUM_PLACES]
-    ensures { result ≡ with_arc balances t x }
+fn add_arc(s: &mut [Worked; SUM_PLACES], t: Arc, x: Fraction)
+    ensures { s.new ≡ with_arc s.old t x }
 {
-    let mut s = balances;
     let from = place_of(t.from);
     let to = to_place(t);
     s[from] = with_term(s[from], t.a, x);
     s[to] = with_term(s[to], t.b, x);
-    s
 }
 
 // The balances of the nodes, arcs upward.
@@ -160,7 +159,7 @@ fn balances(net: Net, pair: Pair) -> [Worked; SUM_PLACES]
     ensures { (i : ℕ) → i < node_places → sum_at result i ≡ balance_of net pair i }
 {
     let zero: Worked = Ok(Fraction::ZERO);
-    over_arcs(&net, &pair, [zero; SUM_PLACES], with_arc)
+    over_arcs(&net, &pair, [zero; SUM_PLACES], add_arc)
 }
 
 // One node more, of balance w and supply r.
@@ -221,7 +220,7 @@ fn ask_arcs(net: Net, pair: Pair) -> Arcs
         within: true,
         kept: true,
     };
-    over_arcs(&net, &pair, none, |a, t, x| ask_arc(a, t, x, price))
+    over_arcs(&net, &pair, none, |a, t, x| *a = ask_arc(*a, t, x, price))
 }
 
 // The questions 9 to 12 of a pair, and its value.
