@@ -48,11 +48,13 @@ fn arc_in(arcs: &[Arc; ARC_PLACES], j: usize) -> Arc
     network::no_arc()
 }
 
-// A sum with one term more, e × x.
-fn with_term(w: Worked, e: Fraction, x: Fraction) -> Worked
-    ensures { result ≡ w ⊕ Ok e ⊗ Ok x }
+// One term more to a sum, e × x.
+fn add_term(w: &mut Worked, e: Fraction, x: Fraction)
+    ensures { w.new ≡ w.old ⊕ Ok e ⊗ Ok x }
 {
-    w?.sum(e.product(x)?)
+    if let Ok(y) = *w {
+        *w = e.product(x).and_then(|z| y.sum(z));
+    }
 }
 
 // The arcs 1 to m with their flows, upward: each turn takes the state on.
@@ -69,14 +71,13 @@ fn over_arcs<S, F: Fn(&mut S, Arc, Fraction)>(net: &Net, pair: &Pair, start: S, 
     s
 }
 
-// A balance of node i, and the flow of one arc more where it touches the node.
-fn balance_turn(t: Arc, x: Fraction, i: usize, w: Worked) -> Worked
-    ensures { result ≡ cond (is_touching t i) (w ⊕ Ok (side_of t i).e ⊗ Ok x) w }
+// The flow of one arc more to a balance of node i, where it touches the node.
+fn add_flow(w: &mut Worked, t: Arc, x: Fraction, i: usize)
+    ensures { w.new ≡ cond (is_touching t i) (w.old ⊕ Ok (side_of t i).e ⊗ Ok x) w.old }
 {
     if network::touches(t, i) {
-        return with_term(w, network::side_at(t, i).e, x);
+        add_term(w, network::side_at(t, i).e, x);
     }
-    w
 }
 
 // The balance of node i.
@@ -84,7 +85,7 @@ pub fn balance(net: Net, pair: Pair, i: usize) -> Worked
     ensures { result ≡ balance_of net pair i }
 {
     let zero = Ok(Fraction::ZERO);
-    over_arcs(&net, &pair, zero, |w, t, x| *w = balance_turn(t, x, i, *w))
+    over_arcs(&net, &pair, zero, |w, t, x| add_flow(w, t, x, i))
 }
 
 // A difference with one term more, e × x.
@@ -121,7 +122,7 @@ pub fn value(net: Net, pair: Pair) -> Worked
     ensures { result ≡ value_of net pair }
 {
     let start = Ok(net.constant);
-    over_arcs(&net, &pair, start, |w, t, x| *w = with_term(*w, t.cost, x))
+    over_arcs(&net, &pair, start, |w, t, x| add_term(w, t.cost, x))
 }
 
 // The place of node k among the balances; the last where it has none.
@@ -150,8 +151,8 @@ fn add_arc(s: &mut [Worked; SUM_PLACES], t: Arc, x: Fraction)
 {
     let from = place_of(t.from);
     let to = to_place(t);
-    s[from] = with_term(s[from], t.a, x);
-    s[to] = with_term(s[to], t.b, x);
+    add_term(&mut s[from], t.a, x);
+    add_term(&mut s[to], t.b, x);
 }
 
 // The balances of the nodes, arcs upward.
