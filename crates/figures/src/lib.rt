@@ -156,11 +156,11 @@ fn add_arc(s: &mut [Worked; SUM_PLACES], t: Arc, x: Fraction)
 }
 
 // The balances of the nodes, arcs upward.
-fn balances(net: Net, pair: Pair) -> [Worked; SUM_PLACES]
-    ensures { (i : ℕ) → i < node_places → sum_at result i ≡ balance_of net pair i }
+fn balances(net: &Net, pair: &Pair) -> [Worked; SUM_PLACES]
+    ensures { (i : ℕ) → i < node_places → sum_at result i ≡ balance_of net.now pair.now i }
 {
     let zero: Worked = Ok(Fraction::ZERO);
-    over_arcs(&net, &pair, [zero; SUM_PLACES], add_arc)
+    over_arcs(net, pair, [zero; SUM_PLACES], add_arc)
 }
 
 // One node more, of balance w and supply r.
@@ -173,8 +173,8 @@ fn ask_node(a: Nodes, w: Worked, r: Fraction) -> Nodes
 }
 
 // Questions 9 and 10 of all nodes.
-fn ask_nodes(net: Net, pair: Pair) -> Nodes
-    ensures { (result.fit ≡ all (balance_fits net pair) net.n) × (result.balanced ≡ all (is_balanced net pair) net.n) }
+fn ask_nodes(net: &Net, pair: &Pair) -> Nodes
+    ensures { (result.fit ≡ all (balance_fits net.now pair.now) net.now.n) × (result.balanced ≡ all (is_balanced net.now pair.now) net.now.n) }
 {
     let s = balances(net, pair);
     let mut a = Nodes {
@@ -185,7 +185,7 @@ fn ask_nodes(net: Net, pair: Pair) -> Nodes
         let w = if i < MAX_NODES {
             s[i + 1]
         } else {
-            balance(net, pair, i + 1)
+            balance(*net, *pair, i + 1)
         };
         a = ask_node(a, w, network::figure_at(&net.supply, i + 1));
     }
@@ -212,16 +212,20 @@ fn ask_arc(a: Arcs, t: Arc, x: Fraction, price: [Fraction; NODE_PLACES]) -> Arcs
 }
 
 // Questions 9, 11 and 12 of all arcs.
-fn ask_arcs(net: Net, pair: Pair) -> Arcs
-    ensures { (result.fit ≡ all (cost_fits net pair) net.m) × (result.within ≡ all (is_within_at net pair) net.m) × (result.kept ≡ all (keeps_rule_at net pair) net.m) }
+fn ask_arcs(net: &Net, pair: &Pair) -> Arcs
+    ensures { (result.fit ≡ all (cost_fits net.now pair.now) net.now.m) × (result.within ≡ all (is_within_at net.now pair.now) net.now.m) × (result.kept ≡ all (keeps_rule_at net.now pair.now) net.now.m) }
 {
-    let price = pair.price;
     let none = Arcs {
         fit: true,
         within: true,
         kept: true,
     };
-    over_arcs(&net, &pair, none, |a, t, x| *a = ask_arc(*a, t, x, price))
+    over_arcs(
+        net,
+        pair,
+        none,
+        |a, t, x| *a = ask_arc(*a, t, x, pair.price),
+    )
 }
 
 // The questions 9 to 12 of a pair, and its value.
@@ -230,8 +234,8 @@ pub fn verdict(net: Net, pair: Pair) -> Result<Fraction, Refusal>
     ensures { result ≡ answered (test_questions net pair) (figure_of (value_of net pair)) }
 {
     let w = value(net, pair);
-    let nodes = ask_nodes(net, pair);
-    let arcs = ask_arcs(net, pair);
+    let nodes = ask_nodes(&net, &pair);
+    let arcs = ask_arcs(&net, &pair);
     Refusal::Width.unless(nodes.fit && arcs.fit && w.is_ok())?;
     Refusal::Balance.unless(nodes.balanced)?;
     Refusal::Bounds.unless(arcs.within)?;

@@ -11,5 +11,5 @@ use Rattle.figures.proofs.ask_arcs.Goals as goal
 pub returns : goal.returns
 unfolding reduced_cost
 returns c =
-    let e = c.over_arcs.ensures (λ j a. asked a (arc_at c.args.net (j + 1)) (flow_at c.args.pair (j + 1)) c.args.pair.price) (λ j a r p. search rules) in
+    let e = c.over_arcs.ensures (λ j a. asked a (arc_at c.args.net.now (j + 1)) (flow_at c.args.pair.now (j + 1)) c.args.pair.now.price) (λ j a r p. search rules) in
     rw e (upto_all (λ (a : Arcs). a.fit) _ _ (λ j s. refl) _ _ refl, upto_all (λ (a : Arcs). a.within) _ _ (λ j s. refl) _ _ refl, upto_all (λ (a : Arcs). a.kept) _ _ (λ j s. refl) _ _ refl)

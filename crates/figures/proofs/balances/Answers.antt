@@ -15,6 +15,6 @@ use Rattle.figures.proofs.balances.Goals as goal
 pub returns : goal.returns
 unfolding balance_of
 returns c = λ i h.
-    let e = c.over_arcs.ensures (λ j s. with_arc s (arc_at c.args.net (j + 1)) (flow_at c.args.pair (j + 1))) (λ j s r p. search rules) in
-    let k = upto_seen (λ (s : List Worked). length s ≡ 34) (λ s. sum_at s i) _ (balance_turn c.args.net c.args.pair i) (λ j s n. (length-set _ _ _ ∙ length-set _ _ _ ∙ n, added s _ _ i n h)) c.args.net.m _ refl in
-    rw e (k.1 ∙ ap (upto (balance_turn c.args.net c.args.pair i) c.args.net.m) (get_or-replicate {A = Worked} 34 i (Ok zero_fraction) (Ok no_figure) (omega arith)))
+    let e = c.over_arcs.ensures (λ j s. with_arc s (arc_at c.args.net.now (j + 1)) (flow_at c.args.pair.now (j + 1))) (λ j s r p. search rules) in
+    let k = upto_seen (λ (s : List Worked). length s ≡ 34) (λ s. sum_at s i) _ (balance_turn c.args.net.now c.args.pair.now i) (λ j s n. (length-set _ _ _ ∙ length-set _ _ _ ∙ n, added s _ _ i n h)) c.args.net.now.m _ refl in
+    rw e (k.1 ∙ ap (upto (balance_turn c.args.net.now c.args.pair.now i) c.args.net.now.m) (get_or-replicate {A = Worked} 34 i (Ok zero_fraction) (Ok no_figure) (omega arith)))
