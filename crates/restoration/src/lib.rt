@@ -79,10 +79,13 @@ fn finish(
     requires { Empty out.old values.old }
     ensures { Ended net reduced way result out.new values.new (length out.old) (length values.old) }
 {
-    let valued = way.and_then(|back| Ok((back, figures::value(net, back)?)));
-    let (back, original) = valued.map_err(|_| Refusal::WayBack)?;
-    write(net, back, reduced, original, out, values);
-    Ok(())
+    if let Ok(back) = way
+        && let Ok(original) = figures::value(net, back)
+    {
+        write(net, back, reduced, original, out, values);
+        return Ok(());
+    }
+    Err(Refusal::WayBack)
 }
 
 // All questions, into slices of zeros.
