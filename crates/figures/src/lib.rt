@@ -52,9 +52,7 @@ fn arc_in(arcs: &[Arc; ARC_PLACES], j: usize) -> Arc
 fn add_term(w: &mut Worked, e: Fraction, x: Fraction)
     ensures { w.new ≡ w.old ⊕ Ok e ⊗ Ok x }
 {
-    if let Ok(y) = *w {
-        *w = e.product(x).and_then(|z| y.sum(z));
-    }
+    *w = w.and_then(|y| y.sum(e.product(x)?));
 }
 
 // The arcs 1 to m with their flows, upward: each turn takes the state on.
