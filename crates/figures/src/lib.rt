@@ -1,5 +1,5 @@
-// The figures of the test: balances, reduced costs and the value; and its questions 9 to 12. The loops go by number and read an arc
-// in place, so that no network is copied for one; a network may say more arcs than have a place, which no slice of its arcs can.
+// The figures of the test: balances, reduced costs and the value; and its questions 9 to 12. The two loops go by number: a network
+// may say more nodes and arcs than have a place, which no slice of them can.
 #![tactic(auto, using(fraction::proofs::Laws::misfit_is), unfolding(fraction::specs::Formula::added, fraction::specs::Formula::subtracted, fraction::specs::Formula::multiplied, fraction::specs::Exact::is_same, crate::specs::Figures::reduced_cost, crate::specs::Figures::is_within, crate::specs::Figures::balance_of, crate::specs::Figures::value_of))]
 
 ghost use Rattle.std.specs.Prelude.{◌≡◌, cond, ◌&&◌, not, ℕ, ◌+◌, ◌<◌, eqb, get_or, Ok};
@@ -42,10 +42,7 @@ struct Arcs {
 fn arc_in(arcs: &[Arc; ARC_PLACES], j: usize) -> Arc
     ensures { result ≡ get_or arcs.now j no_arc }
 {
-    if j < ARC_PLACES {
-        return arcs[j];
-    }
-    network::no_arc()
+    arcs.get(j).copied().unwrap_or(network::no_arc())
 }
 
 // One term more to a sum, e × x.
