@@ -1,16 +1,18 @@
-// The figures of the test: balances, reduced costs and the value; and its questions 9 to 12. The loops go by number and read an arc
-// in place, so that no network is copied for one; a network may say more arcs than have a place, which no slice of its arcs can.
-#![tactic(auto, using(fraction::proofs::Laws::misfit_is), unfolding(fraction::specs::Formula::added, fraction::specs::Formula::subtracted, fraction::specs::Formula::multiplied, fraction::specs::Exact::is_same, crate::specs::Figures::reduced_cost, crate::specs::Figures::is_within))]
+// The figures of the test: balances, reduced costs and the value; and its questions 9 to 12. The two loops go by number: a network
+// may say more nodes and arcs than have a place, which no slice of them can.
+#![tactic(auto, using(fraction::proofs::Laws::misfit_is), unfolding(fraction::specs::Formula::added, fraction::specs::Formula::subtracted, fraction::specs::Formula::multiplied, fraction::specs::Exact::is_same, crate::specs::Figures::reduced_cost, crate::specs::Figures::is_within, crate::specs::Figures::balance_of, crate::specs::Figures::value_of))]
 
 ghost use Rattle.std.specs.Prelude.{◌≡◌, cond, ◌&&◌, not, ℕ, ◌+◌, ◌<◌, eqb, get_or, Ok};
-ghost use Rattle.loops.specs.Loops.{all};
+ghost use Rattle.std.specs.Borrow.{MutBor};
+ghost use Rattle.loops.specs.Loops.{all, upto};
 ghost use Rattle.fraction.specs.Exact.{no_figure, is_same};
 ghost use Rattle.fraction.specs.Formula.{is_fit, figure_of, ◌⊕◌, ◌⊖◌, ◌⊗◌};
 ghost use Rattle.network.specs.Limits.{node_places};
-ghost use Rattle.network.specs.Network.{no_arc, is_touching, is_root, side_of};
+ghost use Rattle.network.specs.Network.{no_arc, arc_at, is_touching, is_root, side_of};
+ghost use Rattle.network.specs.Pair.{flow_at};
 ghost use Rattle.records.specs.Questions.{answered};
 ghost use Rattle.figures.specs.Figures.{balance_of, value_of, balance_fits, cost_fits, is_balanced, is_within, is_within_at, keeps_rule_at, test_questions};
-ghost use Rattle.figures.specs.internal.Listed.{sum_at, cost_in};
+ghost use Rattle.figures.specs.internal.Listed.{sum_at, place_of, to_place, with_arc, cost_in, asked};
 ghost use Rattle.slackness.specs.Slackness.{keeps_rule};
 
 use fraction::{Fraction, Worked};
@@ -40,40 +42,45 @@ struct Arcs {
 fn arc_in(arcs: &[Arc; ARC_PLACES], j: usize) -> Arc
     ensures { result ≡ get_or arcs.now j no_arc }
 {
-    if j < ARC_PLACES {
-        return arcs[j];
-    }
-    network::no_arc()
+    arcs.get(j).copied().unwrap_or(network::no_arc())
 }
 
-// A sum with one term more, e × x.
-fn with_term(w: Worked, e: Fraction, x: Fraction) -> Worked
-    ensures { result ≡ w ⊕ Ok e ⊗ Ok x }
+// One term more to a sum, e × x.
+fn add_term(w: &mut Worked, e: Fraction, x: Fraction)
+    ensures { w.new ≡ w.old ⊕ Ok e ⊗ Ok x }
 {
-    w?.sum(e.product(x)?)
+    *w = w.and_then(|y| y.sum(e.product(x)?));
 }
 
-// A balance of node i, and the flow of one arc more where it touches the node.
-fn balance_turn(t: Arc, x: Fraction, i: usize, w: Worked) -> Worked
-    ensures { result ≡ cond (is_touching t i) (w ⊕ Ok (side_of t i).e ⊗ Ok x) w }
+// The arcs 1 to m with their flows, upward: each turn takes the state on.
+fn over_arcs<S, F: Fn(&mut S, Arc, Fraction)>(net: &Net, pair: &Pair, start: S, turn: F) -> S
+    requires { F.IsAlwaysCallable turn }
+    ensures { (f : ℕ → S → S) → ((j : ℕ) (s r : MutBor S) → F.post turn s (arc_at net.now (j + 1)) (flow_at pair.now (j + 1)) tt r → r.now ≡ f j s.now) → result ≡ upto f net.now.m start }
+{
+    let mut s = start;
+    for j in 0..net.m {
+        let t = arc_in(&net.arcs, j + 1);
+        let x = network::figure_at(&pair.flow, j + 1);
+        turn(&mut s, t, x);
+    }
+    s
+}
+
+// The flow of one arc more to a balance of node i, where it touches the node.
+fn add_flow(w: &mut Worked, t: Arc, x: Fraction, i: usize)
+    ensures { w.new ≡ cond (is_touching t i) (w.old ⊕ Ok (side_of t i).e ⊗ Ok x) w.old }
 {
     if network::touches(t, i) {
-        return with_term(w, network::side_at(t, i).e, x);
+        add_term(w, network::side_at(t, i).e, x);
     }
-    w
 }
 
 // The balance of node i.
 pub fn balance(net: Net, pair: Pair, i: usize) -> Worked
     ensures { result ≡ balance_of net pair i }
 {
-    let mut w = Ok(Fraction::ZERO);
-    for j in 0..net.m {
-        let t = arc_in(&net.arcs, j + 1);
-        let x = network::figure_at(&pair.flow, j + 1);
-        w = balance_turn(t, x, i, w);
-    }
-    w
+    let zero = Ok(Fraction::ZERO);
+    over_arcs(&net, &pair, zero, |w, t, x| add_flow(w, t, x, i))
 }
 
 // A difference with one term more, e × x.
@@ -109,18 +116,13 @@ fn reduced_cost(t: Arc, price: [Fraction; NODE_PLACES]) -> Worked
 pub fn value(net: Net, pair: Pair) -> Worked
     ensures { result ≡ value_of net pair }
 {
-    let mut w = Ok(net.constant);
-    for j in 0..net.m {
-        let t = arc_in(&net.arcs, j + 1);
-        let x = network::figure_at(&pair.flow, j + 1);
-        w = with_term(w, t.cost, x);
-    }
-    w
+    let start = Ok(net.constant);
+    over_arcs(&net, &pair, start, |w, t, x| add_term(w, t.cost, x))
 }
 
 // The place of node k among the balances; the last where it has none.
 fn place_of(k: usize) -> usize
-    ensures { (result < node_places + 1) × ((i : ℕ) → i < node_places → eqb result i ≡ eqb k i) }
+    ensures { result ≡ place_of k }
 {
     if k < NODE_PLACES {
         return k;
@@ -130,7 +132,7 @@ fn place_of(k: usize) -> usize
 
 // The place of an arc's to node; the last for a root arc.
 fn to_place(t: Arc) -> usize
-    ensures { (result < node_places + 1) × ((i : ℕ) → i < node_places → eqb result i ≡ (not (is_root t) && eqb t.to i)) }
+    ensures { result ≡ to_place t }
 {
     if network::is_root(t) {
         return NODE_PLACES;
@@ -138,21 +140,22 @@ fn to_place(t: Arc) -> usize
     place_of(t.to)
 }
 
+// The balances of the nodes, and the flow of one arc more.
+fn add_arc(s: &mut [Worked; SUM_PLACES], t: Arc, x: Fraction)
+    ensures { s.new ≡ with_arc s.old t x }
+{
+    let from = place_of(t.from);
+    let to = to_place(t);
+    add_term(&mut s[from], t.a, x);
+    add_term(&mut s[to], t.b, x);
+}
+
 // The balances of the nodes, arcs upward.
-fn balances(net: Net, pair: Pair) -> [Worked; SUM_PLACES]
-    ensures { (i : ℕ) → i < node_places → sum_at result i ≡ balance_of net pair i }
+fn balances(net: &Net, pair: &Pair) -> [Worked; SUM_PLACES]
+    ensures { (i : ℕ) → i < node_places → sum_at result i ≡ balance_of net.now pair.now i }
 {
     let zero: Worked = Ok(Fraction::ZERO);
-    let mut s = [zero; SUM_PLACES];
-    for j in 0..net.m {
-        let t = arc_in(&net.arcs, j + 1);
-        let x = network::figure_at(&pair.flow, j + 1);
-        let from = place_of(t.from);
-        let to = to_place(t);
-        s[from] = with_term(s[from], t.a, x);
-        s[to] = with_term(s[to], t.b, x);
-    }
-    s
+    over_arcs(net, pair, [zero; SUM_PLACES], add_arc)
 }
 
 // One node more, of balance w and supply r.
@@ -165,8 +168,8 @@ fn ask_node(a: Nodes, w: Worked, r: Fraction) -> Nodes
 }
 
 // Questions 9 and 10 of all nodes.
-fn ask_nodes(net: Net, pair: Pair) -> Nodes
-    ensures { (result.fit ≡ all (balance_fits net pair) net.n) × (result.balanced ≡ all (is_balanced net pair) net.n) }
+fn ask_nodes(net: &Net, pair: &Pair) -> Nodes
+    ensures { (result.fit ≡ all (balance_fits net.now pair.now) net.now.n) × (result.balanced ≡ all (is_balanced net.now pair.now) net.now.n) }
 {
     let s = balances(net, pair);
     let mut a = Nodes {
@@ -177,7 +180,7 @@ fn ask_nodes(net: Net, pair: Pair) -> Nodes
         let w = if i < MAX_NODES {
             s[i + 1]
         } else {
-            balance(net, pair, i + 1)
+            balance(*net, *pair, i + 1)
         };
         a = ask_node(a, w, network::figure_at(&net.supply, i + 1));
     }
@@ -193,7 +196,7 @@ fn is_within(t: Arc, x: Fraction) -> bool
 
 // One arc more, with its flow and all prices.
 fn ask_arc(a: Arcs, t: Arc, x: Fraction, price: [Fraction; NODE_PLACES]) -> Arcs
-    ensures { (result.fit ≡ (a.fit && is_fit (cost_in price t))) × (result.within ≡ (a.within && is_within t x)) × (result.kept ≡ (a.kept && keeps_rule t.lower t.upper x (figure_of (cost_in price t)))) }
+    ensures { result ≡ asked a t x price }
 {
     let w = reduced_cost(t, price);
     let fit = a.fit && w.is_ok();
@@ -204,21 +207,20 @@ fn ask_arc(a: Arcs, t: Arc, x: Fraction, price: [Fraction; NODE_PLACES]) -> Arcs
 }
 
 // Questions 9, 11 and 12 of all arcs.
-fn ask_arcs(net: Net, pair: Pair) -> Arcs
-    ensures { (result.fit ≡ all (cost_fits net pair) net.m) × (result.within ≡ all (is_within_at net pair) net.m) × (result.kept ≡ all (keeps_rule_at net pair) net.m) }
+fn ask_arcs(net: &Net, pair: &Pair) -> Arcs
+    ensures { (result.fit ≡ all (cost_fits net.now pair.now) net.now.m) × (result.within ≡ all (is_within_at net.now pair.now) net.now.m) × (result.kept ≡ all (keeps_rule_at net.now pair.now) net.now.m) }
 {
-    let price = pair.price;
-    let mut a = Arcs {
+    let none = Arcs {
         fit: true,
         within: true,
         kept: true,
     };
-    for j in 0..net.m {
-        let t = arc_in(&net.arcs, j + 1);
-        let x = network::figure_at(&pair.flow, j + 1);
-        a = ask_arc(a, t, x, price);
-    }
-    a
+    over_arcs(
+        net,
+        pair,
+        none,
+        |a, t, x| *a = ask_arc(*a, t, x, pair.price),
+    )
 }
 
 // The questions 9 to 12 of a pair, and its value.
@@ -227,8 +229,8 @@ pub fn verdict(net: Net, pair: Pair) -> Result<Fraction, Refusal>
     ensures { result ≡ answered (test_questions net pair) (figure_of (value_of net pair)) }
 {
     let w = value(net, pair);
-    let nodes = ask_nodes(net, pair);
-    let arcs = ask_arcs(net, pair);
+    let nodes = ask_nodes(&net, &pair);
+    let arcs = ask_arcs(&net, &pair);
     Refusal::Width.unless(nodes.fit && arcs.fit && w.is_ok())?;
     Refusal::Balance.unless(nodes.balanced)?;
     Refusal::Bounds.unless(arcs.within)?;

@@ -7,12 +7,9 @@ use lib.Dec.{leb}
 use lib.IntN.{ℤ}
 use lib.ListN.{length}
 use Rattle.loops.specs.Loops.{zeros, build}
-use Rattle.fraction.specs.declared.Fraction.{Fraction}
-use Rattle.fraction.specs.Formula.{is_fit, figure_of}
 use Rattle.network.specs.declared.Arc.{Arc}
 use Rattle.network.specs.declared.Net.{Net}
 use Rattle.network.specs.declared.Nodes.{Nodes}
-use Rattle.network.specs.declared.pair.Pair.{Pair}
 use Rattle.network.specs.ArcList.{arcs_in, nodes_of, joined}
 use Rattle.step.specs.declared.Next.{Next}
 use Rattle.step.specs.Run.{Run, back_of, Way, at, way_back}
@@ -21,12 +18,10 @@ use Rattle.records.specs.Questions.{Question, first_no, answered}
 use Rattle.records.specs.Network.{questions, read_of}
 use Rattle.records.specs.Logged.{stack_word, is_stack_of}
 use Rattle.records.specs.Stack.{same_words}
-use Rattle.records.specs.Pair.{pair_words}
 use Rattle.records.specs.Values.{four_words}
 use Rattle.records.proofs.Tables.{stops, goes_on_lem}
 use Rattle.records.proofs.Logged.{recorded, few-enough}
 use Rattle.survivors.specs.Survivors.{packed_of}
-use Rattle.figures.specs.Figures.{value_of}
 use Rattle.search.specs.declared.Ran.{Ran}
 use Rattle.search.specs.Search.{ends_of}
 use Rattle.search.specs.Search as Search
@@ -41,7 +36,7 @@ use Rattle.records.proofs.Questions as No
 use Rattle.records.proofs.Questions.{yes-asked}
 use Rattle.fraction.proofs.Laws.{never}
 use Rattle.restoration.specs.declared.Offer.{Offer}
-use Rattle.restoration.specs.Restore.{is_reduced, is_stack, is_roomy, reduced_net, brought_back, original_value, is_back, offer_table, back_table, run_table, restore_table, refusal_of, values_of, Written}
+use Rattle.restoration.specs.Restore.{is_reduced, is_stack, is_roomy, reduced_net, brought_back, original_value, offer_table, back_table, run_table, restore_table, refusal_of, values_of, Written}
 use Rattle.restoration.specs.internal.Parts.{offer_of, values_with, Ended}
 
 -- ---- the questions
@@ -98,15 +93,6 @@ module _ (net : Net) (run : Run) (zs ys : List ℤ) where
 pub refused : {net : Net} {run : Run} {ys out values : List ℤ} {o v : ℕ} {p : Result ⊤ Refusal} {q : Refusal} → p ≡ Err q → out ≡ zeros o → values ≡ zeros v → Written p net run ys (Err q) out values o v
 refused e a b = rw e (record { result = refl; out_is = a; values_is = b })
 
--- ---- question 13
-
-module _ {net : Net} {x : Fraction} {way : Way} {out values : List ℤ} {o v : ℕ} where
-  pub ended-no : is_back net way ≡ false → out ≡ zeros o → values ≡ zeros v → Ended net x way (Err Refusal.WayBack) out values o v
-  ended-no f a c = record { result = rw f; out_is = rw f a; values_is = rw f c }
-
-  pub ended-yes : (pair : Pair) → way ≡ at pair → is_fit (value_of net pair) ≡ true → out ≡ pair_words net.n net.m pair o → values ≡ four_words x (figure_of (value_of net pair)) v → Ended net x way (Ok tt) out values o v
-  ended-yes pair e f a c = rw e (record { result = rw f; out_is = rw f a; values_is = rw f c })
-
 -- ---- over a run that was found
 
 module _ {xs log : List ℤ} {ran : Ran} {arcs : List Arc} {w k : ℕ} (f : Found xs ran log arcs w k) where
@@ -118,24 +104,24 @@ module _ {xs log : List ℤ} {ran : Ran} {arcs : List Arc} {w k : ℕ} (f : Foun
   arcs-first e = ap (λ n. arcs_in (arcs_back log n arcs)) (sym f.steps_is) ∙ (arcs-given (read_of xs) (legal-read f.asked) log arcs f.holds (rw (← e) f.asked.wide) (ap (λ (t : Net). t.arcs) f.net_is)).0
 
   -- 6 to 12
-  pub offered : (zs ys : List ℤ) {view : List Arc} {r : Result Offer Refusal} → view ≡ arcs_in arcs
-      → r ≡ answered (offer_table (is_reduced (ends_of ran.contradiction)) (is_stack_of log ran.steps zs) (packed_of (joined ran.nodes view)) ys) (offer_of (joined ran.nodes view) ys)
+  pub offered : (zs ys : List ℤ) {view : List Arc} {left : Net} {r : Result Offer Refusal} → view ≡ arcs_in arcs → left ≡ joined ran.nodes view
+      → r ≡ answered (offer_table (is_reduced (ends_of ran.contradiction)) (is_stack_of log ran.steps zs) (packed_of left) ys) (offer_of left ys)
       → r ≡ answered (earlier run zs ys) (offer_of run.net ys)
-  offered zs ys {view} {r} v h =
-      h ∙ ap (λ (n : Next). answered (offer_table (is_reduced n) (is_stack_of log ran.steps zs) (packed_of (joined ran.nodes view)) ys) (offer_of (joined ran.nodes view) ys)) (sym f.ends_is)
-      ∙ ap (λ b. answered (offer_table (is_reduced run.ends) b (packed_of (joined ran.nodes view)) ys) (offer_of (joined ran.nodes view) ys)) stack_is
-      ∙ ap (λ (n : Net). answered (offer_table (is_reduced run.ends) (is_stack run zs) (packed_of n) ys) (offer_of n ys)) (ap (joined ran.nodes) v ∙ f.net_is)
+  offered zs ys {left = left} v l h =
+      h ∙ ap (λ (n : Next). answered (offer_table (is_reduced n) (is_stack_of log ran.steps zs) (packed_of left) ys) (offer_of left ys)) (sym f.ends_is)
+      ∙ ap (λ b. answered (offer_table (is_reduced run.ends) b (packed_of left) ys) (offer_of left ys)) stack_is
+      ∙ ap (λ (n : Net). answered (offer_table (is_reduced run.ends) (is_stack run zs) (packed_of n) ys) (offer_of n ys)) (l ∙ ap (joined ran.nodes) v ∙ f.net_is)
     where
       stack_is : is_stack_of log ran.steps zs ≡ is_stack run zs
       stack_is = few-enough log ran.steps zs f.few ∙ ap (λ n. same_words zs (build (1 + 2 * n) (stack_word log n))) (sym f.steps_is) ∙ ap (same_words zs) (recorded log run.steps f.holds)
 
   -- 13, and the words; the network given is read from its record beside the arcs, which are put back
-  pub went_back : (zs ys : List ℤ) {there : Offer} {way : Way} {nodes : Nodes} {view : List Arc} {r : Result ⊤ Refusal} {out values : List ℤ} {o v : ℕ} → first_no (earlier run zs ys) ≡ Ok tt → there ≡ offer_of run.net ys → way ≡ way_back (back_of rules) run.steps (at there.pair)
-      → nodes ≡ nodes_of (read_of xs) → view ≡ (read_of xs).arcs → Ended (joined nodes view) there.value way r out values o v
+  pub went_back : (zs ys : List ℤ) {there : Offer} {way : Way} {nodes : Nodes} {view : List Arc} {given : Net} {r : Result ⊤ Refusal} {out values : List ℤ} {o v : ℕ} → first_no (earlier run zs ys) ≡ Ok tt → there ≡ offer_of run.net ys → way ≡ way_back (back_of rules) run.steps (at there.pair)
+      → nodes ≡ nodes_of (read_of xs) → view ≡ (read_of xs).arcs → given ≡ joined nodes view → Ended given there.value way r out values o v
       → {q : Result ⊤ Refusal} → q ≡ first_no (run_table (read_of xs) run zs ys) → Written q (read_of xs) run ys r out values o v
   unfolding brought_back
-  went_back zs ys {there} {way} {nodes} {view} {r} {out} {values} {o} {v} none h b n a e t =
-      rw (t ∙ offer-yes (read_of xs) run zs ys none) (whole (subst₂ (λ (net : Net) (y : Way). Ended net there.value y r out values o v) (ap₂ joined n a) back e))
+  went_back zs ys {there = there} {way = way} {r = r} {out = out} {values = values} {o = o} {v = v} none h b n a g e t =
+      rw (t ∙ offer-yes (read_of xs) run zs ys none) (whole (subst₂ (λ (net : Net) (y : Way). Ended net there.value y r out values o v) (g ∙ ap₂ joined n a) back e))
     where
       back : way ≡ brought_back run ys
       back = b ∙ ap (λ (t : Offer). way_back (back_of rules) run.steps (at t.pair)) h

@@ -3,7 +3,6 @@
 
 ghost use Rattle.std.specs.Prelude.{◌≡◌, length};
 ghost use Rattle.loops.specs.Loops.{zeros};
-ghost use Rattle.network.specs.ArcList.{joined};
 ghost use Rattle.survivors.specs.Survivors.{packed_of};
 ghost use Rattle.records.specs.Network.{read_of};
 ghost use Rattle.optimality.specs.Test.{pair_questions};
@@ -18,7 +17,7 @@ ghost use Rattle.restoration.specs.internal.Parts.{Empty, offer_of, Ended};
 
 use fraction::{Fraction, Misfit};
 use network::pair::Pair;
-use network::{Arc, Net, Nodes};
+use network::{Arc, Net};
 use records::refusal::Refusal;
 use search::Ran;
 
@@ -42,20 +41,14 @@ fn test_pair(net: Net, pair: &[i32]) -> Result<Offer, Refusal>
     })
 }
 
-// Questions 6 to 12 of a run whose steps stand in the log and whose arcs are `view`.
+// Questions 6 to 12 of a run whose steps stand in the log and that leaves the network `left`.
 #[tactic(auto, unfolding(crate::specs::Restore::offer_table))]
-fn ask_run(
-    ran: Ran,
-    view: [Arc; network::ARC_PLACES],
-    log: &[i32],
-    stack: &[i32],
-    pair: &[i32],
-) -> Result<Offer, Refusal>
-    ensures { result ≡ answered (offer_table (is_reduced (ends_of ran.contradiction)) (is_stack_of log.now ran.steps stack.now) (packed_of (joined ran.nodes view)) pair.now) (offer_of (joined ran.nodes view) pair.now) }
+fn ask_run(ran: Ran, left: Net, log: &[i32], stack: &[i32], pair: &[i32]) -> Result<Offer, Refusal>
+    ensures { result ≡ answered (offer_table (is_reduced (ends_of ran.contradiction)) (is_stack_of log.now ran.steps stack.now) (packed_of left) pair.now) (offer_of left pair.now) }
 {
     Refusal::NoFlow.unless(ran.contradiction.is_none())?;
     Refusal::Stack.unless(records::stack::is_stack(log, ran.steps, stack))?;
-    test_pair(network::join(ran.nodes, view), pair)
+    test_pair(left, pair)
 }
 
 // The words of a restored pair and of the two values.
@@ -86,29 +79,13 @@ fn finish(
     requires { Empty out.old values.old }
     ensures { Ended net reduced way result out.new values.new (length out.old) (length values.old) }
 {
-    let Ok(back) = way else {
-        return Err(Refusal::WayBack);
-    };
-    let Ok(original) = figures::value(net, back) else {
-        return Err(Refusal::WayBack);
-    };
-    write(net, back, reduced, original, out, values);
-    Ok(())
-}
-
-// It, where the arcs of the network given are `view`.
-fn finish_at(
-    nodes: Nodes,
-    view: [Arc; network::ARC_PLACES],
-    reduced: Fraction,
-    way: Result<Pair, Misfit>,
-    out: &mut [i32],
-    values: &mut [i32],
-) -> Result<(), Refusal>
-    requires { Empty out.old values.old }
-    ensures { Ended (joined nodes view) reduced way result out.new values.new (length out.old) (length values.old) }
-{
-    finish(network::join(nodes, view), reduced, way, out, values)
+    if let Ok(back) = way
+        && let Ok(original) = figures::value(net, back)
+    {
+        write(net, back, reduced, original, out, values);
+        return Ok(());
+    }
+    Err(Refusal::WayBack)
 }
 
 // All questions, into slices of zeros.
@@ -127,12 +104,12 @@ fn restore_in(
     Refusal::Room.unless(records::PAIR_WORDS <= out.len())?;
     Refusal::Room.unless(records::VALUE_WORDS <= values.len())?;
     let ran = search::run(network, scratch, arcs)?;
-    let view = network::list::view(arcs);
-    let there = ask_run(ran, view, scratch, stack, pair)?;
+    let left = network::join(ran.nodes, network::list::view(arcs));
+    let there = ask_run(ran, left, scratch, stack, pair)?;
     let way = postsolve::undo_steps(scratch, ran.steps, there.pair, arcs);
-    let first = network::list::view(arcs);
-    let given = records::net::read_beside(network);
-    finish_at(given, first, there.value, way, out, values)
+    let nodes = records::net::read_beside(network);
+    let given = network::join(nodes, network::list::view(arcs));
+    finish(given, there.value, way, out, values)
 }
 
 // Restores the pair of a reduced network to the network given, where `stack` has the steps of its reduction and the pair passes

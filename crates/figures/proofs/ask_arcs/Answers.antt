@@ -1,16 +1,15 @@
--- An arc and its flow are read in place, and beyond the last number there is none.
-use Rattle.std.proofs.Common.{refl}
-use Rattle.loops.specs.Loops.{all}
-use Rattle.figures.proofs.Laws.{one_more}
+-- All arcs are asked what each turn asks of its arc.
+use Rattle.std.proofs.Common.{◌+◌, refl, rules}
+use Rattle.network.specs.Network.{arc_at}
+use Rattle.network.specs.Pair.{flow_at}
+use Rattle.figures.specs.declared.Arcs.{Arcs}
 use Rattle.figures.specs.Figures.{reduced_cost}
+use Rattle.figures.specs.internal.Listed.{asked}
+use Rattle.figures.proofs.Laws.{upto_all}
 use Rattle.figures.proofs.ask_arcs.Goals as goal
 
-pub loop-j-init : goal.loop-j-init
-unfolding all
-loop-j-init c = (refl, refl, refl)
-
-pub loop-j-preserved : goal.loop-j-preserved
+pub returns : goal.returns
 unfolding reduced_cost
-loop-j-preserved c =
-    let h = c.loop-j.invariant in
-    (one_more _ _ h.0 (rw c.arc_in-t.ensures at c.ask_arc-a.ensures.0), one_more _ _ h.1 (rw (c.arc_in-t.ensures, c.figure_at-x.ensures) at c.ask_arc-a.ensures.1), one_more _ _ h.2 (rw (c.arc_in-t.ensures, c.figure_at-x.ensures) at c.ask_arc-a.ensures.2))
+returns c =
+    let e = c.over_arcs.ensures (λ j a. asked a (arc_at c.args.net.now (j + 1)) (flow_at c.args.pair.now (j + 1)) c.args.pair.now.price) (λ j a r p. search rules) in
+    rw e (upto_all (λ (a : Arcs). a.fit) _ _ (λ j s. refl) _ _ refl, upto_all (λ (a : Arcs). a.within) _ _ (λ j s. refl) _ _ refl, upto_all (λ (a : Arcs). a.kept) _ _ (λ j s. refl) _ _ refl)

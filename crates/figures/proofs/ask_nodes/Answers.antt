@@ -12,6 +12,6 @@ loop-i-init c = (refl, refl)
 
 pub loop-i-preserved : goal.loop-i-preserved
 loop-i-preserved c =
-    let w : c.if-i-lt-MAX_NODES.w ≡ balance_of c.args.net c.args.pair (c.loop-i.i + 1) = elim c.if-i-lt-MAX_NODES.branch [ then-i-lt-MAX_NODES w ↦ w.w-is ∙ c.balances-s.ensures (c.loop-i.i + 1) (omega (arith, w.if-i-lt-MAX_NODES.true)) | else-i-lt-MAX_NODES w ↦ w.w-is ∙ w.balance-w.ensures ] in
+    let w : c.if-i-lt-MAX_NODES.w ≡ balance_of c.args.net.now c.args.pair.now (c.loop-i.i + 1) = elim c.if-i-lt-MAX_NODES.branch [ then-i-lt-MAX_NODES w ↦ w.w-is ∙ c.balances-s.ensures (c.loop-i.i + 1) (omega (arith, w.if-i-lt-MAX_NODES.true)) | else-i-lt-MAX_NODES w ↦ w.w-is ∙ w.balance-w.ensures ] in
     let h = c.loop-i.invariant in
     (one_more _ _ h.0 (rw w at c.ask_node-a.ensures.0), one_more _ _ h.1 (rw (w, c.figure_at.ensures) at c.ask_node-a.ensures.1))

@@ -1,22 +1,20 @@
--- An arc adds at the places of its nodes; what it adds is read in place, and beyond the last number there is none.
-use Rattle.std.proofs.Common.{arith, refl}
+-- What is seen of the list at a node's place is the node's own balance.
+use Rattle.std.proofs.Common.{◌≡◌, ◌+◌, List, length, arith, refl, rules, ap, ◌∙◌}
 use Rattle.std.proofs.Math.ListN.{get_or-replicate, length-set}
-use Rattle.fraction.specs.Exact.{no_figure}
+use Rattle.loops.specs.Loops.{upto}
+use Rattle.fraction.specs.Exact.{Worked, zero_fraction, no_figure}
 use Rattle.std.specs.Prelude.{Ok}
-use Rattle.loops.proofs.Laws.{folded-all, folded_more, folded-none}
+use Rattle.network.specs.Network.{arc_at}
+use Rattle.network.specs.Pair.{flow_at}
+use Rattle.figures.proofs.Laws.{upto_seen}
 use Rattle.figures.proofs.Added.{added}
-use Rattle.figures.specs.Figures.{balance_of}
-use Rattle.fraction.specs.Exact.{Worked, zero_fraction}
+use Rattle.figures.specs.Figures.{balance_turn, balance_of}
+use Rattle.figures.specs.internal.Listed.{sum_at, with_arc}
 use Rattle.figures.proofs.balances.Goals as goal
-
-pub loop-j-init : goal.loop-j-init
-loop-j-init c = (refl, λ i h. rw (get_or-replicate {A = Worked} 34 i (Ok zero_fraction) (Ok no_figure) (omega arith)) (folded-none _ _ _))
-
-pub loop-j-preserved : goal.loop-j-preserved
-loop-j-preserved c =
-    let v = c.loop-j.invariant in
-    (simp length-set v.0, λ i h. folded_more _ (v.1 i h) (omega arith) (rw (c.arc_in-t.ensures, c.figure_at-x.ensures) at (added c.loop-j.s c.arc_in-t.result c.figure_at-x.result _ _ _ _ v.0 c.place_of-from.ensures.1 c.to_place-to.ensures.1 c.with_term.ensures c.with_term-in-loop-j.ensures i h)))
 
 pub returns : goal.returns
 unfolding balance_of
-returns c = λ i h. folded-all _ (c.loop-j.invariant.1 i h) (omega arith)
+returns c = λ i h.
+    let e = c.over_arcs.ensures (λ j s. with_arc s (arc_at c.args.net.now (j + 1)) (flow_at c.args.pair.now (j + 1))) (λ j s r p. search rules) in
+    let k = upto_seen (λ (s : List Worked). length s ≡ 34) (λ s. sum_at s i) _ (balance_turn c.args.net.now c.args.pair.now i) (λ j s n. (length-set _ _ _ ∙ length-set _ _ _ ∙ n, added s _ _ i n h)) c.args.net.now.m _ refl in
+    rw e (k.1 ∙ ap (upto (balance_turn c.args.net.now c.args.pair.now i) c.args.net.now.m) (get_or-replicate {A = Worked} 34 i (Ok zero_fraction) (Ok no_figure) (omega arith)))
