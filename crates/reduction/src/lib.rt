@@ -3,14 +3,13 @@
 
 ghost use Rattle.std.specs.Prelude.{◌≡◌, length};
 ghost use Rattle.loops.specs.Loops.{zeros};
-ghost use Rattle.network.specs.ArcList.{joined};
 ghost use Rattle.records.specs.Network.{read_of};
 ghost use Rattle.rules.specs.Table.{reduced};
 ghost use Rattle.search.specs.Search.{ends_of};
 ghost use Rattle.records.specs.Logged.{with_stack};
 ghost use Rattle.reduction.specs.Reduce.{refusal_of, end_of, end_output, Written, Reduction};
 
-use network::Arc;
+use network::{Arc, Net};
 use records::refusal::Refusal;
 use search::{Contradiction, Ran};
 
@@ -23,23 +22,16 @@ pub enum End {
     NoFlow { rule: usize, place: usize },
 }
 
-// The end of a run whose steps stand in the log and whose arcs are `view`, into slices of zeros.
-fn finish(
-    ran: Ran,
-    view: [Arc; network::ARC_PLACES],
-    log: &[i32],
-    out: &mut [i32],
-    stack: &mut [i32],
-) -> End
+// The end of a run whose steps stand in the log and that leaves the network `left`, into slices of zeros.
+fn finish(ran: Ran, left: Net, log: &[i32], out: &mut [i32], stack: &mut [i32]) -> End
     requires { out.old ≡ zeros (length out.old) }
-    ensures { (result ≡ end_of (ends_of ran.contradiction)) × (out.new ≡ end_output (ends_of ran.contradiction) (joined ran.nodes view) (length out.old)) × (stack.new ≡ with_stack log.now ran.steps stack.old) }
+    ensures { (result ≡ end_of (ends_of ran.contradiction)) × (out.new ≡ end_output (ends_of ran.contradiction) left (length out.old)) × (stack.new ≡ with_stack log.now ran.steps stack.old) }
 {
     records::stack::write(log, ran.steps, stack);
     match ran.contradiction {
         Some(Contradiction { rule, place }) => End::NoFlow { rule, place },
         None => {
-            let net = network::join(ran.nodes, view);
-            records::net::write_network(survivors::pack(net), out);
+            records::net::write_network(survivors::pack(left), out);
             End::Reduced
         },
     }
@@ -59,12 +51,13 @@ fn reduce_in(
     Refusal::Room.unless(records::NETWORK_WORDS <= out.len())?;
     Refusal::Room.unless(records::STACK_WORDS <= stack.len())?;
     let ran = search::run(network, scratch, arcs)?;
-    let view = network::list::view(arcs);
-    Ok(finish(ran, view, scratch, out, stack))
+    let left = network::join(ran.nodes, network::list::view(arcs));
+    Ok(finish(ran, left, scratch, out, stack))
 }
 
 // Reduces a network until no rule applies: the reduced network into `out`, the steps into `stack`. Every other word of the
-// lent slices, and every number of every record of the list, is zero afterwards, on a refusal every word of them.
+// lent slices, and every number of every record of the list, is zero afterwards, on a refusal every word of them. The slices,
+// scratch and list among them, are parameters of their own, as the paper and the C interface have them.
 pub fn reduce(
     network: &[i32],
     out: &mut [i32],

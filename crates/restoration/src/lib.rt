@@ -114,7 +114,8 @@ fn restore_in(
 
 // Restores the pair of a reduced network to the network given, where `stack` has the steps of its reduction and the pair passes
 // the test on the reduced network: the restored pair into `out`, the reduced value and the original's into `values`. Every other
-// word of the lent slices, and every number of every record of the list, is zero afterwards, on a refusal every word of them.
+// word of the lent slices, and every number of every record of the list, is zero afterwards, on a refusal every word of them. The
+// slices are parameters of their own, as in `reduction::reduce`.
 pub fn restore(
     network: &[i32],
     stack: &[i32],

@@ -18,14 +18,7 @@ fn forced(r: Fraction, w: Side) -> Worked
 }
 
 // An arc alone touches node i of supply r, with w its side there; s is the supply at its other end.
-fn force(
-    constant: Fraction,
-    i: usize,
-    at: ArcUpdate,
-    w: Side,
-    r: Fraction,
-    s: Fraction,
-) -> Outcome
+fn force(constant: Fraction, i: usize, at: ArcUpdate, w: Side, r: Fraction, s: Fraction) -> Outcome
     ensures { result ≡ forced_out constant i at.number at.arc w r s }
 {
     let t = at.arc;

@@ -8,11 +8,10 @@ ghost use Rattle.network.specs.Network.{empty_net, is_used};
 ghost use Rattle.survivors.specs.Survivors.{rank_of, between, pack_node, pack_arc, packed_of, spread_of};
 ghost use Rattle.survivors.specs.internal.Ranks.{placed, spread_figure};
 
-use std::array;
-
 use fraction::Fraction;
 use network::pair::Pair;
 use network::{ARC_PLACES, Arc, MAX_NODES, NODE_PLACES, Net};
+use std::array;
 
 // The new number of each node: how many nodes up to it are left.
 fn node_ranks(net: Net, at: &mut [usize])

@@ -24,4 +24,4 @@ pub returns : goal.returns
 returns c =
     let f = found c.in_ok-ran.ensures in
     let g = c.finish.ensures in
-    finished f c.view-view.ensures (has_room_lem _ _ _ _ _ c.in_ok-unless.ensures c.in_ok-unless-2.ensures ∙ c.in_ok-ran.ensures.asked) c.requires.1 g.0 g.1 g.2 (leb-true 257 _ (yes-asked _ _ c.in_ok-unless-2.ensures))
+    finished f c.view.ensures (has_room_lem _ _ _ _ _ c.in_ok-unless.ensures c.in_ok-unless-2.ensures ∙ c.in_ok-ran.ensures.asked) c.requires.1 g.0 (rw c.join-left.ensures at g.1) g.2 (leb-true 257 _ (yes-asked _ _ c.in_ok-unless-2.ensures))
