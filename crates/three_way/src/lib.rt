@@ -5,12 +5,20 @@ ghost use Rattle.std.specs.Prelude.{◌≡◌, cond, not, ◌&&◌, Ok};
 ghost use Rattle.fraction.specs.Formula.{◌⊕◌, ◌⊖◌, ◌⊗◌, ◌⊘◌, ⊝◌};
 ghost use Rattle.step.specs.Figure.{larger, smaller};
 ghost use Rattle.step.specs.Junction.{has_sign_at, is_free, is_apart};
-ghost use Rattle.three_way.specs.ThreeWay.{turned as turned_of, is_rising, altered as altered_of, between as between_of, added as added_of, low_of, high_of, joining as joining_of, joined, sorted, three as three_of, restored_three, three_back};
+ghost use Rattle.three_way.specs.ThreeWay.{turned as turned_of, is_rising, altered as altered_of, between as between_of, added as added_of, low_of, high_of, joined, sorted, three as three_of, restored_three, three_back};
 
 use fraction::{Fraction, Misfit, Worked};
 use network::pair::Pair;
 use network::{Arc, ArcUpdate, Side, SupplyUpdate};
 use step::{Change, Halt, Old, Outcome, PriceUpdate, Restored, Site, Undone, either, junctions};
+
+// Arcs 1 and 2 at a node, and the third.
+#[derive(Clone, Copy)]
+struct Three {
+    one: ArcUpdate,
+    two: ArcUpdate,
+    third: ArcUpdate,
+}
 
 // w for positive supply, its negation for negative.
 fn turned(below: bool, w: Worked) -> Worked
@@ -22,12 +30,12 @@ fn turned(below: bool, w: Worked) -> Worked
 // ---- conditions
 
 // Arcs 1 and 2 have the supply's sign at node i, and the third has the other.
-fn signs_suit(t1: Arc, t2: Arc, t3: Arc, i: usize, below: bool) -> bool
-    ensures { result ≡ (has_sign_at t1 i below && (has_sign_at t2 i below && has_sign_at t3 i (not below))) }
+fn signs_suit(arcs: Three, i: usize, below: bool) -> bool
+    ensures { result ≡ (has_sign_at arcs.one.arc i below && (has_sign_at arcs.two.arc i below && has_sign_at arcs.third.arc i (not below))) }
 {
-    junctions::has_sign(t1, i, below)
-        && junctions::has_sign(t2, i, below)
-        && junctions::has_sign(t3, i, !below)
+    junctions::has_sign(arcs.one.arc, i, below)
+        && junctions::has_sign(arcs.two.arc, i, below)
+        && junctions::has_sign(arcs.third.arc, i, !below)
 }
 
 // Whether an arc is no root arc, with a lower bound and no upper one.
@@ -37,16 +45,19 @@ fn is_rising(t: Arc) -> bool
     !network::is_root(t) && t.lower.den != 0 && t.upper.is_no_upper()
 }
 
-fn bounds_suit(t1: Arc, t2: Arc, t3: Arc) -> bool
-    ensures { result ≡ (is_rising t1 && (is_rising t2 && is_free t3)) }
+fn bounds_suit(arcs: Three) -> bool
+    ensures { result ≡ (is_rising arcs.one.arc && (is_rising arcs.two.arc && is_free arcs.third.arc)) }
 {
-    is_rising(t1) && is_rising(t2) && junctions::is_free(t3)
+    is_rising(arcs.one.arc) && is_rising(arcs.two.arc) && junctions::is_free(arcs.third.arc)
 }
 
 // The other ends are three different nodes.
-fn ends_suit(t1: Arc, t2: Arc, t3: Arc, i: usize) -> bool
-    ensures { result ≡ (is_apart t1 t2 i && (is_apart t1 t3 i && is_apart t2 t3 i)) }
+fn ends_suit(arcs: Three, i: usize) -> bool
+    ensures { result ≡ (is_apart arcs.one.arc arcs.two.arc i && (is_apart arcs.one.arc arcs.third.arc i && is_apart arcs.two.arc arcs.third.arc i)) }
 {
+    let t1 = arcs.one.arc;
+    let t2 = arcs.two.arc;
+    let t3 = arcs.third.arc;
     junctions::is_apart(t1, t2, i)
         && junctions::is_apart(t1, t3, i)
         && junctions::is_apart(t2, t3, i)
@@ -122,56 +133,11 @@ fn added(i: usize, below: bool, t1: Arc, t2: Arc, l: Fraction, u: Fraction) -> R
 
 // ---- the step
 
-// a, b and c take the numbers of arcs 1, 2 and the third, s is the supply at `end`, and the node is dropped.
-fn joining(
-    i: usize,
-    r: Fraction,
-    one: ArcUpdate,
-    two: ArcUpdate,
-    three: ArcUpdate,
-    a: Arc,
-    b: Arc,
-    c: Arc,
-    end: usize,
-    s: Fraction,
-    constant: Fraction,
-) -> Change
-    ensures { result ≡ joining_of i r one two three a b c end s constant }
+// Node i has supply r, and s is the supply at arc 1's other end: the new arcs take the numbers of the old ones, and the node goes.
+fn join(constant: Fraction, i: usize, r: Fraction, s: Fraction, arcs: Three) -> Outcome
+    ensures { result ≡ joined constant i r s arcs.one arcs.two arcs.third }
 {
-    let none = network::no_update();
-    let right = network::no_supply_update();
-    let edit = network::Edit {
-        one: step::numbered(one.number, a),
-        two: step::numbered(two.number, b),
-        three: step::numbered(three.number, c),
-        four: none,
-        left: SupplyUpdate {
-            node: end,
-            supply: s,
-        },
-        right,
-        gone: i,
-        constant,
-    };
-    let old = Old {
-        three,
-        ..step::old_two(i, r, one, two)
-    };
-    Change { edit, old }
-}
-
-// Node i has supply r, one and two are arcs 1 and 2 and three the third, and s is the supply at arc 1's other end.
-fn join(
-    constant: Fraction,
-    i: usize,
-    r: Fraction,
-    s: Fraction,
-    one: ArcUpdate,
-    two: ArcUpdate,
-    three: ArcUpdate,
-) -> Outcome
-    ensures { result ≡ joined constant i r s one two three }
-{
+    let Three { one, two, third } = arcs;
     let below = r.less(Fraction::ZERO);
     let w = network::side_at(one.arc, i);
     let l = low(below, two.arc, w)?;
@@ -181,30 +147,47 @@ fn join(
     }
     let c = added(i, below, one.arc, two.arc, l, u)?;
     let g = step::less_share(s, r, w.o, w.e)?;
-    let a = altered(i, one.arc, three.arc)?;
-    let b = altered(i, two.arc, three.arc)?;
+    let a = altered(i, one.arc, third.arc)?;
+    let b = altered(i, two.arc, third.arc)?;
     let z = step::gained(constant, one.arc, w, r)?;
-    Ok(joining(i, r, one, two, three, a, b, c, w.other, g, z))
+    let edit = network::Edit {
+        one: ArcUpdate { arc: a, ..one },
+        two: ArcUpdate { arc: b, ..two },
+        three: ArcUpdate { arc: c, ..third },
+        four: network::no_update(),
+        left: SupplyUpdate {
+            node: w.other,
+            supply: g,
+        },
+        right: network::no_supply_update(),
+        gone: i,
+        constant: z,
+    };
+    let old = Old {
+        three: third,
+        ..step::old_two(i, r, one, two)
+    };
+    Ok(Change { edit, old })
 }
 
-// The rule at a node, where one and two are to be arcs 1 and 2, and three the third.
-fn sort(at: Site, one: ArcUpdate, two: ArcUpdate, three: ArcUpdate) -> Outcome
-    ensures { result ≡ sorted at.entry.nodes.now.constant at.entry.nodes.now.supply at.entry.number one two three }
+// The rule at a node, where these are to be its arcs 1 and 2, and the third.
+fn sort(at: Site, arcs: Three) -> Outcome
+    ensures { result ≡ sorted at.entry.nodes.now.constant at.entry.nodes.now.supply at.entry.number arcs.one arcs.two arcs.third }
 {
     let i = at.number;
     let r = at.supply_of(i);
-    if !signs_suit(one.arc, two.arc, three.arc, i, r.less(Fraction::ZERO)) {
+    if !signs_suit(arcs, i, r.less(Fraction::ZERO)) {
         return Err(Halt::Passes);
     }
-    if !bounds_suit(one.arc, two.arc, three.arc) {
+    if !bounds_suit(arcs) {
         return Err(Halt::Passes);
     }
-    if !ends_suit(one.arc, two.arc, three.arc, i) {
+    if !ends_suit(arcs, i) {
         return Err(Halt::Passes);
     }
-    let w = network::side_at(one.arc, i);
+    let w = network::side_at(arcs.one.arc, i);
     let s = at.supply_of(w.other);
-    join(at.nodes.constant, i, r, s, one, two, three)
+    join(at.nodes.constant, i, r, s, arcs)
 }
 
 // Rule 8 at a node: of its three arcs the third is the one without the supply's sign.
@@ -223,13 +206,14 @@ pub fn three_way(at: Site) -> Outcome
         return Err(Halt::Passes);
     }
     let below = r.less(Fraction::ZERO);
-    if !junctions::has_sign(x.arc, i, below) {
-        return sort(at, y, z, x);
-    }
-    if !junctions::has_sign(y.arc, i, below) {
-        return sort(at, x, z, y);
-    }
-    sort(at, x, y, z)
+    let (one, two, third) = if !junctions::has_sign(x.arc, i, below) {
+        (y, z, x)
+    } else if !junctions::has_sign(y.arc, i, below) {
+        (x, z, y)
+    } else {
+        (x, y, z)
+    };
+    sort(at, Three { one, two, third })
 }
 
 // ---- the way back
