@@ -44,14 +44,17 @@ def definitions(root, part):
         for folder, dirs, names in os.walk(top):
             dirs.sort()
             for name in sorted(names):
-                if not name.endswith(".antt") or name in ("Answers.antt", "Invariants.antt", "Lib.antt"):
+                if not name.endswith(".antt") or name == "Lib.antt" or part == "proofs" and name in ("Answers.antt", "Invariants.antt"):
                     continue
                 module = os.path.relpath(os.path.join(folder, name), top)[:-5].replace("/", ".")
-                entry = None
+                entry, record = None, ""
                 for line in open(os.path.join(folder, name)):
+                    if line[0] not in " -\n":
+                        named = re.match(r"pub record (\S+)", line)
+                        record = named[1] + "." if named else ""
                     m = re.match(r"(?: *)(?:abbrev |unfoldable )*pub (?:record |data )?([^\s:{(]+)", line)
                     if m and not re.match(r" *pub (use|mod|ruleset)\b", line) and not line.lstrip().startswith(("unfoldable pub use", "pub use")):
-                        entry = f"{crate} `{module}.{m[1]}`"
+                        entry = f"{crate} `{module}.{record if line[0] == ' ' else ''}{m[1]}`"
                         found[entry] = line
                     elif line.strip() == "" or line.lstrip().startswith("--") or re.match(r"(abbrev |unfoldable |module|use |infix)", line):
                         entry = None if line.strip() != "" or part == "specs" else entry

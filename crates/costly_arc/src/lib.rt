@@ -16,7 +16,8 @@ use step::{Halt, Next, Outcome, Step};
 
 mod due;
 
-// When an arc was put, and when a pair was last sought for it, in vain; 0 is before every search.
+// When an arc was put, and when a pair was last sought for it, in vain; 0 is before every search. That what is known is right is
+// asked with the network each time (`Known`): the network changes between searches.
 #[derive(Clone, Copy)]
 pub struct Times {
     pub put: u8,
@@ -93,7 +94,7 @@ fn at_lower(constant: Fraction, supply: &[Fraction; NODE_PLACES], at: ArcUpdate)
 pub fn costly_arc(net: Net, j: usize) -> Outcome
     ensures { result ≡ costly_arc net j }
 {
-    let t = network::arc_at(net, j);
+    let t = network::arc_at(&net, j);
     if !is_candidate(t) {
         return Err(Halt::Passes);
     }
@@ -111,6 +112,7 @@ pub fn scan(net: Net, seen: Seen, now: u8) -> Found
 {
     let at = due::all_times(net, seen);
     let mut known = seen;
+    // by number: it is the place of the step
     for j in 1..ARC_PLACES {
         let t = net.arcs[j];
         let w = known[j].sought;

@@ -12,28 +12,41 @@ use network::pair::Pair;
 use network::{Arc, ArcUpdate, Side};
 use step::{Around, Change, Halt, Numbers, Old, Outcome, PriceUpdate, Restored, Undone, junctions};
 
-// Of the arcs at a node, the first two of a sign; number 0 where there is none.
+// Of the arcs at a node, the first two of a sign; number 0 where there is none (as in `network::ArcUpdate`).
 #[derive(Clone, Copy)]
 struct Signed {
     first: ArcUpdate,
     second: ArcUpdate,
 }
 
+// The N and the P at a node, each two upward.
+#[derive(Clone, Copy)]
+struct Four {
+    n1: ArcUpdate,
+    n2: ArcUpdate,
+    p1: ArcUpdate,
+    p2: ArcUpdate,
+}
+
 // ---- conditions
 
-fn all_free(n1: Arc, n2: Arc, p1: Arc, p2: Arc) -> bool
-    ensures { result ≡ (is_free n1 && (is_free n2 && (is_free p1 && is_free p2))) }
+fn all_free(arcs: Four) -> bool
+    ensures { result ≡ (is_free arcs.n1.arc && (is_free arcs.n2.arc && (is_free arcs.p1.arc && is_free arcs.p2.arc))) }
 {
-    junctions::is_free(n1)
-        && junctions::is_free(n2)
-        && junctions::is_free(p1)
-        && junctions::is_free(p2)
+    junctions::is_free(arcs.n1.arc)
+        && junctions::is_free(arcs.n2.arc)
+        && junctions::is_free(arcs.p1.arc)
+        && junctions::is_free(arcs.p2.arc)
 }
 
 // Whether no N shares its other end with a P.
-fn all_apart(n1: Arc, n2: Arc, p1: Arc, p2: Arc, i: usize) -> bool
-    ensures { result ≡ (is_apart n1 p1 i && (is_apart n1 p2 i && (is_apart n2 p1 i && is_apart n2 p2 i))) }
+fn all_apart(arcs: Four, i: usize) -> bool
+    ensures { result ≡ (is_apart arcs.n1.arc arcs.p1.arc i && (is_apart arcs.n1.arc arcs.p2.arc i && (is_apart arcs.n2.arc arcs.p1.arc i && is_apart arcs.n2.arc arcs.p2.arc i))) }
 {
+    let n1 = arcs.n1.arc;
+    let n2 = arcs.n2.arc;
+    let p1 = arcs.p1.arc;
+    let p2 = arcs.p2.arc;
     junctions::is_apart(n1, p1, i)
         && junctions::is_apart(n1, p2, i)
         && junctions::is_apart(n2, p1, i)
@@ -94,25 +107,17 @@ fn edit_four(
     }
 }
 
-// n1, n2 are the N and p1, p2 the P at node i of supply r, and new the four numbers upward.
-fn cross(
-    constant: Fraction,
-    i: usize,
-    r: Fraction,
-    n1: ArcUpdate,
-    n2: ArcUpdate,
-    p1: ArcUpdate,
-    p2: ArcUpdate,
-    new: Numbers,
-) -> Outcome
-    ensures { result ≡ crossed_at constant i r n1 n2 p1 p2 new }
+// At node i of supply r; new are the four numbers upward.
+fn cross(constant: Fraction, i: usize, r: Fraction, arcs: Four, new: Numbers) -> Outcome
+    ensures { result ≡ crossed_at constant i r arcs.n1 arcs.n2 arcs.p1 arcs.p2 new }
 {
-    if !all_free(n1.arc, n2.arc, p1.arc, p2.arc) {
+    if !all_free(arcs) {
         return Err(Halt::Passes);
     }
-    if !all_apart(n1.arc, n2.arc, p1.arc, p2.arc, i) {
+    if !all_apart(arcs, i) {
         return Err(Halt::Passes);
     }
+    let Four { n1, n2, p1, p2 } = arcs;
     let a = crossed(i, n1.arc, p1.arc)?;
     let b = crossed(i, n1.arc, p2.arc)?;
     let c = crossed(i, n2.arc, p1.arc)?;
@@ -185,7 +190,13 @@ pub fn crossing(constant: Fraction, i: usize, degree: usize, r: Fraction, near: 
         third: near.three.number,
         fourth: near.four.number,
     };
-    cross(constant, i, r, n.first, n.second, p.first, p.second, new)
+    let arcs = Four {
+        n1: n.first,
+        n2: n.second,
+        p1: p.first,
+        p2: p.second,
+    };
+    cross(constant, i, r, arcs, new)
 }
 
 // ---- the way back

@@ -31,7 +31,7 @@ pub const ARC_PLACES: usize = MAX_ARCS + 1;
 pub const MAX_STEPS: usize = MAX_NODES + MAX_ARCS;
 
 // An arc's seven figures: its from and to node, cost c, lower bound l, upper bound u, multipliers a and b.
-// A number not in use has from 0.
+// A number not in use has from 0, as its record and its log have it.
 #[derive(Clone, Copy)]
 pub struct Arc {
     pub from: usize,
@@ -56,7 +56,8 @@ pub struct Net {
     pub arcs: [Arc; ARC_PLACES],
 }
 
-// What a network is beside its arcs, which may stand in a lent list.
+// What a network is beside its arcs, which may stand in a lent list. A `Net` has these fields again and no `Nodes` in it, since
+// definitions and contracts read them of a network at every turn.
 #[derive(Clone, Copy)]
 pub struct Nodes {
     pub n: usize,
@@ -82,7 +83,7 @@ pub struct SupplyUpdate {
     pub supply: Fraction,
 }
 
-// What a step changes: at most four arcs, two supplies, the node that is dropped, or 0 (as in `ArcUpdate`), and the constant.
+// What a step changes, field by field as the rules name it: at most four arcs, two supplies, the node that is dropped, or 0 (as in `ArcUpdate`), and the constant.
 #[derive(Clone, Copy)]
 pub struct Edit {
     pub one: ArcUpdate,
@@ -191,8 +192,8 @@ pub fn join(nodes: Nodes, arcs: [Arc; ARC_PLACES]) -> Net
 }
 
 // The arc of number j.
-pub fn arc_at(net: Net, j: usize) -> Arc
-    ensures { result ≡ arc_at net j }
+pub fn arc_at(net: &Net, j: usize) -> Arc
+    ensures { result ≡ arc_at net.now j }
 {
     net.arcs.get(j).copied().unwrap_or(no_arc())
 }

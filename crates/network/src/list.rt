@@ -62,6 +62,7 @@ pub fn touching(arcs: &[Arc], i: usize, k: usize) -> usize
     if MAX_ARCS <= k {
         return 0;
     }
+    // by number, which is the answer
     for j in k + 1..ARC_PLACES {
         if crate::touches(read(arcs, j), i) {
             return j;
@@ -82,7 +83,7 @@ pub fn degrees(arcs: &[Arc], m: usize) -> [usize; NODE_PLACES]
     at
 }
 
-// The next parallel arc of each arc, of the numbers up to m. The loop goes by number, which is what `link` writes down.
+// The next parallel arc of each arc, of the numbers up to m; 0 where there is none (as in `ArcUpdate`). The loop goes by number, which is what `link` writes down.
 pub fn parallels(arcs: &[Arc], m: usize) -> [u8; ARC_PLACES]
     ensures { (nodes : Nodes) → nodes.m ≡ m → Legal (net_in nodes arcs.now) → AreParallel (net_in nodes arcs.now) result }
 {

@@ -129,16 +129,17 @@ fn passes(o: Outcome) -> bool
 pub fn parallel_arc(net: Net, j: usize) -> Outcome
     ensures { result ≡ parallel_arc net j }
 {
-    let t = network::arc_at(net, j);
+    let t = network::arc_at(&net, j);
     if t.from == 0 {
         return Err(Halt::Passes);
     }
     if network::MAX_ARCS <= j {
         return Err(Halt::Passes);
     }
+    // by number: the step names k
     for k in j + 1..ARC_PLACES {
         let one = ArcUpdate { number: j, arc: t };
-        let arc = network::arc_at(net, k);
+        let arc = network::arc_at(&net, k);
         let o = alike(net.constant, one, ArcUpdate { number: k, arc });
         if !passes(o) {
             return o;

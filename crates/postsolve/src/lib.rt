@@ -57,6 +57,7 @@ pub fn undo_steps(log: &[i32], steps: usize, pair: Pair, arcs: &mut [Arc]) -> Re
     ensures { ((ss : List Step) → length ss ≡ steps → Holds log.now 0 ss → result ≡ way_back (back_of rules) ss (at pair)) × (arcs.new ≡ arcs_back log.now steps arcs.old) }
 {
     let mut back = Ok(pair);
+    // by number: a step is read out of the log's words
     for k in (0..steps).rev() {
         back = undo_turn(log, k, back, arcs);
     }

@@ -9,12 +9,12 @@ use step::{Around, Halt, Outcome, Site};
 // Arc j with its number, which is 0 where there is no arc.
 fn numbered(net: Net, j: Option<usize>) -> ArcUpdate {
     let j = j.unwrap_or(0);
-    step::numbered(j, network::arc_at(net, j))
+    step::numbered(j, network::arc_at(&net, j))
 }
 
 // Rule k at node i, which is in use.
 fn at_node(net: Net, k: usize, i: usize) -> Outcome {
-    let touches = |j: &usize| network::touches(network::arc_at(net, *j), i);
+    let touches = |j: &usize| network::touches(network::arc_at(&net, *j), i);
     let degree = (1..ARC_PLACES).filter(touches).count();
     let mut touching = (1..ARC_PLACES).filter(touches);
     let near = Around {
@@ -34,13 +34,13 @@ fn at_node(net: Net, k: usize, i: usize) -> Outcome {
 
 // Rule 1 at arc j.
 fn closed(net: Net, j: usize) -> Outcome {
-    let t = network::arc_at(net, j);
+    let t = network::arc_at(&net, j);
     let left = network::figure_at(&net.supply, t.from);
     let right = network::figure_at(&net.supply, t.to);
     closed_arc::closed_arc(net.constant, step::numbered(j, t), left, right)
 }
 
-// Rule k at place i; it passes where there is no such rule or place.
+// Rule k at place i; it passes where there is no such rule or place (a match on the rule's number, as in `rules::undo`).
 fn at_place(net: Net, k: usize, i: usize) -> Outcome {
     match k {
         1 => closed(net, i),

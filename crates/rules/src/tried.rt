@@ -80,7 +80,8 @@ fn asking(places: usize, degree: usize, balanced: bool) -> Asks
     }
 }
 
-// What rule k asks; where there is no such rule, it has no place (a match, as in `undo`).
+// What rule k asks; where there is no such rule, it has no place. A match as the others, which the check compares with the table's
+// rows arm by arm; an array of them would say the same.
 pub fn asks_of(k: usize) -> Asks
     ensures { result ≡ asks_of k }
 {
@@ -103,8 +104,8 @@ pub fn may_apply(asks: Asks, r: Fraction) -> bool
     !asks.balanced || r.is_zero()
 }
 
-// Rule k at a node: the one place that chooses a step by the rule's number (a match, as in `undo`). Rules 2 and 6 read of the
-// supplies the node's own alone, and take it in their place.
+// Rule k at a node: the one place that chooses a step by the rule's number (a match, as in `undo`). Rules 2 and 6 are
+// given the node's own supply, as their definitions are.
 pub fn try_node(k: usize, at: Site) -> Outcome
     ensures { result ≡ (rule_of rules k).trial.by at.entry.nodes.now.constant at.entry.nodes.now.supply at.entry.number at.entry.degree at.entry.near }
 {

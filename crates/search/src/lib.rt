@@ -19,7 +19,7 @@ use step::{Next, Step};
 
 mod scan;
 
-// What shows that there is no flow: a rule, at a place.
+// What shows that there is no flow: a rule, at a place (numbers, as in `step::Step`).
 #[derive(Clone, Copy, Debug, PartialEq, Eq)]
 pub struct Contradiction {
     pub rule: usize,

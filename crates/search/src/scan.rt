@@ -21,7 +21,8 @@ use costly_arc::{Found, Seen};
 use network::{ARC_PLACES, Arc, ArcUpdate, NODE_PLACES, Nodes};
 use step::{Around, Next, Site};
 
-// The network that a run works on: its nodes, and the lent list in which its arcs stand.
+// The network that a run works on: its nodes, and the lent list in which its arcs stand. Scans go by number, the place of the step
+// that is found; the list may hold fewer records than m.
 #[derive(Clone, Copy)]
 pub(crate) struct Working<'a> {
     pub(crate) nodes: &'a Nodes,

@@ -7,7 +7,7 @@ ghost use Rattle.single_arc.specs.SingleArc.{forced_out, single, single_back};
 
 use fraction::{Fraction, Worked};
 use network::pair::Pair;
-use network::{ArcUpdate, Side};
+use network::{ArcUpdate, Side, SupplyUpdate};
 use step::{Change, Halt, Old, Outcome, Site, Undone};
 
 // The flow r ÷ e.
@@ -31,7 +31,11 @@ fn force(constant: Fraction, i: usize, at: ArcUpdate, w: Side, r: Fraction, s: F
     }
     let x = step::supply_less(w.other, s, w.o, v)?;
     let k = step::cost_added(constant, t.cost, v)?;
-    let edit = step::dropping(at.number, w.other, x, 0, network::no_figure(), i, k);
+    let left = SupplyUpdate {
+        node: w.other,
+        supply: x,
+    };
+    let edit = step::dropping(at.number, left, network::no_supply_update(), i, k);
     let old = step::old_one(i, r, at);
     Ok(Change { edit, old })
 }

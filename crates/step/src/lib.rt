@@ -1,7 +1,7 @@
 // One step of a reduction: what a rule answers at a place (01, "The six reductions"), and what its way back answers.
 #![tactic(auto, using(fraction::proofs::Laws::misfit_is), unfolding(fraction::specs::Formula::added, fraction::specs::Formula::subtracted, fraction::specs::Formula::multiplied, fraction::specs::Formula::divided, fraction::specs::Formula::negated, crate::specs::Outcome::fits, crate::specs::Dropped::supply_less, crate::specs::Dropped::cost_added, crate::specs::Dropped::gained, crate::specs::Dropped::dropped, crate::specs::Dropped::lower_back, crate::specs::Back::restored, crate::specs::Back::quote_at))]
 
-ghost use Rattle.std.specs.Prelude.{◌≡◌, true, cond, ◌≤◌, get_or, Ok};
+ghost use Rattle.std.specs.Prelude.{◌≡◌, true, cond, ◌-◌, ◌≤◌, get_or, set, Ok};
 ghost use Rattle.fraction.specs.Exact.{no_figure};
 ghost use Rattle.fraction.specs.Formula.{◌⊖◌, ◌⊗◌, ◌⊘◌, ⊝◌};
 ghost use Rattle.network.specs.Network.{is_number};
@@ -15,7 +15,7 @@ ghost use Rattle.step.specs.Dropped.{supply_less, cost_added, gained as gained_b
 
 use fraction::{Fraction, Misfit, Worked};
 use network::pair::Pair;
-use network::{Arc, ArcUpdate, MAX_ARCS, MAX_NODES, Nodes, Side, SupplyUpdate};
+use network::{Arc, ArcUpdate, Nodes, Side, SupplyUpdate};
 
 pub mod junctions;
 
@@ -57,7 +57,8 @@ pub struct Around {
     pub four: ArcUpdate,
 }
 
-// Where a rule of nodes is tried: a node among those of the network, by its number, with its degree and the arcs there.
+// Where a rule of nodes is tried: a node among those of the network, by its number, with its degree and the arcs there. Inside
+// the rules, constant, node and supplies go one by one, as the definitions name them.
 #[derive(Clone, Copy)]
 pub struct Site<'a> {
     pub nodes: &'a Nodes,
@@ -182,19 +183,15 @@ pub fn gained(constant: Fraction, t: Arc, w: Side, r: Fraction) -> Worked
 // Arc j dropped, with supplies for two nodes, a node dropped, and the constant.
 pub fn dropping(
     j: usize,
-    m: usize,
-    x: Fraction,
-    n: usize,
-    y: Fraction,
+    left: SupplyUpdate,
+    right: SupplyUpdate,
     gone: usize,
     constant: Fraction,
 ) -> network::Edit
-    ensures { result ≡ dropping_of j m x n y gone constant }
+    ensures { result ≡ dropping_of j left.node left.supply right.node right.supply gone constant }
 {
     let arc = network::no_arc();
     let put = ArcUpdate { number: j, arc };
-    let left = SupplyUpdate { node: m, supply: x };
-    let right = SupplyUpdate { node: n, supply: y };
     network::edit_one(put, left, right, gone, constant)
 }
 
@@ -241,7 +238,15 @@ pub fn drop_arc(
     let r = supply_less(t.from, left, t.a, v)?;
     let s = supply_less(far, right, t.b, v)?;
     let k = cost_added(constant, t.cost, v)?;
-    let edit = dropping(at.number, t.from, r, far, s, 0, k);
+    let one = SupplyUpdate {
+        node: t.from,
+        supply: r,
+    };
+    let two = SupplyUpdate {
+        node: far,
+        supply: s,
+    };
+    let edit = dropping(at.number, one, two, 0, k);
     let old = old_one(0, network::no_figure(), at);
     Ok(Change { edit, old })
 }
@@ -272,34 +277,25 @@ pub fn share_against(y: Fraction, e: Fraction, f: Fraction) -> Worked
 // ---- the way back
 
 // The pair with what is restored.
+#[tactic(auto, unfolding(crate::specs::Back::restored, network::specs::Pair::with_flow, network::specs::Pair::with_price))]
 pub fn restore(mut pair: Pair, r: Restored) -> Pair
     ensures { result ≡ restored pair r }
 {
-    put_flow(&mut pair, r.one);
-    put_flow(&mut pair, r.two);
-    put_flow(&mut pair, r.three);
-    put_flow(&mut pair, r.four);
-    put_price(&mut pair, r.price);
+    put(&mut pair.flow, r.one.arc, r.one.flow);
+    put(&mut pair.flow, r.two.arc, r.two.flow);
+    put(&mut pair.flow, r.three.arc, r.three.flow);
+    put(&mut pair.flow, r.four.arc, r.four.flow);
+    put(&mut pair.price, r.price.node, r.price.price);
     pair
 }
 
-// A flow in the pair, where it is one for an arc.
-#[tactic(auto, unfolding(network::specs::Pair::with_flow))]
-fn put_flow(pair: &mut Pair, u: FlowUpdate)
-    ensures { pair.new ≡ with_flow_of pair.old u }
+// A figure at a number, where there is such a number.
+fn put<const N: usize>(figures: &mut [Fraction; N], i: usize, f: Fraction)
+    requires { 1 ≤ N }
+    ensures { figures.new ≡ cond (is_number (N - 1) i) (set figures.old i f) figures.old }
 {
-    if is_number(u.arc, MAX_ARCS) {
-        pair.flow[u.arc] = u.flow;
-    }
-}
-
-// A price in the pair, where it is one for a node.
-#[tactic(auto, unfolding(network::specs::Pair::with_price))]
-fn put_price(pair: &mut Pair, u: PriceUpdate)
-    ensures { pair.new ≡ with_price pair.old u.node u.price }
-{
-    if is_number(u.node, MAX_NODES) {
-        pair.price[u.node] = u.price;
+    if is_number(i, N - 1) {
+        figures[i] = f;
     }
 }
 
@@ -336,6 +332,8 @@ fn nothing() -> Restored
         },
     }
 }
+
+// ---- what is restored: numbers and figures one by one, for which the structs are made here and nowhere else
 
 // Two flows.
 pub fn two_flows(k: usize, y: Fraction, j: usize, x: Fraction) -> Restored

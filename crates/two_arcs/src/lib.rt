@@ -23,7 +23,7 @@ fn same_sign(x: Fraction, y: Fraction) -> bool
     !Fraction::ZERO.less(y)
 }
 
-// The bound of j that a bound z of k gives.
+// The bound of j that a bound z of k gives; the flow of j that a flow z of k leaves.
 fn image(r: Fraction, wj: Side, wk: Side, z: Fraction) -> Worked
     ensures { result ≡ image_of r wj wk z }
 {
@@ -174,18 +174,11 @@ pub fn two_back(old: Old, pair: Pair) -> Undone
     let x = network::pair::flow_at(pair, one.number);
     let p = network::pair::price_at(pair, wj.other);
     let q = network::pair::price_at(pair, wk.other);
-    let y = far_flow(old.supply, wj, wk, x)?;
+    let y = image(old.supply, wk, wj, x)?;
     let first = step::quote(tk, i, q)?;
     let d = old_cost(tj.cost, wj, p, first)?;
     let price = price_of(tj, i, p, x, first, d)?;
     Ok(step::flow_and_price(two.number, y, i, price))
-}
-
-// The flow of k, where j's is x.
-fn far_flow(r: Fraction, wj: Side, wk: Side, x: Fraction) -> Worked
-    ensures { result ≡ ((Ok r ⊖ Ok wj.e ⊗ Ok x) ⊘ Ok wk.e) }
-{
-    r.difference(wj.e.product(x)?)?.quotient(wk.e)
 }
 
 // The old reduced cost of j, with the first price.

@@ -21,9 +21,7 @@ fn gcd(a: u128, b: u128) -> u128
     let mut x = a;
     let mut y = b;
     while y != 0 {
-        let z = x % y;
-        x = y;
-        y = z;
+        (x, y) = (y, x % y);
     }
     x
 }
@@ -56,6 +54,8 @@ fn ratio(n: i128, m: i128) -> Worked
 {
     lowest(n * m.signum(), m.unsigned_abs())
 }
+
+// ---- the formula: its four figures go by the letters that it has, which a struct of them would spell at each
 
 // The numerator of r - a × l over the denominators of r, a and l, times the denominator of b.
 fn over(r: Fraction, a: Fraction, l: Fraction, b: Fraction) -> i128
