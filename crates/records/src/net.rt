@@ -187,9 +187,10 @@ impl<'a> Record<'a> {
     fn load(self, arcs: &mut [Arc])
         ensures { arcs.new ≡ upto (load_turn self.entry.words.now self.entry.n (figures self.entry.n self.entry.m)) self.entry.m arcs.old }
     {
-        // by number: the list may have fewer records than m, and `replace` passes over a number that it lacks
-        for j in 0..self.m {
-            network::list::replace(arcs, j + 1, self.arc(j));
+        // the list may have fewer records than m
+        let m = self.m.min(arcs.len());
+        for (j, t) in arcs[..m].iter_mut().enumerate() {
+            *t = self.arc(j);
         }
     }
 }

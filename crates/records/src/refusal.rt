@@ -4,20 +4,20 @@ ghost use Rattle.records.specs.Questions.{number_of};
 
 #[derive(Clone, Copy, Debug, PartialEq, Eq)]
 pub enum Refusal {
-    Room,
-    Sizes,
-    Form,
-    Ends,
-    Multipliers,
-    NoFlow,
-    Stack,
-    Pair,
-    Width,
-    Balance,
-    Bounds,
-    Prices,
-    WayBack,
-    Text,
+    Room = 1,
+    Sizes = 2,
+    Form = 3,
+    Ends = 4,
+    Multipliers = 5,
+    NoFlow = 6,
+    Stack = 7,
+    Pair = 8,
+    Width = 9,
+    Balance = 10,
+    Bounds = 11,
+    Prices = 12,
+    WayBack = 13,
+    Text = 14,
 }
 
 impl Refusal {
@@ -25,22 +25,7 @@ impl Refusal {
     pub fn number(self) -> usize
         ensures { result ≡ number_of self }
     {
-        match self {
-            Refusal::Room => 1,
-            Refusal::Sizes => 2,
-            Refusal::Form => 3,
-            Refusal::Ends => 4,
-            Refusal::Multipliers => 5,
-            Refusal::NoFlow => 6,
-            Refusal::Stack => 7,
-            Refusal::Pair => 8,
-            Refusal::Width => 9,
-            Refusal::Balance => 10,
-            Refusal::Bounds => 11,
-            Refusal::Prices => 12,
-            Refusal::WayBack => 13,
-            Refusal::Text => 14,
-        }
+        self as usize
     }
 
     // Refuses, unless the question is answered by yes.

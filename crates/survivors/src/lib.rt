@@ -31,10 +31,7 @@ fn node_ranks(net: Net, at: &mut [usize])
 fn rank_in(at: &[usize; NODE_PLACES], i: usize) -> usize
     ensures { result ≡ placed at.now i }
 {
-    if i < NODE_PLACES {
-        return at[i];
-    }
-    at[MAX_NODES]
+    at[i.min(MAX_NODES)]
 }
 
 // An arc between the new numbers of its ends.
