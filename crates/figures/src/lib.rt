@@ -124,10 +124,7 @@ pub fn value(net: Net, pair: Pair) -> Worked
 fn place_of(k: usize) -> usize
     ensures { result ≡ place_of k }
 {
-    if k < NODE_PLACES {
-        return k;
-    }
-    NODE_PLACES
+    k.min(NODE_PLACES)
 }
 
 // The place of an arc's to node; the last for a root arc.
@@ -228,12 +225,12 @@ fn ask_arcs(net: &Net, pair: &Pair) -> Arcs
 pub fn verdict(net: Net, pair: Pair) -> Result<Fraction, Refusal>
     ensures { result ≡ answered (test_questions net pair) (figure_of (value_of net pair)) }
 {
-    let w = value(net, pair);
     let nodes = ask_nodes(&net, &pair);
     let arcs = ask_arcs(&net, &pair);
-    Refusal::Width.unless(nodes.fit && arcs.fit && w.is_ok())?;
+    Refusal::Width.unless(nodes.fit && arcs.fit)?;
+    let value = value(net, pair).or(Err(Refusal::Width))?;
     Refusal::Balance.unless(nodes.balanced)?;
     Refusal::Bounds.unless(arcs.within)?;
     Refusal::Prices.unless(arcs.kept)?;
-    Ok(w.unwrap_or(network::no_figure()))
+    Ok(value)
 }

@@ -35,7 +35,7 @@ use Rattle.records.specs.declared.refusal.Refusal.{Refusal}
 use Rattle.records.proofs.Questions as No
 use Rattle.records.proofs.Questions.{yes-asked}
 use Rattle.fraction.proofs.Laws.{never}
-use Rattle.restoration.specs.declared.Offer.{Offer}
+use Rattle.optimality.specs.declared.Examined.{Examined}
 use Rattle.restoration.specs.Restore.{is_reduced, is_stack, is_roomy, reduced_net, brought_back, original_value, offer_table, back_table, run_table, restore_table, refusal_of, values_of, Written}
 use Rattle.restoration.specs.internal.Parts.{offer_of, values_with, Ended}
 
@@ -104,7 +104,7 @@ module _ {xs log : List ℤ} {ran : Ran} {arcs : List Arc} {w k : ℕ} (f : Foun
   arcs-first e = ap (λ n. arcs_in (arcs_back log n arcs)) (sym f.steps_is) ∙ (arcs-given (read_of xs) (legal-read f.asked) log arcs f.holds (rw (← e) f.asked.wide) (ap (λ (t : Net). t.arcs) f.net_is)).0
 
   -- 6 to 12
-  pub offered : (zs ys : List ℤ) {view : List Arc} {left : Net} {r : Result Offer Refusal} → view ≡ arcs_in arcs → left ≡ joined ran.nodes view
+  pub offered : (zs ys : List ℤ) {view : List Arc} {left : Net} {r : Result Examined Refusal} → view ≡ arcs_in arcs → left ≡ joined ran.nodes view
       → r ≡ answered (offer_table (is_reduced (ends_of ran.contradiction)) (is_stack_of log ran.steps zs) (packed_of left) ys) (offer_of left ys)
       → r ≡ answered (earlier run zs ys) (offer_of run.net ys)
   offered zs ys {left = left} v l h =
@@ -116,7 +116,7 @@ module _ {xs log : List ℤ} {ran : Ran} {arcs : List Arc} {w k : ℕ} (f : Foun
       stack_is = few-enough log ran.steps zs f.few ∙ ap (λ n. same_words zs (build (1 + 2 * n) (stack_word log n))) (sym f.steps_is) ∙ ap (same_words zs) (recorded log run.steps f.holds)
 
   -- 13, and the words; the network given is read from its record beside the arcs, which are put back
-  pub went_back : (zs ys : List ℤ) {there : Offer} {way : Way} {nodes : Nodes} {view : List Arc} {given : Net} {r : Result ⊤ Refusal} {out values : List ℤ} {o v : ℕ} → first_no (earlier run zs ys) ≡ Ok tt → there ≡ offer_of run.net ys → way ≡ way_back (back_of rules) run.steps (at there.pair)
+  pub went_back : (zs ys : List ℤ) {there : Examined} {way : Way} {nodes : Nodes} {view : List Arc} {given : Net} {r : Result ⊤ Refusal} {out values : List ℤ} {o v : ℕ} → first_no (earlier run zs ys) ≡ Ok tt → there ≡ offer_of run.net ys → way ≡ way_back (back_of rules) run.steps (at there.pair)
       → nodes ≡ nodes_of (read_of xs) → view ≡ (read_of xs).arcs → given ≡ joined nodes view → Ended given there.value way r out values o v
       → {q : Result ⊤ Refusal} → q ≡ first_no (run_table (read_of xs) run zs ys) → Written q (read_of xs) run ys r out values o v
   unfolding brought_back
@@ -124,10 +124,10 @@ module _ {xs log : List ℤ} {ran : Ran} {arcs : List Arc} {w k : ℕ} (f : Foun
       rw (t ∙ offer-yes (read_of xs) run zs ys none) (whole (subst₂ (λ (net : Net) (y : Way). Ended net there.value y r out values o v) (g ∙ ap₂ joined n a) back e))
     where
       back : way ≡ brought_back run ys
-      back = b ∙ ap (λ (t : Offer). way_back (back_of rules) run.steps (at t.pair)) h
+      back = b ∙ ap (λ (t : Examined). way_back (back_of rules) run.steps (at t.pair)) h
 
       values_are : (q : Result ⊤ Refusal) → values_with q there.value (read_of xs) (brought_back run ys) v ≡ values_of q (read_of xs) run ys (brought_back run ys) v
-      values_are (Ok x) = ap (λ (t : Offer). four_words t.value (original_value (read_of xs) (brought_back run ys)) v) h
+      values_are (Ok x) = ap (λ (t : Examined). four_words t.value (original_value (read_of xs) (brought_back run ys)) v) h
       values_are (Err q) = refl
 
       whole : Ended (read_of xs) there.value (brought_back run ys) r out values o v → Written (first_no (back_table (read_of xs) (brought_back run ys))) (read_of xs) run ys r out values o v

@@ -18,32 +18,26 @@ ghost use Rattle.restoration.specs.internal.Parts.{Empty, offer_of, Ended};
 use fraction::{Fraction, Misfit};
 use network::pair::Pair;
 use network::{Arc, Net};
+use optimality::Examined;
 use records::refusal::Refusal;
 use search::Ran;
 
 pub mod plain;
 
-// A pair of the reduced network, at the original numbers, and its value there.
-#[derive(Clone, Copy)]
-pub struct Offer {
-    pub pair: Pair,
-    pub value: Fraction,
-}
-
-// Questions 8 to 12, on the network that is left.
-fn test_pair(net: Net, pair: &[i32]) -> Result<Offer, Refusal>
+// Questions 8 to 12, on the network that is left: the pair goes to the original numbers, its value stays the reduced network's.
+fn test_pair(net: Net, pair: &[i32]) -> Result<Examined, Refusal>
     ensures { result ≡ answered (pair_questions (packed_of net) pair.now) (offer_of net pair.now) }
 {
     let tested = optimality::examine(survivors::pack(net), pair)?;
-    Ok(Offer {
+    Ok(Examined {
         pair: survivors::spread(net, tested.pair),
-        value: tested.value,
+        ..tested
     })
 }
 
 // Questions 6 to 12 of a run whose steps stand in the log and that leaves the network `left`.
 #[tactic(auto, unfolding(crate::specs::Restore::offer_table))]
-fn ask_run(ran: Ran, left: Net, log: &[i32], stack: &[i32], pair: &[i32]) -> Result<Offer, Refusal>
+fn ask_run(ran: Ran, left: Net, log: &[i32], stack: &[i32], pair: &[i32]) -> Result<Examined, Refusal>
     ensures { result ≡ answered (offer_table (is_reduced (ends_of ran.contradiction)) (is_stack_of log.now ran.steps stack.now) (packed_of left) pair.now) (offer_of left pair.now) }
 {
     Refusal::NoFlow.unless(ran.contradiction.is_none())?;

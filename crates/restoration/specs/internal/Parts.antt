@@ -7,12 +7,12 @@ use Rattle.network.specs.declared.Net.{Net}
 use Rattle.survivors.specs.Survivors.{packed_of}
 use Rattle.step.specs.Run.{Way}
 use Rattle.figures.specs.Figures.{value_of}
+use Rattle.optimality.specs.declared.Examined.{Examined}
 use Rattle.optimality.specs.Test.{pair_in}
 use Rattle.survivors.specs.Survivors.{spread_of}
 use Rattle.records.specs.Limits.{pair_room, value_room}
 use Rattle.records.specs.Questions.{first_no}
 use Rattle.records.specs.declared.refusal.Refusal.{Refusal}
-use Rattle.restoration.specs.declared.Offer.{Offer}
 use Rattle.restoration.specs.Restore.{original_value, back_table, out_of}
 use Rattle.records.specs.Values.{four_words}
 
@@ -24,7 +24,7 @@ pub record Empty (out values : List ℤ) : Type 0 where
   pub values_room : value_room ≤ length values
 
 -- the pair at the original numbers, and its value on the reduced network
-abbrev pub offer_of : Net → List ℤ → Offer
+abbrev pub offer_of : Net → List ℤ → Examined
 offer_of net ys = record { pair = spread_of net (pair_in (packed_of net) ys); value = figure_of (value_of (packed_of net) (pair_in (packed_of net) ys)) }
 
 -- question 13 at the end of the way, with the reduced value x
