@@ -2,13 +2,13 @@
 // may say more nodes and arcs than have a place, which no slice of them can.
 #![tactic(auto, using(fraction::proofs::Laws::misfit_is), unfolding(fraction::specs::Formula::added, fraction::specs::Formula::subtracted, fraction::specs::Formula::multiplied, fraction::specs::Exact::is_same, crate::specs::Figures::reduced_cost, crate::specs::Figures::is_within, crate::specs::Figures::balance_of, crate::specs::Figures::value_of))]
 
-ghost use Rattle.std.specs.Prelude.{◌≡◌, cond, ◌&&◌, not, ℕ, ◌+◌, ◌<◌, eqb, get_or, Ok};
+ghost use Rattle.std.specs.Prelude.{◌≡◌, cond, ◌&&◌, not, ℕ, ◌+◌, ◌<◌, eqb, Ok};
 ghost use Rattle.std.specs.Borrow.{MutBor};
 ghost use Rattle.loops.specs.Loops.{all, upto};
 ghost use Rattle.fraction.specs.Exact.{no_figure, is_same};
 ghost use Rattle.fraction.specs.Formula.{is_fit, figure_of, ◌⊕◌, ◌⊖◌, ◌⊗◌};
 ghost use Rattle.network.specs.Limits.{node_places};
-ghost use Rattle.network.specs.Network.{no_arc, arc_at, is_touching, is_root, side_of};
+ghost use Rattle.network.specs.Network.{arc_at, is_touching, is_root, side_of};
 ghost use Rattle.network.specs.Pair.{flow_at};
 ghost use Rattle.records.specs.Questions.{answered};
 ghost use Rattle.figures.specs.Figures.{balance_of, value_of, balance_fits, cost_fits, is_balanced, is_within, is_within_at, keeps_rule_at, test_questions};
@@ -17,7 +17,7 @@ ghost use Rattle.slackness.specs.Slackness.{keeps_rule};
 
 use fraction::{Fraction, Worked};
 use network::pair::Pair;
-use network::{ARC_PLACES, Arc, MAX_NODES, NODE_PLACES, Net};
+use network::{Arc, MAX_NODES, NODE_PLACES, Net};
 use records::refusal::Refusal;
 
 // The places of balances: those of nodes, and one that is no node's.
@@ -38,13 +38,6 @@ struct Arcs {
     kept: bool,
 }
 
-// The arc of number j, in place; none beyond the last number.
-fn arc_in(arcs: &[Arc; ARC_PLACES], j: usize) -> Arc
-    ensures { result ≡ get_or arcs.now j no_arc }
-{
-    arcs.get(j).copied().unwrap_or(network::no_arc())
-}
-
 // One term more to a sum, e × x.
 fn add_term(w: &mut Worked, e: Fraction, x: Fraction)
     ensures { w.new ≡ w.old ⊕ Ok e ⊗ Ok x }
@@ -59,7 +52,7 @@ fn over_arcs<S, F: Fn(&mut S, Arc, Fraction)>(net: &Net, pair: &Pair, start: S, 
 {
     let mut s = start;
     for j in 0..net.m {
-        let t = arc_in(&net.arcs, j + 1);
+        let t = network::arc_at(net, j + 1);
         let x = network::figure_at(&pair.flow, j + 1);
         turn(&mut s, t, x);
     }

@@ -2,9 +2,16 @@
 #![tactic(auto, unfolding(crate::specs::Words::word_of))]
 
 ghost use Rattle.std.specs.Prelude.{◌≡◌};
-ghost use Rattle.fraction.specs.Words.{word_of, whole_of, natural_of};
+ghost use Rattle.fraction.specs.Words.{word, word_of, whole_of, natural_of};
 
 use crate::Fraction;
+
+// The word at a place; 0 outside.
+pub fn word_at(words: &[i32], at: usize) -> i32
+    ensures { result ≡ word words.now at }
+{
+    words.get(at).copied().unwrap_or(0)
+}
 
 // A number as a word; 0 where it is beyond range.
 pub fn word_of(k: usize) -> i32

@@ -2,7 +2,6 @@
 #![tactic(auto)]
 
 ghost use Rattle.std.specs.Prelude.{◌≡◌, ◌+◌, ◌*◌, ◌≤◌, length};
-ghost use Rattle.fraction.specs.Words.{word};
 ghost use Rattle.fraction.specs.Words.{whole_of};
 ghost use Rattle.step_log.specs.Log.{step_words, log_words, update_figures, number_figures, with_figure, with_figures, figures_of, with_step, start_of, figure_in, number_in, update_in, numbers_in, rule_in, place_in, old_in};
 
@@ -91,18 +90,13 @@ pub fn store(words: &mut [i32], k: usize, s: Step)
 
 // ---- read
 
-fn word_in(words: &[i32], at: usize) -> i32
-    ensures { result ≡ word words.now at }
-{
-    words.get(at).copied().unwrap_or(0)
-}
-
 #[tactic(auto, unfolding(crate::specs::Log::figure_in))]
 fn figure_in(words: &[i32], at: usize) -> Fraction
     requires { at ≤ 3 * log_words }
     ensures { result ≡ figure_in words.now at }
 {
-    Fraction::from_words(word_in(words, at), word_in(words, at + 1))
+    let num = fraction::words::word_at(words, at);
+    Fraction::from_words(num, fraction::words::word_at(words, at + 1))
 }
 
 fn number_in(words: &[i32], at: usize) -> usize
