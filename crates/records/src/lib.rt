@@ -83,7 +83,8 @@ pub fn number_at(xs: &[i32], at: usize) -> usize
 }
 
 // ---- writing: the numerators in place, the denominators beside them for behind. One trait for the figures of both records, each found by
-// its place, made reducing a third slower.
+// its place, made reducing a third slower. The place and the two slices travel apart, and no struct is plainer: the slices are the
+// caller's, which reads and writes them again behind, and a struct of them would be two borrows more.
 
 // Whether the sizes are within the limits, and there are at least so many words of room.
 #[tactic(auto, unfolding(crate::specs::Arrays::has_room))]

@@ -29,7 +29,7 @@ pub(crate) struct Record<'a> {
     ghost long: { 2 + 2 * figures n m ≡ length words.now },
 }
 
-// Whether figure k is a fraction in form, or the mark that its place permits.
+// Whether figure k is a fraction in form, or the mark that its place permits: the bounds are 3 and 4 of an arc's seven figures, from 0.
 #[tactic(auto, unfolding(crate::specs::Network::is_permitted, crate::specs::Network::role_of, fraction::specs::Exact::is_same))]
 fn permitted(n: usize, k: usize, f: Fraction) -> bool
     ensures { result ≡ is_permitted (role_of n k) f }
@@ -60,7 +60,7 @@ fn is_weighted(t: Arc) -> bool
     !t.a.is_zero() && t.b.is_zero() == (t.from == t.to)
 }
 
-// No node in use yet, of n nodes and m arcs, with a constant.
+// No node in use yet, of n nodes and m arcs, with a constant. No plainer: `nodes_of(empty_net(..))` would fill 97 arcs for nothing.
 fn no_nodes(n: usize, m: usize, constant: Fraction) -> Nodes
     ensures { result ≡ nodes_of (empty_net n m constant) }
 {

@@ -9,6 +9,8 @@ ghost use Rattle.records.specs.Arrays.{figure_at, arrays_of};
 ghost use Rattle.records.specs.Limits.{pair_figures};
 ghost use Rattle.records.specs.Pair.{is_fraction, is_pair, pair_of, pair_figure, pair_words};
 
+// No struct as `net.rt` has one: n and m are the network's, which the words have to match, and not read from the words themselves.
+
 use fraction::Fraction;
 use network::pair::Pair;
 use network::{MAX_ARCS, MAX_NODES};

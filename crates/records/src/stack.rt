@@ -5,6 +5,8 @@ ghost use Rattle.records.specs.Logged.{stack_word, with_stack, is_stack_of};
 
 use network::MAX_STEPS;
 
+// The log and the number of steps travel apart: the log is the entry's scratch, and s the run's count (`search::Ran`).
+
 // Word k of the record of s steps.
 pub fn word_at(log: &[i32], s: usize, k: usize) -> i32
     ensures { result ≡ stack_word log.now s k }
