@@ -63,19 +63,13 @@ pub(crate) fn is_due(at: &[usize; NODE_PLACES], w: u8, t: Arc) -> bool
 fn is_positive(w: Worked) -> bool
     ensures { result ≡ is_positive w }
 {
-    match w {
-        Ok(x) => Fraction::ZERO.less(x),
-        Err(_) => false,
-    }
+    w.is_ok_and(|x| Fraction::ZERO.less(x))
 }
 
 fn is_under(w: Worked, c: Fraction) -> bool
     ensures { result ≡ is_under w c }
 {
-    match w {
-        Ok(x) => x.less(c),
-        Err(_) => false,
-    }
+    w.is_ok_and(|x| x.less(c))
 }
 
 // c1 × a ÷ a1, for the root arc x and the multiplier a.

@@ -37,7 +37,13 @@ fn test_pair(net: Net, pair: &[i32]) -> Result<Examined, Refusal>
 
 // Questions 6 to 12 of a run whose steps stand in the log and that leaves the network `left`.
 #[tactic(auto, unfolding(crate::specs::Restore::offer_table))]
-fn ask_run(ran: Ran, left: Net, log: &[i32], stack: &[i32], pair: &[i32]) -> Result<Examined, Refusal>
+fn ask_run(
+    ran: Ran,
+    left: Net,
+    log: &[i32],
+    stack: &[i32],
+    pair: &[i32],
+) -> Result<Examined, Refusal>
     ensures { result ≡ answered (offer_table (is_reduced (ends_of ran.contradiction)) (is_stack_of log.now ran.steps stack.now) (packed_of left) pair.now) (offer_of left pair.now) }
 {
     Refusal::NoFlow.unless(ran.contradiction.is_none())?;
