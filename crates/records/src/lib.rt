@@ -10,7 +10,7 @@ ghost use Rattle.records.specs.Arrays.{figure_at, has_room};
 ghost use Rattle.records.specs.Network.{size_of};
 ghost use Rattle.records.specs.internal.Put.{sized, nums_in, dens_in, put_from};
 
-use fraction::Fraction;
+use fraction::{Fraction, words};
 use network::{MAX_ARCS, MAX_NODES};
 
 pub mod net;
@@ -58,18 +58,11 @@ pub fn figure_at(xs: &[i32], t: usize, k: usize) -> Fraction
     Fraction::from_words(word_behind(xs, 0, k), word_behind(xs, t, k))
 }
 
-// The word at a place; 0 outside.
-fn word_at(xs: &[i32], at: usize) -> i32
-    ensures { result ≡ word xs.now at }
-{
-    xs.get(at).copied().unwrap_or(0)
-}
-
 // A word as a size, up to a limit; 0 outside.
 pub fn size_at(xs: &[i32], at: usize, limit: usize) -> Option<usize>
     ensures { result ≡ size_of (word xs.now at) limit }
 {
-    usize::try_from(word_at(xs, at))
+    usize::try_from(words::word_at(xs, at))
         .ok()
         .filter(|n| *n <= limit)
 }
@@ -79,7 +72,7 @@ pub fn number_at(xs: &[i32], at: usize) -> usize
     ensures is { result ≡ natural_of (word xs.now at) }
     ensures fits { result ≤ 2147483647 }
 {
-    usize::try_from(word_at(xs, at)).unwrap_or(0)
+    usize::try_from(words::word_at(xs, at)).unwrap_or(0)
 }
 
 // ---- writing: the numerators in place, the denominators beside them for behind. One trait for the figures of both records, each found by
@@ -98,8 +91,8 @@ pub(crate) fn has_room(least: usize, n: usize, m: usize, room: usize) -> bool
 pub(crate) fn write_sizes(n: usize, m: usize, out: &mut [i32])
     ensures { out.new ≡ sized n m out.old }
 {
-    loops::put(out, 0, fraction::words::word_of(n));
-    loops::put(out, 1, fraction::words::word_of(m));
+    loops::put(out, 0, words::word_of(n));
+    loops::put(out, 1, words::word_of(m));
 }
 
 // Figure k: its numerator over word k of the output, its denominator over word k of those kept for behind.
