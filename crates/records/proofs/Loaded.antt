@@ -1,53 +1,24 @@
 -- The network of a record read into the lent list.
 use mathlib.Core.Path.{◌≡◌, refl, sym, ap, ◌∙◌}
 use mathlib.Core.Bool.{Bool, true, false, cond}
-use mathlib.Core.List.{List, ◌++◌}
-use mathlib.Core.Logic.{⊎_elim}
-use native.Mathlib.Nat.{eq-or-lt_of_le}
-use Prim.Native.Nat.{ℕ, zero, suc, min, ◌+◌, ◌-◌, ◌≤◌, ◌<◌}
+use mathlib.Core.List.{List}
+use Prim.Native.Nat.{ℕ, zero, suc, ◌+◌, ◌≤◌}
 use lib.IntN.{ℤ}
-use lib.ListN.{length, take, drop, length-replicate}
-use lib.Seq.{length-take-le}
-use native.Mathlib.Numerals.{add-one, unary_clauses}
-use native.Mathlib.Omega.{arith}
-use Rattle.std.proofs.lemmas.List.{set_past}
-use Rattle.loops.specs.Loops.{build, written, upto}
-use Rattle.loops.proofs.Laws.{Filled, filled-whole, build-more, upto-keeps}
+use lib.ListN.{length, length-replicate}
+use Rattle.loops.specs.Loops.{upto}
+use Rattle.loops.proofs.Laws.{upto-keeps}
 use Rattle.fraction.specs.Exact.{zero_fraction}
 use Rattle.network.specs.declared.Arc.{Arc}
 use Rattle.network.specs.declared.Net.{Net}
 use Rattle.network.specs.Network.{no_arc, empty_net, with_node, with_supply}
-use Rattle.network.specs.ArcList.{replaced, no_arcs, arcs_in, nodes_of, joined}
-use Rattle.network.proofs.Lists.{replaced-next, length-replaced, arcs-put, arcs-none}
+use Rattle.network.specs.ArcList.{no_arcs, arcs_in, nodes_of, joined}
+use Rattle.network.proofs.Lists.{length-replaced, arcs-put, arcs-none}
 use Rattle.records.specs.Arrays.{figure_at}
 use Rattle.records.specs.Network.{figures, arc_in, n_of, m_of, sizes_right, node_turn, arc_turn, net_of, read_of, load_turn, loaded}
 
 pub length-turns : (words : List ℤ) (n t m : ℕ) (xs : List Arc) → length (upto (load_turn words n t) m xs) ≡ length xs
 length-turns words n t m xs =
     upto-keeps (λ (ys : List Arc). length ys ≡ length xs) (load_turn words n t) (λ j ys e. length-replaced ys (j + 1) (arc_in words n t j) ∙ e) m xs refl
-
--- the records that there are, filled from the front on and come back
-turns-written : (words : List ℤ) (n t m : ℕ) (xs : List Arc) → m ≤ length xs → upto (load_turn words n t) m xs ≡ written m (arc_in words n t) xs
-unfolding upto build written
-turns-written words n t zero xs l = refl
-turns-written words n t (suc m) xs l =
-    rw (← replaced-next (upto (load_turn words n t) m xs) m (arc_in words n t m), turns-written words n t m xs (omega (arith, add-one m)))
-    (build-more xs (arc_in words n t) m (omega (arith, add-one m)) ∙ rw add-one refl)
-
--- a turn passes over a record that the list lacks
-turns-past : (words : List ℤ) (n t m k : ℕ) (xs : List Arc) → length xs ≤ m → upto (load_turn words n t) (m + k) xs ≡ upto (load_turn words n t) m xs
-unfolding upto replaced
-turns-past words n t m zero xs l = simp unary_clauses refl
-turns-past words n t m (suc k) xs l =
-    simp unary_clauses (set_past _ _ _ (rw (length-turns words n t (m + k) xs) (omega arith)) ∙ turns-past words n t m k xs l)
-
-pub loaded-part : (words : List ℤ) (n t m : ℕ) {k i : ℕ} (xs : List Arc) {s : List Arc} → Filled (arc_in words n t) k (take k xs) s i → k ≡ min m (length xs) → k ≤ i → s ++ drop k xs ≡ upto (load_turn words n t) m xs
-unfolding written
-loaded-part words n t m {k} xs h e l =
-    let long : length (take k xs) ≡ k = length-take-le k xs (omega arith) in
-    let front : upto (load_turn words n t) k xs ≡ build k (arc_in words n t) ++ drop k xs = turns-written words n t k xs (omega arith) in
-    rw (filled-whole h l (omega (arith, long)), ← front)
-    (⊎_elim (λ (q : k ≡ m). rw q refl) (λ (q : k < m). let d : k + (m - k) ≡ m = omega arith in sym (turns-past words n t k (m - k) xs (omega arith)) ∙ rw d refl) (eq-or-lt_of_le (omega arith)))
 
 load-turns : (words : List ℤ) (n t m : ℕ) (net : Net) (xs : List Arc) → 96 ≤ length xs → net.arcs ≡ arcs_in xs → (upto (arc_turn words n t) m net).arcs ≡ arcs_in (upto (load_turn words n t) m xs)
 unfolding upto

@@ -187,10 +187,9 @@ impl<'a> Record<'a> {
     fn load(self, arcs: &mut [Arc])
         ensures { arcs.new ≡ upto (load_turn self.entry.words.now self.entry.n (figures self.entry.n self.entry.m)) self.entry.m arcs.old }
     {
-        // the list may have fewer records than m
-        let m = self.m.min(arcs.len());
-        for (j, t) in arcs[..m].iter_mut().enumerate() {
-            *t = self.arc(j);
+        // by number: records of the lent list are replaced one at a time (01, the forms by place), and a number it lacks is passed over
+        for j in 0..self.m {
+            network::list::replace(arcs, j + 1, self.arc(j));
         }
     }
 }
