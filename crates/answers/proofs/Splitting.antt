@@ -11,7 +11,7 @@ use Rattle.std.proofs.lemmas.List.{take-append-drop}
 use Rattle.fraction.proofs.Laws.{never}
 use Rattle.fraction.specs.Words.{word}
 use Rattle.records.specs.declared.refusal.Refusal.{Refusal}
-use Rattle.records.specs.Network.{size_of, figures}
+use Rattle.records.specs.Network.{size_of}
 use Rattle.answers.specs.Restoring.{Words, split_stack, split_at, split_by, split_of}
 
 -- all words of the text

@@ -71,12 +71,12 @@ reduced_text xs =
     (stack_of (refusal_of xs network_room stack_room scratch_room max_arcs) (reduced (read_of xs)) stack_room)
 
 -- question 14 first
-abbrev pub on_words : Option (List ℤ) → List ℕ
-on_words none = refused_lines Refusal.Text
-on_words (some xs) = reduced_text xs
+abbrev pub on_words : (List ℤ → List ℕ) → Option (List ℤ) → List ℕ
+on_words f none = refused_lines Refusal.Text
+on_words f (some xs) = f xs
 
 unfoldable pub reduce_text : List ℕ → List ℕ
-reduce_text text = on_words (words_of text)
+reduce_text text = on_words reduced_text (words_of text)
 
 -- what is printed says this: no flow only where the network given has no feasible flow, in fractions of any width
 abbrev pub NoFlowRight : List ℕ → Type 0

@@ -1,7 +1,6 @@
 -- The restoring program: its text split by the sizes, and the lines that it prints (01, "Questions before work", "Instances", A).
 use Rattle.std.specs.Prelude.{◌≡◌, cond, List, [], ◌∷◌, ◌++◌, ℕ, ◌+◌, ◌*◌, leb, ℤ, length, take, drop, Option, Some, None, Result, Ok, Err, ⊤}
-use Rattle.std.proofs.Math.Option as maybe
-use Rattle.std.proofs.Math.Option.{some, none}
+use Rattle.std.proofs.Math.Option.{some}
 use Rattle.records.specs.declared.refusal.Refusal.{Refusal}
 use Rattle.fraction.specs.Words.{word}
 use Rattle.network.specs.Limits.{max_nodes, max_arcs}
@@ -12,7 +11,7 @@ use Rattle.rules.specs.Table.{reduced}
 use Rattle.restoration.specs.Restore.{refusal_of, out_of, values_of, brought_back, Optimum}
 use Rattle.text.specs.Text.{words_of}
 use Rattle.answers.specs.declared.restoring.Parts.{Parts}
-use Rattle.answers.specs.Answers.{refused_lines, size_at, part_line, record_lines, most_of}
+use Rattle.answers.specs.Answers.{refused_lines, size_at, part_line, record_lines, most_of, on_words}
 
 -- ---- "Restoring splits its text by the sizes": the words of the network, of the stack and of the pair, or a refusal
 
@@ -73,12 +72,8 @@ on_split (Ok w) = restored_text w.network w.stack w.pair
 on_split (Err q) = refused_lines q
 
 -- question 14 first, then the split
-abbrev pub on_words : maybe.Option (List ℤ) → List ℕ
-on_words none = refused_lines Refusal.Text
-on_words (some ws) = on_split (split_of ws)
-
 unfoldable pub restore_text : List ℕ → List ℕ
-restore_text text = on_words (words_of text)
+restore_text text = on_words (λ ws. on_split (split_of ws)) (words_of text)
 
 -- what is printed says this: restored only with an optimum of the network given, of the cost printed
 abbrev pub OptimumRight : List ℤ → List ℤ → List ℤ → Type 0

@@ -1,12 +1,14 @@
 // From the bytes of a text to the bytes of the answer that a program prints.
 #![tactic(auto)]
 
-ghost use Rattle.std.specs.Prelude.{[], ◌∷◌, ◌++◌, ◌+◌, ◌*◌, ◌≤◌, length};
+ghost use Rattle.std.specs.Prelude.{ℕ, ℤ, List, [], ◌∷◌, ◌++◌, ◌+◌, ◌*◌, ◌≤◌, length};
+ghost use Rattle.std.specs.Borrow.{Bor, MutBor};
 ghost use Rattle.fraction.specs.Words.{word_of};
 ghost use Rattle.records.specs.Limits.{network_room, stack_room};
 ghost use Rattle.text.specs.Line.{line_of};
 ghost use Rattle.text.specs.Page.{Prints};
-ghost use Rattle.answers.specs.Answers.{no_flow_bytes, refused_lines, part_line, record_lines, network_lines, stack_lines, end_lines, reduced_lines, reduced_text, reduce_text, no_bytes, Printed, most_of, most_reduced, NoFlowRight};
+ghost use Rattle.text.specs.Text.{words_of};
+ghost use Rattle.answers.specs.Answers.{no_flow_bytes, refused_lines, part_line, record_lines, network_lines, stack_lines, end_lines, reduced_lines, reduced_text, on_words, reduce_text, no_bytes, Printed, most_of, most_reduced, NoFlowRight};
 
 use records::refusal::Refusal;
 use reduction::End;
@@ -107,13 +109,14 @@ fn reduce_words(page: &mut Page, words: &[i32])
     put_answer(page, answer, &net, &stack);
 }
 
-// A text, reduced.
-fn put_text(page: &mut Page, text: &[u8])
-    ensures { Prints page.old (reduce_text text.now) (most_reduced network_room stack_room) page.new }
+// A text, by what is printed of its words; question 14 first.
+fn put_text<F: Fn(&mut Page, &[i32])>(page: &mut Page, text: &[u8], put_words: F)
+    requires { F.IsAlwaysCallable put_words }
+    ensures { (f : List ℤ → List ℕ) (most : ℕ) → 33 ≤ most → ((p q : MutBor Page) (ws : Bor (List ℤ)) → F.post put_words p ws tt q → Prints p.now (f ws.now) most q.now) → Prints page.old (on_words f (words_of text.now)) most page.new }
 {
     let mut words = [0i32; text::MAX_WORDS];
     match text::read_words(text, &mut words) {
-        Some(n) => reduce_words(page, &words[..n]),
+        Some(n) => put_words(page, &words[..n]),
         None => put_refusal(page, Refusal::Text),
     }
 }
@@ -124,6 +127,6 @@ pub fn reduce_text(text: &[u8], out: &mut [u8]) -> usize
     ensures { Printed (no_bytes (length out.old)) 0 (reduce_text text.now) (most_reduced network_room stack_room) result out.new × NoFlowRight text.now }
 {
     let mut page = Page::new(out);
-    put_text(&mut page, text);
+    put_text(&mut page, text, reduce_words);
     page.at
 }

@@ -68,16 +68,16 @@ fn put_answer(page: &mut Page, answer: Result<(), Refusal>, pair: &[i32], values
 }
 
 // The parts of a text, restored; the answer's bytes.
-fn restore_parts(page: &mut Page, network: &[i32], stack: &[i32], pair: &[i32])
-    ensures { Prints page.old (restored_text network.now stack.now pair.now) (most_restored pair_room value_room) page.new }
+fn restore_parts(page: &mut Page, parts: Parts)
+    ensures { Prints page.old (on_split (Ok (words_in parts.entry))) (most_restored pair_room value_room) page.new }
 {
     let mut back = [0i32; records::PAIR_WORDS];
     let mut values = [0i32; records::VALUE_WORDS];
     let mut scratch = [0i32; records::SCRATCH_WORDS];
     let answer = restoration::plain::restore(
-        network,
-        stack,
-        pair,
+        parts.network,
+        parts.stack,
+        parts.pair,
         &mut back,
         &mut values,
         &mut scratch,
@@ -90,19 +90,8 @@ fn restore_words(page: &mut Page, words: &[i32])
     ensures { Prints page.old (on_split (split_of words.now)) (most_restored pair_room value_room) page.new }
 {
     match split(words) {
-        Ok(parts) => restore_parts(page, parts.network, parts.stack, parts.pair),
+        Ok(parts) => restore_parts(page, parts),
         Err(refusal) => crate::put_refusal(page, refusal),
-    }
-}
-
-// A text, restored.
-fn put_text(page: &mut Page, text: &[u8])
-    ensures { Prints page.old (restore_text text.now) (most_restored pair_room value_room) page.new }
-{
-    let mut words = [0i32; text::MAX_WORDS];
-    match text::read_words(text, &mut words) {
-        Some(n) => restore_words(page, &words[..n]),
-        None => crate::put_refusal(page, Refusal::Text),
     }
 }
 
@@ -112,6 +101,6 @@ pub fn restore_text(text: &[u8], out: &mut [u8]) -> usize
     ensures { Printed (no_bytes (length out.old)) 0 (restore_text text.now) (most_restored pair_room value_room) result out.new × RestoredRight text.now }
 {
     let mut page = Page::new(out);
-    put_text(&mut page, text);
+    crate::put_text(&mut page, text, restore_words);
     page.at
 }
