@@ -50,11 +50,8 @@ pub fn at_arc(nodes: &Nodes, at: ArcUpdate) -> Next
 {
     let left = network::figure_at(&nodes.supply, at.arc.from);
     let right = network::figure_at(&nodes.supply, at.arc.to);
-    answer(
-        1,
-        at.number,
-        closed_arc::closed_arc(nodes.constant, at, left, right),
-    )
+    let x = closed_arc::closed_arc(nodes.constant, at, left, right);
+    answer(1, at.number, x)
 }
 
 // ---- the rules of nodes
