@@ -16,8 +16,8 @@ use step::{Halt, Next, Outcome, Step};
 
 mod due;
 
-// When an arc was put, and when a pair was last sought for it, in vain; 0 is before every search. That what is known is right is
-// asked with the network each time (`Known`): the network changes between searches.
+// When an arc was put, and when a pair was last sought for it, in vain; 0 is before every search. `Known` is no ghost field of
+// it: it speaks of a network too, and that changes between searches.
 #[derive(Clone, Copy)]
 pub struct Times {
     pub put: u8,
@@ -112,7 +112,7 @@ pub fn scan(net: Net, seen: Seen, now: u8) -> Found
 {
     let at = due::all_times(net, seen);
     let mut known = seen;
-    // by number: it is the place of the step
+    // by number: arcs and what is known are both read at it, and the latter is written
     for j in 1..ARC_PLACES {
         let t = net.arcs[j];
         let w = known[j].sought;

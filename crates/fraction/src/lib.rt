@@ -9,8 +9,8 @@ ghost use Rattle.fraction.specs.Exact.{no_lower, no_upper, Operand, is_operand, 
 
 pub mod words;
 
-// A figure: a numerator over a denominator, or a mark, which is written over 0, as records have it, and for which no enum stands
-// beside the two words. Two are equal that are written alike.
+// A figure: a numerator over a denominator, or a mark, written over 0 as records have it; an enum would be turned into these two words
+// at each record. Equal are those that are written alike.
 #[derive(Clone, Copy, PartialEq, Eq)]
 pub struct Fraction {
     pub num: i32,
@@ -149,8 +149,8 @@ impl Fraction {
         self.product(y.reciprocal()?)
     }
 
-    // Whether it is less than y, in the one order of fractions and both marks. A method and no `PartialOrd`: figures of one value
-    // that are written apart, as 1/2 and 2/4, are not equal, and neither is less.
+    // Whether it is less than y, in the one order of fractions and both marks. A method and no `PartialOrd`, which wants
+    // `==` exactly where neither is less: 1/2 and 2/4 are not written alike.
     pub fn less(self, y: Fraction) -> bool
         ensures { result ≡ is_less self y }
     {

@@ -5,7 +5,8 @@ ghost use Rattle.std.specs.Prelude.{◌≡◌, pos, nat_abs, ◌*ℤ◌};
 ghost use Rattle.integer.specs.Gcd.{gcd as gcd_of, DivisorFrom};
 ghost use Rattle.integer.specs.Whole.{signed};
 
-// The greatest common divisor of two numbers; of a and 0 it is a. By `divisor` with limit 0, each step would ask what is never so.
+// The greatest common divisor of two numbers; of a and 0 it is a. No plainer by `divisor`, with a limit
+// that no caller has.
 pub fn gcd(a: u64, b: u64) -> u64
     ensures { result ≡ gcd_of a b }
 {

@@ -31,7 +31,7 @@ pub const ARC_PLACES: usize = MAX_ARCS + 1;
 pub const MAX_STEPS: usize = MAX_NODES + MAX_ARCS;
 
 // An arc's seven figures: its from and to node, cost c, lower bound l, upper bound u, multipliers a and b.
-// A number not in use has from 0, as its record and its log have it.
+// A number not in use has from 0 (as in `ArcUpdate`), as the lent list and the log have it.
 #[derive(Clone, Copy)]
 pub struct Arc {
     pub from: usize,
@@ -83,7 +83,8 @@ pub struct SupplyUpdate {
     pub supply: Fraction,
 }
 
-// What a step changes, field by field as the rules name it: at most four arcs, two supplies, the node that is dropped, or 0 (as in `ArcUpdate`), and the constant.
+// What a step changes, field by field as the rules name it: at most four arcs, two supplies, the node that is dropped, or 0 (as in
+// `ArcUpdate`), and the constant.
 #[derive(Clone, Copy)]
 pub struct Edit {
     pub one: ArcUpdate,

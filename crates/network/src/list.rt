@@ -83,7 +83,8 @@ pub fn degrees(arcs: &[Arc], m: usize) -> [usize; NODE_PLACES]
     at
 }
 
-// The next parallel arc of each arc, of the numbers up to m; 0 where there is none (as in `ArcUpdate`). The loop goes by number, which is what `link` writes down.
+// The next parallel arc of each arc, of the numbers up to m; 0 where there is none (as in `ArcUpdate`). The loop goes by number,
+// which is what `link` writes down.
 pub fn parallels(arcs: &[Arc], m: usize) -> [u8; ARC_PLACES]
     ensures { (nodes : Nodes) → nodes.m ≡ m → Legal (net_in nodes arcs.now) → AreParallel (net_in nodes arcs.now) result }
 {

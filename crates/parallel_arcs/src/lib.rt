@@ -136,7 +136,7 @@ pub fn parallel_arc(net: Net, j: usize) -> Outcome
     if network::MAX_ARCS <= j {
         return Err(Halt::Passes);
     }
-    // by number: the step names k
+    // by number, from j on: the step names k, and counting and skipping would be no plainer
     for k in j + 1..ARC_PLACES {
         let one = ArcUpdate { number: j, arc: t };
         let arc = network::arc_at(&net, k);

@@ -52,7 +52,7 @@ fn undo_turn(
     undo_step(step_log::rule_at(log, k), old, way)
 }
 
-// The steps of the log undone, the last first.
+// The steps of the log undone, the last first (log and number of steps apart, as in `records::stack`).
 pub fn undo_steps(log: &[i32], steps: usize, pair: Pair, arcs: &mut [Arc]) -> Result<Pair, Misfit>
     ensures { ((ss : List Step) → length ss ≡ steps → Holds log.now 0 ss → result ≡ way_back (back_of rules) ss (at pair)) × (arcs.new ≡ arcs_back log.now steps arcs.old) }
 {

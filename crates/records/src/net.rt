@@ -60,7 +60,8 @@ fn is_weighted(t: Arc) -> bool
     !t.a.is_zero() && t.b.is_zero() == (t.from == t.to)
 }
 
-// No node in use yet, of n nodes and m arcs, with a constant. No plainer: `nodes_of(empty_net(..))` would fill 97 arcs for nothing.
+// No node in use yet, of n nodes and m arcs, with a constant. No plainer: `nodes_of(empty_net(..))` says it over 97 arcs that are
+// then dropped.
 fn no_nodes(n: usize, m: usize, constant: Fraction) -> Nodes
     ensures { result ≡ nodes_of (empty_net n m constant) }
 {
@@ -129,7 +130,8 @@ impl<'a> Record<'a> {
         }
     }
 
-    // Question 3: whether each figure is a fraction in form or a permitted mark.
+    // Question 3: whether each figure is a fraction in form or a permitted mark. Here and below by number: figures and arcs are read
+    // out of the words at their numbers.
     fn is_in_form(self) -> bool
         ensures { result ≡ all (is_in_form self.entry.words.now self.entry.n (figures self.entry.n self.entry.m)) (figures self.entry.n self.entry.m) }
     {
@@ -187,7 +189,8 @@ impl<'a> Record<'a> {
     fn load(self, arcs: &mut [Arc])
         ensures { arcs.new ≡ upto (load_turn self.entry.words.now self.entry.n (figures self.entry.n self.entry.m)) self.entry.m arcs.old }
     {
-        // by number: records of the lent list are replaced one at a time (01, the forms by place), and a number it lacks is passed over
+        // by number: records of the lent list are replaced one at a time (docs/DECISIONS.md,
+        // "Forms by place"), and a number that it lacks is passed over
         for j in 0..self.m {
             network::list::replace(arcs, j + 1, self.arc(j));
         }

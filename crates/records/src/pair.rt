@@ -9,11 +9,11 @@ ghost use Rattle.records.specs.Arrays.{figure_at, arrays_of};
 ghost use Rattle.records.specs.Limits.{pair_figures};
 ghost use Rattle.records.specs.Pair.{is_fraction, is_pair, pair_of, pair_figure, pair_words};
 
-// No struct as `net.rt` has one: n and m are the network's, which the words have to match, and not read from the words themselves.
-
 use fraction::Fraction;
 use network::pair::Pair;
 use network::{MAX_ARCS, MAX_NODES};
+
+// No struct as `net.rt` has one: n and m are the network's, which the words have to match, and not read from the words themselves.
 
 // Whether the word at a place is this number.
 pub fn is_size(pair: &[i32], at: usize, n: usize) -> bool
@@ -29,7 +29,7 @@ fn is_long(len: usize, n: usize, m: usize) -> bool
     len as u128 == 2 + 2 * (n as u128 + m as u128)
 }
 
-// Whether all t figures are fractions in form.
+// Whether all t figures are fractions in form, by number, as they are read out of the words.
 fn all_fractions(pair: &[i32], t: usize) -> bool
     ensures { result ≡ all (is_fraction pair.now t) t }
 {

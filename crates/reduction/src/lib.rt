@@ -16,7 +16,7 @@ use search::{Contradiction, Ran};
 pub mod plain;
 
 // A reduced network; or no flow, with the rule and the place that show it. Both are ends of the paper, and neither is the lack of
-// the other, as an `Option` would have it.
+// the other, as an `Option` would have it. Rule and place are numbers, as in `step::Step`.
 #[derive(Clone, Copy, Debug, PartialEq, Eq)]
 pub enum End {
     Reduced,

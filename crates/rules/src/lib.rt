@@ -11,8 +11,8 @@ use step::{Old, Undone};
 
 pub mod tried;
 
-// What the way back over a step of a rule restores. The choice is a match on the rule's number: a table of functions would hand
-// out function pointers, which the check refuses, and closures that are lent would be chosen among by the same match.
+// What the way back over a step of a rule restores. The choice is a match on the rule's number: the ways back take
+// different arguments (what is old; that and the pair; that and a flow), so that a table would hold a wrapper for each.
 pub fn undo(rule: usize, old: Old, pair: Pair) -> Undone
     ensures { result ≡ (rule_of rules rule).back old pair }
 {

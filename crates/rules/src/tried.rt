@@ -59,7 +59,8 @@ pub fn at_arc(nodes: &Nodes, at: ArcUpdate) -> Next
 // The highest rule of the table.
 pub const LAST_RULE: usize = 7;
 
-// How many places a rule has, the degree that it asks for, and whether it asks for supply 0.
+// How many places a rule has, the degree that it asks for, and whether it asks for supply 0. The places are read by no code: the
+// contract of `asks_of` compares them with the table.
 #[derive(Clone, Copy)]
 pub struct Asks {
     pub places: usize,
@@ -77,8 +78,8 @@ fn asking(places: usize, degree: usize, balanced: bool) -> Asks
     }
 }
 
-// What rule k asks; where there is no such rule, it has no place. A match as the others, which the check compares with the table's
-// rows arm by arm; an array of them would say the same.
+// What rule k asks; where there is no such rule, it has no place. A match on the rule's number,
+// arm by arm as the table's rows; an array would need a case beside it for every other number.
 pub fn asks_of(k: usize) -> Asks
     ensures { result ≡ asks_of k }
 {

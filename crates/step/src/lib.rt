@@ -28,8 +28,8 @@ pub struct Numbers {
     pub fourth: usize,
 }
 
-// What the way back needs of a step: the node that it drops, or 0 (as in `network::ArcUpdate`), with its supply; the old arcs, each at its number,
-// in the order in which the rule names them; and the numbers of the new arcs.
+// What the way back needs of a step: the node that it drops, or 0 (as in `network::ArcUpdate`), with its supply; the old arcs, each
+// at its number, in the order in which the rule names them; and the numbers of the new arcs.
 #[derive(Clone, Copy)]
 pub struct Old {
     pub node: usize,
@@ -48,7 +48,8 @@ pub struct Change {
     pub old: Old,
 }
 
-// The arcs that touch a node, upward, as many as its degree, up to four.
+// The arcs that touch a node, upward, as many as its degree, up to four. Here and above four by name and no array: no rule reads
+// more, and definitions name them one by one.
 #[derive(Clone, Copy)]
 pub struct Around {
     pub one: ArcUpdate,
@@ -333,7 +334,7 @@ fn nothing() -> Restored
     }
 }
 
-// ---- what is restored: numbers and figures one by one, for which the structs are made here and nowhere else
+// ---- what is restored: numbers and figures one by one, as the definitions have them; rules 6 and 8 make theirs themselves
 
 // Two flows.
 pub fn two_flows(k: usize, y: Fraction, j: usize, x: Fraction) -> Restored

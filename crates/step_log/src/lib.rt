@@ -16,6 +16,7 @@ pub const STEP_WORDS: usize = 80;
 pub const LOG_WORDS: usize = STEP_WORDS * MAX_STEPS;
 
 // ---- written: each figure at its place, as `Log` has it. A slice behind every figure would hide the places by which steps are read.
+// How far each function reaches differs from one to the next.
 
 #[tactic(auto, unfolding(crate::specs::Log::with_figure))]
 fn put_figure(words: &mut [i32], at: usize, f: Fraction)
@@ -88,7 +89,7 @@ pub fn store(words: &mut [i32], k: usize, s: Step)
     }
 }
 
-// ---- read
+// ---- read: a bound on the place is asked for so that it cannot overflow; any word outside is 0
 
 #[tactic(auto, unfolding(crate::specs::Log::figure_in))]
 fn figure_in(words: &[i32], at: usize) -> Fraction

@@ -253,7 +253,7 @@ fn node_price(below: bool, p: Fraction, q: Fraction) -> Fraction
     }
 }
 
-// Three flows and a price.
+// Three flows and a price, numbers and figures one by one, as the definition has them.
 fn restored_three(
     one: ArcUpdate,
     x: Fraction,

@@ -55,7 +55,7 @@ fn ratio(n: i128, m: i128) -> Worked
     lowest(n * m.signum(), m.unsigned_abs())
 }
 
-// ---- the formula: its four figures go by the letters that it has, which a struct of them would spell at each
+// ---- the formula: r, a, l and b are its own letters; with a struct of them each would be read through it at every use
 
 // The numerator of r - a × l over the denominators of r, a and l, times the denominator of b.
 fn over(r: Fraction, a: Fraction, l: Fraction, b: Fraction) -> i128
@@ -93,7 +93,8 @@ fn in_full(r: Fraction, a: Fraction, l: Fraction, b: Fraction) -> Worked
     Err(Misfit)
 }
 
-// (r - a × l) ÷ (a × b): only the result must fit.
+// (r - a × l) ÷ (a × b): only the result must fit. By `or_else` it was tried, and the proof did not close: what that tells of the
+// call of a closure did not give the share.
 pub fn share(r: Fraction, a: Fraction, l: Fraction, b: Fraction) -> Worked
     ensures { result ≡ share_of r a l b }
 {
