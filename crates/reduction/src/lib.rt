@@ -58,7 +58,7 @@ fn reduce_in(
 
 // Reduces a network until no rule applies: the reduced network into `out`, the steps into `stack`. Every other word of the
 // lent slices, and every number of every record of the list, is zero afterwards, on a refusal every word of them. The slices,
-// scratch and list among them, are parameters of their own, as the paper and the C interface have them.
+// scratch and list among them, are parameters of their own, as the paper lends them and, but for the list, the C interface.
 pub fn reduce(
     network: &[i32],
     out: &mut [i32],
