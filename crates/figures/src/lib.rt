@@ -2,7 +2,7 @@
 // may say more nodes and arcs than have a place, which no slice of them can.
 #![tactic(auto, using(fraction::proofs::Laws::misfit_is), unfolding(fraction::specs::Formula::added, fraction::specs::Formula::subtracted, fraction::specs::Formula::multiplied, fraction::specs::Exact::is_same, crate::specs::Figures::reduced_cost, crate::specs::Figures::is_within, crate::specs::Figures::balance_of, crate::specs::Figures::value_of))]
 
-ghost use Rattle.std.specs.Prelude.{◌≡◌, cond, ◌&&◌, not, ℕ, ◌+◌, ◌<◌, eqb, Ok};
+ghost use Rattle.std.specs.Prelude.{◌≡◌, cond, ◌&&◌, not, [], ◌∷◌, ℕ, ◌+◌, ◌<◌, eqb, Ok};
 ghost use Rattle.std.specs.Borrow.{MutBor};
 ghost use Rattle.loops.specs.Loops.{all, upto};
 ghost use Rattle.fraction.specs.Exact.{no_figure, is_same};
@@ -10,7 +10,7 @@ ghost use Rattle.fraction.specs.Formula.{is_fit, figure_of, ◌⊕◌, ◌⊖◌
 ghost use Rattle.network.specs.Limits.{node_places};
 ghost use Rattle.network.specs.Network.{arc_at, is_touching, is_root, side_of};
 ghost use Rattle.network.specs.Pair.{flow_at};
-ghost use Rattle.records.specs.Questions.{answered};
+ghost use Rattle.records.specs.Questions.{◌asks◌, first_no};
 ghost use Rattle.figures.specs.Figures.{balance_of, value_of, balance_fits, cost_fits, is_balanced, is_within, is_within_at, keeps_rule_at, test_questions};
 ghost use Rattle.figures.specs.internal.Listed.{sum_at, place_of, to_place, with_arc, cost_in, asked};
 ghost use Rattle.slackness.specs.Slackness.{keeps_rule};
@@ -19,6 +19,13 @@ use fraction::{Fraction, Worked};
 use network::pair::Pair;
 use network::{Arc, MAX_NODES, NODE_PLACES, Net};
 use records::refusal::Refusal;
+
+// What questions 9 to 12 of a pair answer, and its value.
+#[derive(Clone, Copy)]
+pub struct Judged {
+    pub asked: Result<(), Refusal>,
+    pub value: Fraction,
+}
 
 // The places of balances: those of nodes, and one that is no node's.
 const SUM_PLACES: usize = NODE_PLACES + 1;
@@ -213,17 +220,26 @@ fn ask_arcs(net: &Net, pair: &Pair) -> Arcs
     )
 }
 
-// The questions 9 to 12 of a pair, and its value.
+// The first of the questions 9 to 12 that is answered by no, by what is asked of nodes and arcs and by whether the value fits.
+fn first_no(nodes: Nodes, arcs: Arcs, fits: bool) -> Result<(), Refusal>
+    ensures { result ≡ first_no (Refusal.Width asks (nodes.fit && (arcs.fit && fits)) ∷ Refusal.Balance asks nodes.balanced ∷ Refusal.Bounds asks arcs.within ∷ Refusal.Prices asks arcs.kept ∷ []) }
+{
+    Refusal::Width.unless(nodes.fit && arcs.fit && fits)?;
+    Refusal::Balance.unless(nodes.balanced)?;
+    Refusal::Bounds.unless(arcs.within)?;
+    Refusal::Prices.unless(arcs.kept)
+}
+
+// The questions 9 to 12 of a pair, and its value, also where one is answered by no.
 #[tactic(auto, unfolding(crate::specs::Figures::all_fit, crate::specs::Figures::test_questions))]
-pub fn verdict(net: Net, pair: Pair) -> Result<Fraction, Refusal>
-    ensures { result ≡ answered (test_questions net pair) (figure_of (value_of net pair)) }
+pub fn verdict(net: Net, pair: Pair) -> Judged
+    ensures { (result.asked ≡ first_no (test_questions net pair)) × (result.value ≡ figure_of (value_of net pair)) }
 {
     let nodes = ask_nodes(&net, &pair);
     let arcs = ask_arcs(&net, &pair);
-    Refusal::Width.unless(nodes.fit && arcs.fit)?;
-    let value = value(net, pair).or(Err(Refusal::Width))?;
-    Refusal::Balance.unless(nodes.balanced)?;
-    Refusal::Bounds.unless(arcs.within)?;
-    Refusal::Prices.unless(arcs.kept)?;
-    Ok(value)
+    let value = value(net, pair);
+    Judged {
+        asked: first_no(nodes, arcs, value.is_ok()),
+        value: value.unwrap_or(network::no_figure()),
+    }
 }

@@ -24,8 +24,12 @@ pub fn examine(net: Net, pair: &[i32]) -> Result<Examined, Refusal>
 {
     Refusal::Pair.unless(records::pair::is_pair(pair, net.n, net.m))?;
     let read = records::pair::read_pair(pair, net.n, net.m);
-    let value = figures::verdict(net, read)?;
-    Ok(Examined { pair: read, value })
+    let judged = figures::verdict(net, read);
+    judged.asked?;
+    Ok(Examined {
+        pair: read,
+        value: judged.value,
+    })
 }
 
 // Tests a pair on a network: where it is passed its value goes into `values`. Every other word there is zero afterwards, on a refusal every word.
