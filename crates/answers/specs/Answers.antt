@@ -78,6 +78,10 @@ on_words f (some xs) = f xs
 unfoldable pub reduce_text : List ℕ → List ℕ
 reduce_text text = on_words reduced_text (words_of text)
 
+-- how many bytes a program lends for its answer
+abbrev pub answer_room : ℕ
+answer_room = 65536
+
 -- what is printed says this: no flow only where the network given has no feasible flow, in fractions of any width
 abbrev pub NoFlowRight : List ℕ → Type 0
 NoFlowRight text = (xs : List ℤ) (rule place : ℕ) → words_of text ≡ some xs → answer_of (refusal_of xs network_room stack_room scratch_room max_arcs) (reduced (read_of xs)) ≡ Ok (NoFlow rule place) → LP.NoFlow (program_of (read_of xs))

@@ -1,17 +1,22 @@
 // The reducing program: a network's text comes in, the answer's lines go out.
 #![tactic(auto)]
 
+ghost use Rattle.std.specs.Prelude.{Some};
+ghost use Rattle.answers.specs.Answers.{reduce_text};
+
 use answers::program::Program;
 use std::io;
 
 struct Reduce;
 
 impl Program for Reduce {
+    ghost answer_of = { λ text. Some (reduce_text text) };
+
     fn answer(text: &[u8], out: &mut [u8]) -> usize {
         answers::reduce_text(text, out)
     }
 }
 
 fn main(rt: HostRuntime) -> io::Result<()> {
-    answers::program::run::<Reduce>(&rt)
+    answers::program::run::<Reduce, _, _>(&mut rt.stdin(), &mut rt.stdout())
 }
