@@ -15,11 +15,7 @@ use borrow.Author.Tests.{le-leb, ne_eqb, ltb-true, ltb-false}
 use Rattle.text.specs.Text.{separator, digit, pieces, value_from, value_of, signed, word_of, both, words_in, words_of}
 use Rattle.text.specs.Line.{digits_by, digits_in, digits, decimal, behind_spaces, spaced, line_of}
 use Rattle.text.proofs.Words.{digit_low}
-
--- words within signed 32 bits
-abbrev pub Within : List ℤ → Type 0
-Within [] = Unit {0}
-Within (z ∷ zs) = (mag z < 2147483648) × Within zs
+use Rattle.text.proofs.Lines.{Within}
 
 -- bytes with no separator among them
 abbrev Plain : List ℕ → Type 0

@@ -2,10 +2,10 @@
 use mathlib.Core.Path.{◌≡◌, refl, ap}
 use mathlib.Core.List.{List, [], ◌∷◌, ◌++◌, append-nil, append_assoc}
 use mathlib.Core.Bool.{Bool, true, false}
-use Prim.Native.Nat.{ℕ, zero, suc, ◌+◌, ◌/◌, ◌%◌, ◌≤◌, ◌<◌, ◌^◌}
+use Prim.Native.Nat.{ℕ, zero, suc, ◌+◌, ◌*◌, ◌/◌, ◌%◌, ◌≤◌, ◌<◌, ◌^◌}
 use native.Mathlib.Numerals.{add-one}
 use native.Mathlib.Omega.{arith}
-use lib.ListN.{length, get_or, take}
+use lib.ListN.{length, get_or, take, length-append}
 use lib.Dec.{ltb}
 use lib.IntN.{ℤ, pos, negsuc}
 use lib.Signed.{mag}
@@ -13,7 +13,7 @@ use borrow.Author.Tests.{lt-ltb, le-ltb, ltb-false}
 use Rattle.std.specs.Fmt.{decimal as unsigned_decimal, signed_decimal}
 use Rattle.std.proofs.lemmas.Fmt.{AppendsLastDigit, decimal_from_appends, length-decimal-le_succ, length_signed_le}
 use Rattle.std.proofs.lemmas.List.{take_more}
-use Rattle.text.specs.Line.{digits_by, digits_in, digits, decimal, behind_spaces}
+use Rattle.text.specs.Line.{digits_by, digits_in, digits, decimal, behind_spaces, spaced, line_of}
 
 -- the digits are those that the library writes
 digits-appended : AppendsLastDigit digits_in
@@ -65,3 +65,21 @@ Within (z ∷ zs) = (mag z < 2147483648) × Within zs
 pub within_all : (zs : List ℤ) → ((i : ℕ) → i < length zs → mag (get_or zs i (pos 0)) < 2147483648) → Within zs
 within_all [] h = tt
 within_all (z ∷ zs) h = (h 0 (omega (arith, add-one (length zs))), within_all zs (λ i l. h (suc i) (omega (arith, add-one (length zs), add-one i))))
+
+behind-few : (zs : List ℤ) → Within zs → length (behind_spaces zs) ≤ length zs * 12
+unfolding behind_spaces
+behind-few [] h = omega arith
+behind-few (z ∷ zs) h =
+    rw (length-append (decimal z) (behind_spaces zs))
+    (omega (arith, decimal-few z h.0, behind-few zs h.1, add-one (length zs), add-one (length (decimal z) + length (behind_spaces zs))))
+
+spaced-few : (zs : List ℤ) → Within zs → length (spaced zs) ≤ length zs * 12
+unfolding spaced
+spaced-few [] h = omega arith
+spaced-few (z ∷ zs) h =
+    rw (length-append (decimal z) (behind_spaces zs)) (omega (arith, decimal-few z h.0, behind-few zs h.1, add-one (length zs)))
+
+-- a line is at most twelve bytes for each of its words, and one
+pub line-few : (zs : List ℤ) → Within zs → length (line_of zs) ≤ length zs * 12 + 1
+unfolding line_of
+line-few zs h = rw (length-append (spaced zs) (10 ∷ [])) (omega (arith, spaced-few zs h))
