@@ -4,12 +4,12 @@
 ghost use Rattle.std.specs.Prelude.{Some};
 ghost use Rattle.answers.specs.Answers.{reduce_text};
 
-use answers::program::Program;
+use answers::program::Answering;
 use std::io;
 
 struct Reduce;
 
-impl Program for Reduce {
+impl Answering for Reduce {
     ghost answer_of = { λ text. Some (reduce_text text) };
 
     fn answer(text: &[u8], out: &mut [u8]) -> usize {

@@ -4,12 +4,12 @@
 ghost use Rattle.std.specs.Prelude.{Some};
 ghost use Rattle.answers.specs.Restoring.{restore_text};
 
-use answers::program::Program;
+use answers::program::Answering;
 use std::io;
 
 struct Restore;
 
-impl Program for Restore {
+impl Answering for Restore {
     ghost answer_of = { λ text. Some (restore_text text) };
 
     fn answer(text: &[u8], out: &mut [u8]) -> usize {
