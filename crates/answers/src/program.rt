@@ -22,15 +22,15 @@ pub trait Answering {
     // The bytes of a text's answer, where they are known.
     ghost answer_of: { List ℕ → Option (List ℕ) } = { λ _. None };
 
-    fn answer(text: &[u8], out: &mut [u8]) -> usize
+    fn write_answer(text: &[u8], out: &mut [u8]) -> usize
         ensures within { result ≤ length out.new }
         ensures bytes { answer_room ≤ length out.old → IfSome (answer_of text.now) (λ bytes. take result out.new ≡ bytes) };
 }
 
 // What a program answers may be unknown.
 impl<P: Program> Answering for P {
-    fn answer(text: &[u8], out: &mut [u8]) -> usize {
-        <P as Program>::answer(text, out)
+    fn write_answer(text: &[u8], out: &mut [u8]) -> usize {
+        P::answer(text, out)
     }
 }
 
@@ -42,7 +42,7 @@ pub fn run<P: Answering, R: Read, W: Write>(reader: &mut R, writer: &mut W) -> i
     let mut input = [0u8; text::MAX_BYTES + 1];
     let n = input::read_full(reader, &mut input)?;
     let mut out = [0u8; ANSWER_BYTES];
-    let end = P::answer(&input[..n], &mut out);
+    let end = P::write_answer(&input[..n], &mut out);
     writer.write_all(&out[..end])
 }
 

@@ -12,7 +12,7 @@ struct Reduce;
 impl Answering for Reduce {
     ghost answer_of = { λ text. Some (reduce_text text) };
 
-    fn answer(text: &[u8], out: &mut [u8]) -> usize {
+    fn write_answer(text: &[u8], out: &mut [u8]) -> usize {
         answers::reduce_text(text, out)
     }
 }

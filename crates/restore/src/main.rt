@@ -12,7 +12,7 @@ struct Restore;
 impl Answering for Restore {
     ghost answer_of = { λ text. Some (restore_text text) };
 
-    fn answer(text: &[u8], out: &mut [u8]) -> usize {
+    fn write_answer(text: &[u8], out: &mut [u8]) -> usize {
         answers::restoring::restore_text(text, out)
     }
 }

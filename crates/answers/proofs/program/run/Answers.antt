@@ -10,4 +10,4 @@ returns g c =
     let came : Consumes (g.R.Read.remaining c.args.reader.now) (g.R.Read.remaining c.read_full.new.reader) (take c.in_ok-n.n c.read_full.new.buf) = search rules in
     let end : c.in_ok-n.n < length c.read_full.new.buf → IsAtEnd (g.R.Read.remaining c.read_full.new.reader) = search rules in
     let front = front-read _ _ c.read_full.new.buf c.in_ok-n.n within came end in
-    answer-written c.write_all.result _ _ _ g.P.Answering.answer_of 24577 (take c.in_ok-n.n c.read_full.new.buf) (take c.answer-end.result c.answer-end.new.out) c.write_all.ensures.bytes (c.answer-end.ensures.bytes (omega arith)) (rw (← long) front)
+    answer-written c.write_all.result _ _ _ g.P.Answering.answer_of 24577 (take c.in_ok-n.n c.read_full.new.buf) (take c.write_answer-end.result c.write_answer-end.new.out) c.write_all.ensures.bytes (c.write_answer-end.ensures.bytes (omega arith)) (rw (← long) front)
