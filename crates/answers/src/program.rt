@@ -17,7 +17,7 @@ pub trait Program {
         ensures within { result ≤ length out.new };
 }
 
-// A program, by how it answers a text, and by what it answers.
+// A program that also says what it answers.
 pub trait Answering {
     // The bytes of a text's answer, where they are known.
     ghost answer_of: { List ℕ → Option (List ℕ) } = { λ _. None };
@@ -27,7 +27,7 @@ pub trait Answering {
         ensures bytes { answer_room ≤ length out.old → IfSome (answer_of text.now) (λ bytes. take result out.new ≡ bytes) };
 }
 
-// What a program answers may be unknown.
+// A program that does not say it.
 impl<P: Program> Answering for P {
     fn write_answer(text: &[u8], out: &mut [u8]) -> usize {
         P::answer(text, out)
